@@ -1,0 +1,112 @@
+-- Slices of the bits of octets as quotients and remainders.
+use Rattle.std.proofs.Common.{◌≡◌, ℕ, zero, suc, ◌+◌, ◌-◌, ◌*◌, ◌/◌, ◌%◌, ◌^◌, ◌<◌, ◌≤◌, Bool, List, [], ◌∷◌, ◌++◌, length, take, drop, get_or, refl, sym, ap, ◌∙◌, subst, arith, length-drop}
+use Rattle.std.proofs.lemmas.Nat.{field_of, shr_high, mod_low, pow-add}
+use Rattle.std.proofs.lemmas.List.{take-append-drop, length-take-le, take-append-le, drop-append-le, get_or-drop}
+use Rattle.std.proofs.Math.Seq.{drop-append-add}
+use Rattle.std.proofs.Math.Nat.{pow-suc}
+use Rattle.std.specs.Prelude.{slice_range}
+use Rattle.tm_bits.specs.Bits.{low_bits, bits_of, number, part}
+use Rattle.tm_bits.proofs.BitLemmas.{number-low_bits, number-append, number-lt, length-bits_of, bits_of-append}
+
+-- the first bits are the number without its low bits
+number-take : (k : ℕ) (xs : List Bool) → k ≤ length xs → number (take k xs) ≡ number xs / 2 ^ (length xs - k)
+number-take k xs h =
+    let front : List Bool = take k xs in
+    let back : List Bool = drop k xs in
+    let l : length back ≡ length xs - k = length-drop k xs in
+    let small : number back < 2 ^ (length xs - k) = subst (λ n. number back < 2 ^ n) l (number-lt back) in
+    let whole : number xs ≡ number front * 2 ^ (length xs - k) + number back =
+    ap number (sym (take-append-drop k xs)) ∙ number-append front back ∙ ap (λ n. number front * 2 ^ n + number back) l in
+    sym (ap (λ n. n / 2 ^ (length xs - k)) whole ∙ shr_high (number front) (length xs - k) (number back) small)
+
+-- the last bits are its low bits
+number-drop : (k : ℕ) (xs : List Bool) → k ≤ length xs → number (drop k xs) ≡ number xs % 2 ^ (length xs - k)
+number-drop k xs h =
+    let front : List Bool = take k xs in
+    let back : List Bool = drop k xs in
+    let l : length back ≡ length xs - k = length-drop k xs in
+    let small : number back < 2 ^ (length xs - k) = subst (λ n. number back < 2 ^ n) l (number-lt back) in
+    let whole : number xs ≡ number front * 2 ^ (length xs - k) + number back =
+    ap number (sym (take-append-drop k xs)) ∙ number-append front back ∙ ap (λ n. number front * 2 ^ n + number back) l in
+    sym (ap (λ n. n % 2 ^ (length xs - k)) whole ∙ mod_low (number front) (length xs - k) (number back) small)
+
+-- a slice of bits as a number
+pub number-slice : (xs : List Bool) (from to : ℕ) → from ≤ to → to ≤ length xs
+    → number (slice_range xs from to) ≡ number xs / 2 ^ (length xs - to) % 2 ^ (to - from)
+number-slice xs from to ordered inside =
+    let back : List Bool = drop from xs in
+    let l : length back ≡ length xs - from = length-drop from xs in
+    let room : to - from ≤ length back = omega arith in
+    let left : length back - (to - from) ≡ length xs - to = omega arith in
+    let width : length xs - from ≡ (to - from) + (length xs - to) = omega arith in
+    number-take (to - from) back room
+    ∙ ap (λ n. number back / 2 ^ n) left
+    ∙ ap (λ n. n / 2 ^ (length xs - to)) (number-drop from xs (omega arith))
+    ∙ ap (λ n. number xs % 2 ^ n / 2 ^ (length xs - to)) width
+    ∙ field_of (number xs) (to - from) (length xs - to)
+
+-- every item is an octet
+pub record AreOctets (xs : List ℕ) : Type 0 where
+  pub below : (i : ℕ) → get_or xs i 0 < 256
+
+pub octets_after : (x : ℕ) (xs : List ℕ) → AreOctets (x ∷ xs) → AreOctets xs
+octets_after x xs h = record { below = λ i. h.below (suc i) }
+
+pub octets_behind : (k : ℕ) (xs : List ℕ) → AreOctets xs → AreOctets (drop k xs)
+octets_behind k xs h = record { below = λ i. rw (get_or-drop k xs i 0) (h.below (k + i)) }
+
+pub pow-octets : (n : ℕ) → 2 ^ (8 * n) ≡ 256 ^ n
+pow-octets zero = refl
+pow-octets (suc n) =
+    let more : 8 * suc n ≡ 8 * n + 8 = omega arith in
+    ap (λ m. 2 ^ m) more ∙ pow-add 2 (8 * n) 8 ∙ ap (λ p. p * 256) (pow-octets n) ∙ sym (pow-suc 256 n)
+
+-- an octet in front adds its place value
+pub number-bits_of-cons : (x : ℕ) (xs : List ℕ) → x < 256 → number (bits_of (x ∷ xs)) ≡ x * 256 ^ length xs + number (bits_of xs)
+unfolding bits_of
+number-bits_of-cons x xs small =
+    let top : number (low_bits 8 x) ≡ x = number-low_bits 8 x ∙ omega arith in
+    number-append (low_bits 8 x) (bits_of xs)
+    ∙ rw (length-bits_of xs, top, pow-octets (length xs)) refl
+
+-- a part within the first n octets, by the number that these spell
+pub part-word : (n : ℕ) (octets : List ℕ) (from to : ℕ) → n ≤ length octets → from ≤ to → to ≤ 8 * n
+    → part octets from to ≡ number (bits_of (take n octets)) / 2 ^ (8 * n - to) % 2 ^ (to - from)
+unfolding part
+part-word n octets from to room ordered inside =
+    let front : List Bool = bits_of (take n octets) in
+    let back : List Bool = bits_of (drop n octets) in
+    let l : length front ≡ 8 * n = length-bits_of (take n octets) ∙ ap (λ m. 8 * m) (length-take-le n octets room) in
+    let whole : bits_of octets ≡ front ++ back = ap bits_of (sym (take-append-drop n octets)) ∙ bits_of-append (take n octets) (drop n octets) in
+    let dropped : drop from (front ++ back) ≡ drop from front ++ back = drop-append-le from front back (omega arith) in
+    let left : length (drop from front) ≡ length front - from = length-drop from front in
+    let taken : take (to - from) (drop from front ++ back) ≡ take (to - from) (drop from front) =
+    take-append-le (to - from) (drop from front) back (omega arith) in
+    ap (λ bits. number (slice_range bits from to)) whole
+    ∙ ap (λ bits. number (take (to - from) bits)) dropped
+    ∙ ap number taken
+    ∙ number-slice front from to ordered (omega arith)
+    ∙ ap (λ m. number front / 2 ^ (m - to) % 2 ^ (to - from)) l
+
+-- a part behind k octets
+pub part-behind : (k : ℕ) (octets : List ℕ) (from to : ℕ) → k ≤ length octets → from ≤ to
+    → part octets (8 * k + from) (8 * k + to) ≡ part (drop k octets) from to
+unfolding part
+part-behind k octets from to room ordered =
+    let front : List Bool = bits_of (take k octets) in
+    let back : List Bool = bits_of (drop k octets) in
+    let l : length front ≡ 8 * k = length-bits_of (take k octets) ∙ ap (λ m. 8 * m) (length-take-le k octets room) in
+    let whole : bits_of octets ≡ front ++ back = ap bits_of (sym (take-append-drop k octets)) ∙ bits_of-append (take k octets) (drop k octets) in
+    let width : 8 * k + to - (8 * k + from) ≡ to - from = omega arith in
+    ap (λ bits. number (slice_range bits (8 * k + from) (8 * k + to))) whole
+    ∙ ap (λ m. number (take m (drop (8 * k + from) (front ++ back)))) width
+    ∙ ap (λ m. number (take (to - from) (drop (m + from) (front ++ back)))) (sym l)
+    ∙ ap (λ bits. number (take (to - from) bits)) (drop-append-add front back from)
+
+-- a part of n bits is below 2 ^ n
+pub part-lt : (octets : List ℕ) (from to : ℕ) → to ≤ 8 * length octets → from ≤ to → part octets from to < 2 ^ (to - from)
+unfolding part
+part-lt octets from to inside ordered =
+    let l : length (slice_range (bits_of octets) from to) ≡ to - from =
+    length-take-le (to - from) (drop from (bits_of octets)) (omega (arith, length-drop from (bits_of octets), length-bits_of octets)) in
+    subst (λ n. number (slice_range (bits_of octets) from to) < 2 ^ n) l (number-lt (slice_range (bits_of octets) from to))

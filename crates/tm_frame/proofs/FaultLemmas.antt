@@ -1,0 +1,61 @@
+-- What a frame without a fault has.
+use Rattle.std.proofs.Common.{length-drop, ◌∙◌, ◌+◌, sym, subst, ◌≡◌, ℕ, ◌<◌, ◌==◌, Bool, true, false, cond, refl, List, [], ◌∷◌, ◌++◌, arith}
+use Rattle.std.specs.Prelude.{Some, None, ◌&&◌, not, nat_lt, drop, ◌-◌, ◌≤◌, length}
+use Rattle.std.specs.List.{find}
+use Rattle.std.proofs.lemmas.Bool.Decides.{nat_tests}
+use Rattle.tm_frame.specs.declared.layout.LayoutParts.{LayoutParts}
+use Rattle.tm_frame.specs.declared.fault.FrameFault.TheVariants.{Crc, Version, Spacecraft, SecondaryFlag, OcfFlag, SecondaryVersion, Layout, Pointer}
+use Rattle.tm_frame.specs.Frame.{field_length, field_start, field_end, field_of, kind_of, good_frame, IsPlaceBelow, IsSound}
+use Rattle.tm_bits.proofs.PartLemmas.{part-lt}
+use Rattle.std.proofs.lemmas.List.{length-take-le}
+use Rattle.tm_frame.specs.Header.{synchronization_flag, pointer_of}
+use Rattle.tm_frame.specs.declared.frame.Kind.TheVariants.{Packets, NoStart, Idle, Vca}
+use Rattle.tm_frame.specs.Fault.{applies, fault_of}
+
+-- where nothing is found, none passes
+none_passes : {X : Type 0} (test : X → Bool) (before : List X) (x : X) (after : List X) → find test (before ++ x ∷ after) ≡ None → test x ≡ false
+none_passes test [] x after h = elim (test x) as (λ b. cond b (Some x) (find test after) ≡ None → b ≡ false) [ true ↦ λ e. cc | false ↦ λ e. refl ] h
+none_passes test (y ∷ before) x after h =
+    none_passes test before x after
+    (elim (test y) as (λ b. cond b (Some y) (find test (before ++ x ∷ after)) ≡ None → find test (before ++ x ∷ after) ≡ None) [ true ↦ λ e. cc | false ↦ λ e. e ] h)
+
+above_zero : (n : ℕ) → (n == 0) ≡ false → 0 < n
+above_zero n h = grind (arith, nat_tests)
+
+-- a frame without a fault has a data field
+pub room : (layout : LayoutParts) (frame : List ℕ) → fault_of layout frame ≡ None → 0 < field_length layout frame
+unfolding fault_of
+room layout frame h =
+    above_zero (field_length layout frame)
+    (none_passes (applies layout frame) (Crc ∷ Version ∷ Spacecraft ∷ SecondaryFlag ∷ OcfFlag ∷ SecondaryVersion ∷ []) Layout (Pointer ∷ []) h)
+
+-- no pointer is misplaced, so a packet starts inside the field
+place_below : (vca none idle : Bool) (place n : ℕ) → (not vca && not idle && not none && not (nat_lt place n)) ≡ false
+    → IsPlaceBelow n (cond vca Vca (cond none NoStart (cond idle Idle (Packets place))))
+place_below true none idle place n h = tt
+place_below false true idle place n h = tt
+place_below false false true place n h = tt
+place_below false false false place n h = grind (arith, nat_tests)
+
+pub place_inside : (layout : LayoutParts) (frame : List ℕ) → fault_of layout frame ≡ None → IsPlaceBelow (field_length layout frame) (kind_of frame)
+unfolding fault_of
+place_inside layout frame h =
+    place_below (synchronization_flag frame) (pointer_of frame == 2047) (pointer_of frame == 2046) (pointer_of frame) (field_length layout frame)
+    (none_passes (applies layout frame) (Crc ∷ Version ∷ Spacecraft ∷ SecondaryFlag ∷ OcfFlag ∷ SecondaryVersion ∷ Layout ∷ []) Pointer [] h)
+
+-- so it begins before it ends
+pub begins_before_end : (layout : LayoutParts) (frame : List ℕ) → fault_of layout frame ≡ None → field_start frame < field_end layout frame
+begins_before_end layout frame h = let some = room layout frame h in omega arith
+
+pub sound : (layout : LayoutParts) (frame : List ℕ) → 9 ≤ length frame → length frame ≤ 2048 → fault_of layout frame ≡ None → IsSound (good_frame layout frame)
+sound layout frame long most h =
+    let some = room layout frame h in
+    let l : length (field_of layout frame) ≡ field_length layout frame =
+    length-take-le (field_length layout frame) (drop (field_start frame) frame) (omega (arith, length-drop (field_start frame) frame)) in
+    record {
+      channel = part-lt frame 12 15 (omega arith) (omega arith);
+      segment = part-lt frame 35 37 (omega arith) (omega arith);
+      some = omega (arith, some, l);
+      most = omega arith;
+      place = let P : ℕ → Type 0 = λ n. IsPlaceBelow n (kind_of frame) in subst P (sym l) (place_inside layout frame h);
+    }

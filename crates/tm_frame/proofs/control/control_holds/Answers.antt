@@ -1,0 +1,12 @@
+use Rattle.std.proofs.Common.{◌≡◌, ◌==◌, sym, ap, ◌∙◌, refl, arith}
+use Rattle.tm_frame.specs.ErrorControl.{error_control_of}
+use Rattle.byteorder.specs.Endian.{big_number}
+use Rattle.tm_bits.proofs.PartLemmas.{AreOctets}
+use Rattle.tm_frame.proofs.HeaderLemmas.{part_control}
+use Rattle.tm_frame.proofs.control.control_holds.Goals as goal
+
+pub returns : goal.returns
+returns c =
+    let octets : AreOctets c.args.frame.now = record { below = λ i. omega (arith, c.type_inv.frame i) } in
+    ap (λ n. n == c.error_control.result) (c.read_u16.ensures ∙ ap (big_number 2) c.split_at.ensures.back ∙ sym (part_control c.args.frame.now octets (omega arith)))
+    ∙ rw (c.error_control.ensures, c.split_at.ensures.front) refl

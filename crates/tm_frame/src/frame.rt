@@ -1,0 +1,193 @@
+//! A good frame.
+
+ghost use Rattle.std.specs.Prelude.{◌≡◌, ◌≤◌, ◌<◌, length};
+ghost use Rattle.tm_frame.specs.Fault.{fault_of, reading_of};
+ghost use Rattle.tm_frame.specs.Frame.{IsPlaceBelow, good_frame, kind_from};
+ghost use Rattle.tm_frame.specs.Header.{header_of};
+ghost use Rattle.tm_frame.specs.Layout.{record_length_of};
+
+use crate::checks::fault_in;
+use crate::header::{Header, IDLE, NO_START, field_end, field_start, secondary_length};
+use crate::{FrameFault, Layout, LayoutParts};
+use std::marker::Model;
+
+/// What the data field of a good frame holds (CCSDS 132.0-B-3, 4.1.2.7).
+#[derive(Clone, Copy, Debug, PartialEq, Eq)]
+pub enum Kind {
+    /// Packets, of which the first that starts in the field starts at this place, counted from 0.
+    Packets(u16),
+    /// Octets of a packet that began in an earlier frame; none starts here.
+    NoStart,
+    /// Idle data alone.
+    Idle,
+    /// A VCA_SDU.
+    Vca,
+}
+
+/// A good frame. It lends its data field from the record.
+#[derive(Debug, Drop)]
+pub struct Frame<'r> {
+    field: &'r [u8],
+    channel: u8,
+    master_count: u8,
+    count: u8,
+    kind: Kind,
+    secondary_length: u8,
+    has_ocf: bool,
+    order_flag: bool,
+    segment: u8,
+}
+
+impl<'r> Model for Frame<'r> {
+    ghost use Rattle.tm_frame.specs.Frame.{GoodFrame, IsSound};
+
+    ghost Value = { GoodFrame };
+
+    ghost view = { λ a. record {
+      field = a.field.now;
+      channel = a.channel;
+      master_count = a.master_count;
+      count = a.count;
+      kind = a.kind;
+      secondary_length = a.secondary_length;
+      has_ocf = a.has_ocf;
+      order_flag = a.order_flag;
+      segment = a.segment;
+    } };
+
+    ghost invariant = { λ a. IsSound (record {
+      field = a.field.now;
+      channel = a.channel;
+      master_count = a.master_count;
+      count = a.count;
+      kind = a.kind;
+      secondary_length = a.secondary_length;
+      has_ocf = a.has_ocf;
+      order_flag = a.order_flag;
+      segment = a.segment;
+    }) };
+}
+
+impl<'r> Frame<'r> {
+    /// The data field, 1 to 2042 octets, lent from the record.
+    pub fn field(&self) -> &'r [u8]
+        ensures value { result.now ≡ self.now.field }
+        ensures some { 0 < length result.now }
+        ensures most { length result.now ≤ 2042 }
+    {
+        self.field
+    }
+
+    /// The virtual channel, 0 to 7.
+    pub fn channel(&self) -> u8
+        ensures value { result ≡ self.now.channel }
+        ensures below { result < 8 }
+    {
+        self.channel
+    }
+
+    /// The master channel frame count.
+    pub fn master_count(&self) -> u8
+        ensures { result ≡ self.now.master_count }
+    {
+        self.master_count
+    }
+
+    /// The virtual channel frame count.
+    pub fn count(&self) -> u8
+        ensures { result ≡ self.now.count }
+    {
+        self.count
+    }
+
+    /// What the data field holds. The place of a first packet is inside the field.
+    pub fn kind(&self) -> Kind
+        ensures value { result ≡ self.now.kind }
+        ensures inside { IsPlaceBelow (length self.now.field) result }
+    {
+        self.kind
+    }
+
+    /// The octets of the secondary header, 0 without one.
+    pub fn secondary_length(&self) -> u8
+        ensures { result ≡ self.now.secondary_length }
+    {
+        self.secondary_length
+    }
+
+    /// Whether the frame has an operational control field.
+    pub fn has_ocf(&self) -> bool
+        ensures { result ≡ self.now.has_ocf }
+    {
+        self.has_ocf
+    }
+
+    /// The packet order flag.
+    pub fn order_flag(&self) -> bool
+        ensures { result ≡ self.now.order_flag }
+    {
+        self.order_flag
+    }
+
+    /// The segment length identifier, 0 to 3.
+    pub fn segment(&self) -> u8
+        ensures value { result ≡ self.now.segment }
+        ensures below { result < 4 }
+    {
+        self.segment
+    }
+}
+
+/// Reads a record of one record's length: the good frame, or the first fault that applies. Nothing of
+/// a bad frame is given.
+pub fn read<'r>(layout: &Layout, octets: &'r [u8]) -> Result<Frame<'r>, FrameFault>
+    requires { length octets.now ≡ record_length_of layout.now }
+    ensures { result ≡ reading_of layout.now octets.now }
+{
+    let parts = layout.parts();
+    let start = parts.skip_before as usize;
+    let frame = &octets[start..start + parts.frame_length as usize];
+    let header = Header::read(frame);
+    match fault_in(&parts, frame, &header) {
+        Some(fault) => Err(fault),
+        None => Ok(good_frame(&parts, frame, &header)),
+    }
+}
+
+// The frame, in which no fault was found.
+fn good_frame<'r>(parts: &LayoutParts, frame: &'r [u8], header: &Header) -> Frame<'r>
+    requires long { 9 ≤ length frame.now }
+    requires header { header.now ≡ header_of frame.now }
+    requires most { length frame.now ≤ 2048 }
+    requires good { fault_of parts.now frame.now ≡ None }
+    ensures { result ≡ good_frame parts.now frame.now }
+{
+    let start = field_start(frame, header);
+    let end = field_end(parts, frame, header);
+    Frame {
+        field: &frame[start..end],
+        channel: header.channel,
+        master_count: header.master_count,
+        count: header.count,
+        kind: kind_from(header.synchronization, header.pointer),
+        secondary_length: secondary_length(frame, header),
+        has_ocf: header.ocf,
+        order_flag: header.order,
+        segment: header.segment,
+    }
+}
+
+// What the data field holds.
+fn kind_from(synchronization: bool, pointer: u16) -> Kind
+    ensures { result ≡ kind_from synchronization pointer }
+{
+    if synchronization {
+        Kind::Vca
+    } else if pointer == NO_START {
+        Kind::NoStart
+    } else if pointer == IDLE {
+        Kind::Idle
+    } else {
+        Kind::Packets(pointer)
+    }
+}

@@ -1,0 +1,116 @@
+//! The headers of a frame.
+
+ghost use Rattle.std.specs.Prelude.{◌≡◌, ◌≤◌, ◌<◌, ◌+◌, ◌/◌, ◌%◌, ◌^◌, ◌-◌, length};
+ghost use Rattle.tm_frame.specs.Frame.{field_end, field_length, field_start};
+ghost use Rattle.tm_frame.specs.Header.{header_of, secondary_flag, secondary_length_of, secondary_version_of};
+
+use crate::LayoutParts;
+use byteorder::{BigEndian, ByteOrder};
+
+/// The first header pointer of a frame in which no packet starts.
+pub const NO_START: u16 = 2047;
+
+/// The first header pointer of a frame that holds idle data alone.
+pub const IDLE: u16 = 2046;
+
+/// The parts of a frame's primary header, the first header pointer included.
+#[derive(Clone, Copy)]
+pub struct Header {
+    pub version: u8,
+    pub spacecraft: u16,
+    pub channel: u8,
+    pub ocf: bool,
+    pub master_count: u8,
+    pub count: u8,
+    pub secondary: bool,
+    pub synchronization: bool,
+    pub order: bool,
+    pub segment: u8,
+    pub pointer: u16,
+}
+
+impl Header {
+    /// The primary header of a frame.
+    pub fn read(frame: &[u8]) -> Header
+        requires { 6 ≤ length frame.now }
+        ensures { result ≡ header_of frame.now }
+    {
+        let word = BigEndian::read_u48(frame);
+        Header {
+            version: part(word, 0, 2) as u8,
+            spacecraft: part(word, 2, 12),
+            channel: part(word, 12, 15) as u8,
+            ocf: part(word, 15, 16) == 1,
+            master_count: part(word, 16, 24) as u8,
+            count: part(word, 24, 32) as u8,
+            secondary: part(word, 32, 33) == 1,
+            synchronization: part(word, 33, 34) == 1,
+            order: part(word, 34, 35) == 1,
+            segment: part(word, 35, 37) as u8,
+            pointer: part(word, 37, 48),
+        }
+    }
+}
+
+// The number in the bits of a word of 48 bits from `from` up to `to`, the most significant bit being bit 0.
+fn part(word: u64, from: u32, to: u32) -> u16
+    requires ordered { from ≤ to }
+    requires short { to - from ≤ 16 }
+    requires inside { to ≤ 48 }
+    ensures value { result ≡ word / 2 ^ (48 - to) % 2 ^ (to - from) }
+    ensures below { result < 2 ^ (to - from) }
+{
+    let ones = (1u64 << (to - from)) - 1;
+    ((word >> (48 - to)) & ones) as u16
+}
+
+/// The version of the secondary header, in the octet after the primary header.
+pub fn secondary_version(frame: &[u8]) -> u8
+    requires { 9 ≤ length frame.now }
+    ensures { result ≡ secondary_version_of frame.now }
+{
+    frame[6] >> 6
+}
+
+/// The octets of the secondary header, 0 without one.
+pub fn secondary_length(frame: &[u8], header: &Header) -> u8
+    requires long { 9 ≤ length frame.now }
+    requires header { header.now ≡ header_of frame.now }
+    ensures value { result ≡ secondary_length_of frame.now }
+    ensures most { result ≤ 64 }
+{
+    if header.secondary {
+        (frame[6] & 0x3F) + 1
+    } else {
+        0
+    }
+}
+
+/// Where the data field begins, behind the headers.
+pub fn field_start(frame: &[u8], header: &Header) -> usize
+    requires long { 9 ≤ length frame.now }
+    requires header { header.now ≡ header_of frame.now }
+    ensures { result ≡ field_start frame.now }
+{
+    6 + secondary_length(frame, header) as usize
+}
+
+/// Where the data field ends, before the trailers.
+pub fn field_end(parts: &LayoutParts, frame: &[u8], header: &Header) -> usize
+    requires long { 9 ≤ length frame.now }
+    requires header { header.now ≡ header_of frame.now }
+    ensures { result ≡ field_end parts.now frame.now }
+{
+    let ocf = if header.ocf { 4 } else { 0 };
+    let control = if parts.error_control { 2 } else { 0 };
+    frame.len() - (ocf + control)
+}
+
+/// The octets of the data field, 0 where none is left for it.
+pub fn field_length(parts: &LayoutParts, frame: &[u8], header: &Header) -> usize
+    requires long { 9 ≤ length frame.now }
+    requires header { header.now ≡ header_of frame.now }
+    ensures { result ≡ field_length parts.now frame.now }
+{
+    field_end(parts, frame, header).saturating_sub(field_start(frame, header))
+}

@@ -1,0 +1,16 @@
+//! TM transfer frames (CCSDS 132.0-B-3, section 4.1): how a record is laid out, the error control of
+//! octets, and a record read as a good frame or as the first fault that applies.
+#![tactic(auto)]
+
+mod checks;
+mod control;
+mod fault;
+mod frame;
+mod header;
+mod layout;
+mod table;
+
+pub use control::error_control;
+pub use fault::FrameFault;
+pub use frame::{Frame, Kind, read};
+pub use layout::{Layout, LayoutFault, LayoutParts, Presence};

@@ -97,7 +97,8 @@ impl Layout {
 
     /// The octets of one record, skipped ones included.
     pub fn record_length(&self) -> usize
-        ensures { result ≡ record_length_of self.now }
+        ensures value { result ≡ record_length_of self.now }
+        ensures some { 9 ≤ result }
     {
         let LayoutParts {
             frame_length,

@@ -1,0 +1,12 @@
+-- The front of the buffer has what was read, and no call failed yet.
+use Rattle.std.proofs.Common.{length, ◌-◌, ◌≡◌, ◌≤◌, take}
+use Rattle.std.specs.Io.KnownBytes.{Consumes}
+use Rattle.tm_tool.proofs.whole.fill.Given as goal
+
+abbrev pub invariant-loop-filled : goal.invariant-loop-filled
+invariant-loop-filled g l =
+    (l.filled ≤ length l.buffer) × Consumes (g.R.Source.left l.initial.source) (g.R.Source.left l.source) (take l.filled l.buffer)
+    × (g.R.Source.failures l.source ≡ g.R.Source.failures l.initial.source)
+
+abbrev pub decreases-loop-filled : goal.decreases-loop-filled
+decreases-loop-filled g l = length l.initial.buffer - l.filled

@@ -1,0 +1,23 @@
+-- What the calls of a device do to its octets and to its count of failures.
+use Rattle.std.specs.Prelude.{◌≡◌, ◌+◌, ◌-◌, ◌^◌, ◌<◌, ◌≤◌, ℕ, min, List, ◌++◌, length, Option, Result, MatchResult}
+use Rattle.std.specs.Io.KnownBytes.{Appends, Consumes, IsAtEnd}
+
+-- the greatest count
+abbrev pub greatest : ℕ
+greatest = 2 ^ 64 - 1
+
+-- a count that rises by one and stays at its greatest value
+abbrev pub raised : ℕ → ℕ
+raised n = min (n + 1) greatest
+
+-- each Err raises the count, and nothing else does
+abbrev pub Counts : {T E : Type 0} → ℕ → ℕ → Result T E → Type 0
+Counts old new r = MatchResult r (λ _. new ≡ old) (λ _. new ≡ raised old)
+
+-- n octets of so many, at least one if there is one
+abbrev pub TakesSome : ℕ → ℕ → Type 0
+TakesSome n all = (n ≤ all) × (0 < all → 0 < n)
+
+-- known octets grew by the front of these
+abbrev pub AppendsFront : Option (List ℕ) → Option (List ℕ) → List ℕ → Type 0
+AppendsFront old new octets = (front rest : List ℕ) × (octets ≡ front ++ rest) × Appends old new front

@@ -1,0 +1,26 @@
+-- What a fault says of the devices' counts of failures: a fault of a device comes only where that device's count rose.
+use Rattle.std.specs.Prelude.{◌≡◌, ℕ, Result, MatchResult}
+use Rattle.tm_tool.specs.Devices.{raised}
+use Rattle.tm_tool.specs.declared.fault.RunFault.{RunFault}
+use Rattle.tm_tool.specs.declared.fault.RunFault.TheVariants.{Read, Write, TooMany, NoMemory}
+
+-- `Read` where the source's count rose, `Write` where the drain's did, and no other count rises
+abbrev pub Caused : ℕ → ℕ → ℕ → ℕ → RunFault → Type 0
+Caused source_old source_new out_old out_new Read = (source_new ≡ raised source_old) × (out_new ≡ out_old)
+Caused source_old source_new out_old out_new Write = (source_new ≡ source_old) × (out_new ≡ raised out_old)
+Caused source_old source_new out_old out_new TooMany = (source_new ≡ source_old) × (out_new ≡ out_old)
+Caused source_old source_new out_old out_new NoMemory = (source_new ≡ source_old) × (out_new ≡ out_old)
+
+abbrev pub FaultsCounted : {T : Type 0} → ℕ → ℕ → ℕ → ℕ → Result T RunFault → Type 0
+FaultsCounted source_old source_new out_old out_new r =
+    MatchResult r (λ _. (source_new ≡ source_old) × (out_new ≡ out_old)) (Caused source_old source_new out_old out_new)
+
+-- what writing answers
+abbrev pub WriteCaused : ℕ → ℕ → RunFault → Type 0
+WriteCaused old new Read = ⊥
+WriteCaused old new Write = new ≡ raised old
+WriteCaused old new TooMany = ⊥
+WriteCaused old new NoMemory = new ≡ old
+
+abbrev pub WritesCounted : {T : Type 0} → ℕ → ℕ → Result T RunFault → Type 0
+WritesCounted old new r = MatchResult r (λ _. new ≡ old) (WriteCaused old new)

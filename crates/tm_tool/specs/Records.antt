@@ -1,0 +1,22 @@
+-- A recording is cut at the multiples of the record length. The whole pieces are its records, numbered from 0; what is
+-- left is its rest.
+use Rattle.std.specs.Prelude.{◌≡◌, ⊤, ℕ, zero, suc, ◌*◌, ◌/◌, List, [], ◌∷◌, length, take, drop}
+
+-- the first so many pieces
+abbrev pub pieces : ℕ → ℕ → List ℕ → List (List ℕ)
+pieces size zero octets = []
+pieces size (suc n) octets = take size octets ∷ pieces size n (drop size octets)
+
+abbrev pub record_count : ℕ → List ℕ → ℕ
+record_count size recording = length recording / size
+
+unfoldable pub records : ℕ → List ℕ → List (List ℕ)
+records size recording = pieces size (record_count size recording) recording
+
+unfoldable pub rest_of : ℕ → List ℕ → List ℕ
+rest_of size recording = drop (record_count size recording * size) recording
+
+-- each of these is one record long
+abbrev pub AreRecords : ℕ → List (List ℕ) → Type 0
+AreRecords size [] = ⊤
+AreRecords size (r ∷ rs) = (length r ≡ size) × AreRecords size rs

@@ -1,0 +1,161 @@
+-- What a settings text says: a TOML document, by `toml`'s own definition of one.
+use Rattle.std.specs.Prelude.{◌≡◌, ℕ, ℤ, pos, Bool, true, false, not, ◌&&◌, ◌==◌, nat_le, if◌then◌else◌, List, [], ◌∷◌, map, length, Option, Some, None, option_map, option_and_then, Result, Ok, Err, codes}
+use Rattle.std.specs.List.{list_all, list_any}
+use Rattle.std.specs.Cmp.Lexicographic.{slice_cmp}
+use Rattle.std.specs.Ordering.{is_lt, nat_cmp}
+use Rattle.std.specs.Str.{bytes_eq}
+use Rattle.toml.specs.Data.{Data, Items, no_items, item, Members, no_members, member, get_member, as_integer, as_bool, as_str, as_array}
+use Rattle.tm_frame.specs.declared.layout.LayoutParts.{LayoutParts}
+use Rattle.tm_frame.specs.declared.layout.Presence.{Presence}
+use Rattle.tm_frame.specs.declared.layout.Presence.TheVariants.{Flag, Always, Never}
+use Rattle.tm_tool.specs.declared.key.Key.{Key}
+use Rattle.tm_tool.specs.declared.key.Key.TheVariants.{Spacecraft, FrameLength, SkipBefore, SkipAfter, Secondary, Ocf, ErrorControl, Channels}
+use Rattle.tm_tool.specs.declared.fault.SettingsFault.{SettingsFault}
+use Rattle.tm_tool.specs.declared.fault.SettingsFault.TheVariants.{Toml, Unknown, Missing, Kind, Range}
+use Rattle.tm_tool.specs.Keys.{name_of, is_name}
+
+-- what the settings are: the layout of a record, and for each channel from 0 whether it is chosen
+pub record Choices : Type 0 where
+  pub layout : LayoutParts
+  pub channels : List Bool
+
+-- ---- unknown keys
+
+-- the keys of a document that name no setting
+abbrev pub unknown_keys : Members → List (List ℕ)
+unknown_keys no_members = []
+unknown_keys (member k d ms) = if is_name k then unknown_keys ms else k ∷ unknown_keys ms
+
+-- the least of a text and some others, by their octets
+abbrev pub least_of : List ℕ → List (List ℕ) → List ℕ
+least_of k [] = k
+least_of k (l ∷ ls) = if is_lt (slice_cmp nat_cmp l k) then least_of l ls else least_of k ls
+
+abbrev pub least : List (List ℕ) → Option (List ℕ)
+least [] = None
+least (k ∷ ks) = Some (least_of k ks)
+
+-- ---- one value
+
+abbrev pub Read : Type 0 → Type 0
+Read A = Result A SettingsFault
+
+abbrev pub read_and_then : {A B : Type 0} → Read A → (A → Read B) → Read B
+read_and_then (Ok x) f = f x
+read_and_then (Err e) f = Err e
+
+-- the value of a key that must be there
+abbrev pub required : {A : Type 0} → Key → (Data → Read A) → Option Data → Read A
+required key read None = Err (Missing key)
+required key read (Some d) = read d
+
+-- the value of a key that has a default
+abbrev pub optional : {A : Type 0} → A → (Data → Read A) → Option Data → Read A
+optional default read None = Ok default
+optional default read (Some d) = read d
+
+-- a value that has to be of its kind
+abbrev pub of_kind : {A B : Type 0} → Key → (B → Read A) → Option B → Read A
+of_kind key read None = Err (Kind key)
+of_kind key read (Some x) = read x
+
+-- a value that has to be in its range
+abbrev pub of_range : {A : Type 0} → Key → Option A → Read A
+of_range key None = Err (Range key)
+of_range key (Some x) = Ok x
+
+abbrev pub number_between : ℕ → ℕ → ℤ → Option ℕ
+number_between low high (pos n) = if nat_le low n && nat_le n high then Some n else None
+number_between low high _ = None
+
+-- an integer in its range
+abbrev pub number_of : Key → ℕ → ℕ → Data → Read ℕ
+number_of key low high d = of_kind key (λ z. of_range key (number_between low high z)) (as_integer d)
+
+-- a boolean
+abbrev pub truth_of : Key → Data → Read Bool
+truth_of key d = of_kind key (λ b. Ok b) (as_bool d)
+
+abbrev pub presence_named : List ℕ → Option Presence
+presence_named word = if bytes_eq word (codes "flag") then Some Flag
+    else (if bytes_eq word (codes "always") then Some Always
+    else (if bytes_eq word (codes "never") then Some Never else None))
+
+-- one of three words
+abbrev pub presence_of : Key → Data → Read Presence
+presence_of key d = of_kind key (λ word. of_range key (presence_named word)) (as_str d)
+
+-- ---- channels
+
+-- the integers of an array, where each element is one
+abbrev pub integers : Items → Option (List ℤ)
+integers no_items = Some []
+integers (item d ds) = option_and_then (λ z. option_map (λ zs. z ∷ zs) (integers ds)) (as_integer d)
+
+-- the channel of a number, or 8, which no channel has
+abbrev pub channel_number : ℤ → ℕ
+channel_number (pos n) = if nat_le n 7 then n else 8
+channel_number _ = 8
+
+-- no number stands twice
+abbrev pub are_distinct : List ℕ → Bool
+are_distinct [] = true
+are_distinct (n ∷ ns) = not (list_any (λ m. m == n) ns) && are_distinct ns
+
+-- at least one channel, and each once
+abbrev pub is_choice : List ℕ → Bool
+is_choice ns = (not (length ns == 0) && list_all (λ n. nat_le n 7) ns) && are_distinct ns
+
+-- for each channel whether the list has it
+abbrev pub chosen_in : List ℕ → List Bool
+chosen_in ns = map (λ c. list_any (λ m. m == c) ns) (0 ∷ 1 ∷ 2 ∷ 3 ∷ 4 ∷ 5 ∷ 6 ∷ 7 ∷ [])
+
+abbrev pub choice_of : List ℕ → Option (List Bool)
+choice_of ns = if is_choice ns then Some (chosen_in ns) else None
+
+-- an array of channels
+abbrev pub channels_of : Key → Data → Read (List Bool)
+channels_of key d = of_kind key (λ zs. of_range key (choice_of (map channel_number zs)))
+    (option_and_then integers (as_array d))
+
+abbrev pub every_channel : List Bool
+every_channel = true ∷ true ∷ true ∷ true ∷ true ∷ true ∷ true ∷ true ∷ []
+
+-- ---- the settings
+
+-- what a document has at a key
+abbrev pub at : Key → Members → Option Data
+at key ms = get_member (name_of key) ms
+
+-- the keys in the order of the table, the first with a fault deciding
+abbrev pub choices_from : Members → Read Choices
+choices_from ms =
+    read_and_then (required Spacecraft (number_of Spacecraft 0 1023) (at Spacecraft ms)) (λ spacecraft.
+    read_and_then (required FrameLength (number_of FrameLength 9 2048) (at FrameLength ms)) (λ frame_length.
+    read_and_then (optional 0 (number_of SkipBefore 0 1024) (at SkipBefore ms)) (λ skip_before.
+    read_and_then (optional 0 (number_of SkipAfter 0 1024) (at SkipAfter ms)) (λ skip_after.
+    read_and_then (optional Flag (presence_of Secondary) (at Secondary ms)) (λ secondary.
+    read_and_then (optional Flag (presence_of Ocf) (at Ocf ms)) (λ ocf.
+    read_and_then (required ErrorControl (truth_of ErrorControl) (at ErrorControl ms)) (λ error_control.
+    read_and_then (optional every_channel (channels_of Channels) (at Channels ms)) (λ channels.
+    Ok (record {
+      layout = record {
+        frame_length = frame_length;
+        skip_before = skip_before;
+        skip_after = skip_after;
+        spacecraft = spacecraft;
+        secondary = secondary;
+        ocf = ocf;
+        error_control = error_control;
+      };
+      channels = channels;
+    })))))))))
+
+abbrev pub unless_unknown : {A : Type 0} → Option (List ℕ) → Read A → Read A
+unless_unknown None read = read
+unless_unknown (Some key) read = Err (Unknown key)
+
+-- what a text says, where this is its document
+abbrev pub settings_from : Option Members → Read Choices
+settings_from None = Err Toml
+settings_from (Some ms) = unless_unknown (least (unknown_keys ms)) (choices_from ms)

@@ -1,0 +1,51 @@
+//! Why settings are refused, and why a run ends.
+
+ghost use Rattle.std.specs.Prelude.{◌≡◌};
+
+use crate::{Key, Octets};
+use std::alloc::AllocError;
+use thiserror::Error;
+
+/// Why a text is no settings.
+#[derive(Debug, Drop)]
+pub enum SettingsFault {
+    /// The text is not UTF-8, or is no TOML document.
+    Toml,
+    /// It has keys that name no setting, of which this is the least by its octets.
+    Unknown(Octets),
+    /// This key has to be there.
+    Missing(Key),
+    /// The value of this key is of another kind.
+    Kind(Key),
+    /// The value of this key is none that it may have.
+    Range(Key),
+    /// Memory ran out.
+    NoMemory,
+}
+
+/// Why a run ended before its end.
+#[derive(Clone, Copy, Debug, Error, PartialEq, Eq)]
+pub enum RunFault {
+    /// A read of the recording failed.
+    #[error("read failed")]
+    Read,
+    /// A write or a flush of the output failed.
+    #[error("write failed")]
+    Write,
+    /// A whole record followed the greatest number of records, 2^32 - 1.
+    #[error("too many records")]
+    TooMany,
+    /// Memory ran out.
+    #[error("out of memory")]
+    NoMemory,
+}
+
+impl From<AllocError> for RunFault {
+    ghost use Rattle.tm_tool.specs.declared.fault.RunFault.TheVariants.{NoMemory};
+
+    ghost from_gives = { λ _ e. e ≡ NoMemory };
+
+    fn from(_: AllocError) -> Self {
+        RunFault::NoMemory
+    }
+}

@@ -1,0 +1,36 @@
+//! The keys of the settings.
+
+ghost use Rattle.std.specs.Prelude.{◌≡◌};
+
+/// A key of the settings, in the order in which their faults are looked for.
+#[derive(Clone, Copy, Debug, PartialEq, Eq)]
+pub enum Key {
+    Spacecraft,
+    FrameLength,
+    SkipBefore,
+    SkipAfter,
+    Secondary,
+    Ocf,
+    ErrorControl,
+    Channels,
+}
+
+impl Key {
+    ghost use Rattle.tm_tool.specs.Keys.{name_of};
+
+    /// The key as it is written.
+    pub fn word(self) -> &'static str
+        ensures { result.now ≡ name_of self }
+    {
+        match self {
+            Key::Spacecraft => "spacecraft",
+            Key::FrameLength => "frame_length",
+            Key::SkipBefore => "skip_before",
+            Key::SkipAfter => "skip_after",
+            Key::Secondary => "secondary",
+            Key::Ocf => "ocf",
+            Key::ErrorControl => "error_control",
+            Key::Channels => "channels",
+        }
+    }
+}

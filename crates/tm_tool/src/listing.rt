@@ -1,0 +1,126 @@
+//! A line for each frame of a recording.
+
+ghost use Rattle.std.specs.Prelude.{◌≡◌, ◌<◌, ◌≤◌, ◌-◌, ◌^◌, ℕ, List, length, take, IfOk, IfErr, OnOk, OnErr, IfSome, IsErrOf, string_bytes};
+ghost use Rattle.std.specs.List.{concat};
+ghost use Rattle.std.specs.Io.KnownBytes.{Appends, Consumes, IsAtEnd, Keeps};
+ghost use Rattle.tm_frame.specs.Layout.{record_length_of};
+ghost use Rattle.tm_tool.specs.Cuts.{AppendsCut, AppendsWhole};
+ghost use Rattle.tm_tool.specs.Devices.{AppendsFront, Counts};
+ghost use Rattle.tm_tool.specs.Faults.{FaultsCounted, WritesCounted};
+ghost use Rattle.tm_tool.specs.Listing.{IsListed, IsStopped, LineStopped, listing, record_line, rest_lines};
+ghost use Rattle.tm_tool.specs.Records.{record_count};
+
+use crate::lines::{bad_text, frame_text, short_text};
+use crate::whole::{fill, put_all};
+use crate::{Drain, RunFault, Settings, Source};
+use std::alloc::{AllocError, Global};
+use tm_frame::{Layout, read};
+
+// The line of a record.
+#[tactic(auto, unfolding(crate::specs::Listing::record_line))]
+fn record_text(alloc: Global, layout: &Layout, seen: u32, octets: &[u8]) -> Result<String, AllocError>
+    requires { length octets.now ≡ record_length_of layout.now }
+    ensures { IfOk result (λ line. string_bytes line ≡ record_line layout.now seen octets.now) }
+{
+    match read(layout, octets) {
+        Ok(frame) => frame_text(alloc, seen, &frame),
+        Err(fault) => bad_text(alloc, seen, fault),
+    }
+}
+
+// Writes the line of a record.
+fn put_record<W: Drain>(
+    alloc: Global,
+    layout: &Layout,
+    seen: u32,
+    octets: &[u8],
+    out: &mut W,
+) -> Result<(), RunFault>
+    requires { length octets.now ≡ record_length_of layout.now }
+    ensures whole { OnOk result (Appends (W.written out.old) (W.written out.new) (record_line layout.now seen octets.now)) }
+    ensures stopped { IfErr result (LineStopped (W.written out.old) (W.written out.new) (record_line layout.now seen octets.now)) }
+    ensures counts { WritesCounted (W.failures out.old) (W.failures out.new) result }
+{
+    let line = record_text(alloc, layout, seen, octets)?;
+    put_all(out, line.as_bytes()).map_err(|_| RunFault::Write)
+}
+
+// Writes the line of a rest, if there is one, and flushes.
+fn put_end<W: Drain>(alloc: Global, seen: u32, octets: usize, out: &mut W) -> Result<(), RunFault>
+    ensures whole { OnOk result (Appends (W.written out.old) (W.written out.new) (concat (rest_lines seen octets))) }
+    ensures flushed { OnOk result (Keeps (W.flushed out.new) (W.written out.new)) }
+    ensures stopped { IfErr result (LineStopped (W.written out.old) (W.written out.new) (concat (rest_lines seen octets))) }
+    ensures counts { WritesCounted (W.failures out.old) (W.failures out.new) result }
+{
+    if octets > 0 {
+        let line = short_text(alloc, seen, octets)?;
+        put_all(out, line.as_bytes()).map_err(|_| RunFault::Write)?;
+    }
+    out.flush().map_err(|_| RunFault::Write)
+}
+
+// Lists records that are read one at a time into this buffer.
+fn list_records<R: Source, W: Drain>(
+    alloc: Global,
+    layout: &Layout,
+    buffer: &mut [u8],
+    recording: &mut R,
+    out: &mut W,
+) -> Result<u32, RunFault>
+    requires exact { length buffer.old ≡ record_length_of layout.now }
+    requires some { 0 < length buffer.old }
+    ensures listed { IfOk result (IsListed layout.now (R.left recording.old) (R.left recording.new) (W.written out.old) (W.written out.new)) }
+    ensures flushed { OnOk result (Keeps (W.flushed out.new) (W.written out.new)) }
+    ensures stopped { IfErr result (IsStopped layout.now (R.left recording.old) (R.left recording.new) (W.written out.old) (W.written out.new)) }
+    ensures counts { FaultsCounted (R.failures recording.old) (R.failures recording.new) (W.failures out.old) (W.failures out.new) result }
+{
+    let mut seen = 0u32;
+    loop {
+        let Ok(octets) = fill(recording, buffer) else {
+            return Err(RunFault::Read);
+        };
+        if octets < buffer.len() {
+            put_end(alloc, seen, octets, out)?;
+            return Ok(seen);
+        }
+        if seen == u32::MAX {
+            return Err(RunFault::TooMany);
+        }
+        put_record(alloc, layout, seen, buffer, out)?;
+        seen += 1;
+    }
+}
+
+/// Writes a line for each record of the recording, of any channel, and one for octets that are left,
+/// and flushes. It answers the number of records. One record is read at a time.
+pub fn list_frames<R: Source, W: Drain>(
+    alloc: Global,
+    settings: &Settings,
+    recording: &mut R,
+    out: &mut W,
+) -> Result<u32, RunFault>
+    // With Ok just the lines of the recording were written, and passed on.
+    ensures listed { IfOk result (λ count. IfSome (R.left recording.old) (λ all.
+        Appends (W.written out.old) (W.written out.new) (concat (listing settings.now.layout all))
+        × (count ≡ record_count (record_length_of settings.now.layout) all))) }
+    ensures ended { OnOk result (IsAtEnd (R.left recording.new)) }
+    ensures flushed { OnOk result (Keeps (W.flushed out.new) (W.written out.new)) }
+
+    // After a fault there is one place up to which these lines were written; without memory it is a line's end.
+    ensures cut { IfErr result (λ _. IfSome (R.left recording.old) (λ all.
+        AppendsCut (W.written out.old) (W.written out.new) (listing settings.now.layout all))) }
+    ensures memory { IsErrOf result RunFault.NoMemory → IfSome (R.left recording.old) (λ all.
+        AppendsWhole (W.written out.old) (W.written out.new) (listing settings.now.layout all)) }
+
+    // What was read by then: nothing past the record whose line was being written.
+    ensures stopped { IfErr result (IsStopped settings.now.layout (R.left recording.old) (R.left recording.new) (W.written out.old) (W.written out.new)) }
+    ensures too_many { IsErrOf result RunFault.TooMany → IfSome (R.left recording.old) (λ all.
+        2 ^ 32 - 1 < record_count (record_length_of settings.now.layout) all) }
+
+    // A device is blamed only where a call of it failed.
+    ensures counts { FaultsCounted (R.failures recording.old) (R.failures recording.new) (W.failures out.old) (W.failures out.new) result }
+{
+    let layout = settings.layout();
+    let mut record = vec![in alloc; 0u8; layout.record_length()]?;
+    list_records(alloc, &layout, record.as_mut_slice(), recording, out)
+}

@@ -1,0 +1,152 @@
+//! The settings of a recording.
+
+ghost use Rattle.std.specs.Prelude.{◌≡◌, ◌≢◌, ◌≤◌, List, Err, Ok, Some, option_map, option_copied, string_bytes, find, not, IfOk, IfErr, IsUtf8};
+ghost use Rattle.std.specs.BTreeMap.{keys, IsOrdered};
+ghost use Rattle.std.specs.String.{string_cmp};
+ghost use Rattle.toml.specs.Parse.{parse_document};
+ghost use Rattle.toml.specs.View.{table_view};
+ghost use Rattle.tm_frame.specs.Layout.{IsInRange};
+ghost use Rattle.tm_tool.specs.Keys.{is_name};
+ghost use Rattle.tm_tool.specs.Settings.{choices_from, least, settings_from, unknown_keys};
+
+use crate::values::{channels_at, number_at, presence_at, skip_at, truth_at};
+use crate::{Key, Octets, SettingsFault};
+use std::alloc::Global;
+use std::marker::Model;
+use tm_frame::{Layout, LayoutParts};
+use toml::Table;
+
+/// The settings of a recording.
+#[derive(Debug, Drop)]
+pub struct Settings {
+    layout: Layout,
+    channels: [bool; 8],
+}
+
+impl Model for Settings {
+    ghost use Rattle.tm_tool.specs.Settings.{Choices};
+
+    ghost Value = { Choices };
+
+    ghost view = { λ s. record {
+      layout = s.layout;
+      channels = s.channels;
+    } };
+}
+
+// The text is the name of a setting.
+fn is_setting(name: &str) -> bool
+    ensures { result ≡ is_name name.now }
+{
+    name == "spacecraft"
+        || name == "frame_length"
+        || name == "skip_before"
+        || name == "skip_after"
+        || name == "secondary"
+        || name == "ocf"
+        || name == "error_control"
+        || name == "channels"
+}
+
+// The first key that names no setting, in the order of the keys.
+fn first_unknown(table: &Table) -> Option<&String>
+    ensures found { option_copied result ≡ find (λ k. not (is_name (string_bytes k))) (keys table.now) }
+    ensures ordered { IsOrdered string_cmp table.now }
+{
+    table.keys().find(|key| !is_setting(key.as_str()))
+}
+
+// The least key that names no setting.
+fn unknown_key(table: &Table) -> Option<&String>
+    ensures { option_map (λ k. string_bytes k.now) result ≡ least (unknown_keys (table_view table.now)) }
+{
+    first_unknown(table)
+}
+
+// The layout of parts in range.
+fn layout_of(parts: LayoutParts) -> Layout
+    requires { IsInRange parts }
+    ensures { result ≡ parts }
+{
+    match Layout::new(parts) {
+        Ok(layout) => layout,
+        Err(_) => unreachable!(),
+    }
+}
+
+// The settings of a document whose keys are all known.
+fn read_choices(alloc: Global, table: &Table) -> Result<Settings, SettingsFault>
+    ensures ok { IfOk result (λ s. choices_from (table_view table.now) ≡ Ok s) }
+    ensures refused { IfErr result (λ f. f ≢ SettingsFault.NoMemory → choices_from (table_view table.now) ≡ Err f) }
+{
+    let spacecraft = number_at(table, Key::Spacecraft, 0, 1023)?;
+    let frame_length = number_at(table, Key::FrameLength, 9, 2048)?;
+    let skip_before = skip_at(table, Key::SkipBefore)?;
+    let skip_after = skip_at(table, Key::SkipAfter)?;
+    let secondary = presence_at(table, Key::Secondary)?;
+    let ocf = presence_at(table, Key::Ocf)?;
+    let error_control = truth_at(table, Key::ErrorControl)?;
+    let channels = channels_at(alloc, table, Key::Channels)?;
+    let layout = layout_of(LayoutParts {
+        frame_length,
+        skip_before,
+        skip_after,
+        spacecraft,
+        secondary,
+        ocf,
+        error_control,
+    });
+    Ok(Settings { layout, channels })
+}
+
+// The settings of a document.
+fn read_table(alloc: Global, table: &Table) -> Result<Settings, SettingsFault>
+    ensures ok { IfOk result (λ s. settings_from (Some (table_view table.now)) ≡ Ok s) }
+    ensures refused { IfErr result (λ f. f ≢ SettingsFault.NoMemory → settings_from (Some (table_view table.now)) ≡ Err f) }
+{
+    match unknown_key(table) {
+        Some(key) => match Vec::from_slice(alloc, key.as_bytes()) {
+            Ok(octets) => Err(SettingsFault::Unknown(Octets::new(octets))),
+            Err(_) => Err(SettingsFault::NoMemory),
+        },
+        None => read_choices(alloc, table),
+    }
+}
+
+impl Settings {
+    /// The settings that a text says: a TOML document with the keys `spacecraft` (0 to 1023),
+    /// `frame_length` (9 to 2048), `skip_before` and `skip_after` (0 to 1024), `secondary` and `ocf`
+    /// (`"flag"`, `"always"` or `"never"`), `error_control` (a boolean) and `channels` (distinct numbers
+    /// 0 to 7, at least one). `spacecraft`, `frame_length` and `error_control` have to be there.
+    pub fn read(alloc: Global, text: &[u8]) -> Result<Settings, SettingsFault>
+        // Settings and refusals are those that the document says, by `toml`'s own definition of one.
+        ensures ok { IfOk result (λ s. IsUtf8 text.now × (settings_from (parse_document text.now) ≡ Ok s)) }
+        ensures refused { IfErr result (λ f. f ≢ SettingsFault.NoMemory → IsUtf8 text.now
+            → settings_from (parse_document text.now) ≡ Err f) }
+
+        // Octets that are no text are no document, which takes no memory to tell.
+        ensures not_text { ¬ (IsUtf8 text.now) → result ≡ Err SettingsFault.Toml }
+        ensures memory { result ≡ Err SettingsFault.NoMemory → IsUtf8 text.now }
+    {
+        let Ok(text) = std::str::from_utf8(text) else {
+            return Err(SettingsFault::Toml);
+        };
+        match toml::table_from_str(alloc, text) {
+            Ok(table) => read_table(alloc, &table),
+            Err(error) => {
+                if error.is_memory() {
+                    Err(SettingsFault::NoMemory)
+                } else {
+                    Err(SettingsFault::Toml)
+                }
+            }
+        }
+    }
+
+    /// How a record is laid out.
+    pub fn layout(&self) -> Layout
+        ensures { result ≡ self.now.layout }
+    {
+        self.layout
+    }
+}

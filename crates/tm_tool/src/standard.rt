@@ -1,0 +1,74 @@
+//! Readers and writers of std as devices.
+
+use crate::{DeviceFailed, Drain, Source};
+use std::io::{Read, Write};
+
+/// A reader of std. Each error of it is a failure.
+#[derive(Drop)]
+pub struct Reading<R> {
+    reader: R,
+    failed: u64,
+}
+
+impl<R: Read> Reading<R> {
+    /// A source over the reader, with no failure yet.
+    pub fn new(reader: R) -> Self {
+        Reading { reader, failed: 0 }
+    }
+}
+
+impl<R: Read> Source for Reading<R> {
+    ghost failures = { λ s. s.failed };
+
+    ghost left = { λ s. R.remaining s.reader };
+
+    fn read(&mut self, buffer: &mut [u8]) -> Result<usize, DeviceFailed> {
+        match self.reader.read(buffer) {
+            Ok(n) => Ok(n),
+            Err(_) => {
+                self.failed = self.failed.saturating_add(1);
+                Err(DeviceFailed)
+            }
+        }
+    }
+}
+
+/// A writer of std. Each error of it, and a write of nothing, is a failure.
+#[derive(Drop)]
+pub struct Writing<W> {
+    writer: W,
+    failed: u64,
+}
+
+impl<W: Write> Writing<W> {
+    /// A drain into the writer, with no failure yet.
+    pub fn new(writer: W) -> Self {
+        Writing { writer, failed: 0 }
+    }
+}
+
+impl<W: Write> Drain for Writing<W> {
+    ghost failures = { λ s. s.failed };
+
+    ghost written = { λ s. W.contents s.writer };
+
+    fn write(&mut self, octets: &[u8]) -> Result<usize, DeviceFailed> {
+        match self.writer.write(octets) {
+            Ok(n) if 0 < n || octets.is_empty() => Ok(n),
+            _ => {
+                self.failed = self.failed.saturating_add(1);
+                Err(DeviceFailed)
+            }
+        }
+    }
+
+    fn flush(&mut self) -> Result<(), DeviceFailed> {
+        match self.writer.flush() {
+            Ok(()) => Ok(()),
+            Err(_) => {
+                self.failed = self.failed.saturating_add(1);
+                Err(DeviceFailed)
+            }
+        }
+    }
+}

@@ -1,0 +1,221 @@
+//! The values of the settings, one by one.
+
+ghost use Rattle.std.specs.Prelude.{◌≡◌, ◌≢◌, ◌≤◌, ◌+◌, List, Bool, Err, Ok, Some, option_map, map, nat_le, IfOk, IfErr};
+ghost use Rattle.std.specs.List.{list_all};
+ghost use Rattle.toml.specs.View.{view, items_view, table_view};
+ghost use Rattle.tm_tool.specs.Settings.{are_distinct, at, channel_number, channels_of, choice_of, chosen_in, every_channel, integers, is_choice, number_between, number_of, optional, presence_named, presence_of, required, truth_of};
+
+use crate::{Key, SettingsFault};
+use std::alloc::{AllocError, Global};
+use tm_frame::Presence;
+use toml::{Table, Value};
+
+// What a document has at a key.
+fn value_at(table: &Table, key: Key) -> Option<&Value>
+    ensures { option_map (λ v. view v.now) result ≡ at key (table_view table.now) }
+{
+    table.get(key.word())
+}
+
+// ---- numbers
+
+// A number in its range.
+fn number_in(low: u32, high: u32, number: i64) -> Option<u32>
+    ensures value { result ≡ number_between low high number }
+{
+    match u32::try_from(number) {
+        Ok(n) if low <= n && n <= high => Some(n),
+        _ => None,
+    }
+}
+
+fn read_number(key: Key, low: u32, high: u32, value: &Value) -> Result<u32, SettingsFault>
+    ensures { result ≡ number_of key low high (view value.now) }
+{
+    match value.as_integer() {
+        Some(number) => match number_in(low, high, number) {
+            Some(n) => Ok(n),
+            None => Err(SettingsFault::Range(key)),
+        },
+        None => Err(SettingsFault::Kind(key)),
+    }
+}
+
+/// A number that has to be there.
+pub fn number_at(table: &Table, key: Key, low: u32, high: u32) -> Result<u32, SettingsFault>
+    ensures { result ≡ required key (number_of key low high) (at key (table_view table.now)) }
+{
+    match value_at(table, key) {
+        Some(value) => read_number(key, low, high, value),
+        None => Err(SettingsFault::Missing(key)),
+    }
+}
+
+/// A number of skipped octets, 0 where it is absent.
+pub fn skip_at(table: &Table, key: Key) -> Result<u32, SettingsFault>
+    ensures { result ≡ optional 0 (number_of key 0 1024) (at key (table_view table.now)) }
+{
+    match value_at(table, key) {
+        Some(value) => read_number(key, 0, 1024, value),
+        None => Ok(0),
+    }
+}
+
+// ---- booleans and words
+
+/// A boolean that has to be there.
+pub fn truth_at(table: &Table, key: Key) -> Result<bool, SettingsFault>
+    ensures { result ≡ required key (truth_of key) (at key (table_view table.now)) }
+{
+    match value_at(table, key) {
+        Some(value) => match value.as_bool() {
+            Some(truth) => Ok(truth),
+            None => Err(SettingsFault::Kind(key)),
+        },
+        None => Err(SettingsFault::Missing(key)),
+    }
+}
+
+// The presence of this name.
+fn presence_by_name(word: &str) -> Option<Presence>
+    ensures { result ≡ presence_named word.now }
+{
+    if word == "flag" {
+        Some(Presence::Flag)
+    } else if word == "always" {
+        Some(Presence::Always)
+    } else if word == "never" {
+        Some(Presence::Never)
+    } else {
+        None
+    }
+}
+
+fn read_presence(key: Key, value: &Value) -> Result<Presence, SettingsFault>
+    ensures { result ≡ presence_of key (view value.now) }
+{
+    match value.as_str() {
+        Some(word) => match presence_by_name(word) {
+            Some(presence) => Ok(presence),
+            None => Err(SettingsFault::Range(key)),
+        },
+        None => Err(SettingsFault::Kind(key)),
+    }
+}
+
+/// A presence, by the frame's flag where it is absent.
+pub fn presence_at(table: &Table, key: Key) -> Result<Presence, SettingsFault>
+    ensures { result ≡ optional Presence.Flag (presence_of key) (at key (table_view table.now)) }
+{
+    match value_at(table, key) {
+        Some(value) => read_presence(key, value),
+        None => Ok(Presence::Flag),
+    }
+}
+
+// ---- channels
+
+// Each number is a channel.
+fn are_channels(numbers: &[u8]) -> bool
+    ensures { result ≡ list_all (λ n. nat_le n 7) numbers.now }
+{
+    numbers.iter().all(|n| *n <= 7)
+}
+
+// No number stands twice.
+fn are_distinct(numbers: &[u8]) -> bool
+    ensures { result ≡ are_distinct numbers.now }
+{
+    match numbers {
+        [] => true,
+        [first, rest @ ..] => !rest.contains(first) && are_distinct(rest),
+    }
+}
+
+// At least one channel, and each once. Among channels the recursion ends at the ninth number.
+fn is_choice(numbers: &[u8]) -> bool
+    ensures { result ≡ is_choice numbers.now }
+{
+    !numbers.is_empty() && are_channels(numbers) && are_distinct(numbers)
+}
+
+// For each channel whether the list has it.
+fn chosen_in(numbers: &[u8]) -> [bool; 8]
+    ensures { result ≡ chosen_in numbers.now }
+{
+    [
+        numbers.contains(&0),
+        numbers.contains(&1),
+        numbers.contains(&2),
+        numbers.contains(&3),
+        numbers.contains(&4),
+        numbers.contains(&5),
+        numbers.contains(&6),
+        numbers.contains(&7),
+    ]
+}
+
+// The choice of channels that a list makes.
+fn choice_of(numbers: &[u8]) -> Option<[bool; 8]>
+    ensures { result ≡ choice_of numbers.now }
+{
+    if is_choice(numbers) {
+        Some(chosen_in(numbers))
+    } else {
+        None
+    }
+}
+
+// The channel of a number, or 8.
+fn channel_by(number: i64) -> u8
+    ensures { result ≡ channel_number number }
+{
+    match u8::try_from(number) {
+        Ok(n) if n <= 7 => n,
+        _ => 8,
+    }
+}
+
+// The channels of an array, where its elements are integers.
+fn channel_numbers(alloc: Global, array: &[Value]) -> Result<Option<Vec<u8>>, AllocError>
+    ensures { IfOk result (λ found. option_map (λ v. v.items) found
+        ≡ option_map (map channel_number) (integers (items_view array.now))) }
+{
+    let mut numbers = Vec::new(alloc);
+    for value in array {
+        let Some(number) = value.as_integer() else {
+            return Ok(None);
+        };
+        numbers.push(channel_by(number))?;
+    }
+    Ok(Some(numbers))
+}
+
+fn read_channels(alloc: Global, key: Key, value: &Value) -> Result<[bool; 8], SettingsFault>
+    ensures ok { IfOk result (λ c. channels_of key (view value.now) ≡ Ok c) }
+    ensures refused { IfErr result (λ f. f ≢ SettingsFault.NoMemory → channels_of key (view value.now) ≡ Err f) }
+{
+    let Some(array) = value.as_array() else {
+        return Err(SettingsFault::Kind(key));
+    };
+    match channel_numbers(alloc, array.as_slice()) {
+        Ok(Some(numbers)) => match choice_of(numbers.as_slice()) {
+            Some(channels) => Ok(channels),
+            None => Err(SettingsFault::Range(key)),
+        },
+        Ok(None) => Err(SettingsFault::Kind(key)),
+        Err(_) => Err(SettingsFault::NoMemory),
+    }
+}
+
+/// The chosen channels, all eight where the key is absent.
+pub fn channels_at(alloc: Global, table: &Table, key: Key) -> Result<[bool; 8], SettingsFault>
+    ensures ok { IfOk result (λ c. optional every_channel (channels_of key) (at key (table_view table.now)) ≡ Ok c) }
+    ensures refused { IfErr result (λ f. f ≢ SettingsFault.NoMemory
+        → optional every_channel (channels_of key) (at key (table_view table.now)) ≡ Err f) }
+{
+    match value_at(table, key) {
+        Some(value) => read_channels(alloc, key, value),
+        None => Ok([true; 8]),
+    }
+}

@@ -1,0 +1,40 @@
+//! Loops that read or write all of a slice.
+
+ghost use Rattle.std.specs.Prelude.{◌≡◌, ℕ, List, ◌<◌, ◌≤◌, length, take, IfOk, OnOk, OnErr};
+ghost use Rattle.std.specs.Io.KnownBytes.{Appends, Consumes, IsAtEnd};
+ghost use Rattle.tm_tool.specs.Devices.{AppendsFront, Counts};
+
+use crate::{DeviceFailed, Drain, Source};
+
+/// Writes all the octets, by as many writes as it takes.
+pub fn put_all<W: Drain>(out: &mut W, octets: &[u8]) -> Result<(), DeviceFailed>
+    ensures whole { OnOk result (Appends (W.written out.old) (W.written out.new) octets.now) }
+    ensures front { AppendsFront (W.written out.old) (W.written out.new) octets.now }
+    ensures counts { Counts (W.failures out.old) (W.failures out.new) result }
+{
+    let mut rest = octets;
+    while !rest.is_empty() {
+        let n = out.write(rest)?;
+        rest = &rest[n..];
+    }
+    Ok(())
+}
+
+/// Fills the buffer, or answers how many octets there were before the end.
+pub fn fill<R: Source>(source: &mut R, buffer: &mut [u8]) -> Result<usize, DeviceFailed>
+    ensures bound { IfOk result (λ n. n ≤ length buffer.new) }
+    ensures octets { IfOk result (λ n. Consumes (R.left source.old) (R.left source.new) (take n buffer.new)) }
+    ensures end { IfOk result (λ n. n < length buffer.new → IsAtEnd (R.left source.new)) }
+    ensures part { OnErr result ((part : List ℕ) × Consumes (R.left source.old) (R.left source.new) part × (length part < length buffer.new)) }
+    ensures counts { Counts (R.failures source.old) (R.failures source.new) result }
+{
+    let mut filled = 0;
+    while filled < buffer.len() {
+        let n = source.read(&mut buffer[filled..])?;
+        if n == 0 {
+            break;
+        }
+        filled += n;
+    }
+    Ok(filled)
+}

@@ -1,0 +1,36 @@
+//! Why the program ends before its end.
+
+use crate::request::UsageFault;
+use std::alloc::{AllocError, AllocFailed};
+use tm_tool::{Octets, RunFault, SettingsFault};
+
+/// Memory ran out.
+#[derive(Clone, Copy, Debug, PartialEq, Eq)]
+pub struct NoMemory;
+
+impl From<AllocError> for NoMemory {
+    fn from(_: AllocError) -> NoMemory {
+        NoMemory
+    }
+}
+
+impl<T: Drop> From<AllocFailed<T>> for NoMemory {
+    fn from(_: AllocFailed<T>) -> NoMemory {
+        NoMemory
+    }
+}
+
+/// Why the program ends before its end.
+#[derive(Debug, Drop)]
+pub enum ToolFault {
+    /// The words of the command line are no plan.
+    Usage(UsageFault),
+    /// The settings' file is no settings.
+    Settings(SettingsFault),
+    /// The file of this name can't be opened or read.
+    File(Octets),
+    /// The file of this name is over 1,048,576 octets.
+    TooLong(Octets),
+    /// The run ended before its end. Want of memory that no other fault holds is here, too.
+    Run(RunFault),
+}

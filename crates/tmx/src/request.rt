@@ -1,0 +1,31 @@
+//! What the words of the command line ask for.
+
+use tm_tool::Octets;
+
+/// What to do.
+#[derive(Clone, Copy, Debug, PartialEq, Eq)]
+pub enum Action {
+    /// List the frames.
+    Frames,
+}
+
+/// What the words ask for. Texts are the octets of their UTF-8.
+#[derive(Debug, Drop)]
+pub struct Plan {
+    pub action: Action,
+    /// The recording's file; standard input where it is absent.
+    pub recording: Option<Octets>,
+    /// The settings' file, which each action needs.
+    pub settings: Option<Octets>,
+}
+
+/// Why the words are no plan.
+#[derive(Debug, Drop)]
+pub enum UsageFault {
+    /// The words are none that the command takes; this text says what is wrong.
+    Usage(Octets),
+    /// The words ask for this help.
+    Help(Octets),
+    /// Memory ran out.
+    NoMemory,
+}

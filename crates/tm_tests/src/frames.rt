@@ -1,0 +1,211 @@
+//! Recordings with the lines of their frames.
+
+use crate::{MemoryDrain, MemorySource};
+use std::alloc::{AllocError, Global};
+use std::test::Fail;
+use tm_frame::error_control;
+use tm_tool::{Reading, RunFault, Settings, Writing, list_frames};
+
+const BASE: &str = "spacecraft = 42\nframe_length = 24\nerror_control = false\n";
+
+// A frame of 24 octets with a packet of 7 octets and one of 11.
+const TWO_PACKETS: [u8; 24] = [
+    0x02, 0xA0, 0x00, 0x00, 0x18, 0x00, 0x00, 0x64, 0xC0, 0x00, 0x00, 0x00, 0x55, 0x00, 0x64, 0xC0,
+    0x01, 0x00, 0x04, 0x55, 0x55, 0x55, 0x55, 0x55,
+];
+
+const TWO_PACKETS_LINE: &str = "frame record=0 channel=0 master=0 count=0 kind=packets place=0 secondary=0 ocf=no order=0 segment=3 octets=18\n";
+
+// A primary header and 18 octets 55.
+fn record(alloc: Global, header: [u8; 6]) -> Result<Vec<u8>, AllocError> {
+    let mut octets = header.to_vec(alloc)?;
+    octets.extend_from_slice(&[0x55; 18])?;
+    Ok(octets)
+}
+
+// What `list_frames` answers of a recording that is read and written in one call each.
+fn listed(alloc: Global, settings: &str, recording: Vec<u8>) -> Result<(Vec<u8>, Result<u32, RunFault>), Fail> {
+    let Ok(settings) = Settings::read(alloc, settings.as_bytes()) else {
+        return Err(Fail::from("the settings"));
+    };
+    let mut source = MemorySource::new(recording, 65_536, 0);
+    let mut out = MemoryDrain::new(Vec::new(alloc), 65_536, 0);
+    let answer = list_frames(alloc, &settings, &mut source, &mut out);
+    Ok((out.octets, answer))
+}
+
+#[test]
+fn error_control_of_known_octets(rt: HostRuntime) {
+    assert_eq!(rt; error_control("123456789".as_bytes()), 0x29B1);
+    assert_eq!(rt; error_control(&[]), 0xFFFF);
+    assert_eq!(rt; error_control(&[0]), 0xE1F0);
+}
+
+#[test]
+fn frames_of_recordings(rt: HostRuntime) -> Result<(), Fail> {
+    let alloc = rt.alloc();
+    let (lines, answer) = listed(alloc, BASE, TWO_PACKETS.to_vec(alloc)?)?;
+    assert_eq!(rt; answer, Ok(1));
+    assert_eq!(rt; lines.as_slice(), TWO_PACKETS_LINE.as_bytes());
+
+    let (lines, answer) = listed(alloc, BASE, Vec::new(alloc))?;
+    assert_eq!(rt; answer, Ok(0));
+    assert!(rt; lines.is_empty());
+
+    let controlled = "spacecraft = 42\nframe_length = 9\nerror_control = true\n";
+    let recording = [
+        0x02, 0xA0, 0x00, 0x00, 0x1F, 0xFE, 0x55, 0x25, 0xC9, 0x02, 0xA0, 0x00, 0x00, 0x1F, 0xFE,
+        0x54, 0x25, 0xC9,
+    ];
+    let (lines, answer) = listed(alloc, controlled, recording.to_vec(alloc)?)?;
+    assert_eq!(rt; answer, Ok(2));
+    let wanted = "frame record=0 channel=0 master=0 count=0 kind=idle place=- secondary=0 ocf=no order=0 segment=3 octets=1\nbad record=1 fault=crc\n";
+    assert_eq!(rt; lines.as_slice(), wanted.as_bytes());
+
+    let skipping = format!(in alloc; "{BASE}skip_before = 4\n")?;
+    let mut recording = [0x1A, 0xCF, 0xFC, 0x1D].to_vec(alloc)?;
+    recording.extend_from_slice(&TWO_PACKETS)?;
+    let (lines, answer) = listed(alloc, skipping.as_str(), recording)?;
+    assert_eq!(rt; answer, Ok(1));
+    assert_eq!(rt; lines.as_slice(), TWO_PACKETS_LINE.as_bytes());
+    Ok(())
+}
+
+#[test]
+fn frame_faults(rt: HostRuntime) -> Result<(), Fail> {
+    let alloc = rt.alloc();
+    let always = "spacecraft = 42\nframe_length = 24\nerror_control = false\nsecondary = \"always\"\n";
+    let never = "spacecraft = 42\nframe_length = 24\nerror_control = false\nocf = \"never\"\n";
+    let table = [
+        (BASE, [0x42, 0xA0, 0x00, 0x00, 0x18, 0x00], "bad record=0 fault=version\n"),
+        (BASE, [0x02, 0xB0, 0x00, 0x00, 0x18, 0x00], "bad record=0 fault=spacecraft\n"),
+        (always, [0x02, 0xA0, 0x00, 0x00, 0x18, 0x00], "bad record=0 fault=secondary-flag\n"),
+        (never, [0x02, 0xA1, 0x00, 0x00, 0x18, 0x00], "bad record=0 fault=ocf-flag\n"),
+        (BASE, [0x02, 0xA0, 0x00, 0x00, 0x18, 0x12], "bad record=0 fault=pointer\n"),
+        (
+            BASE,
+            [0x02, 0xA0, 0x00, 0x00, 0x18, 0x11],
+            "frame record=0 channel=0 master=0 count=0 kind=packets place=17 secondary=0 ocf=no order=0 segment=3 octets=18\n",
+        ),
+        (
+            BASE,
+            [0x02, 0xA1, 0x00, 0x00, 0x18, 0x00],
+            "frame record=0 channel=0 master=0 count=0 kind=packets place=0 secondary=0 ocf=yes order=0 segment=3 octets=14\n",
+        ),
+    ];
+    for (settings, header, line) in table {
+        let (lines, answer) = listed(alloc, settings, record(alloc, header)?)?;
+        assert_eq!(rt; answer, Ok(1));
+        assert_eq!(rt; lines.as_slice(), line.as_bytes());
+    }
+    Ok(())
+}
+
+#[test]
+fn secondary_headers(rt: HostRuntime) -> Result<(), Fail> {
+    let alloc = rt.alloc();
+    let table = [
+        (0x40, "bad record=0 fault=secondary-version\n"),
+        (0x11, "bad record=0 fault=layout\n"),
+        (
+            0x10,
+            "frame record=0 channel=0 master=0 count=0 kind=packets place=0 secondary=17 ocf=no order=0 segment=3 octets=1\n",
+        ),
+    ];
+    for (first, line) in table {
+        let mut octets = [0x55u8; 24];
+        octets[..6].copy_from_slice(&[0x02, 0xA0, 0x00, 0x00, 0x98, 0x00]);
+        octets[6] = first;
+        let (lines, answer) = listed(alloc, BASE, octets.to_vec(alloc)?)?;
+        assert_eq!(rt; answer, Ok(1));
+        assert_eq!(rt; lines.as_slice(), line.as_bytes());
+    }
+    Ok(())
+}
+
+// Two records and ten octets more.
+fn with_rest(alloc: Global) -> Result<Vec<u8>, AllocError> {
+    let mut octets = TWO_PACKETS.to_vec(alloc)?;
+    octets.extend_from_slice(&TWO_PACKETS)?;
+    octets.extend_from_slice(&[0; 10])?;
+    Ok(octets)
+}
+
+const WITH_REST_LINES: &str = "frame record=0 channel=0 master=0 count=0 kind=packets place=0 secondary=0 ocf=no order=0 segment=3 octets=18\nframe record=1 channel=0 master=0 count=0 kind=packets place=0 secondary=0 ocf=no order=0 segment=3 octets=18\nshort record=2 octets=10\n";
+
+#[test]
+fn through_readers_and_writers(rt: HostRuntime) -> Result<(), Fail> {
+    let alloc = rt.alloc();
+    let Ok(settings) = Settings::read(alloc, BASE.as_bytes()) else {
+        return Ok(assert!(rt; false));
+    };
+    let octets = with_rest(alloc)?;
+    let mut lines = Vec::new(alloc);
+    let mut source = Reading::new(octets.as_slice());
+    let mut out = Writing::new(&mut lines);
+    assert_eq!(rt; list_frames(alloc, &settings, &mut source, &mut out), Ok(2));
+    assert_eq!(rt; lines.as_slice(), WITH_REST_LINES.as_bytes());
+    Ok(())
+}
+
+// Each read fails in turn: the lines of the records before are there.
+#[test]
+fn failing_reads(rt: HostRuntime) -> Result<(), Fail> {
+    let alloc = rt.alloc();
+    let Ok(settings) = Settings::read(alloc, BASE.as_bytes()) else {
+        return Ok(assert!(rt; false));
+    };
+    let mut refused = 0u32;
+    for fails_at in 1..100u64 {
+        let mut source = MemorySource::new(with_rest(alloc)?, 10, fails_at);
+        let mut out = MemoryDrain::new(Vec::new(alloc), 65_536, 0);
+        match list_frames(alloc, &settings, &mut source, &mut out) {
+            Ok(count) => {
+                assert_eq!(rt; count, 2);
+                assert_eq!(rt; out.octets.as_slice(), WITH_REST_LINES.as_bytes());
+                break;
+            }
+            Err(fault) => {
+                assert_eq!(rt; fault, RunFault::Read);
+                assert_eq!(rt; source.failed, 1);
+                let records = (fails_at as usize - 1) / 3;
+                assert_eq!(rt; out.octets.len(), records * TWO_PACKETS_LINE.len());
+                assert!(rt; WITH_REST_LINES.as_bytes().starts_with(out.octets.as_slice()));
+                refused = refused.saturating_add(1);
+            }
+        }
+    }
+    // Three reads for each record, one for the rest, and one that finds the end.
+    assert_eq!(rt; refused, 8);
+    Ok(())
+}
+
+// Each write fails in turn, and then the flush: what was written is the front of the lines.
+#[test]
+fn failing_writes(rt: HostRuntime) -> Result<(), Fail> {
+    let alloc = rt.alloc();
+    let Ok(settings) = Settings::read(alloc, BASE.as_bytes()) else {
+        return Ok(assert!(rt; false));
+    };
+    let mut refused = 0u32;
+    for fails_at in 1..1000u64 {
+        let mut source = MemorySource::new(with_rest(alloc)?, 65_536, 0);
+        let mut out = MemoryDrain::new(Vec::new(alloc), 5, fails_at);
+        match list_frames(alloc, &settings, &mut source, &mut out) {
+            Ok(count) => {
+                assert_eq!(rt; count, 2);
+                assert_eq!(rt; out.octets.as_slice(), WITH_REST_LINES.as_bytes());
+                break;
+            }
+            Err(fault) => {
+                assert_eq!(rt; fault, RunFault::Write);
+                assert_eq!(rt; out.failed, 1);
+                assert!(rt; WITH_REST_LINES.as_bytes().starts_with(out.octets.as_slice()));
+                refused = refused.saturating_add(1);
+            }
+        }
+    }
+    // Each of the two lines of 109 octets takes 22 writes of at most 5, that of 25 octets 5, and then the flush.
+    assert_eq!(rt; refused, 50);
+    Ok(())
+}

@@ -1,0 +1,11 @@
+//! Devices over memory, and the tests that cross crates: worked recordings with what is known of them.
+#![tactic(auto)]
+
+mod memory;
+
+pub use memory::{MemoryDrain, MemorySource};
+
+#[cfg(test)]
+mod frames;
+#[cfg(test)]
+mod settings;

@@ -1,0 +1,118 @@
+//! Devices over memory, which tell their octets. Each moves at most so many octets per call, and one
+//! of its calls fails, if that is asked for.
+
+ghost use Rattle.std.specs.Prelude.{◌≡◌, ◌<◌, ◌≤◌, Some, take, drop, vec_len};
+
+use tm_tool::{DeviceFailed, Drain, Source};
+
+/// A source over octets in memory.
+#[derive(Drop)]
+pub struct MemorySource {
+    pub octets: Vec<u8>,
+    pub at: usize,
+    /// At most so many per call, at least one.
+    pub per_call: usize,
+    pub calls: u64,
+    /// The call that fails, counted from 1; 0 for none.
+    pub fails_at: u64,
+    pub failed: u64,
+    ghost within: { at ≤ vec_len octets },
+    ghost some: { 0 < per_call },
+}
+
+impl MemorySource {
+    pub fn new(octets: Vec<u8>, per_call: usize, fails_at: u64) -> Self
+        requires { 0 < per_call }
+        ensures octets { result.octets.items ≡ octets.items }
+        ensures start { result.at ≡ 0 }
+        ensures failed { result.failed ≡ 0 }
+    {
+        MemorySource {
+            octets,
+            at: 0,
+            per_call,
+            calls: 0,
+            fails_at,
+            failed: 0,
+        }
+    }
+}
+
+impl Source for MemorySource {
+    ghost failures = { λ s. s.failed };
+
+    ghost left = { λ s. Some (drop s.at s.octets.items) };
+
+    fn read(&mut self, buffer: &mut [u8]) -> Result<usize, DeviceFailed> {
+        self.calls = self.calls.saturating_add(1);
+        if self.calls == self.fails_at {
+            self.failed = self.failed.saturating_add(1);
+            return Err(DeviceFailed);
+        }
+        let rest = self.octets.len() - self.at;
+        let n = rest.min(self.per_call).min(buffer.len());
+        buffer[..n].copy_from_slice(&self.octets[self.at..self.at + n]);
+        self.at += n;
+        Ok(n)
+    }
+}
+
+/// A drain into memory.
+#[derive(Drop)]
+pub struct MemoryDrain {
+    pub octets: Vec<u8>,
+    /// At most so many per call, at least one.
+    pub per_call: usize,
+    pub calls: u64,
+    /// The call that fails, counted from 1; 0 for none.
+    pub fails_at: u64,
+    pub failed: u64,
+    /// How many of the octets were there at the last flush.
+    pub passed: usize,
+    ghost some: { 0 < per_call },
+}
+
+impl MemoryDrain {
+    pub fn new(octets: Vec<u8>, per_call: usize, fails_at: u64) -> Self
+        requires { 0 < per_call }
+        ensures octets { result.octets.items ≡ octets.items }
+        ensures failed { result.failed ≡ 0 }
+    {
+        MemoryDrain {
+            octets,
+            per_call,
+            calls: 0,
+            fails_at,
+            failed: 0,
+            passed: 0,
+        }
+    }
+}
+
+impl Drain for MemoryDrain {
+    ghost failures = { λ s. s.failed };
+
+    ghost written = { λ s. Some s.octets.items };
+
+    ghost flushed = { λ s. Some (take s.passed s.octets.items) };
+
+    fn write(&mut self, octets: &[u8]) -> Result<usize, DeviceFailed> {
+        self.calls = self.calls.saturating_add(1);
+        let n = octets.len().min(self.per_call);
+        if self.calls == self.fails_at || self.octets.extend_from_slice(&octets[..n]).is_err() {
+            self.failed = self.failed.saturating_add(1);
+            return Err(DeviceFailed);
+        }
+        Ok(n)
+    }
+
+    fn flush(&mut self) -> Result<(), DeviceFailed> {
+        self.calls = self.calls.saturating_add(1);
+        if self.calls == self.fails_at {
+            self.failed = self.failed.saturating_add(1);
+            return Err(DeviceFailed);
+        }
+        self.passed = self.octets.len();
+        Ok(())
+    }
+}

@@ -207,7 +207,6 @@ octets_apart register after n octets moved =
     ∙ ap (remainder_from register) (sym (bits_of-append (take n octets) (drop n octets)))
     ∙ ap (λ xs. remainder_from register (bits_of xs)) (take-append-drop n octets)
 
-
 -- what is left has 16 bits
 pub remainder_from-lt : (register : ℕ) (bits : List Bool) → remainder_from register bits < 2 ^ 16
 remainder_from-lt register bits =

@@ -151,7 +151,7 @@ sixteen_octets register xs fits octets h =
     let split : xs ≡ get_or xs 0 0 ∷ get_or xs 1 0 ∷ rest =
     drop-cons xs 0 0 (omega arith) ∙ ap (λ l. get_or xs 0 0 ∷ l) (drop-cons xs 1 0 (omega arith)) in
     let more : (i behind n m : ℕ) → i + suc behind ≡ length xs → joined (drop (suc i) xs) ≡ n → bit_xor (entry_of behind (get_or xs i 0)) n ≡ m
-        → joined (drop i xs) ≡ m =
+    → joined (drop i xs) ≡ m =
     λ i behind n m place rest_is all. next_joined xs i behind place ∙ ap (bit_xor (entry_of behind (get_or xs i 0))) rest_is ∙ all in
     let none : joined (drop 16 xs) ≡ 0 = ap joined (drop_of_length-le xs {i = 16} (omega arith)) in
     let tail =

@@ -4,3 +4,4 @@ pub mod Entries
 pub mod Tables
 pub mod HeaderLemmas
 pub mod FaultLemmas
+pub mod Examples

@@ -64,12 +64,12 @@ next_row : (behind : ℕ) (row : List ℕ) → IsRow behind row → IsRow (suc b
 next_row behind row is = record {
   all = length-map moved row ∙ is.all;
   right = λ octet below.
-    let entry : ℕ = entry_of behind octet in
-    let high : entry / 2 ^ 8 < 256 = let fits = entry_of-lt behind octet in omega arith in
-    slice_index-map moved row octet (omega (arith, is.all))
-    ∙ ap moved (is.right octet below)
-    ∙ ap (bit_xor (entry * 2 ^ 8 % 2 ^ 16)) (first_is_right (entry / 2 ^ 8) high)
-    ∙ sym (entry_of-suc behind octet);
+      let entry : ℕ = entry_of behind octet in
+      let high : entry / 2 ^ 8 < 256 = let fits = entry_of-lt behind octet in omega arith in
+      slice_index-map moved row octet (omega (arith, is.all))
+      ∙ ap moved (is.right octet below)
+      ∙ ap (bit_xor (entry * 2 ^ 8 % 2 ^ 16)) (first_is_right (entry / 2 ^ 8) high)
+      ∙ sym (entry_of-suc behind octet);
 }
 
 grown_right : (n : ℕ) (row : List ℕ) (first behind octet : ℕ) → IsRow first row → behind < n → octet < 256

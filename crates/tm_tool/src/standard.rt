@@ -1,5 +1,7 @@
 //! Readers and writers of std as devices.
 
+ghost use Rattle.std.specs.Prelude.{◌≡◌};
+
 use crate::{DeviceFailed, Drain, Source};
 use std::io::{Read, Write};
 
@@ -12,7 +14,10 @@ pub struct Reading<R> {
 
 impl<R: Read> Reading<R> {
     /// A source over the reader, with no failure yet.
-    pub fn new(reader: R) -> Self {
+    pub fn new(reader: R) -> Self
+        ensures left { ⟦<Reading<R> as Source>⟧.left result ≡ R.remaining reader }
+        ensures failures { ⟦<Reading<R> as Source>⟧.failures result ≡ 0 }
+    {
         Reading { reader, failed: 0 }
     }
 }
@@ -42,7 +47,10 @@ pub struct Writing<W> {
 
 impl<W: Write> Writing<W> {
     /// A drain into the writer, with no failure yet.
-    pub fn new(writer: W) -> Self {
+    pub fn new(writer: W) -> Self
+        ensures written { ⟦<Writing<W> as Drain>⟧.written result ≡ W.contents writer }
+        ensures failures { ⟦<Writing<W> as Drain>⟧.failures result ≡ 0 }
+    {
         Writing { writer, failed: 0 }
     }
 }

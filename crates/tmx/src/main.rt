@@ -8,6 +8,8 @@ mod files;
 mod lines;
 mod request;
 mod run;
+#[cfg(test)]
+mod tests;
 mod words;
 
 use crate::fault::ToolFault;

@@ -1,0 +1,94 @@
+//! Command lines with their plans and texts, and faults with their lines and statuses.
+
+use crate::fault::ToolFault;
+use crate::lines::{fault_line, status};
+use crate::request::{Action, Plan, UsageFault};
+use crate::words::plan;
+use std::alloc::{AllocError, Global};
+use std::test::Fail;
+use tm_tool::{Key, Octets, RunFault, SettingsFault};
+
+fn owned(alloc: Global, words: &[&str]) -> Result<Vec<String>, AllocError> {
+    let mut all = Vec::new(alloc);
+    for word in words {
+        all.push(String::from_str(alloc, word)?)?;
+    }
+    Ok(all)
+}
+
+fn planned(alloc: Global, words: &[&str]) -> Result<Result<Plan, UsageFault>, AllocError> {
+    Ok(plan(alloc, owned(alloc, words)?))
+}
+
+// The octets of a text.
+fn named(alloc: Global, text: &str) -> Result<Octets, AllocError> {
+    Ok(Octets::new(Vec::from_slice(alloc, text.as_bytes())?))
+}
+
+#[test]
+fn frames_with_settings_and_recording(rt: HostRuntime) -> Result<(), Fail> {
+    let Ok(plan) = planned(rt.alloc(), &["frames", "--settings", "s", "r"])? else {
+        return Ok(assert!(rt; false));
+    };
+    assert_eq!(rt; plan.action, Action::Frames);
+    let settings = plan.settings.as_ref().ok_or("settings")?;
+    assert_eq!(rt; settings.as_slice(), b"s".as_slice());
+    let recording = plan.recording.as_ref().ok_or("recording")?;
+    assert_eq!(rt; recording.as_slice(), b"r".as_slice());
+    Ok(())
+}
+
+#[test]
+fn texts_of_usage_and_help(rt: HostRuntime) -> Result<(), Fail> {
+    let alloc = rt.alloc();
+    let Err(UsageFault::Usage(text)) = planned(alloc, &["frames", "--settings", "s", "a", "b"])?
+    else {
+        return Ok(assert!(rt; false));
+    };
+    let wanted = "error: unexpected argument 'b' found\n\nUsage: tmx frames --settings <FILE> [RECORDING]\n\nFor more information, try '--help'.\n";
+    assert_eq!(rt; text.as_slice(), wanted.as_bytes());
+    let Err(UsageFault::Usage(_)) = planned(alloc, &["split", "--settings", "s"])? else {
+        return Ok(assert!(rt; false));
+    };
+    let Err(UsageFault::Help(text)) = planned(alloc, &["frames", "--help"])? else {
+        return Ok(assert!(rt; false));
+    };
+    let wanted = "Lists the frames: one line for each record of the recording\n\nUsage: tmx frames --settings <FILE> [RECORDING]\n\nArguments:\n  [RECORDING]  The recording; standard input if it is left out\n\nOptions:\n      --settings <FILE>  The settings of the recording: a TOML file\n  -h, --help             Print help\n";
+    assert_eq!(rt; text.as_slice(), wanted.as_bytes());
+    Ok(())
+}
+
+#[test]
+fn lines_and_statuses(rt: HostRuntime) -> Result<(), Fail> {
+    let alloc = rt.alloc();
+    let table = [
+        (ToolFault::Usage(UsageFault::Help(named(alloc, "help\n")?)), "help\n", 0),
+        (ToolFault::Usage(UsageFault::Usage(named(alloc, "usage\n")?)), "usage\n", 2),
+        (
+            ToolFault::Settings(SettingsFault::Unknown(named(alloc, "colour")?)),
+            "tmx: settings: unknown colour\n",
+            2,
+        ),
+        (
+            ToolFault::Settings(SettingsFault::Range(Key::FrameLength)),
+            "tmx: settings: range frame_length\n",
+            2,
+        ),
+        (
+            ToolFault::File(named(alloc, "a\\b \u{e9}\n")?),
+            "tmx: a\\x5cb \\xc3\\xa9\\x0a: failed\n",
+            1,
+        ),
+        (ToolFault::TooLong(named(alloc, "s.toml")?), "tmx: s.toml: too long\n", 2),
+        (ToolFault::Run(RunFault::Write), "tmx: write failed\n", 1),
+        (ToolFault::Run(RunFault::NoMemory), "tmx: out of memory\n", 3),
+    ];
+    for (fault, line, code) in &table {
+        let Ok(found) = fault_line(alloc, fault) else {
+            return Ok(assert!(rt; false));
+        };
+        assert_eq!(rt; found.as_slice(), line.as_bytes());
+        assert_eq!(rt; status(fault), *code);
+    }
+    Ok(())
+}

@@ -1,6 +1,6 @@
 -- Long division, bit by bit: what is left of it is a register of 16 bits.
-use Rattle.std.proofs.Common.{◌≡◌, ℕ, zero, suc, ◌+◌, ◌-◌, ◌*◌, ◌/◌, ◌%◌, ◌^◌, ◌<◌, ◌≤◌, Bool, true, false, cond, List, [], ◌∷◌, ◌++◌, length, take, drop, ◌==◌, refl, sym, ap, ◌∙◌, subst, arith, length-append, append_assoc, get_or}
-use Rattle.std.specs.Prelude.{replicate, bit_xor, not, map}
+use Rattle.std.proofs.Common.{◌≡◌, ℕ, zero, suc, ◌+◌, ◌*◌, ◌^◌, ◌<◌, ◌≤◌, Bool, true, false, cond, List, [], ◌∷◌, ◌++◌, length, take, drop, refl, sym, ap, ◌∙◌, subst, arith, length-append, get_or}
+use Rattle.std.specs.Prelude.{replicate, bit_xor}
 use Rattle.std.proofs.lemmas.Nat.{xor_block}
 use Rattle.std.proofs.lemmas.List.{take_more, take_all, take-append-drop}
 use Rattle.tm_bits.specs.Bits.{low_bits, bits_of, digit, number}

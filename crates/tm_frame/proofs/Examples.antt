@@ -1,6 +1,6 @@
 -- Worked examples: what the definitions say of known octets.
-use Rattle.std.proofs.Common.{◌≡◌, ℕ, Bool, true, false, List, [], ◌∷◌, ◌++◌, refl, codes, Ok, Err}
-use Rattle.std.specs.Prelude.{replicate, Result}
+use Rattle.std.proofs.Common.{◌≡◌, ℕ, true, false, List, [], ◌∷◌, ◌++◌, refl, codes, Ok, Err}
+use Rattle.std.specs.Prelude.{replicate}
 use Rattle.tm_bits.specs.Bits.{bits_of, low_bits, number, part}
 use Rattle.tm_frame.specs.declared.layout.LayoutParts.{LayoutParts}
 use Rattle.tm_frame.specs.declared.layout.Presence.TheVariants.{Flag, Always, Never}
@@ -8,7 +8,6 @@ use Rattle.tm_frame.specs.declared.fault.FrameFault.TheVariants.{Crc, Version, S
 use Rattle.tm_frame.specs.declared.frame.Kind.TheVariants.{Packets, Idle}
 use Rattle.tm_frame.specs.ErrorControl.{entry_of, error_control_of, long_division, remainder_from, subtract}
 use Rattle.tm_frame.specs.Fault.{fault_of, reading_of}
-use Rattle.tm_frame.specs.Frame.{GoodFrame}
 
 -- ---- error control
 

@@ -1,6 +1,6 @@
 -- What a frame without a fault has.
-use Rattle.std.proofs.Common.{length-drop, ◌∙◌, ◌+◌, sym, subst, ◌≡◌, ℕ, ◌<◌, ◌==◌, Bool, true, false, cond, refl, List, [], ◌∷◌, ◌++◌, arith}
-use Rattle.std.specs.Prelude.{Some, None, ◌&&◌, not, nat_lt, drop, ◌-◌, ◌≤◌, length}
+use Rattle.std.proofs.Common.{length-drop, sym, subst, ◌≡◌, ℕ, ◌<◌, ◌==◌, Bool, true, false, cond, refl, List, [], ◌∷◌, ◌++◌, arith}
+use Rattle.std.specs.Prelude.{Some, None, ◌&&◌, not, nat_lt, drop, ◌≤◌, length}
 use Rattle.std.specs.List.{find}
 use Rattle.std.proofs.lemmas.Bool.Decides.{nat_tests}
 use Rattle.tm_frame.specs.declared.layout.LayoutParts.{LayoutParts}

@@ -2,6 +2,7 @@
 
 use crate::{MemoryDrain, MemorySource};
 use std::alloc::{AllocError, Global};
+use std::io::{self, ErrorKind, Read, Write};
 use std::test::Fail;
 use tm_frame::error_control;
 use tm_tool::{Reading, RunFault, Settings, Writing, list_frames};
@@ -14,7 +15,8 @@ const TWO_PACKETS: [u8; 24] = [
     0x01, 0x00, 0x04, 0x55, 0x55, 0x55, 0x55, 0x55,
 ];
 
-const TWO_PACKETS_LINE: &str = "frame record=0 channel=0 master=0 count=0 kind=packets place=0 secondary=0 ocf=no order=0 segment=3 octets=18\n";
+const TWO_PACKETS_LINE: &str =
+    "frame record=0 channel=0 master=0 count=0 kind=packets place=0 secondary=0 ocf=no order=0 segment=3 octets=18\n";
 
 // A primary header and 18 octets 55.
 fn record(alloc: Global, header: [u8; 6]) -> Result<Vec<u8>, AllocError> {
@@ -24,7 +26,11 @@ fn record(alloc: Global, header: [u8; 6]) -> Result<Vec<u8>, AllocError> {
 }
 
 // What `list_frames` answers of a recording that is read and written in one call each.
-fn listed(alloc: Global, settings: &str, recording: Vec<u8>) -> Result<(Vec<u8>, Result<u32, RunFault>), Fail> {
+fn listed(
+    alloc: Global,
+    settings: &str,
+    recording: Vec<u8>,
+) -> Result<(Vec<u8>, Result<u32, RunFault>), Fail> {
     let Ok(settings) = Settings::read(alloc, settings.as_bytes()) else {
         return Err(Fail::from("the settings"));
     };
@@ -59,7 +65,8 @@ fn frames_of_recordings(rt: HostRuntime) -> Result<(), Fail> {
     ];
     let (lines, answer) = listed(alloc, controlled, recording.to_vec(alloc)?)?;
     assert_eq!(rt; answer, Ok(2));
-    let wanted = "frame record=0 channel=0 master=0 count=0 kind=idle place=- secondary=0 ocf=no order=0 segment=3 octets=1\nbad record=1 fault=crc\n";
+    let wanted =
+        "frame record=0 channel=0 master=0 count=0 kind=idle place=- secondary=0 ocf=no order=0 segment=3 octets=1\nbad record=1 fault=crc\n";
     assert_eq!(rt; lines.as_slice(), wanted.as_bytes());
 
     let skipping = format!(in alloc; "{BASE}skip_before = 4\n")?;
@@ -74,14 +81,35 @@ fn frames_of_recordings(rt: HostRuntime) -> Result<(), Fail> {
 #[test]
 fn frame_faults(rt: HostRuntime) -> Result<(), Fail> {
     let alloc = rt.alloc();
-    let always = "spacecraft = 42\nframe_length = 24\nerror_control = false\nsecondary = \"always\"\n";
+    let always =
+        "spacecraft = 42\nframe_length = 24\nerror_control = false\nsecondary = \"always\"\n";
     let never = "spacecraft = 42\nframe_length = 24\nerror_control = false\nocf = \"never\"\n";
     let table = [
-        (BASE, [0x42, 0xA0, 0x00, 0x00, 0x18, 0x00], "bad record=0 fault=version\n"),
-        (BASE, [0x02, 0xB0, 0x00, 0x00, 0x18, 0x00], "bad record=0 fault=spacecraft\n"),
-        (always, [0x02, 0xA0, 0x00, 0x00, 0x18, 0x00], "bad record=0 fault=secondary-flag\n"),
-        (never, [0x02, 0xA1, 0x00, 0x00, 0x18, 0x00], "bad record=0 fault=ocf-flag\n"),
-        (BASE, [0x02, 0xA0, 0x00, 0x00, 0x18, 0x12], "bad record=0 fault=pointer\n"),
+        (
+            BASE,
+            [0x42, 0xA0, 0x00, 0x00, 0x18, 0x00],
+            "bad record=0 fault=version\n",
+        ),
+        (
+            BASE,
+            [0x02, 0xB0, 0x00, 0x00, 0x18, 0x00],
+            "bad record=0 fault=spacecraft\n",
+        ),
+        (
+            always,
+            [0x02, 0xA0, 0x00, 0x00, 0x18, 0x00],
+            "bad record=0 fault=secondary-flag\n",
+        ),
+        (
+            never,
+            [0x02, 0xA1, 0x00, 0x00, 0x18, 0x00],
+            "bad record=0 fault=ocf-flag\n",
+        ),
+        (
+            BASE,
+            [0x02, 0xA0, 0x00, 0x00, 0x18, 0x12],
+            "bad record=0 fault=pointer\n",
+        ),
         (
             BASE,
             [0x02, 0xA0, 0x00, 0x00, 0x18, 0x11],
@@ -131,7 +159,8 @@ fn with_rest(alloc: Global) -> Result<Vec<u8>, AllocError> {
     Ok(octets)
 }
 
-const WITH_REST_LINES: &str = "frame record=0 channel=0 master=0 count=0 kind=packets place=0 secondary=0 ocf=no order=0 segment=3 octets=18\nframe record=1 channel=0 master=0 count=0 kind=packets place=0 secondary=0 ocf=no order=0 segment=3 octets=18\nshort record=2 octets=10\n";
+const WITH_REST_LINES: &str =
+    "frame record=0 channel=0 master=0 count=0 kind=packets place=0 secondary=0 ocf=no order=0 segment=3 octets=18\nframe record=1 channel=0 master=0 count=0 kind=packets place=0 secondary=0 ocf=no order=0 segment=3 octets=18\nshort record=2 octets=10\n";
 
 #[test]
 fn through_readers_and_writers(rt: HostRuntime) -> Result<(), Fail> {
@@ -145,6 +174,72 @@ fn through_readers_and_writers(rt: HostRuntime) -> Result<(), Fail> {
     let mut out = Writing::new(&mut lines);
     assert_eq!(rt; list_frames(alloc, &settings, &mut source, &mut out), Ok(2));
     assert_eq!(rt; lines.as_slice(), WITH_REST_LINES.as_bytes());
+    Ok(())
+}
+
+// A reader that fails.
+#[derive(Drop)]
+struct Broken;
+
+impl Read for Broken {
+    fn read(&mut self, _buffer: &mut [u8]) -> io::Result<usize> {
+        Err(io::Error::from(ErrorKind::Other))
+    }
+}
+
+// A writer that takes nothing.
+#[derive(Drop)]
+struct Full;
+
+impl Write for Full {
+    fn write(&mut self, _octets: &[u8]) -> io::Result<usize> {
+        Ok(0)
+    }
+
+    fn flush(&mut self) -> io::Result<()> {
+        Ok(())
+    }
+}
+
+// A writer that takes all and can't pass it on.
+#[derive(Drop)]
+struct Unflushed;
+
+impl Write for Unflushed {
+    fn write(&mut self, octets: &[u8]) -> io::Result<usize> {
+        Ok(octets.len())
+    }
+
+    fn flush(&mut self) -> io::Result<()> {
+        Err(io::Error::from(ErrorKind::Other))
+    }
+}
+
+// An error of a reader or a writer is a failure of the device, and so are a write of nothing and a flush that fails.
+#[test]
+fn failing_readers_and_writers(rt: HostRuntime) -> Result<(), Fail> {
+    let alloc = rt.alloc();
+    let Ok(settings) = Settings::read(alloc, BASE.as_bytes()) else {
+        return Ok(assert!(rt; false));
+    };
+    let mut source = Reading::new(Broken);
+    let mut out = Writing::new(Unflushed);
+    assert_eq!(rt;
+        list_frames(alloc, &settings, &mut source, &mut out),
+        Err(RunFault::Read)
+    );
+    let mut source = Reading::new(TWO_PACKETS.as_slice());
+    let mut out = Writing::new(Full);
+    assert_eq!(rt;
+        list_frames(alloc, &settings, &mut source, &mut out),
+        Err(RunFault::Write)
+    );
+    let mut source = Reading::new(TWO_PACKETS.as_slice());
+    let mut out = Writing::new(Unflushed);
+    assert_eq!(rt;
+        list_frames(alloc, &settings, &mut source, &mut out),
+        Err(RunFault::Write)
+    );
     Ok(())
 }
 
@@ -170,7 +265,11 @@ fn failing_reads(rt: HostRuntime) -> Result<(), Fail> {
                 assert_eq!(rt; source.failed, 1);
                 let records = (fails_at as usize - 1) / 3;
                 assert_eq!(rt; out.octets.len(), records * TWO_PACKETS_LINE.len());
-                assert!(rt; WITH_REST_LINES.as_bytes().starts_with(out.octets.as_slice()));
+                assert!(rt;
+                    WITH_REST_LINES
+                        .as_bytes()
+                        .starts_with(out.octets.as_slice())
+                );
                 refused = refused.saturating_add(1);
             }
         }
@@ -200,7 +299,11 @@ fn failing_writes(rt: HostRuntime) -> Result<(), Fail> {
             Err(fault) => {
                 assert_eq!(rt; fault, RunFault::Write);
                 assert_eq!(rt; out.failed, 1);
-                assert!(rt; WITH_REST_LINES.as_bytes().starts_with(out.octets.as_slice()));
+                assert!(rt;
+                    WITH_REST_LINES
+                        .as_bytes()
+                        .starts_with(out.octets.as_slice())
+                );
                 refused = refused.saturating_add(1);
             }
         }

@@ -27,7 +27,9 @@ fn read_with_defaults_and_without(rt: HostRuntime) -> Result<(), Fail> {
     };
     assert_eq!(rt; plain.layout().parts(), base());
     assert_eq!(rt; plain.layout().record_length(), 24);
-    let text = format!(in alloc; "{BASE}skip_before = 4\nskip_after = 1024\nsecondary = \"always\"\nocf = \"never\"\nchannels = [7, 0]\n")?;
+    let text = format!(in alloc;
+        "{BASE}skip_before = 4\nskip_after = 1024\nsecondary = \"always\"\nocf = \"never\"\nchannels = [7, 0]\n"
+    )?;
     let Ok(full) = Settings::read(alloc, text.as_bytes()) else {
         return Ok(assert!(rt; false));
     };
@@ -69,15 +71,39 @@ fn with_key(alloc: Global, what: &str, key: Key) -> Result<String, Fail> {
 fn refused(rt: HostRuntime) -> Result<(), Fail> {
     let alloc = rt.alloc();
     let table = [
-        ("spacecraft = 42\nframe_length = 2049\nerror_control = false\n", "range frame_length"),
-        ("spacecraft = 42\nframe_length = \"24\"\nerror_control = false\n", "kind frame_length"),
-        ("spacecraft = 42\nframe_length = 24\n", "missing error_control"),
-        ("spacecraft = 42\nframe_length = 24\nerror_control = false\ncolour = 1\n", "unknown colour"),
+        (
+            "spacecraft = 42\nframe_length = 2049\nerror_control = false\n",
+            "range frame_length",
+        ),
+        (
+            "spacecraft = 42\nframe_length = \"24\"\nerror_control = false\n",
+            "kind frame_length",
+        ),
+        (
+            "spacecraft = 42\nframe_length = 24\n",
+            "missing error_control",
+        ),
+        (
+            "spacecraft = 42\nframe_length = 24\nerror_control = false\ncolour = 1\n",
+            "unknown colour",
+        ),
         ("zoom = 1\ncolour = 1\n", "unknown colour"),
-        ("spacecraft = 42\nframe_length = 24\nerror_control = false\nchannels = [0, 0]\n", "range channels"),
-        ("spacecraft = 42\nframe_length = 24\nerror_control = false\nchannels = []\n", "range channels"),
-        ("spacecraft = 42\nframe_length = 24\nerror_control = false\nchannels = [9, \"a\"]\n", "kind channels"),
-        ("spacecraft = 42\nframe_length = 24\nerror_control = false\nocf = \"Flag\"\n", "range ocf"),
+        (
+            "spacecraft = 42\nframe_length = 24\nerror_control = false\nchannels = [0, 0]\n",
+            "range channels",
+        ),
+        (
+            "spacecraft = 42\nframe_length = 24\nerror_control = false\nchannels = []\n",
+            "range channels",
+        ),
+        (
+            "spacecraft = 42\nframe_length = 24\nerror_control = false\nchannels = [9, \"a\"]\n",
+            "kind channels",
+        ),
+        (
+            "spacecraft = 42\nframe_length = 24\nerror_control = false\nocf = \"Flag\"\n",
+            "range ocf",
+        ),
         ("spacecraft = -1\nframe_length = 8\n", "range spacecraft"),
         ("frame_length = 8\n", "missing spacecraft"),
         ("spacecraft =", "toml"),

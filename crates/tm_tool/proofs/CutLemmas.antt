@@ -1,5 +1,5 @@
 -- Where the writing of pieces may stop.
-use Rattle.std.proofs.Common.{◌≡◌, ℕ, List, [], ◌∷◌, ◌++◌, refl, sym, ap, subst, ◌∙◌, append_assoc, append-nil, inl, inr}
+use Rattle.std.proofs.Common.{◌≡◌, ℕ, List, [], ◌∷◌, ◌++◌, refl, sym, subst, append_assoc, append-nil, inl, inr}
 use Rattle.std.specs.List.{concat}
 use Rattle.tm_tool.specs.Cuts.{Cut}
 

@@ -1,14 +1,12 @@
 -- The first unknown key of a sorted table is the least.
-use Rattle.std.proofs.Common.{◌≡◌, ℕ, Bool, true, false, not, List, [], ◌∷◌, Option, Some, None, option_map, String, Global, Bor, Less, nat_cmp, refl, ap, ◌∙◌, inl, inr, string_bytes}
+use Rattle.std.proofs.Common.{◌≡◌, not, List, [], ◌∷◌, Option, Some, None, option_map, String, Global, Bor, Less, refl, inl, inr, string_bytes}
 use Rattle.std.specs.Prelude.{find, option_copied}
 use Rattle.std.proofs.lemmas.Bool.{cases_Bool}
 use Rattle.std.proofs.lemmas.Cmp.{nat_list_cmp_total}
-use Rattle.std.specs.Cmp.Lexicographic.{slice_cmp}
 use Rattle.std.specs.List.{AllByRecursion}
 use Rattle.std.specs.List.Sorted.{IsStrictlySortedBy}
 use Rattle.std.specs.Map.{keys_of}
 use Rattle.std.specs.String.{string_cmp}
-use Rattle.std.specs.Ordering.{ordering_reverse}
 use Rattle.toml.specs.View.{members_view}
 use Rattle.toml.specs.declared.value.Value.{Value}
 use Rattle.tm_tool.specs.Keys.{is_name}

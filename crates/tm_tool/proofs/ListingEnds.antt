@@ -1,6 +1,5 @@
 -- How a listing ended, in the words of the whole recording.
-use Rattle.std.proofs.Common.{◌≡◌, ◌<◌, ◌≤◌, ◌+◌, ◌-◌, ◌^◌, ◌==◌, ℕ, zero, suc, Bool, true, false, List, [], ◌∷◌, ◌++◌, length, refl, sym, ap, subst, ◌∙◌, append_assoc, append-nil, length-append, arith, Option, None, Some, IfSome, inl, inr}
-use Rattle.std.specs.Prelude.{if◌then◌else◌}
+use Rattle.std.proofs.Common.{◌≡◌, ◌<◌, ◌+◌, ◌-◌, ◌^◌, ◌==◌, ℕ, Bool, true, false, List, [], ◌∷◌, ◌++◌, length, refl, sym, ap, subst, ◌∙◌, append_assoc, append-nil, length-append, arith, Option, None, Some, IfSome, inl, inr}
 use Rattle.std.specs.List.{concat}
 use Rattle.std.specs.Io.KnownBytes.{Appends, Consumes, IsAtEnd, Keeps}
 use Rattle.std.proofs.KnownBytes.{Appends-nil, Appends-kept}
@@ -11,7 +10,7 @@ use Rattle.tm_tool.specs.declared.fault.RunFault.TheVariants.{Read, Write, TooMa
 use Rattle.tm_tool.specs.Cuts.{AppendsCut, AppendsWhole}
 use Rattle.tm_tool.specs.Lines.{short_line}
 use Rattle.tm_tool.specs.Records.{AreRecords, record_count, records, rest_of}
-use Rattle.tm_tool.specs.Listing.{record_line, record_lines, rest_lines, lines_of, listing, HasRead, HasReadAll, StopsIn, StopsWriting, IsListed, IsStopped}
+use Rattle.tm_tool.specs.Listing.{record_line, record_lines, rest_lines, lines_of, listing, StopsWriting, IsListed, IsStopped}
 use Rattle.tm_tool.proofs.CutLemmas.{cut_whole, cut_within}
 use Rattle.tm_tool.proofs.ListingLemmas.{AreRecords-append, concat-one, record_lines-append}
 use Rattle.tm_tool.proofs.RecordLemmas.{count_front, count_short, records_front, records_short, rest_front, rest_short}
@@ -91,8 +90,8 @@ module _ (layout : LayoutParts) (some : 0 < record_length_of layout) where
         → Appends old new (concat (record_lines layout 0 read)) → IfSome first (λ recording. AppendsWhole old new (listing layout recording))
     whole_front read part sized consumed written =
         told _ (concat read ++ part) first next consumed (λ left.
-          let (others, split) = listing_front read (part ++ left) sized in
-          (record_lines layout 0 read, others, ap (listing layout) (append_assoc (concat read) part left) ∙ split, written))
+        let (others, split) = listing_front read (part ++ left) sized in
+        (record_lines layout 0 read, others, ap (listing layout) (append_assoc (concat read) part left) ∙ split, written))
 
     whole_cut : IfSome first (λ recording. AppendsWhole old new (listing layout recording)) → IfSome first (λ recording. AppendsCut old new (listing layout recording))
     whole_cut = go first
@@ -142,8 +141,8 @@ module _ (layout : LayoutParts) (some : 0 < record_length_of layout) where
     writing_cut (inl h) =
         let (read, one, (sized, consumed), exact, (front, rest, parts, written)) = h in
         told _ (concat read ++ one) first next consumed (λ left.
-          let (others, split) = listing_next read one left sized exact in
-          (concat (record_lines layout 0 read) ++ front, cut_within _ (record_lines layout 0 read) others (record_line layout (length read) one) front rest split parts, written))
+        let (others, split) = listing_next read one left sized exact in
+        (concat (record_lines layout 0 read) ++ front, cut_within _ (record_lines layout 0 read) others (record_line layout (length read) one) front rest split parts, written))
     writing_cut (inr h) =
         let (read, rest, ((sized, consumed), short, end), (front, behind, parts, written)) = h in
         told_all _ (concat read ++ rest) first next consumed end
@@ -162,11 +161,11 @@ module _ (layout : LayoutParts) (some : 0 < record_length_of layout) where
         let (read, one, (sized, consumed), exact, most, written) = h in
         let n : ℕ = record_length_of layout in
         told _ (concat read ++ one) first next consumed (λ left.
-          let longer : List (List ℕ) = read ++ one ∷ [] in
-          let all : record_count (record_length_of layout) ((concat read ++ one) ++ left) ≡ length longer + record_count (record_length_of layout) left =
-          ap (λ (l : List ℕ). record_count (record_length_of layout) (l ++ left)) (sym (concat-one read one))
-          ∙ count_front n some longer left (AreRecords-append n read (one ∷ []) sized (exact, tt)) in
-          omega (arith, all, length-append read (one ∷ [])))
+        let longer : List (List ℕ) = read ++ one ∷ [] in
+        let all : record_count (record_length_of layout) ((concat read ++ one) ++ left) ≡ length longer + record_count (record_length_of layout) left =
+        ap (λ (l : List ℕ). record_count (record_length_of layout) (l ++ left)) (sym (concat-one read one))
+        ∙ count_front n some longer left (AreRecords-append n read (one ∷ []) sized (exact, tt)) in
+        omega (arith, all, length-append read (one ∷ [])))
 
 -- nothing was written
 pub cut_first : (layout : LayoutParts) (first old new : Option (List ℕ)) → Keeps old new → IfSome first (λ recording. AppendsCut old new (listing layout recording))

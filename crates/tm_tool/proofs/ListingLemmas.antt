@@ -1,5 +1,5 @@
 -- How a listing stands while it goes on, and what follows at its end.
-use Rattle.std.proofs.Common.{◌≡◌, ◌<◌, ◌+◌, ◌-◌, ◌^◌, ℕ, List, [], ◌∷◌, ◌++◌, length, refl, sym, ap, subst, ◌∙◌, append_assoc, append-nil, length-append, add-zero, add-one, arith, Option, inl, inr}
+use Rattle.std.proofs.Common.{◌≡◌, ◌<◌, ◌+◌, ◌-◌, ◌^◌, ℕ, List, [], ◌∷◌, ◌++◌, length, refl, sym, ap, subst, ◌∙◌, append_assoc, append-nil, length-append, add-zero, arith, Option, inl, inr}
 use Rattle.std.specs.List.{concat}
 use Rattle.std.specs.Io.KnownBytes.{Appends, Consumes, IsAtEnd, Keeps}
 use Rattle.std.proofs.KnownBytes.{Appends-nil, Appends-trans, Appends-kept, Consumes-nil, Consumes-trans}
@@ -8,7 +8,7 @@ use Rattle.tm_frame.specs.Layout.{record_length_of}
 use Rattle.tm_tool.specs.declared.fault.RunFault.{RunFault}
 use Rattle.tm_tool.specs.declared.fault.RunFault.TheVariants.{Read, Write, TooMany, NoMemory}
 use Rattle.tm_tool.specs.Records.{AreRecords}
-use Rattle.tm_tool.specs.Listing.{record_line, record_lines, rest_lines, lines_of, HasRead, HasReadAll, StopsIn, LineStopped, IsListed, IsStopped}
+use Rattle.tm_tool.specs.Listing.{record_line, record_lines, rest_lines, lines_of, StopsIn, LineStopped, IsListed, IsStopped}
 
 pub concat-append : (xs ys : List (List ℕ)) → concat (xs ++ ys) ≡ concat xs ++ concat ys
 concat-append [] ys = refl

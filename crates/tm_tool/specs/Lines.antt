@@ -1,5 +1,5 @@
 -- The printed lines. Each ends with one line feed; numbers are decimal, without leading zeros.
-use Rattle.std.specs.Prelude.{ℕ, Bool, List, [], ◌∷◌, length, codes, if◌then◌else◌, Result, Ok, Err}
+use Rattle.std.specs.Prelude.{ℕ, Bool, List, [], ◌∷◌, length, codes, if◌then◌else◌}
 use Rattle.std.specs.Fmt.{decimal}
 use Rattle.std.specs.List.{concat}
 use Rattle.tm_frame.specs.declared.fault.FrameFault.{FrameFault}

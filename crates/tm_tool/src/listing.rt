@@ -18,7 +18,12 @@ use tm_frame::{Layout, read};
 
 // The line of a record.
 #[tactic(auto, unfolding(crate::specs::Listing::record_line))]
-fn record_text(alloc: Global, layout: &Layout, seen: u32, octets: &[u8]) -> Result<String, AllocError>
+fn record_text(
+    alloc: Global,
+    layout: &Layout,
+    seen: u32,
+    octets: &[u8],
+) -> Result<String, AllocError>
     requires { length octets.now ≡ record_length_of layout.now }
     ensures { IfOk result (λ line. string_bytes line ≡ record_line layout.now seen octets.now) }
 {

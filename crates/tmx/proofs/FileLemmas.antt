@@ -1,5 +1,5 @@
 -- A file that is read up to a limit.
-use Rattle.std.proofs.Common.{◌≡◌, ◌<◌, ◌≤◌, ℕ, List, [], ◌++◌, length, take, take_all, length-take, min, refl, sym, ap, ◌∙◌, arith, Option, None, Some, IfSome, option_map}
+use Rattle.std.proofs.Common.{◌≡◌, ◌<◌, ℕ, List, [], ◌++◌, length, take, take_all, length-take, min, ap, ◌∙◌, arith, Option, None, Some, IfSome, option_map}
 
 -- less than the limit is all
 pub short_whole : (o : Option (List ℕ)) (limit : ℕ) (start octets : List ℕ) → start ≡ [] → IfSome (option_map (take limit) o) (λ xs. octets ≡ start ++ xs)

@@ -1,7 +1,6 @@
 -- Words that give no error have a plan, with what its action needs.
-use Rattle.std.proofs.Common.{◌≡◌, ◌∙◌, ◌||◌, ℕ, Bool, sym, List, [], ◌∷◌, true, false, not, refl, Option, Some, None, is_some, option_map, Result, Ok, Err, IfOk, codes, inl, inr, slice_index_or, subst, ap, Bor}
+use Rattle.std.proofs.Common.{◌≡◌, ◌∙◌, ◌||◌, Bool, sym, List, [], ◌∷◌, true, false, not, refl, Option, Some, None, is_some, option_map, Result, Ok, Err, IfOk, codes, inl, inr, slice_index_or, subst, ap, Bor}
 use Rattle.std.specs.Prelude.{if◌then◌else◌}
-use Rattle.std.specs.List.{list_all}
 use Rattle.std.proofs.lemmas.Bool.{cases_Bool, false≢true}
 use Rattle.std.proofs.lemmas.Option.{same_Some}
 use Rattle.clap.specs.Kinds.{Kinds, FailsBy}
@@ -16,8 +15,8 @@ use Rattle.clap.specs.Faults.{check_fault, entered_fault, level_fault}
 use Rattle.clap.proofs.OnLiterals.{clap_on_literals}
 use Rattle.clap.proofs.WalkLemmas.{first_value-rows}
 use Rattle.tmx.specs.declared.request.Plan.{Plan}
-use Rattle.tmx.specs.CommandLine.{tmx, action_named, faults_of, matches_of, plan_of, HasRequired}
-use Rattle.tmx.proofs.Filled.{Filled, is_sized, level-filled, given-first}
+use Rattle.tmx.specs.CommandLine.{tmx, faults_of, matches_of, plan_of, HasRequired}
+use Rattle.tmx.proofs.Filled.{Filled, level-filled, given-first}
 
 -- what a getter gives is the value in the row
 pub value_in_rows : (f : Found) (id : Text) (r : Option (Bor Text)) → option_map (λ s. s.now) r ≡ first_value f id → option_map (λ s. s.now) r ≡ first_of id (rows_of f)

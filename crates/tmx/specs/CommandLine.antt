@@ -1,5 +1,5 @@
 -- The command line: the command as `clap` reads it, and the plan that its matches of the words make.
-use Rattle.std.specs.Prelude.{◌≡◌, ℕ, Bool, List, [], Option, Some, None, true, codes, if◌then◌else◌, option_map, option_and_then, IsSome}
+use Rattle.std.specs.Prelude.{Bool, List, Option, Some, None, true, codes, if◌then◌else◌, option_map, option_and_then, IsSome}
 use Rattle.std.specs.Str.{bytes_eq}
 use Rattle.clap.specs.Walk.{Row, Rule, Text, first_of}
 use Rattle.clap.specs.Simple.{App, new_app, new_rule, on_top, with_rule, with_subcommand, subcommand_of}

@@ -1,5 +1,5 @@
 -- The lines of faults, and the statuses with which they end the program.
-use Rattle.std.specs.Prelude.{◌≡◌, ◌&&◌, ◌++◌, ℕ, Bool, not, List, [], ◌∷◌, ◌==◌, nat_le, codes, if◌then◌else◌}
+use Rattle.std.specs.Prelude.{◌&&◌, ◌++◌, ℕ, Bool, not, List, [], ◌∷◌, ◌==◌, nat_le, codes, if◌then◌else◌}
 use Rattle.std.specs.List.{flat_map}
 use Rattle.hex.specs.Hex.{encode_lower}
 use Rattle.tm_tool.specs.Keys.{name_of}

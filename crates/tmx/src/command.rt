@@ -39,8 +39,9 @@ fn frames_command<'a>(alloc: Global) -> Result<Command<'a>, AllocError>
     ensures app { IfOk result (λ c. app_of c ≡ frames_app) }
     ensures local { IfOk result (λ c. (fields_of c).has_globals ≡ false) }
 {
-    let settings = required(alloc, "settings", "FILE")
-        .help("The settings of the recording: a TOML file");
+    let settings = required(alloc, "settings", "FILE").help(
+        "The settings of the recording: a TOML file",
+    );
     Command::new(alloc, "frames")
         .about("Lists the frames: one line for each record of the recording")
         .arg(settings)?

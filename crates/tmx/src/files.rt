@@ -1,9 +1,10 @@
 //! Files that are read whole.
 
-ghost use Rattle.std.specs.Prelude.{◌≡◌, ◌<◌, length, IfOk, IfSome, MatchOption};
+ghost use Rattle.std.specs.Prelude.{◌≡◌, ◌<◌, ◌≤◌, length, vec_len, IfOk, IfErr, IfSome, MatchOption};
+ghost use Rattle.tmx.specs.Files.{IsFaultOf};
 
 use crate::fault::ToolFault;
-use std::alloc::{AllocError, Global};
+use std::alloc::Global;
 use std::fs::File;
 use std::io::{self, ErrorKind, Read};
 use std::rt::Files;
@@ -14,13 +15,12 @@ const GREATEST: usize = 1_048_576;
 
 // Reads to the end, and answers no octets where there are more than a file may have.
 fn read_short<R: Read + Drop>(alloc: Global, reader: R) -> io::Result<Option<Vec<u8>>>
-    ensures { IfOk result (λ found. IfSome (R.remaining reader) (λ all.
+    ensures whole { IfOk result (λ found. IfSome (R.remaining reader) (λ all.
         MatchOption found (GREATEST < length all) (λ octets. octets.items ≡ all))) }
+    ensures short { IfOk result (λ found. IfSome found (λ octets. vec_len octets ≤ GREATEST)) }
 {
     let mut octets = Vec::new(alloc);
-    reader
-        .take(GREATEST as u64 + 1)
-        .read_to_end(&mut octets)?;
+    reader.take(GREATEST as u64 + 1).read_to_end(&mut octets)?;
     if octets.len() > GREATEST {
         Ok(None)
     } else {
@@ -29,20 +29,30 @@ fn read_short<R: Read + Drop>(alloc: Global, reader: R) -> io::Result<Option<Vec
 }
 
 // The fault of a file that can't be opened or read.
-fn file_fault(alloc: Global, name: &str) -> ToolFault {
+fn file_fault(alloc: Global, name: &str) -> ToolFault
+    ensures { IsFaultOf name.now result }
+{
     match Vec::from_slice(alloc, name.as_bytes()) {
         Ok(octets) => ToolFault::File(Octets::new(octets)),
         Err(_) => ToolFault::Run(RunFault::NoMemory),
     }
 }
 
-/// Opens a file for reading.
-pub fn open<R: Files + AllocGlobal>(rt: &R, name: &str) -> Result<R::File, ToolFault> {
-    File::open(rt, name).map_err(|_| file_fault(rt.alloc(), name))
+/// Opens a file for reading. A fault names the file as it was given.
+pub fn open<R: Files + AllocGlobal>(rt: &R, name: &str) -> Result<R::File, ToolFault>
+    ensures { IfErr result (IsFaultOf name.now) }
+{
+    match File::open(rt, name) {
+        Ok(file) => Ok(file),
+        Err(_) => Err(file_fault(rt.alloc(), name)),
+    }
 }
 
-/// The octets of a file, of which there may be 1,048,576.
-pub fn read_file<R: Files + AllocGlobal>(rt: &R, name: &str) -> Result<Vec<u8>, ToolFault> {
+/// The octets of a file, of which there may be 1,048,576. A fault names the file as it was given.
+pub fn read_file<R: Files + AllocGlobal>(rt: &R, name: &str) -> Result<Vec<u8>, ToolFault>
+    ensures named { IfErr result (IsFaultOf name.now) }
+    ensures short { IfOk result (λ octets. vec_len octets ≤ GREATEST) }
+{
     let alloc = rt.alloc();
     let file = open(rt, name)?;
     match read_short(alloc, file) {

@@ -92,10 +92,9 @@ pub fn status(fault: &ToolFault) -> u8
         ToolFault::Usage(UsageFault::NoMemory)
         | ToolFault::Settings(SettingsFault::NoMemory)
         | ToolFault::Run(RunFault::NoMemory) => 3,
-        ToolFault::File(_)
-        | ToolFault::Run(RunFault::Read | RunFault::Write | RunFault::TooMany) => 1,
-        ToolFault::Usage(UsageFault::Usage(_))
-        | ToolFault::Settings(_)
-        | ToolFault::TooLong(_) => 2,
+        ToolFault::File(_) | ToolFault::Run(RunFault::Read | RunFault::Write | RunFault::TooMany) =>
+            1,
+        ToolFault::Usage(UsageFault::Usage(_)) | ToolFault::Settings(_) | ToolFault::TooLong(_) =>
+            2,
     }
 }

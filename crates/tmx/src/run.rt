@@ -13,7 +13,8 @@ use tm_tool::{Octets, Reading, RunFault, Settings, Writing, list_frames};
 // The octets of the buffers behind the recording and before the output.
 const BUFFER: usize = 262_144;
 
-const NOT_TEXT: &str = "error: the arguments are not UTF-8\n\nFor more information, try '--help'.\n";
+const NOT_TEXT: &str =
+    "error: the arguments are not UTF-8\n\nFor more information, try '--help'.\n";
 
 // Memory ran out.
 fn no_memory() -> ToolFault {

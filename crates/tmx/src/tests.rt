@@ -45,7 +45,8 @@ fn texts_of_usage_and_help(rt: HostRuntime) -> Result<(), Fail> {
     else {
         return Ok(assert!(rt; false));
     };
-    let wanted = "error: unexpected argument 'b' found\n\nUsage: tmx frames --settings <FILE> [RECORDING]\n\nFor more information, try '--help'.\n";
+    let wanted =
+        "error: unexpected argument 'b' found\n\nUsage: tmx frames --settings <FILE> [RECORDING]\n\nFor more information, try '--help'.\n";
     assert_eq!(rt; text.as_slice(), wanted.as_bytes());
     let Err(UsageFault::Usage(_)) = planned(alloc, &["split", "--settings", "s"])? else {
         return Ok(assert!(rt; false));
@@ -53,7 +54,8 @@ fn texts_of_usage_and_help(rt: HostRuntime) -> Result<(), Fail> {
     let Err(UsageFault::Help(text)) = planned(alloc, &["frames", "--help"])? else {
         return Ok(assert!(rt; false));
     };
-    let wanted = "Lists the frames: one line for each record of the recording\n\nUsage: tmx frames --settings <FILE> [RECORDING]\n\nArguments:\n  [RECORDING]  The recording; standard input if it is left out\n\nOptions:\n      --settings <FILE>  The settings of the recording: a TOML file\n  -h, --help             Print help\n";
+    let wanted =
+        "Lists the frames: one line for each record of the recording\n\nUsage: tmx frames --settings <FILE> [RECORDING]\n\nArguments:\n  [RECORDING]  The recording; standard input if it is left out\n\nOptions:\n      --settings <FILE>  The settings of the recording: a TOML file\n  -h, --help             Print help\n";
     assert_eq!(rt; text.as_slice(), wanted.as_bytes());
     Ok(())
 }
@@ -62,8 +64,16 @@ fn texts_of_usage_and_help(rt: HostRuntime) -> Result<(), Fail> {
 fn lines_and_statuses(rt: HostRuntime) -> Result<(), Fail> {
     let alloc = rt.alloc();
     let table = [
-        (ToolFault::Usage(UsageFault::Help(named(alloc, "help\n")?)), "help\n", 0),
-        (ToolFault::Usage(UsageFault::Usage(named(alloc, "usage\n")?)), "usage\n", 2),
+        (
+            ToolFault::Usage(UsageFault::Help(named(alloc, "help\n")?)),
+            "help\n",
+            0,
+        ),
+        (
+            ToolFault::Usage(UsageFault::Usage(named(alloc, "usage\n")?)),
+            "usage\n",
+            2,
+        ),
         (
             ToolFault::Settings(SettingsFault::Unknown(named(alloc, "colour")?)),
             "tmx: settings: unknown colour\n",
@@ -79,9 +89,17 @@ fn lines_and_statuses(rt: HostRuntime) -> Result<(), Fail> {
             "tmx: a\\x5cb \\xc3\\xa9\\x0a: failed\n",
             1,
         ),
-        (ToolFault::TooLong(named(alloc, "s.toml")?), "tmx: s.toml: too long\n", 2),
+        (
+            ToolFault::TooLong(named(alloc, "s.toml")?),
+            "tmx: s.toml: too long\n",
+            2,
+        ),
         (ToolFault::Run(RunFault::Write), "tmx: write failed\n", 1),
-        (ToolFault::Run(RunFault::NoMemory), "tmx: out of memory\n", 3),
+        (
+            ToolFault::Run(RunFault::NoMemory),
+            "tmx: out of memory\n",
+            3,
+        ),
     ];
     for (fault, line, code) in &table {
         let Ok(found) = fault_line(alloc, fault) else {

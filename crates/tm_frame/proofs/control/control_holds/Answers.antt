@@ -1,5 +1,4 @@
-use Rattle.std.proofs.Common.{◌≡◌, ◌==◌, sym, ap, ◌∙◌, refl, arith}
-use Rattle.tm_frame.specs.ErrorControl.{error_control_of}
+use Rattle.std.proofs.Common.{◌==◌, sym, ap, ◌∙◌, refl, arith}
 use Rattle.byteorder.specs.Endian.{big_number}
 use Rattle.tm_bits.proofs.PartLemmas.{AreOctets}
 use Rattle.tm_frame.proofs.HeaderLemmas.{part_control}

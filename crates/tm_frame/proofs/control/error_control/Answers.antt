@@ -1,4 +1,4 @@
-use Rattle.std.proofs.Common.{◌≡◌, ◌∙◌, ap, sym, arith}
+use Rattle.std.proofs.Common.{◌∙◌, ap, sym}
 use Rattle.tm_bits.specs.Bits.{bits_of}
 use Rattle.tm_frame.specs.ErrorControl.{remainder_from}
 use Rattle.tm_frame.proofs.Division.{octets_apart, error_control_of-remainder}

@@ -1,5 +1,4 @@
-use Rattle.std.proofs.Common.{◌<◌, arith}
-use Rattle.tm_frame.specs.Frame.{field_start, field_end}
+use Rattle.std.proofs.Common.{arith}
 use Rattle.tm_frame.proofs.FaultLemmas.{begins_before_end, sound}
 use Rattle.tm_frame.proofs.frame.good_frame.Goals as goal
 

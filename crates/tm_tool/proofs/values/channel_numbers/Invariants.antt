@@ -1,4 +1,4 @@
-use Rattle.std.proofs.Common.{◌≡◌, ◌++◌, List, ℕ, map, drop, option_map}
+use Rattle.std.proofs.Common.{◌≡◌, ◌++◌, map, drop, option_map}
 use Rattle.toml.specs.View.{items_view}
 use Rattle.tm_tool.specs.Settings.{integers, channel_number}
 use Rattle.tm_tool.proofs.values.channel_numbers.Given as goal

@@ -1,4 +1,4 @@
-use Rattle.std.proofs.Common.{length, take, length-take-le, arith, ◌<◌, ◌-◌, subst, sym, ◌∙◌, rules}
+use Rattle.std.proofs.Common.{length, ◌-◌, subst, sym, ◌∙◌, rules}
 use Rattle.std.specs.Io.KnownBytes.{Consumes}
 use Rattle.std.proofs.KnownBytes.{Consumes-trans}
 use Rattle.tm_tool.proofs.Parts.{take_filled}

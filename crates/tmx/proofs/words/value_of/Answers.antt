@@ -1,4 +1,4 @@
-use Rattle.std.proofs.Common.{rules, ◌∙◌, ap, sym}
+use Rattle.std.proofs.Common.{rules}
 use Rattle.clap.specs.Words.{found_of}
 use Rattle.tmx.proofs.Required.{value_in_rows}
 use Rattle.tmx.proofs.words.value_of.Goals as goal

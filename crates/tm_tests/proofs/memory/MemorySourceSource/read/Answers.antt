@@ -1,5 +1,4 @@
-use Rattle.std.proofs.Common.{rules, ◌≡◌, ◌+◌, ◌-◌, ◌≤◌, drop, take, length, arith, ap, ◌∙◌, drop_of_length-le, length-append, length-drop, length-take-le}
-use Rattle.std.proofs.lemmas.Grind.{common_steps}
+use Rattle.std.proofs.Common.{◌≡◌, ◌+◌, ◌-◌, ◌≤◌, drop, take, length, arith, ap, ◌∙◌, drop_of_length-le, length-append, length-drop, length-take-le}
 use Rattle.tm_tests.proofs.Copies.{copied_front}
 use Rattle.tm_tests.proofs.memory.MemorySourceSource.read.Goals as goal
 

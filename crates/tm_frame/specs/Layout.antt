@@ -1,4 +1,4 @@
--- What a layout may be (CCSDS 132.0-B-3, 4.1: all frames of a physical channel have one length; the ranges are this project's own).
+-- What a layout may be (CCSDS 132.0-B-3, 4.1.1: all frames of a physical channel have one length; the ranges are this project's own).
 use Rattle.std.specs.Prelude.{ℕ, ◌+◌, ◌≤◌, Bool, ◌||◌, nat_lt, [], ◌∷◌, Option}
 use Rattle.std.specs.List.{find}
 use Rattle.tm_frame.specs.declared.layout.LayoutParts.{LayoutParts}

@@ -4,7 +4,6 @@ use crate::{MemoryDrain, MemorySource};
 use std::alloc::{AllocError, Global};
 use std::io::{self, ErrorKind, Read, Write};
 use std::test::Fail;
-use tm_frame::error_control;
 use tm_tool::{Reading, RunFault, Settings, Writing, list_frames};
 
 const BASE: &str = "spacecraft = 42\nframe_length = 24\nerror_control = false\n";
@@ -18,14 +17,14 @@ const TWO_PACKETS: [u8; 24] = [
 const TWO_PACKETS_LINE: &str =
     "frame record=0 channel=0 master=0 count=0 kind=packets place=0 secondary=0 ocf=no order=0 segment=3 octets=18\n";
 
-// A primary header and 18 octets 55.
-fn record(alloc: Global, header: [u8; 6]) -> Result<Vec<u8>, AllocError> {
+// A primary header and the octets after it.
+fn record(alloc: Global, header: [u8; 6], more: &[u8]) -> Result<Vec<u8>, AllocError> {
     let mut octets = header.to_vec(alloc)?;
-    octets.extend_from_slice(&[0x55; 18])?;
+    octets.extend_from_slice(more)?;
     Ok(octets)
 }
 
-// What `list_frames` answers of a recording that is read and written in one call each.
+// What `list_frames` answers of a recording that is read and written in few calls, and what it writes.
 fn listed(
     alloc: Global,
     settings: &str,
@@ -41,38 +40,57 @@ fn listed(
 }
 
 #[test]
-fn error_control_of_known_octets(rt: HostRuntime) {
-    assert_eq!(rt; error_control("123456789".as_bytes()), 0x29B1);
-    assert_eq!(rt; error_control(&[]), 0xFFFF);
-    assert_eq!(rt; error_control(&[0]), 0xE1F0);
+fn error_control_values(rt: HostRuntime) {
+    assert_eq!(rt; tm_frame::error_control(&[]), 0xFFFF);
+    assert_eq!(rt; tm_frame::error_control(&[0]), 0xE1F0);
 }
 
 #[test]
-fn frames_of_recordings(rt: HostRuntime) -> Result<(), Fail> {
+fn two_packets(rt: HostRuntime) -> Result<(), Fail> {
     let alloc = rt.alloc();
     let (lines, answer) = listed(alloc, BASE, TWO_PACKETS.to_vec(alloc)?)?;
     assert_eq!(rt; answer, Ok(1));
     assert_eq!(rt; lines.as_slice(), TWO_PACKETS_LINE.as_bytes());
+    Ok(())
+}
 
+#[test]
+fn empty_recording(rt: HostRuntime) -> Result<(), Fail> {
+    let alloc = rt.alloc();
     let (lines, answer) = listed(alloc, BASE, Vec::new(alloc))?;
     assert_eq!(rt; answer, Ok(0));
     assert!(rt; lines.is_empty());
+    Ok(())
+}
 
-    let controlled = "spacecraft = 42\nframe_length = 9\nerror_control = true\n";
+#[test]
+fn error_control(rt: HostRuntime) -> Result<(), Fail> {
+    let alloc = rt.alloc();
+    assert_eq!(rt; tm_frame::error_control("123456789".as_bytes()), 0x29B1);
+    let settings = "spacecraft = 42\nframe_length = 9\nerror_control = true\n";
     let recording = [
         0x02, 0xA0, 0x00, 0x00, 0x1F, 0xFE, 0x55, 0x25, 0xC9, 0x02, 0xA0, 0x00, 0x00, 0x1F, 0xFE,
         0x54, 0x25, 0xC9,
     ];
-    let (lines, answer) = listed(alloc, controlled, recording.to_vec(alloc)?)?;
+    let (lines, answer) = listed(alloc, settings, recording.to_vec(alloc)?)?;
     assert_eq!(rt; answer, Ok(2));
     let wanted =
         "frame record=0 channel=0 master=0 count=0 kind=idle place=- secondary=0 ocf=no order=0 segment=3 octets=1\nbad record=1 fault=crc\n";
     assert_eq!(rt; lines.as_slice(), wanted.as_bytes());
+    Ok(())
+}
 
-    let skipping = format!(in alloc; "{BASE}skip_before = 4\n")?;
+#[test]
+fn skipped_octets(rt: HostRuntime) -> Result<(), Fail> {
+    let alloc = rt.alloc();
+    let text = format!(in alloc; "{BASE}skip_before = 4\n")?;
+    let Ok(settings) = Settings::read(alloc, text.as_bytes()) else {
+        return Ok(assert!(rt; false));
+    };
+    assert_eq!(rt; settings.layout().record_length(), 28);
     let mut recording = [0x1A, 0xCF, 0xFC, 0x1D].to_vec(alloc)?;
     recording.extend_from_slice(&TWO_PACKETS)?;
-    let (lines, answer) = listed(alloc, skipping.as_str(), recording)?;
+    let (lines, answer) = listed(alloc, text.as_str(), recording)?;
     assert_eq!(rt; answer, Ok(1));
     assert_eq!(rt; lines.as_slice(), TWO_PACKETS_LINE.as_bytes());
     Ok(())
@@ -84,67 +102,81 @@ fn frame_faults(rt: HostRuntime) -> Result<(), Fail> {
     let always =
         "spacecraft = 42\nframe_length = 24\nerror_control = false\nsecondary = \"always\"\n";
     let never = "spacecraft = 42\nframe_length = 24\nerror_control = false\nocf = \"never\"\n";
+    let plain = [0x55u8; 18];
+    let mut version = plain;
+    version[0] = 0x40;
+    let mut long = plain;
+    long[0] = 0x11;
+    let mut short = plain;
+    short[0] = 0x10;
+    let packet = [
+        0x00, 0x64, 0xC0, 0x00, 0x00, 0x07, 0x55, 0x55, 0x55, 0x55, 0x55, 0x55, 0x55, 0x55, 0x55,
+        0x55, 0x55, 0x55,
+    ];
     let table = [
         (
             BASE,
             [0x42, 0xA0, 0x00, 0x00, 0x18, 0x00],
+            plain,
             "bad record=0 fault=version\n",
         ),
         (
             BASE,
             [0x02, 0xB0, 0x00, 0x00, 0x18, 0x00],
+            plain,
             "bad record=0 fault=spacecraft\n",
         ),
         (
             always,
             [0x02, 0xA0, 0x00, 0x00, 0x18, 0x00],
+            plain,
             "bad record=0 fault=secondary-flag\n",
         ),
         (
             never,
             [0x02, 0xA1, 0x00, 0x00, 0x18, 0x00],
+            plain,
             "bad record=0 fault=ocf-flag\n",
         ),
         (
             BASE,
             [0x02, 0xA0, 0x00, 0x00, 0x18, 0x12],
+            plain,
             "bad record=0 fault=pointer\n",
         ),
         (
             BASE,
             [0x02, 0xA0, 0x00, 0x00, 0x18, 0x11],
+            plain,
             "frame record=0 channel=0 master=0 count=0 kind=packets place=17 secondary=0 ocf=no order=0 segment=3 octets=18\n",
         ),
         (
             BASE,
+            [0x02, 0xA0, 0x00, 0x00, 0x98, 0x00],
+            version,
+            "bad record=0 fault=secondary-version\n",
+        ),
+        (
+            BASE,
+            [0x02, 0xA0, 0x00, 0x00, 0x98, 0x00],
+            long,
+            "bad record=0 fault=layout\n",
+        ),
+        (
+            BASE,
+            [0x02, 0xA0, 0x00, 0x00, 0x98, 0x00],
+            short,
+            "frame record=0 channel=0 master=0 count=0 kind=packets place=0 secondary=17 ocf=no order=0 segment=3 octets=1\n",
+        ),
+        (
+            BASE,
             [0x02, 0xA1, 0x00, 0x00, 0x18, 0x00],
+            packet,
             "frame record=0 channel=0 master=0 count=0 kind=packets place=0 secondary=0 ocf=yes order=0 segment=3 octets=14\n",
         ),
     ];
-    for (settings, header, line) in table {
-        let (lines, answer) = listed(alloc, settings, record(alloc, header)?)?;
-        assert_eq!(rt; answer, Ok(1));
-        assert_eq!(rt; lines.as_slice(), line.as_bytes());
-    }
-    Ok(())
-}
-
-#[test]
-fn secondary_headers(rt: HostRuntime) -> Result<(), Fail> {
-    let alloc = rt.alloc();
-    let table = [
-        (0x40, "bad record=0 fault=secondary-version\n"),
-        (0x11, "bad record=0 fault=layout\n"),
-        (
-            0x10,
-            "frame record=0 channel=0 master=0 count=0 kind=packets place=0 secondary=17 ocf=no order=0 segment=3 octets=1\n",
-        ),
-    ];
-    for (first, line) in table {
-        let mut octets = [0x55u8; 24];
-        octets[..6].copy_from_slice(&[0x02, 0xA0, 0x00, 0x00, 0x98, 0x00]);
-        octets[6] = first;
-        let (lines, answer) = listed(alloc, BASE, octets.to_vec(alloc)?)?;
+    for (settings, header, more, line) in table {
+        let (lines, answer) = listed(alloc, settings, record(alloc, header, &more)?)?;
         assert_eq!(rt; answer, Ok(1));
         assert_eq!(rt; lines.as_slice(), line.as_bytes());
     }

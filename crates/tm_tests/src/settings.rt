@@ -68,8 +68,14 @@ fn with_key(alloc: Global, what: &str, key: Key) -> Result<String, Fail> {
 }
 
 #[test]
-fn refused(rt: HostRuntime) -> Result<(), Fail> {
+fn settings_faults(rt: HostRuntime) -> Result<(), Fail> {
     let alloc = rt.alloc();
+    let parts = LayoutParts {
+        frame_length: 8,
+        spacecraft: 1024,
+        ..base()
+    };
+    assert_eq!(rt; Layout::new(parts), Err(LayoutFault::FrameLength));
     let table = [
         (
             "spacecraft = 42\nframe_length = 2049\nerror_control = false\n",
@@ -112,19 +118,4 @@ fn refused(rt: HostRuntime) -> Result<(), Fail> {
         assert_eq!(rt; refusal(alloc, text)?.as_str(), fault);
     }
     Ok(())
-}
-
-#[test]
-fn layouts_out_of_range(rt: HostRuntime) {
-    let parts = LayoutParts {
-        frame_length: 8,
-        spacecraft: 1024,
-        ..base()
-    };
-    assert_eq!(rt; Layout::new(parts), Err(LayoutFault::FrameLength));
-    let parts = LayoutParts {
-        spacecraft: 1024,
-        ..base()
-    };
-    assert_eq!(rt; Layout::new(parts), Err(LayoutFault::Spacecraft));
 }

@@ -4,4 +4,3 @@ pub mod ListingLemmas
 pub mod RecordLemmas
 pub mod CutLemmas
 pub mod ListingEnds
-pub mod Examples

@@ -104,8 +104,8 @@ module _ (layout : LayoutParts) (some : 0 < record_length_of layout) where
 
     -- without memory the text ends with a whole line
     writing_whole : StopsWriting layout first next old new NoMemory → IfSome first (λ recording. AppendsWhole old new (listing layout recording))
-    writing_whole (inl h) = let (read, one, (sized, consumed), exact, written) = h in whole_front read one sized consumed written
-    writing_whole (inr h) = let (read, rest, ((sized, consumed), short, end), written) = h in whole_front read rest sized consumed written
+    writing_whole (inl h) = let (read, one, (sized, consumed), exact, (line, written)) = h in whole_front read one sized consumed written
+    writing_whole (inr h) = let (read, rest, ((sized, consumed), short, end), (line, written)) = h in whole_front read rest sized consumed written
 
     pub stopped_whole : IsStopped layout first next old new NoMemory → IfSome first (λ recording. AppendsWhole old new (listing layout recording))
     stopped_whole (inl h) = writing_whole h

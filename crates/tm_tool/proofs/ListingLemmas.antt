@@ -1,14 +1,20 @@
 -- How a listing stands while it goes on, and what follows at its end.
+use Rattle.std.specs.Prelude.{◌≢◌, ◌==◌, Result, Ok, Err}
+use Rattle.std.proofs.lemmas.Bool.{cases_Bool, eqb-true}
 use Rattle.std.proofs.Common.{◌≡◌, ◌<◌, ◌+◌, ◌-◌, ◌^◌, ℕ, List, [], ◌∷◌, ◌++◌, length, refl, sym, ap, subst, ◌∙◌, append_assoc, append-nil, length-append, add-zero, arith, Option, inl, inr}
 use Rattle.std.specs.List.{concat}
 use Rattle.std.specs.Io.KnownBytes.{Appends, Consumes, IsAtEnd, Keeps}
 use Rattle.std.proofs.KnownBytes.{Appends-nil, Appends-trans, Appends-kept, Consumes-nil, Consumes-trans}
 use Rattle.tm_frame.specs.declared.layout.LayoutParts.{LayoutParts}
+use Rattle.tm_frame.specs.declared.fault.FrameFault.{FrameFault}
+use Rattle.tm_frame.specs.Fault.{reading_of}
+use Rattle.tm_frame.specs.Frame.{GoodFrame}
 use Rattle.tm_frame.specs.Layout.{record_length_of}
+use Rattle.tm_tool.specs.Lines.{bad_line, frame_line, short_line}
 use Rattle.tm_tool.specs.declared.fault.RunFault.{RunFault}
 use Rattle.tm_tool.specs.declared.fault.RunFault.TheVariants.{Read, Write, TooMany, NoMemory}
 use Rattle.tm_tool.specs.Records.{AreRecords}
-use Rattle.tm_tool.specs.Listing.{record_line, record_lines, rest_lines, lines_of, StopsIn, LineStopped, IsListed, IsStopped}
+use Rattle.tm_tool.specs.Listing.{reading_line, record_line, record_lines, rest_lines, lines_of, StopsIn, LineStopped, IsListed, IsStopped}
 
 pub concat-append : (xs ys : List (List ℕ)) → concat (xs ++ ys) ≡ concat xs ++ concat ys
 concat-append [] ys = refl
@@ -16,6 +22,27 @@ concat-append (x ∷ xs) ys = ap (λ (l : List ℕ). x ++ l) (concat-append xs y
 
 pub concat-one : (xs : List (List ℕ)) (x : List ℕ) → concat (xs ++ x ∷ []) ≡ concat xs ++ x
 concat-one xs x = concat-append xs (x ∷ []) ∙ ap (λ (l : List ℕ). concat xs ++ l) (append-nil x)
+
+-- no line is empty
+some_reading_line : (seen : ℕ) (reading : Result GoodFrame FrameFault) → reading_line seen reading ≢ []
+unfolding frame_line bad_line
+some_reading_line seen (Ok frame) e = cc
+some_reading_line seen (Err fault) e = cc
+
+pub some_record_line : (layout : LayoutParts) (seen : ℕ) (octets : List ℕ) → record_line layout seen octets ≢ []
+unfolding record_line
+some_record_line layout seen octets = some_reading_line seen (reading_of layout octets)
+
+some_short_line : (seen octets : ℕ) → short_line seen octets ++ [] ≢ []
+unfolding short_line
+some_short_line seen octets e = cc
+
+pub some_rest_line : (seen octets : ℕ) → 0 < octets → concat (rest_lines seen octets) ≢ []
+some_rest_line seen octets some e =
+    elim (cases_Bool (octets == 0)) [
+      | inl none ↦ absurd (omega (arith, eqb-true octets 0 none))
+      | inr left ↦ some_short_line seen octets (rw left at e)
+    ]
 
 pub AreRecords-append : (size : ℕ) (a b : List (List ℕ)) → AreRecords size a → AreRecords size b → AreRecords size (a ++ b)
 AreRecords-append size [] b h k = k
@@ -66,18 +93,19 @@ module _ (layout : LayoutParts) where
         let (front, rest, parts, grown) = h in
         (front, rest, parts, Appends-trans old now new (concat (record_lines layout 0 stands.0)) front stands.4 grown)
     stops_in text TooMany h = absurd h
-    stops_in text NoMemory h = Appends-kept old now new (concat (record_lines layout 0 stands.0)) stands.4 h
+    stops_in text NoMemory h = (h.0, Appends-kept old now new (concat (record_lines layout 0 stands.0)) stands.4 h.1)
+
+    -- the number of the records that were read is the number of the next
+    stops_at : (line : ℕ → List ℕ) (fault : RunFault) → LineStopped now new (line seen) fault → StopsIn layout first next old new stands.0 (line (length stands.0)) fault
+    stops_at line fault h = stops_in (line (length stands.0)) fault (subst (λ (n : ℕ). LineStopped now new (line n) fault) stands.3 h)
 
     -- a record was read, and writing stopped in its line
     pub stands_record : length octets ≡ record_length_of layout → (fault : RunFault) → LineStopped now new (record_line layout seen octets) fault
         → IsStopped layout first next old new fault
     stands_record exact Read h = absurd h
-    stands_record exact Write h = inl (stands.0, octets, (stands.1, read_all), exact, at_last Write h)
-      where
-        at_last : (fault : RunFault) → LineStopped now new (record_line layout seen octets) fault → StopsIn layout first next old new stands.0 (record_line layout (length stands.0) octets) fault
-        at_last fault h = stops_in (record_line layout (length stands.0) octets) fault (subst (λ (n : ℕ). LineStopped now new (record_line layout n octets) fault) stands.3 h)
+    stands_record exact Write h = inl (stands.0, octets, (stands.1, read_all), exact, stops_at (λ n. record_line layout n octets) Write h)
     stands_record exact TooMany h = absurd h
-    stands_record exact NoMemory h = inl (inl (stands.0, octets, (stands.1, read_all), exact, stops_in (record_line layout (length stands.0) octets) NoMemory h))
+    stands_record exact NoMemory h = inl (inl (stands.0, octets, (stands.1, read_all), exact, stops_at (λ n. record_line layout n octets) NoMemory h))
 
     -- a read failed in a record
     pub stands_read : length octets < record_length_of layout → Keeps now new → IsStopped layout first next old new Read
@@ -102,9 +130,6 @@ module _ (layout : LayoutParts) where
       -- writing stopped in that line
       pub stands_end_stopped : (fault : RunFault) → LineStopped now new (concat (rest_lines seen (length octets))) fault → IsStopped layout first next old new fault
       stands_end_stopped Read h = absurd h
-      stands_end_stopped Write h = inr (stands.0, octets, ((stands.1, read_all), short, end), at_rest Write h)
-        where
-          at_rest : (fault : RunFault) → LineStopped now new (concat (rest_lines seen (length octets))) fault → StopsIn layout first next old new stands.0 (concat (rest_lines (length stands.0) (length octets))) fault
-          at_rest fault h = stops_in (concat (rest_lines (length stands.0) (length octets))) fault (subst (λ (n : ℕ). LineStopped now new (concat (rest_lines n (length octets))) fault) stands.3 h)
+      stands_end_stopped Write h = inr (stands.0, octets, ((stands.1, read_all), short, end), stops_at (λ n. concat (rest_lines n (length octets))) Write h)
       stands_end_stopped TooMany h = absurd h
-      stands_end_stopped NoMemory h = inl (inr (stands.0, octets, ((stands.1, read_all), short, end), stops_in (concat (rest_lines (length stands.0) (length octets))) NoMemory h))
+      stands_end_stopped NoMemory h = inl (inr (stands.0, octets, ((stands.1, read_all), short, end), stops_at (λ n. concat (rest_lines n (length octets))) NoMemory h))

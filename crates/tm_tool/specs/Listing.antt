@@ -1,5 +1,5 @@
 -- The listing of a recording: a line for each record, and one for a rest.
-use Rattle.std.specs.Prelude.{◌≡◌, ◌⊎◌, ◌==◌, if◌then◌else◌, ℕ, ◌+◌, ◌-◌, ◌^◌, ◌<◌, List, [], ◌∷◌, ◌++◌, length, Option, Result, Ok, Err}
+use Rattle.std.specs.Prelude.{◌≡◌, ◌≢◌, ◌⊎◌, ◌==◌, if◌then◌else◌, ℕ, ◌+◌, ◌-◌, ◌^◌, ◌<◌, List, [], ◌∷◌, ◌++◌, length, Option, Result, Ok, Err}
 use Rattle.std.specs.List.{concat}
 use Rattle.std.specs.Io.KnownBytes.{Appends, Consumes, IsAtEnd, Keeps}
 use Rattle.tm_frame.specs.declared.fault.FrameFault.{FrameFault}
@@ -39,10 +39,10 @@ unfoldable pub listing : LayoutParts → List ℕ → List (List ℕ)
 listing layout recording =
     lines_of layout (records (record_length_of layout) recording) (length (rest_of (record_length_of layout) recording))
 
--- writing a text stopped: within it, or before it where memory ran out
+-- writing a text stopped: within it, or before it where there was no memory for it, which takes a text that isn't empty
 abbrev pub LineStopped : Option (List ℕ) → Option (List ℕ) → List ℕ → RunFault → Type 0
 LineStopped old new text Write = AppendsFront old new text
-LineStopped old new text NoMemory = Keeps old new
+LineStopped old new text NoMemory = (text ≢ []) × Keeps old new
 LineStopped old new text _ = ⊥
 
 -- ---- what was read and written when a listing ended; of devices that don't tell their octets nothing is said
@@ -62,10 +62,10 @@ module _ (layout : LayoutParts) (left_old left_new out_old out_new : Option (Lis
       (read : List (List ℕ)) × (rest : List ℕ) × HasReadAll read rest × (count ≡ length read)
       × Appends out_old out_new (concat (lines_of layout read (length rest)))
 
-  -- after the lines of these records, writing stopped in a text: within it, or before it where memory ran out
+  -- after the lines of these records, writing stopped in a text: within it, or before it where there was no memory for it
   abbrev pub StopsIn : List (List ℕ) → List ℕ → RunFault → Type 0
   StopsIn read text Write = (front rest : List ℕ) × (text ≡ front ++ rest) × Appends out_old out_new (concat (record_lines layout 0 read) ++ front)
-  StopsIn read text NoMemory = Appends out_old out_new (concat (record_lines layout 0 read))
+  StopsIn read text NoMemory = (text ≢ []) × Appends out_old out_new (concat (record_lines layout 0 read))
   StopsIn read text _ = ⊥
 
   -- writing stopped in the line of the record that was read last, or, with all read, in the line of the rest
@@ -75,8 +75,8 @@ module _ (layout : LayoutParts) (left_old left_new out_old out_new : Option (Lis
       × StopsIn read (record_line layout (length read) one) fault)
       ⊎ ((read : List (List ℕ)) × (rest : List ℕ) × HasReadAll read rest × StopsIn read (concat (rest_lines (length read) (length rest))) fault)
 
-  -- where a fault leaves the devices: after a failed read the lines of all whole records that were read are written, and
-  -- after the greatest number of records one whole record more was read
+  -- where a fault leaves the devices: after a failed read the lines of all whole records that were read are written, after
+  -- the greatest number of records one whole record more was read, and without memory for the first record nothing was
   abbrev pub IsStopped : RunFault → Type 0
   IsStopped Read =
       (read : List (List ℕ)) × (part : List ℕ) × HasRead read part × (length part < record_length_of layout)

@@ -37,43 +37,44 @@ least (k ∷ ks) = Some (least_of k ks)
 
 -- ---- one value
 
-abbrev pub Read : Type 0 → Type 0
-Read A = Result A SettingsFault
+-- a value, or the refusal
+abbrev pub ReadAs : Type 0 → Type 0
+ReadAs A = Result A SettingsFault
 
-abbrev pub read_and_then : {A B : Type 0} → Read A → (A → Read B) → Read B
+abbrev pub read_and_then : {A B : Type 0} → ReadAs A → (A → ReadAs B) → ReadAs B
 read_and_then (Ok x) f = f x
 read_and_then (Err e) f = Err e
 
 -- the value of a key that must be there
-abbrev pub required : {A : Type 0} → Key → (Data → Read A) → Option Data → Read A
+abbrev pub required : {A : Type 0} → Key → (Data → ReadAs A) → Option Data → ReadAs A
 required key read None = Err (Missing key)
 required key read (Some d) = read d
 
 -- the value of a key that has a default
-abbrev pub optional : {A : Type 0} → A → (Data → Read A) → Option Data → Read A
+abbrev pub optional : {A : Type 0} → A → (Data → ReadAs A) → Option Data → ReadAs A
 optional default read None = Ok default
 optional default read (Some d) = read d
 
 -- a value that has to be of its kind
-abbrev pub of_kind : {A B : Type 0} → Key → (B → Read A) → Option B → Read A
+abbrev pub of_kind : {A B : Type 0} → Key → (B → ReadAs A) → Option B → ReadAs A
 of_kind key read None = Err (Kind key)
 of_kind key read (Some x) = read x
 
 -- a value that has to be in its range
-abbrev pub of_range : {A : Type 0} → Key → Option A → Read A
+abbrev pub of_range : {A : Type 0} → Key → Option A → ReadAs A
 of_range key None = Err (Range key)
 of_range key (Some x) = Ok x
 
-abbrev pub number_between : ℕ → ℕ → ℤ → Option ℕ
-number_between low high (pos n) = if nat_le low n && nat_le n high then Some n else None
-number_between low high _ = None
+abbrev pub integer_between : ℕ → ℕ → ℤ → Option ℕ
+integer_between low high (pos n) = if nat_le low n && nat_le n high then Some n else None
+integer_between low high _ = None
 
 -- an integer in its range
-abbrev pub number_of : Key → ℕ → ℕ → Data → Read ℕ
-number_of key low high d = of_kind key (λ z. of_range key (number_between low high z)) (as_integer d)
+abbrev pub integer_of : Key → ℕ → ℕ → Data → ReadAs ℕ
+integer_of key low high d = of_kind key (λ z. of_range key (integer_between low high z)) (as_integer d)
 
 -- a boolean
-abbrev pub truth_of : Key → Data → Read Bool
+abbrev pub truth_of : Key → Data → ReadAs Bool
 truth_of key d = of_kind key (λ b. Ok b) (as_bool d)
 
 abbrev pub presence_named : List ℕ → Option Presence
@@ -82,7 +83,7 @@ presence_named word = if bytes_eq word (codes "flag") then Some Flag
     else (if bytes_eq word (codes "never") then Some Never else None))
 
 -- one of three words
-abbrev pub presence_of : Key → Data → Read Presence
+abbrev pub presence_of : Key → Data → ReadAs Presence
 presence_of key d = of_kind key (λ word. of_range key (presence_named word)) (as_str d)
 
 -- ---- channels
@@ -114,7 +115,7 @@ abbrev pub choice_of : List ℕ → Option (List Bool)
 choice_of ns = if is_choice ns then Some (chosen_in ns) else None
 
 -- an array of channels
-abbrev pub channels_of : Key → Data → Read (List Bool)
+abbrev pub channels_of : Key → Data → ReadAs (List Bool)
 channels_of key d = of_kind key (λ zs. of_range key (choice_of (map channel_number zs)))
     (option_and_then integers (as_array d))
 
@@ -124,20 +125,20 @@ every_channel = true ∷ true ∷ true ∷ true ∷ true ∷ true ∷ true ∷ t
 -- ---- the settings
 
 -- what a document has at a key
-abbrev pub at : Key → Members → Option Data
-at key ms = get_member (name_of key) ms
+abbrev pub value_at : Key → Members → Option Data
+value_at key ms = get_member (name_of key) ms
 
 -- the keys in the order of the table, the first with a fault deciding
-abbrev pub choices_from : Members → Read Choices
+abbrev pub choices_from : Members → ReadAs Choices
 choices_from ms =
-    read_and_then (required Spacecraft (number_of Spacecraft 0 1023) (at Spacecraft ms)) (λ spacecraft.
-    read_and_then (required FrameLength (number_of FrameLength 9 2048) (at FrameLength ms)) (λ frame_length.
-    read_and_then (optional 0 (number_of SkipBefore 0 1024) (at SkipBefore ms)) (λ skip_before.
-    read_and_then (optional 0 (number_of SkipAfter 0 1024) (at SkipAfter ms)) (λ skip_after.
-    read_and_then (optional Flag (presence_of Secondary) (at Secondary ms)) (λ secondary.
-    read_and_then (optional Flag (presence_of Ocf) (at Ocf ms)) (λ ocf.
-    read_and_then (required ErrorControl (truth_of ErrorControl) (at ErrorControl ms)) (λ error_control.
-    read_and_then (optional every_channel (channels_of Channels) (at Channels ms)) (λ channels.
+    read_and_then (required Spacecraft (integer_of Spacecraft 0 1023) (value_at Spacecraft ms)) (λ spacecraft.
+    read_and_then (required FrameLength (integer_of FrameLength 9 2048) (value_at FrameLength ms)) (λ frame_length.
+    read_and_then (optional 0 (integer_of SkipBefore 0 1024) (value_at SkipBefore ms)) (λ skip_before.
+    read_and_then (optional 0 (integer_of SkipAfter 0 1024) (value_at SkipAfter ms)) (λ skip_after.
+    read_and_then (optional Flag (presence_of Secondary) (value_at Secondary ms)) (λ secondary.
+    read_and_then (optional Flag (presence_of Ocf) (value_at Ocf ms)) (λ ocf.
+    read_and_then (required ErrorControl (truth_of ErrorControl) (value_at ErrorControl ms)) (λ error_control.
+    read_and_then (optional every_channel (channels_of Channels) (value_at Channels ms)) (λ channels.
     Ok (record {
       layout = record {
         frame_length = frame_length;
@@ -151,11 +152,11 @@ choices_from ms =
       channels = channels;
     })))))))))
 
-abbrev pub unless_unknown : {A : Type 0} → Option (List ℕ) → Read A → Read A
+abbrev pub unless_unknown : {A : Type 0} → Option (List ℕ) → ReadAs A → ReadAs A
 unless_unknown None read = read
 unless_unknown (Some key) read = Err (Unknown key)
 
 -- what a text says, where this is its document
-abbrev pub settings_from : Option Members → Read Choices
+abbrev pub settings_from : Option Members → ReadAs Choices
 settings_from None = Err Toml
 settings_from (Some ms) = unless_unknown (least (unknown_keys ms)) (choices_from ms)

@@ -9,8 +9,8 @@ mod listing;
 mod octets;
 mod settings;
 mod standard;
+mod transfer;
 mod values;
-mod whole;
 
 pub use device::{DeviceFailed, Drain, Source};
 pub use fault::{RunFault, SettingsFault};

@@ -11,7 +11,7 @@ ghost use Rattle.tm_tool.specs.Listing.{IsListed, IsStopped, LineStopped, listin
 ghost use Rattle.tm_tool.specs.Records.{record_count};
 
 use crate::lines::{bad_text, frame_text, short_text};
-use crate::whole::{fill, put_all};
+use crate::transfer::{fill, put_all};
 use crate::{Drain, RunFault, Settings, Source};
 use std::alloc::{AllocError, Global};
 use tm_frame::{Layout, read};
@@ -34,6 +34,7 @@ fn record_text(
 }
 
 // Writes the line of a record.
+#[tactic(auto, using(crate::proofs::ListingLemmas::some_record_line))]
 fn put_record<W: Drain>(
     alloc: Global,
     layout: &Layout,
@@ -51,6 +52,7 @@ fn put_record<W: Drain>(
 }
 
 // Writes the line of a rest, if there is one, and flushes.
+#[tactic(auto, using(crate::proofs::ListingLemmas::some_rest_line))]
 fn put_end<W: Drain>(alloc: Global, seen: u32, octets: usize, out: &mut W) -> Result<(), RunFault>
     ensures whole { OnOk result (Appends (W.written out.old) (W.written out.new) (concat (rest_lines seen octets))) }
     ensures flushed { OnOk result (Keeps (W.flushed out.new) (W.written out.new)) }
@@ -104,11 +106,11 @@ pub fn list_frames<R: Source, W: Drain>(
     recording: &mut R,
     out: &mut W,
 ) -> Result<u32, RunFault>
-    // With Ok just the lines of the recording were written, and passed on.
+    // With Ok all was read, and just the lines of the recording were written, and passed on.
+    ensures all { IfOk result (IsListed settings.now.layout (R.left recording.old) (R.left recording.new) (W.written out.old) (W.written out.new)) }
     ensures listed { IfOk result (λ count. IfSome (R.left recording.old) (λ all.
         Appends (W.written out.old) (W.written out.new) (concat (listing settings.now.layout all))
         × (count ≡ record_count (record_length_of settings.now.layout) all))) }
-    ensures ended { OnOk result (IsAtEnd (R.left recording.new)) }
     ensures flushed { OnOk result (Keeps (W.flushed out.new) (W.written out.new)) }
 
     // After a fault there is one place up to which these lines were written; without memory it is a line's end.

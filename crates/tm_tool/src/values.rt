@@ -3,7 +3,7 @@
 ghost use Rattle.std.specs.Prelude.{◌≡◌, ◌≢◌, ◌≤◌, ◌+◌, List, Bool, Err, Ok, Some, option_map, map, nat_le, IfOk, IfErr};
 ghost use Rattle.std.specs.List.{list_all};
 ghost use Rattle.toml.specs.View.{view, items_view, table_view};
-ghost use Rattle.tm_tool.specs.Settings.{are_distinct, at, channel_number, channels_of, choice_of, chosen_in, every_channel, integers, is_choice, number_between, number_of, optional, presence_named, presence_of, required, truth_of};
+ghost use Rattle.tm_tool.specs.Settings.{are_distinct, channel_number, channels_of, choice_of, chosen_in, every_channel, integers, is_choice, integer_between, integer_of, optional, presence_named, presence_of, required, truth_of, value_at};
 
 use crate::{Key, SettingsFault};
 use std::alloc::{AllocError, Global};
@@ -12,7 +12,7 @@ use toml::{Table, Value};
 
 // What a document has at a key.
 fn value_at(table: &Table, key: Key) -> Option<&Value>
-    ensures { option_map (λ v. view v.now) result ≡ at key (table_view table.now) }
+    ensures { option_map (λ v. view v.now) result ≡ value_at key (table_view table.now) }
 {
     table.get(key.word())
 }
@@ -21,7 +21,7 @@ fn value_at(table: &Table, key: Key) -> Option<&Value>
 
 // A number in its range.
 fn number_in(low: u32, high: u32, number: i64) -> Option<u32>
-    ensures value { result ≡ number_between low high number }
+    ensures value { result ≡ integer_between low high number }
 {
     match u32::try_from(number) {
         Ok(n) if low <= n && n <= high => Some(n),
@@ -30,7 +30,7 @@ fn number_in(low: u32, high: u32, number: i64) -> Option<u32>
 }
 
 fn read_number(key: Key, low: u32, high: u32, value: &Value) -> Result<u32, SettingsFault>
-    ensures { result ≡ number_of key low high (view value.now) }
+    ensures { result ≡ integer_of key low high (view value.now) }
 {
     match value.as_integer() {
         Some(number) => match number_in(low, high, number) {
@@ -43,7 +43,7 @@ fn read_number(key: Key, low: u32, high: u32, value: &Value) -> Result<u32, Sett
 
 /// A number that has to be there.
 pub fn number_at(table: &Table, key: Key, low: u32, high: u32) -> Result<u32, SettingsFault>
-    ensures { result ≡ required key (number_of key low high) (at key (table_view table.now)) }
+    ensures { result ≡ required key (integer_of key low high) (value_at key (table_view table.now)) }
 {
     match value_at(table, key) {
         Some(value) => read_number(key, low, high, value),
@@ -53,7 +53,7 @@ pub fn number_at(table: &Table, key: Key, low: u32, high: u32) -> Result<u32, Se
 
 /// A number of skipped octets, 0 where it is absent.
 pub fn skip_at(table: &Table, key: Key) -> Result<u32, SettingsFault>
-    ensures { result ≡ optional 0 (number_of key 0 1024) (at key (table_view table.now)) }
+    ensures { result ≡ optional 0 (integer_of key 0 1024) (value_at key (table_view table.now)) }
 {
     match value_at(table, key) {
         Some(value) => read_number(key, 0, 1024, value),
@@ -65,7 +65,7 @@ pub fn skip_at(table: &Table, key: Key) -> Result<u32, SettingsFault>
 
 /// A boolean that has to be there.
 pub fn truth_at(table: &Table, key: Key) -> Result<bool, SettingsFault>
-    ensures { result ≡ required key (truth_of key) (at key (table_view table.now)) }
+    ensures { result ≡ required key (truth_of key) (value_at key (table_view table.now)) }
 {
     match value_at(table, key) {
         Some(value) => match value.as_bool() {
@@ -105,7 +105,7 @@ fn read_presence(key: Key, value: &Value) -> Result<Presence, SettingsFault>
 
 /// A presence, by the frame's flag where it is absent.
 pub fn presence_at(table: &Table, key: Key) -> Result<Presence, SettingsFault>
-    ensures { result ≡ optional Presence.Flag (presence_of key) (at key (table_view table.now)) }
+    ensures { result ≡ optional Presence.Flag (presence_of key) (value_at key (table_view table.now)) }
 {
     match value_at(table, key) {
         Some(value) => read_presence(key, value),
@@ -210,9 +210,9 @@ fn read_channels(alloc: Global, key: Key, value: &Value) -> Result<[bool; 8], Se
 
 /// The chosen channels, all eight where the key is absent.
 pub fn channels_at(alloc: Global, table: &Table, key: Key) -> Result<[bool; 8], SettingsFault>
-    ensures ok { IfOk result (λ c. optional every_channel (channels_of key) (at key (table_view table.now)) ≡ Ok c) }
+    ensures ok { IfOk result (λ c. optional every_channel (channels_of key) (value_at key (table_view table.now)) ≡ Ok c) }
     ensures refused { IfErr result (λ f. f ≢ SettingsFault.NoMemory
-        → optional every_channel (channels_of key) (at key (table_view table.now)) ≡ Err f) }
+        → optional every_channel (channels_of key) (value_at key (table_view table.now)) ≡ Err f) }
 {
     match value_at(table, key) {
         Some(value) => read_channels(alloc, key, value),

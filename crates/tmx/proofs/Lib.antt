@@ -1,3 +1,4 @@
 pub mod Filled
 pub mod Required
 pub mod FileLemmas
+pub mod Examples

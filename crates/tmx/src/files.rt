@@ -11,55 +11,70 @@ use std::rt::Files;
 use tm_tool::{Octets, RunFault};
 
 // The octets that a file may have at the most.
-const GREATEST: usize = 1_048_576;
+const MOST_OCTETS: usize = 1_048_576;
 
 // Reads to the end, and answers no octets where there are more than a file may have.
 fn read_short<R: Read + Drop>(alloc: Global, reader: R) -> io::Result<Option<Vec<u8>>>
     ensures whole { IfOk result (λ found. IfSome (R.remaining reader) (λ all.
-        MatchOption found (GREATEST < length all) (λ octets. octets.items ≡ all))) }
-    ensures short { IfOk result (λ found. IfSome found (λ octets. vec_len octets ≤ GREATEST)) }
+        MatchOption found (MOST_OCTETS < length all) (λ octets. octets.items ≡ all))) }
+    ensures short { IfOk result (λ found. IfSome found (λ octets. vec_len octets ≤ MOST_OCTETS)) }
 {
     let mut octets = Vec::new(alloc);
-    reader.take(GREATEST as u64 + 1).read_to_end(&mut octets)?;
-    if octets.len() > GREATEST {
+    reader
+        .take(MOST_OCTETS as u64 + 1)
+        .read_to_end(&mut octets)?;
+    if octets.len() > MOST_OCTETS {
         Ok(None)
     } else {
         Ok(Some(octets))
     }
 }
 
+// A copy of a file's name, unless memory runs out.
+fn copied(alloc: Global, name: &Octets) -> Option<Octets>
+    ensures { IfSome result (λ copy. copy ≡ name.now) }
+{
+    match Vec::from_slice(alloc, name.as_slice()) {
+        Ok(octets) => Some(Octets::new(octets)),
+        Err(_) => None,
+    }
+}
+
 // The fault of a file that can't be opened or read.
-fn file_fault(alloc: Global, name: &str) -> ToolFault
+fn file_fault(alloc: Global, name: &Octets) -> ToolFault
     ensures { IsFaultOf name.now result }
 {
-    match Vec::from_slice(alloc, name.as_bytes()) {
-        Ok(octets) => ToolFault::File(Octets::new(octets)),
-        Err(_) => ToolFault::Run(RunFault::NoMemory),
+    match copied(alloc, name) {
+        Some(name) => ToolFault::File(name),
+        None => ToolFault::Run(RunFault::NoMemory),
     }
 }
 
 /// Opens a file for reading. A fault names the file as it was given.
-pub fn open<R: Files + AllocGlobal>(rt: &R, name: &str) -> Result<R::File, ToolFault>
+pub fn open<R: Files + AllocGlobal>(rt: &R, name: &Octets) -> Result<R::File, ToolFault>
     ensures { IfErr result (IsFaultOf name.now) }
 {
-    match File::open(rt, name) {
+    let Ok(path) = std::str::from_utf8(name.as_slice()) else {
+        return Err(file_fault(rt.alloc(), name));
+    };
+    match File::open(rt, path) {
         Ok(file) => Ok(file),
         Err(_) => Err(file_fault(rt.alloc(), name)),
     }
 }
 
 /// The octets of a file, of which there may be 1,048,576. A fault names the file as it was given.
-pub fn read_file<R: Files + AllocGlobal>(rt: &R, name: &str) -> Result<Vec<u8>, ToolFault>
+pub fn read_file<R: Files + AllocGlobal>(rt: &R, name: &Octets) -> Result<Vec<u8>, ToolFault>
     ensures named { IfErr result (IsFaultOf name.now) }
-    ensures short { IfOk result (λ octets. vec_len octets ≤ GREATEST) }
+    ensures short { IfOk result (λ octets. vec_len octets ≤ MOST_OCTETS) }
 {
     let alloc = rt.alloc();
     let file = open(rt, name)?;
     match read_short(alloc, file) {
         Ok(Some(octets)) => Ok(octets),
-        Ok(None) => match Vec::from_slice(alloc, name.as_bytes()) {
-            Ok(octets) => Err(ToolFault::TooLong(Octets::new(octets))),
-            Err(_) => Err(ToolFault::Run(RunFault::NoMemory)),
+        Ok(None) => match copied(alloc, name) {
+            Some(name) => Err(ToolFault::TooLong(name)),
+            None => Err(ToolFault::Run(RunFault::NoMemory)),
         },
         Err(error) if error.kind() == ErrorKind::OutOfMemory => {
             Err(ToolFault::Run(RunFault::NoMemory))

@@ -18,29 +18,37 @@ use crate::request::UsageFault;
 use crate::run::run;
 use std::io::Write;
 use std::process::ExitCode;
+use tm_tool::RunFault;
 
-// Prints the line of a fault: a help text to standard output, all else to standard error.
-fn end_by(rt: &HostRuntime, fault: &ToolFault) -> ExitCode {
-    let Ok(line) = fault_line(rt.alloc(), fault) else {
-        let _ = rt.stderr().write_all(b"tmx: out of memory\n");
-        return ExitCode::from(3);
-    };
-    if !matches!(fault, ToolFault::Usage(UsageFault::Help(_))) {
-        let _ = rt.stderr().write_all(line.as_slice());
-        return ExitCode::from(status(fault));
-    }
-    match rt.stdout().write_all(line.as_slice()) {
-        Ok(()) => ExitCode::from(status(fault)),
-        Err(_) => {
-            let _ = rt.stderr().write_all(b"tmx: write failed\n");
-            ExitCode::from(1)
+// Prints the line of a fault on standard error.
+fn refuse(rt: &HostRuntime, fault: &ToolFault) -> ExitCode {
+    match fault_line(rt.alloc(), fault) {
+        Ok(line) => {
+            let _ = rt.stderr().write_all(line.as_slice());
+            ExitCode::from(status(fault))
         }
+        Err(_) => {
+            let _ = rt.stderr().write_all(b"tmx: out of memory\n");
+            ExitCode::from(3)
+        }
+    }
+}
+
+// Prints a help text on standard output.
+fn help(rt: &HostRuntime, fault: &ToolFault) -> ExitCode {
+    let Ok(text) = fault_line(rt.alloc(), fault) else {
+        return refuse(rt, &ToolFault::Run(RunFault::NoMemory));
+    };
+    match rt.stdout().write_all(text.as_slice()) {
+        Ok(()) => ExitCode::from(status(fault)),
+        Err(_) => refuse(rt, &ToolFault::Run(RunFault::Write)),
     }
 }
 
 fn main(rt: HostRuntime) -> ExitCode {
     match run(&rt) {
         Ok(()) => ExitCode::SUCCESS,
-        Err(fault) => end_by(&rt, &fault),
+        Err(fault) if matches!(&fault, ToolFault::Usage(UsageFault::Help(_))) => help(&rt, &fault),
+        Err(fault) => refuse(&rt, &fault),
     }
 }

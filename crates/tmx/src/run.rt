@@ -55,19 +55,16 @@ fn list<R: Print + AllocGlobal, S: Read + Drop>(
     }
 }
 
-// The text of a plan's value, which is UTF-8.
-fn text(octets: &Octets) -> &str {
-    std::str::from_utf8(octets.as_slice()).unwrap_or("")
-}
-
 /// Does what the command line asks for.
 pub fn run<R: Files + Env + Input + Print + AllocGlobal>(rt: &R) -> Result<(), ToolFault> {
     let plan = plan(rt.alloc(), words(rt)?).map_err(ToolFault::Usage)?;
-    let name = plan.settings.as_ref().map_or("", text);
+    let Some(name) = &plan.settings else {
+        unreachable!();
+    };
     let octets = read_file(rt, name)?;
     let settings = Settings::read(rt.alloc(), octets.as_slice()).map_err(ToolFault::Settings)?;
     match (plan.action, &plan.recording) {
-        (Action::Frames, Some(name)) => list(rt, &settings, open(rt, text(name))?),
+        (Action::Frames, Some(name)) => list(rt, &settings, open(rt, name)?),
         (Action::Frames, None) => list(rt, &settings, rt.reader()),
     }
 }

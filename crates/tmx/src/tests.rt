@@ -1,6 +1,7 @@
 //! Command lines with their plans and texts, and faults with their lines and statuses.
 
 use crate::fault::ToolFault;
+use crate::files::read_file;
 use crate::lines::{fault_line, status};
 use crate::request::{Action, Plan, UsageFault};
 use crate::words::plan;
@@ -26,7 +27,7 @@ fn named(alloc: Global, text: &str) -> Result<Octets, AllocError> {
 }
 
 #[test]
-fn frames_with_settings_and_recording(rt: HostRuntime) -> Result<(), Fail> {
+fn command_words(rt: HostRuntime) -> Result<(), Fail> {
     let Ok(plan) = planned(rt.alloc(), &["frames", "--settings", "s", "r"])? else {
         return Ok(assert!(rt; false));
     };
@@ -51,6 +52,12 @@ fn texts_of_usage_and_help(rt: HostRuntime) -> Result<(), Fail> {
     let Err(UsageFault::Usage(_)) = planned(alloc, &["split", "--settings", "s"])? else {
         return Ok(assert!(rt; false));
     };
+    let Err(UsageFault::Help(text)) = planned(alloc, &["--help"])? else {
+        return Ok(assert!(rt; false));
+    };
+    let wanted =
+        "Reads recordings of TM transfer frames (CCSDS 132.0-B-3)\n\nUsage: tmx <COMMAND>\n\nCommands:\n  frames  Lists the frames: one line for each record of the recording\n\nOptions:\n  -h, --help  Print help\n";
+    assert_eq!(rt; text.as_slice(), wanted.as_bytes());
     let Err(UsageFault::Help(text)) = planned(alloc, &["frames", "--help"])? else {
         return Ok(assert!(rt; false));
     };
@@ -94,7 +101,18 @@ fn lines_and_statuses(rt: HostRuntime) -> Result<(), Fail> {
             "tmx: s.toml: too long\n",
             2,
         ),
+        (
+            ToolFault::Settings(SettingsFault::Toml),
+            "tmx: settings: toml\n",
+            2,
+        ),
+        (ToolFault::Run(RunFault::Read), "tmx: read failed\n", 1),
         (ToolFault::Run(RunFault::Write), "tmx: write failed\n", 1),
+        (
+            ToolFault::Run(RunFault::TooMany),
+            "tmx: too many records\n",
+            1,
+        ),
         (
             ToolFault::Run(RunFault::NoMemory),
             "tmx: out of memory\n",
@@ -108,5 +126,35 @@ fn lines_and_statuses(rt: HostRuntime) -> Result<(), Fail> {
         assert_eq!(rt; found.as_slice(), line.as_bytes());
         assert_eq!(rt; status(fault), *code);
     }
+    Ok(())
+}
+
+// The name and the line of the fault of a file that is read whole.
+fn unread(rt: &HostRuntime, name: &str) -> Result<Vec<u8>, Fail> {
+    let alloc = rt.alloc();
+    let Err(fault) = read_file(rt, &named(alloc, name)?) else {
+        return Err(Fail::from("it was read"));
+    };
+    match fault_line(alloc, &fault) {
+        Ok(line) => Ok(line),
+        Err(_) => Err(Fail::from("no memory")),
+    }
+}
+
+#[test]
+fn files_that_are_not_read(rt: HostRuntime) -> Result<(), Fail> {
+    let table = [
+        ("no such file", "tmx: no such file: failed\n"),
+        ("/", "tmx: /: failed\n"),
+        ("/dev/zero", "tmx: /dev/zero: too long\n"),
+    ];
+    for (name, line) in table {
+        assert_eq!(rt; unread(&rt, name)?.as_slice(), line.as_bytes());
+    }
+    let octets = read_file(&rt, &named(rt.alloc(), "/dev/null")?);
+    let Ok(octets) = octets else {
+        return Ok(assert!(rt; false));
+    };
+    assert!(rt; octets.is_empty());
     Ok(())
 }

@@ -100,9 +100,11 @@ fn matches_by<'a>(alloc: Global, words: &'a [String]) -> Result<ArgMatches<'a>, 
 /// What the words after the program's name ask for: `frames --settings FILE [RECORDING]`. Other words
 /// are `Usage`, `--help` is `Help`, each with a text to print.
 pub fn plan(alloc: Global, words: Vec<String>) -> Result<Plan, UsageFault>
-    // A plan is what `clap`'s matches of the words say, with what its action needs.
+    // A plan is what `clap`'s matches of the words say, with what its action needs, and comes only for words in
+    // which `clap` finds nothing wrong.
     ensures ok { IfOk result (λ p. plan_of (map string_bytes words.items) ≡ Some p) }
     ensures required { IfOk result HasRequired }
+    ensures whole { IfOk result (λ _. faults_of (map string_bytes words.items) ≡ []) }
 
     // Words that the command takes, by `clap`'s own definition, are refused for want of memory alone.
     ensures taken { IfErr result (λ f. is_taken (map string_bytes words.items) ≡ true → f ≡ UsageFault.NoMemory) }

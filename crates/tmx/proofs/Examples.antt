@@ -1,7 +1,7 @@
 -- Worked examples: what the definitions say of known words.
-use Rattle.std.proofs.Common.{◌≡◌, ℕ, true, List, [], ◌∷◌, Some, None, refl, codes}
+use Rattle.std.proofs.Common.{◌≡◌, true, List, [], ◌∷◌, Some, refl, codes}
 use Rattle.clap.specs.Words.{Text}
-use Rattle.clap.specs.declared.error.kind.ErrorKind.TheVariants.{MissingRequiredArgument, InvalidSubcommand, UnknownArgument}
+use Rattle.clap.specs.declared.error.kind.ErrorKind.TheVariants.{MissingRequiredArgument, UnknownArgument}
 use Rattle.clap.proofs.OnLiterals.{clap_on_literals}
 use Rattle.tmx.specs.declared.request.Action.TheVariants.{Frames}
 use Rattle.tmx.specs.CommandLine.{faults_of, is_taken, matches_of, plan_of}

@@ -8,27 +8,28 @@ use Rattle.std.specs.Prelude.{slice_range}
 use Rattle.tm_bits.specs.Bits.{low_bits, bits_of, number, part}
 use Rattle.tm_bits.proofs.BitLemmas.{number-low_bits, number-append, number-lt, length-bits_of, bits_of-append}
 
--- the first bits are the number without its low bits
-number-take : (k : ℕ) (xs : List Bool) → k ≤ length xs → number (take k xs) ≡ number xs / 2 ^ (length xs - k)
-number-take k xs h =
+-- the number of bits, by the number of the first k and that of the others
+number-parts : (k : ℕ) (xs : List Bool)
+    → (number (drop k xs) < 2 ^ (length xs - k)) × (number xs ≡ number (take k xs) * 2 ^ (length xs - k) + number (drop k xs))
+number-parts k xs =
     let front : List Bool = take k xs in
     let back : List Bool = drop k xs in
-    let l : length back ≡ length xs - k = length-drop k xs in
-    let small : number back < 2 ^ (length xs - k) = subst (λ n. number back < 2 ^ n) l (number-lt back) in
-    let whole : number xs ≡ number front * 2 ^ (length xs - k) + number back =
-    ap number (sym (take-append-drop k xs)) ∙ number-append front back ∙ ap (λ n. number front * 2 ^ n + number back) l in
-    sym (ap (λ n. n / 2 ^ (length xs - k)) whole ∙ shr_high (number front) (length xs - k) (number back) small)
+    let l : length back ≡ length xs - k = length-drop k xs in (
+      subst (λ n. number back < 2 ^ n) l (number-lt back),
+      ap number (sym (take-append-drop k xs)) ∙ number-append front back ∙ ap (λ n. number front * 2 ^ n + number back) l,
+    )
+
+-- the first bits are the number without its low bits
+number-take : (k : ℕ) (xs : List Bool) → number (take k xs) ≡ number xs / 2 ^ (length xs - k)
+number-take k xs =
+    let (small, whole) = number-parts k xs in
+    sym (ap (λ n. n / 2 ^ (length xs - k)) whole ∙ shr_high (number (take k xs)) (length xs - k) (number (drop k xs)) small)
 
 -- the last bits are its low bits
-number-drop : (k : ℕ) (xs : List Bool) → k ≤ length xs → number (drop k xs) ≡ number xs % 2 ^ (length xs - k)
-number-drop k xs h =
-    let front : List Bool = take k xs in
-    let back : List Bool = drop k xs in
-    let l : length back ≡ length xs - k = length-drop k xs in
-    let small : number back < 2 ^ (length xs - k) = subst (λ n. number back < 2 ^ n) l (number-lt back) in
-    let whole : number xs ≡ number front * 2 ^ (length xs - k) + number back =
-    ap number (sym (take-append-drop k xs)) ∙ number-append front back ∙ ap (λ n. number front * 2 ^ n + number back) l in
-    sym (ap (λ n. n % 2 ^ (length xs - k)) whole ∙ mod_low (number front) (length xs - k) (number back) small)
+number-drop : (k : ℕ) (xs : List Bool) → number (drop k xs) ≡ number xs % 2 ^ (length xs - k)
+number-drop k xs =
+    let (small, whole) = number-parts k xs in
+    sym (ap (λ n. n % 2 ^ (length xs - k)) whole ∙ mod_low (number (take k xs)) (length xs - k) (number (drop k xs)) small)
 
 -- a slice of bits as a number
 pub number-slice : (xs : List Bool) (from to : ℕ) → from ≤ to → to ≤ length xs
@@ -36,12 +37,11 @@ pub number-slice : (xs : List Bool) (from to : ℕ) → from ≤ to → to ≤ l
 number-slice xs from to ordered inside =
     let back : List Bool = drop from xs in
     let l : length back ≡ length xs - from = length-drop from xs in
-    let room : to - from ≤ length back = omega arith in
     let left : length back - (to - from) ≡ length xs - to = omega arith in
     let width : length xs - from ≡ (to - from) + (length xs - to) = omega arith in
-    number-take (to - from) back room
+    number-take (to - from) back
     ∙ ap (λ n. number back / 2 ^ n) left
-    ∙ ap (λ n. n / 2 ^ (length xs - to)) (number-drop from xs (omega arith))
+    ∙ ap (λ n. n / 2 ^ (length xs - to)) (number-drop from xs)
     ∙ ap (λ n. number xs % 2 ^ n / 2 ^ (length xs - to)) width
     ∙ field_of (number xs) (to - from) (length xs - to)
 

@@ -1,8 +1,8 @@
 //! The headers of a frame.
 
-ghost use Rattle.std.specs.Prelude.{◌≡◌, ◌≤◌, ◌<◌, ◌+◌, ◌/◌, ◌%◌, ◌^◌, ◌-◌, length};
+ghost use Rattle.std.specs.Prelude.{◌≡◌, ◌≤◌, ◌<◌, ◌/◌, ◌%◌, ◌^◌, ◌-◌, length};
 ghost use Rattle.tm_frame.specs.Frame.{field_end, field_length, field_start};
-ghost use Rattle.tm_frame.specs.Header.{header_of, secondary_flag, secondary_length_of, secondary_version_of};
+ghost use Rattle.tm_frame.specs.Header.{header_of, secondary_length_of, secondary_version_of};
 
 use crate::LayoutParts;
 use byteorder::{BigEndian, ByteOrder};

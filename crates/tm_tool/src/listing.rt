@@ -1,11 +1,10 @@
 //! A line for each frame of a recording.
 
-ghost use Rattle.std.specs.Prelude.{◌≡◌, ◌<◌, ◌≤◌, ◌-◌, ◌^◌, ℕ, List, length, take, IfOk, IfErr, OnOk, OnErr, IfSome, IsErrOf, string_bytes};
+ghost use Rattle.std.specs.Prelude.{◌≡◌, ◌<◌, ◌-◌, ◌^◌, length, IfOk, IfErr, OnOk, IfSome, IsErrOf, string_bytes};
 ghost use Rattle.std.specs.List.{concat};
-ghost use Rattle.std.specs.Io.KnownBytes.{Appends, Consumes, IsAtEnd, Keeps};
+ghost use Rattle.std.specs.Io.KnownBytes.{Appends, Keeps};
 ghost use Rattle.tm_frame.specs.Layout.{record_length_of};
 ghost use Rattle.tm_tool.specs.Cuts.{AppendsCut, AppendsWhole};
-ghost use Rattle.tm_tool.specs.Devices.{AppendsFront, Counts};
 ghost use Rattle.tm_tool.specs.Faults.{FaultsCounted, WritesCounted};
 ghost use Rattle.tm_tool.specs.Listing.{IsListed, IsStopped, LineStopped, listing, record_line, rest_lines};
 ghost use Rattle.tm_tool.specs.Records.{record_count};

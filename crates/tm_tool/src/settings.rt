@@ -1,6 +1,6 @@
 //! The settings of a recording.
 
-ghost use Rattle.std.specs.Prelude.{◌≡◌, ◌≢◌, ◌≤◌, List, Err, Ok, Some, option_map, option_copied, string_bytes, find, not, IfOk, IfErr, IsUtf8};
+ghost use Rattle.std.specs.Prelude.{◌≡◌, ◌≢◌, Err, Ok, Some, option_map, option_copied, string_bytes, find, not, IfOk, IfErr, IsUtf8};
 ghost use Rattle.std.specs.BTreeMap.{keys, IsOrdered};
 ghost use Rattle.std.specs.String.{string_cmp};
 ghost use Rattle.toml.specs.Parse.{parse_document};

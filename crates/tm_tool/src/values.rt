@@ -1,6 +1,6 @@
 //! The values of the settings, one by one.
 
-ghost use Rattle.std.specs.Prelude.{◌≡◌, ◌≢◌, ◌≤◌, ◌+◌, List, Bool, Err, Ok, Some, option_map, map, nat_le, IfOk, IfErr};
+ghost use Rattle.std.specs.Prelude.{◌≡◌, ◌≢◌, Err, Ok, option_map, map, nat_le, IfOk, IfErr};
 ghost use Rattle.std.specs.List.{list_all};
 ghost use Rattle.toml.specs.View.{view, items_view, table_view};
 ghost use Rattle.tm_tool.specs.Settings.{are_distinct, channel_number, channels_of, choice_of, chosen_in, every_channel, integers, is_choice, integer_between, integer_of, optional, presence_named, presence_of, required, truth_of, value_at};

@@ -4,7 +4,6 @@ use crate::fault::ToolFault;
 use crate::files::{open, read_file};
 use crate::request::{Action, UsageFault};
 use crate::words::plan;
-use std::alloc::Global;
 use std::env;
 use std::io::{self, BufReader, BufWriter, ErrorKind, Read};
 use std::rt::{Env, Files};

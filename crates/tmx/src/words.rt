@@ -1,6 +1,6 @@
 //! The plan of the words.
 
-ghost use Rattle.std.specs.Prelude.{◌≡◌, true, Some, Err, [], map, IfOk, IfErr, option_and_then, string_bytes};
+ghost use Rattle.std.specs.Prelude.{◌≡◌, true, Some, [], map, IfOk, IfErr, option_and_then, string_bytes};
 ghost use Rattle.clap.specs.Words.{first_of, found_of, kind_of, rows_of, subcommand_rows_of};
 ghost use Rattle.tmx.specs.CommandLine.{HasRequired, action_named, faults_of, is_taken, matches_of, plan_in, plan_of};
 

@@ -1,11 +1,11 @@
 -- Slices of the bits of octets as quotients and remainders.
-use Rattle.std.proofs.Common.{◌≡◌, ℕ, zero, suc, ◌+◌, ◌-◌, ◌*◌, ◌/◌, ◌%◌, ◌^◌, ◌<◌, ◌≤◌, Bool, List, ◌∷◌, ◌++◌, length, take, drop, get_or, refl, sym, ap, ◌∙◌, subst, arith, length-drop}
+use Rattle.std.proofs.Common.{◌≡◌, ℕ, zero, suc, ◌+◌, ◌-◌, ◌*◌, ◌/◌, ◌%◌, ◌^◌, ◌<◌, ◌≤◌, Bool, List, ◌∷◌, ◌++◌, length, take, drop, refl, sym, ap, ◌∙◌, subst, arith, length-drop}
 use Rattle.std.proofs.lemmas.Nat.{field_of, shr_high, mod_low, pow-add}
 use Rattle.std.proofs.lemmas.List.{take-append-drop, length-take-le, take-append-le, drop-append-le, get_or-drop}
 use Rattle.std.proofs.Math.Seq.{drop-append-add}
 use Rattle.std.proofs.Math.Nat.{pow-suc}
 use Rattle.std.specs.Prelude.{slice_range}
-use Rattle.tm_bits.specs.Bits.{low_bits, bits_of, number, part}
+use Rattle.tm_bits.specs.Bits.{AreOctets, low_bits, bits_of, number, part}
 use Rattle.tm_bits.proofs.BitLemmas.{number-low_bits, number-append, number-lt, length-bits_of, bits_of-append}
 
 -- the number of bits, by the number of the first k and that of the others
@@ -44,10 +44,6 @@ number-slice xs from to ordered inside =
     ∙ ap (λ n. n / 2 ^ (length xs - to)) (number-drop from xs)
     ∙ ap (λ n. number xs % 2 ^ n / 2 ^ (length xs - to)) width
     ∙ field_of (number xs) (to - from) (length xs - to)
-
--- every item is an octet
-pub record AreOctets (xs : List ℕ) : Type 0 where
-  pub below : (i : ℕ) → get_or xs i 0 < 256
 
 pub octets_after : (x : ℕ) (xs : List ℕ) → AreOctets (x ∷ xs) → AreOctets xs
 octets_after x xs h = record { below = λ i. h.below (suc i) }

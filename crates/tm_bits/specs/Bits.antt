@@ -1,6 +1,10 @@
 -- Octets as bits, and bits as numbers.
-use Rattle.std.specs.Prelude.{ℕ, zero, suc, ◌+◌, ◌*◌, ◌^◌, Bool, true, false, ◌==◌, List, [], ◌∷◌, ◌++◌, length, slice_range}
+use Rattle.std.specs.Prelude.{ℕ, zero, suc, ◌+◌, ◌*◌, ◌^◌, ◌<◌, Bool, true, false, ◌==◌, List, [], ◌∷◌, ◌++◌, length, slice_index, slice_range}
 use Rattle.std.specs.Int.{bit_at}
+
+-- every item is an octet
+pub record AreOctets (xs : List ℕ) : Type 0 where
+  pub below : (i : ℕ) → slice_index xs i < 256
 
 -- the lowest k bits of x, the most significant first
 unfoldable pub low_bits : ℕ → ℕ → List Bool

@@ -3,8 +3,8 @@ use Rattle.std.proofs.Common.{◌≡◌, ℕ, zero, suc, ◌+◌, ◌-◌, ◌*�
 use Rattle.std.proofs.lemmas.List.{length-take-le, get_or-drop}
 use Rattle.byteorder.specs.Endian.{big_number, big_from}
 use Rattle.byteorder.specs.Numbers.{big_from-cons}
-use Rattle.tm_bits.specs.Bits.{bits_of, number, part}
-use Rattle.tm_bits.proofs.PartLemmas.{AreOctets, octets_after, octets_behind, number-bits_of-cons, part-word, part-behind}
+use Rattle.tm_bits.specs.Bits.{AreOctets, bits_of, number, part}
+use Rattle.tm_bits.proofs.PartLemmas.{octets_after, octets_behind, number-bits_of-cons, part-word, part-behind}
 
 -- the number of the first n octets is what `byteorder` reads
 number-bits_of-take : (n : ℕ) (xs : List ℕ) → AreOctets xs → n ≤ length xs → number (bits_of (take n xs)) ≡ big_from 0 n xs

@@ -8,4 +8,6 @@ pub use memory::{MemoryDrain, MemorySource};
 #[cfg(test)]
 mod frames;
 #[cfg(test)]
+mod packets;
+#[cfg(test)]
 mod settings;

@@ -1,6 +1,6 @@
 use Rattle.std.proofs.Common.{◌==◌, sym, ap, ◌∙◌, refl, arith}
 use Rattle.byteorder.specs.Endian.{big_number}
-use Rattle.tm_bits.proofs.PartLemmas.{AreOctets}
+use Rattle.tm_bits.specs.Bits.{AreOctets}
 use Rattle.tm_frame.proofs.HeaderLemmas.{part_control}
 use Rattle.tm_frame.proofs.control.control_holds.Goals as goal
 

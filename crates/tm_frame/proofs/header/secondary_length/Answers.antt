@@ -2,7 +2,7 @@ use Rattle.std.proofs.Common.{◌≡◌, true, refl, sym, ap, get_or, arith, ◌
 use Rattle.std.specs.Prelude.{bit_and}
 use Rattle.std.proofs.lemmas.Nat.{and_mask}
 use Rattle.tm_bits.specs.Bits.{part}
-use Rattle.tm_bits.proofs.PartLemmas.{AreOctets}
+use Rattle.tm_bits.specs.Bits.{AreOctets}
 use Rattle.tm_frame.specs.declared.header.Header.{Header}
 use Rattle.tm_frame.specs.Header.{secondary_flag}
 use Rattle.tm_frame.proofs.HeaderLemmas.{part_secondary}

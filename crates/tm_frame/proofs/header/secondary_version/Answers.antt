@@ -1,5 +1,5 @@
 use Rattle.std.proofs.Common.{arith}
-use Rattle.tm_bits.proofs.PartLemmas.{AreOctets}
+use Rattle.tm_bits.specs.Bits.{AreOctets}
 use Rattle.tm_frame.proofs.HeaderLemmas.{part_secondary}
 use Rattle.tm_frame.proofs.header.secondary_version.Goals as goal
 

@@ -1,5 +1,5 @@
 use Rattle.std.proofs.Common.{◌≡◌, ℕ, ◌≤◌, ◌/◌, ◌%◌, ◌^◌, ◌-◌, refl, arith}
-use Rattle.tm_bits.proofs.PartLemmas.{AreOctets}
+use Rattle.tm_bits.specs.Bits.{AreOctets}
 use Rattle.tm_frame.proofs.HeaderLemmas.{part_read}
 use Rattle.tm_frame.proofs.header.Header.read.Goals as goal
 

@@ -1,0 +1,34 @@
+//! Laws of the definitions. These functions make no calls: their contracts are the laws.
+
+ghost use Rattle.std.specs.Prelude.{◌≡◌, ◌≤◌, ℕ, Option, Ok, List, [], ◌++◌, length, take};
+ghost use Rattle.tm_packet.specs.Spelling.{spelling, decoding_of};
+ghost use Rattle.tm_bits.specs.Bits.{AreOctets, bits_of};
+ghost use Rattle.tm_packet.specs.Header.{version_of, header_of, header_bits};
+ghost use Rattle.tm_packet.specs.declared.tracker.Last.{Last};
+ghost use Rattle.tm_packet.specs.Merge as sequence;
+ghost use Rattle.tm_packet.specs.Merge.{Sent};
+ghost use Rattle.tm_packet.specs.Valid.{IsState, AllFit};
+
+/// Joining, from every state: the notes of headers and more headers are those of the first, and then those of the others from the entries that the
+/// first leave; and so are the entries.
+pub fn joining()
+    ensures notes_join { (s : List (Option Last)) (a b : List Sent) → IsState s → AllFit b →
+        sequence.notes s (a ++ b) ≡ sequence.notes s a ++ sequence.notes (sequence.after s a) b }
+    ensures entries_join { (s : List (Option Last)) (a b : List Sent) →
+        sequence.after s (a ++ b) ≡ sequence.after (sequence.after s a) b }
+{}
+
+/// Round trip: the bits that are written of a header that was read are those of its six octets, and octets are told by their bits.
+pub fn round_trip()
+    ensures written_again { (octets : List ℕ) → AreOctets octets → 6 ≤ length octets → version_of octets ≡ 0 →
+        header_bits (header_of octets) ≡ bits_of (take 6 octets) }
+    ensures bits_tell { (xs ys : List ℕ) → AreOctets xs → AreOctets ys → bits_of xs ≡ bits_of ys → xs ≡ ys }
+{}
+
+/// Spelling: what is spelled is read again as the same entries, whatever follows it, and no spelling is a proper prefix of another.
+pub fn spellings()
+    ensures read_again { (s : List (Option Last)) (rest : List ℕ) → IsState s →
+        decoding_of (spelling s ++ rest) ≡ Ok (record { entries = s; octets = length (spelling s) }) }
+    ensures no_prefix { (s t : List (Option Last)) (rest : List ℕ) → IsState s → IsState t →
+        spelling s ++ rest ≡ spelling t → (s ≡ t) × (rest ≡ []) }
+{}

@@ -1,0 +1,344 @@
+//! The tracker of sequence counts and groups, and its spelling in octets.
+
+ghost use Rattle.std.specs.Prelude.{◌≡◌, ◌+◌, ◌*◌, ◌<◌, ◌≤◌, ◌⊎◌, IfOk, IfErr, OnOk, OnErr, IsOk, Ok, Err, Some, None, true, [], ◌∷◌, ◌++◌, length, drop, slice_set, vec_len, vec_capacity};
+
+use crate::step::{kept_after, notes_after};
+use crate::{Header, Note, Notes, Why};
+use std::alloc::{AllocError, Global};
+use std::marker::Model;
+
+/// Memory was wanted and not found.
+#[derive(Clone, Copy, Debug, PartialEq, Eq)]
+pub struct NoMemory;
+
+/// What is kept of a channel and application: the last count, and the first count of the group that is open, if there is one.
+#[derive(Clone, Copy, Debug, PartialEq, Eq)]
+pub struct Last {
+    pub count: u16,
+    pub first: Option<u16>,
+}
+
+/// A group that is open: its key, `2048 * channel + application`, and the note that it is broken by the end.
+#[derive(Clone, Copy, Debug, PartialEq, Eq)]
+pub struct Unclosed {
+    pub key: u16,
+    pub note: Note,
+}
+
+/// Why octets are no spelling of a tracker.
+#[derive(Clone, Copy, Debug, PartialEq, Eq)]
+pub enum TrackerFault {
+    /// There are fewer than two octets, or fewer than six for each entry after them.
+    Short,
+    /// A key is not greater than the one before.
+    Order,
+    /// A key is over 16383 or that of idle packets, a last count is over 16383, or a first count is over 16383 and not FFFF.
+    Value,
+    /// Memory was wanted and not found.
+    NoMemory,
+}
+
+// The three numbers of an entry, as they are spelled.
+#[derive(Clone, Copy)]
+struct Numbers {
+    key: u16,
+    count: u16,
+    first: u16,
+}
+
+// One place for each key.
+const PLACES: usize = 16384;
+
+/// What is kept of each channel and application, at `2048 * channel + application`.
+#[derive(Drop)]
+pub struct Tracker {
+    entries: Vec<Option<Last>>,
+}
+
+impl Model for Tracker {
+    ghost use Rattle.std.specs.Prelude.{List, Option};
+    ghost use Rattle.tm_packet.specs.declared.tracker.Last.{Last};
+
+    ghost Value = { List (Option Last) };
+
+    ghost use Rattle.tm_packet.specs.Valid.{IsState};
+
+    ghost view = { λ t. t.entries.items };
+
+    ghost invariant = { λ t. IsState t.entries.items };
+}
+
+impl Tracker {
+    ghost use Rattle.tm_packet.specs.Merge.{no_entries};
+    ghost use Rattle.tm_packet.specs.Merge as sequence;
+    ghost use Rattle.tm_packet.specs.Spelling.{spelling, spelled, entries_from, decoding_of, fault_after, raws, state_of, has_values, first_of};
+    ghost use Rattle.tm_packet.specs.declared.tracker.TrackerFault.TheVariants as fault;
+
+    /// A tracker that has taken no header. All 16,384 places are reserved at once.
+    ///
+    /// # Errors
+    ///
+    /// `NoMemory` where they can't be had.
+    pub fn new(alloc: Global) -> Result<Tracker, NoMemory>
+        ensures { IfOk result (λ tracker. tracker ≡ no_entries) }
+    {
+        match Tracker::reserved(alloc) {
+            Ok(tracker) => Ok(tracker),
+            Err(_) => Err(NoMemory),
+        }
+    }
+
+    // A tracker with an empty place for each key.
+    #[tactic(auto, using(crate::proofs::States::filled))]
+    fn reserved(alloc: Global) -> Result<Tracker, AllocError>
+        ensures { IfOk result (λ tracker. tracker ≡ no_entries) }
+    {
+        let mut entries = Vec::with_capacity(alloc, PLACES)?;
+        entries.resize(PLACES, None)?;
+        Ok(Tracker { entries })
+    }
+
+    /// Takes the next header of a channel, and answers its notes. An idle packet has none and changes nothing. Time is constant, and
+    /// no memory is taken.
+    pub fn take(&mut self, channel: u8, header: Header) -> Notes
+        requires { channel < 8 }
+        ensures notes { sequence.notes self.old (record { channel = channel; header = header } ∷ []) ≡ result ∷ [] }
+        ensures left { self.new ≡ sequence.after self.old (record { channel = channel; header = header } ∷ []) }
+    {
+        if header.is_idle() {
+            return Notes::none();
+        }
+        let key = 2048 * usize::from(channel) + usize::from(header.application());
+        let entry = self.entries[key];
+        self.entries[key] = Some(kept_after(entry, &header));
+        notes_after(entry, &header)
+    }
+
+    /// The least key from `at` on whose group is open, with the note that the end breaks it. No memory is taken.
+    pub fn next_unclosed(&self, at: u16) -> Option<Unclosed>
+        ensures { result ≡ sequence.next_unclosed_of self.now at }
+    {
+        for key in usize::from(at)..PLACES {
+            if let Some(
+                Last {
+                    count,
+                    first: Some(first),
+                },
+            ) = self.entries[key]
+            {
+                let note = Note::Broken {
+                    first,
+                    last: count,
+                    why: Why::Close,
+                };
+                return Some(Unclosed {
+                    key: key as u16,
+                    note,
+                });
+            }
+        }
+        None
+    }
+
+    /// Appends the spelling: the number of entries in two octets, and for each entry, by rising key, key, last count, and first count
+    /// of the open group or FFFF, in two octets each, the most significant first.
+    ///
+    /// # Errors
+    ///
+    /// `NoMemory` where there is no room for it; the octets are then as they were.
+    pub fn encode(&self, out: &mut Vec<u8>) -> Result<(), NoMemory>
+        ensures appended { OnOk result (out.new.items ≡ out.old.items ++ spelling self.now) }
+        ensures unchanged { OnErr result (out.new.items ≡ out.old.items) }
+    {
+        let count = self.count();
+        match out.try_reserve(2 + 6 * count) {
+            Ok(()) => {}
+            Err(_) => return Err(NoMemory),
+        }
+        push_number(out, count as u16);
+        self.push_entries(out);
+        Ok(())
+    }
+
+    /// Reads the spelling at the beginning of these octets: the tracker, and the number of octets that were read.
+    ///
+    /// # Errors
+    ///
+    /// `Short` where octets are wanting; else, at the first entry that is wrong, `Value` or `Order`; else `NoMemory` where all 16,384
+    /// places can't be had.
+    pub fn decode(alloc: Global, octets: &[u8]) -> Result<(Tracker, usize), TrackerFault>
+        ensures ok { IfOk result (λ read. decoding_of octets.now ≡ Ok (record { entries = read.0; octets = read.1 })) }
+        ensures refused { IfErr result (λ found. (decoding_of octets.now ≡ Err found) ⊎ ((found ≡ fault.NoMemory) × IsOk (decoding_of octets.now))) }
+    {
+        let Some(count) = entry_count(octets) else {
+            return Err(TrackerFault::Short);
+        };
+        if let Some(fault) = entry_fault(octets, count) {
+            return Err(fault);
+        }
+        let Ok(mut tracker) = Tracker::new(alloc) else {
+            return Err(TrackerFault::NoMemory);
+        };
+        tracker.put_entries(octets, count);
+        Ok((tracker, 2 + 6 * count))
+    }
+
+    // Puts the entries in their places. The first entry of a key counts: hence from the last to the first.
+    fn put_entries(&mut self, octets: &[u8], count: usize)
+        requires room { 2 + 6 * count ≤ length octets.now }
+        requires faultless { fault_after None (raws count (drop 2 octets.now)) ≡ None }
+        requires empty { self.old ≡ no_entries }
+        ensures { self.new ≡ state_of (raws count (drop 2 octets.now)) }
+    {
+        for at in (0..count).rev() {
+            self.put(&numbers_at(octets, 2 + 6 * at));
+        }
+    }
+
+    // Puts an entry in its place.
+    fn put(&mut self, numbers: &Numbers)
+        requires { has_values numbers.now ≡ true }
+        ensures { self.new ≡ slice_set self.old numbers.now.key (Some (record {
+          count = numbers.now.count;
+          first = first_of numbers.now.first;
+        })) }
+    {
+        let first = match numbers.first {
+            0xFFFF => None,
+            first => Some(first),
+        };
+        self.entries[usize::from(numbers.key)] = Some(Last {
+            count: numbers.count,
+            first,
+        });
+    }
+
+    // The number of entries.
+    fn count(&self) -> usize
+        ensures value { result ≡ length (entries_from 0 self.now) }
+        ensures most { result ≤ 16384 }
+    {
+        let mut count = 0;
+        for key in 0..PLACES {
+            if self.entries[key].is_some() {
+                count += 1;
+            }
+        }
+        count
+    }
+
+    // Appends the entries, for which there is room.
+    fn push_entries(&self, out: &mut Vec<u8>)
+        requires { vec_len out.old + 6 * length (entries_from 0 self.now) ≤ vec_capacity out.old }
+        ensures { out.new.items ≡ out.old.items ++ spelled (entries_from 0 self.now) }
+    {
+        for key in 0..PLACES {
+            if let Some(last) = self.entries[key] {
+                push_entry(out, key as u16, &last);
+            }
+        }
+    }
+}
+
+ghost use Rattle.tm_packet.specs.Spelling.{two, entry_octets, count_of, fault_after, raws, raw_of, number_at, has_values, rises};
+
+// Appends an entry, for which there is room.
+fn push_entry(out: &mut Vec<u8>, key: u16, last: &Last)
+    requires { vec_len out.old + 6 ≤ vec_capacity out.old }
+    ensures items { out.new.items ≡ out.old.items ++ entry_octets (record { key = key; last = last.now }) }
+    ensures len { vec_len out.new ≡ vec_len out.old + 6 }
+    ensures room { vec_capacity out.old ≤ vec_capacity out.new }
+{
+    push_number(out, key);
+    push_number(out, last.count);
+    match last.first {
+        Some(first) => push_number(out, first),
+        None => push_number(out, 0xFFFF),
+    }
+}
+
+// Appends a number in two octets, for which there is room.
+fn push_number(out: &mut Vec<u8>, number: u16)
+    requires { vec_len out.old + 2 ≤ vec_capacity out.old }
+    ensures items { out.new.items ≡ out.old.items ++ two number }
+    ensures len { vec_len out.new ≡ vec_len out.old + 2 }
+    ensures room { vec_capacity out.old ≤ vec_capacity out.new }
+{
+    match out.extend_from_slice(&number.to_be_bytes()) {
+        Ok(()) => {}
+        Err(_) => unreachable!(),
+    }
+}
+
+// The number of entries that the octets begin with, where they are all there.
+fn entry_count(octets: &[u8]) -> Option<usize>
+    ensures { result ≡ count_of octets.now }
+{
+    if octets.len() < 2 {
+        return None;
+    }
+    let count = usize::from(number_at(octets, 0));
+    if octets.len() < 2 + 6 * count {
+        return None;
+    }
+    Some(count)
+}
+
+// What is wrong first in the entries.
+fn entry_fault(octets: &[u8], count: usize) -> Option<TrackerFault>
+    requires { 2 + 6 * count ≤ length octets.now }
+    ensures { result ≡ fault_after None (raws count (drop 2 octets.now)) }
+{
+    let mut before = None;
+    for at in 0..count {
+        let numbers = numbers_at(octets, 2 + 6 * at);
+        if !has_values(&numbers) {
+            return Some(TrackerFault::Value);
+        }
+        if !rises(before, numbers.key) {
+            return Some(TrackerFault::Order);
+        }
+        before = Some(numbers.key);
+    }
+    None
+}
+
+// The numbers can be those of an entry.
+fn has_values(numbers: &Numbers) -> bool
+    ensures { result ≡ has_values numbers.now }
+{
+    numbers.key < 16384
+        && numbers.key % 2048 != 2047
+        && numbers.count < 16384
+        && (numbers.first < 16384 || numbers.first == 0xFFFF)
+}
+
+// The key is greater than the one before, if there is one.
+fn rises(before: Option<u16>, key: u16) -> bool
+    ensures { result ≡ rises before key }
+{
+    match before {
+        Some(before) => before < key,
+        None => true,
+    }
+}
+
+// The three numbers of the entry at a place.
+fn numbers_at(octets: &[u8], at: usize) -> Numbers
+    requires { at + 6 ≤ length octets.now }
+    ensures { result ≡ raw_of (drop at octets.now) }
+{
+    Numbers {
+        key: number_at(octets, at),
+        count: number_at(octets, at + 2),
+        first: number_at(octets, at + 4),
+    }
+}
+
+// The number in the two octets at a place.
+fn number_at(octets: &[u8], at: usize) -> u16
+    requires { at + 2 ≤ length octets.now }
+    ensures { result ≡ number_at octets.now at }
+{
+    u16::from_be_bytes([octets[at], octets[at + 1]])
+}

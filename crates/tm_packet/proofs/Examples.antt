@@ -50,7 +50,7 @@ groups : notes no_entries (on 0 100 flag.First 5 ∷ on 0 100 flag.Continuation 
 unfolding no_entries
 groups = refl
 
--- the group of row `groups` that is still open when its packets end
+-- the group that is still open where the packets of `groups` end
 open_at_end : next_unclosed_of (after no_entries (on 0 100 flag.First 8 ∷ on 0 100 flag.Unsegmented 9 ∷ on 0 100 flag.First 10 ∷ [])) 0
     ≡ Some (record { key = 100; note = Broken 10 10 why.Close })
 unfolding no_entries

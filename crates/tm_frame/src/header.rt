@@ -1,6 +1,7 @@
 //! The headers of a frame.
 
 ghost use Rattle.std.specs.Prelude.{◌≡◌, ◌≤◌, ◌<◌, ◌/◌, ◌%◌, ◌^◌, ◌-◌, length};
+ghost use Rattle.tm_bits.specs.Bits.{part};
 ghost use Rattle.tm_frame.specs.Frame.{field_end, field_length, field_start};
 ghost use Rattle.tm_frame.specs.Header.{header_of, secondary_length_of, secondary_version_of};
 
@@ -80,10 +81,19 @@ pub fn secondary_length(frame: &[u8], header: &Header) -> u8
     ensures most { result ≤ 64 }
 {
     if header.secondary {
-        (frame[6] & 0x3F) + 1
+        secondary_length_code(frame) + 1
     } else {
         0
     }
+}
+
+// The length field of the secondary header, the low six bits of its first octet.
+fn secondary_length_code(frame: &[u8]) -> u8
+    requires { 9 ≤ length frame.now }
+    ensures value { result ≡ part frame.now 50 56 }
+    ensures below { result < 64 }
+{
+    frame[6] & 0x3F
 }
 
 /// Where the data field begins, behind the headers.

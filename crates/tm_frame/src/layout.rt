@@ -99,6 +99,7 @@ impl Layout {
     pub fn record_length(&self) -> usize
         ensures value { result ≡ record_length_of self.now }
         ensures some { 9 ≤ result }
+        ensures most { result ≤ 4096 }
     {
         let LayoutParts {
             frame_length,

@@ -203,6 +203,7 @@ impl Header {
 }
 
 /// The version of the packet that begins with this octet: its first three bits.
+#[tactic(auto, using(crate::proofs::HeaderLemmas::version_front))]
 pub fn packet_version(first: u8) -> u8
     ensures value { result ≡ version_of (first ∷ []) }
     ensures below { result < 8 }

@@ -94,6 +94,10 @@ fn groups(rt: HostRuntime) -> Result<(), Fail> {
     for (flags, count, note) in rows {
         assert_eq!(rt; took(&mut tracker, flags, count), [note, None, None]);
     }
+    let Some(idle) = Header::new(false, false, 2047, Flags::Unsegmented, 0, 7) else {
+        return Err(Fail::from("a header"));
+    };
+    assert_eq!(rt; tracker.take(0, idle).len(), 0);
     let Some(unclosed) = tracker.next_unclosed(0) else {
         return Err(Fail::from("an open group"));
     };

@@ -10,4 +10,6 @@ mod frames;
 #[cfg(test)]
 mod packets;
 #[cfg(test)]
+mod reassembly;
+#[cfg(test)]
 mod settings;

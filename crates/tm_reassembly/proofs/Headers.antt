@@ -1,0 +1,94 @@
+-- The version and the length of a packet, as its header has them.
+use Rattle.std.proofs.Common.{◌≡◌, ℕ, ◌+◌, ◌-◌, ◌*◌, ◌/◌, ◌%◌, ◌^◌, ◌<◌, ◌≤◌, true, Ok, Err, Result, List, [], ◌∷◌, ◌++◌, length, take, drop, get_or, refl, sym, ap, ◌∙◌, ⊎_elim, arith, ltb, eqb}
+use Rattle.std.proofs.lemmas.List.{take-append-drop, take-append-le, length-take-le, take_all}
+use Rattle.std.proofs.lemmas.Bool.{cases_Bool, cases_lt, lt-ltb, le-ltb, cond-true, cond-false, eq-eqb, eqb-true}
+use Rattle.tm_bits.specs.Bits.{part, bits_of, number}
+use Rattle.tm_bits.proofs.PartLemmas.{part-word, part-lt}
+use Rattle.tm_packet.specs.declared.header.PacketFault.{PacketFault}
+use Rattle.tm_packet.specs.Header.{Fields, version_of, header_of, reading_of}
+use Rattle.tm_reassembly.specs.Parts.{is_packet, reach}
+use Rattle.tm_reassembly.specs.Sinks.{IsOnePacket}
+use Rattle.tm_reassembly.proofs.Reach.{reach-short, reach-long, reach-least, reach-append}
+
+pub version_first : (octets : List ℕ) → 0 < length octets → version_of (take 1 octets) ≡ version_of (get_or octets 0 0 ∷ [])
+version_first [] h = absurd (omega arith)
+version_first (x ∷ xs) h = refl
+
+-- a part of the first octets
+part-front : (n : ℕ) (octets : List ℕ) (from to : ℕ) → n ≤ length octets → from ≤ to → to ≤ 8 * n → part (take n octets) from to ≡ part octets from to
+part-front n octets from to room ordered inside =
+    let l : length (take n octets) ≡ n = length-take-le n octets room in
+    part-word n (take n octets) from to (omega arith) ordered inside
+    ∙ ap (λ (xs : List ℕ). number (bits_of xs) / 2 ^ (8 * n - to) % 2 ^ (to - from)) (take_all n (take n octets) (omega arith))
+    ∙ sym (part-word n octets from to room ordered inside)
+
+-- what reading a header says of the length
+reading-ok : (octets : List ℕ) (h : Fields) → reading_of octets ≡ Ok h → (6 ≤ length octets) × (h ≡ header_of octets)
+reading-ok octets h e =
+    ⊎_elim
+    (λ short. absurd (err_ok (sym (cond-true (ltb (length octets) 6) _ _ (lt-ltb (length octets) 6 short)) ∙ e)))
+    (λ long.
+    ⊎_elim
+    (λ v. (
+      long,
+      sym (same (sym (cond-false (ltb (length octets) 6) _ _ (le-ltb (length octets) 6 long) ∙ cond-true (eqb (version_of octets) 0) _ _ v) ∙ e)),
+    ))
+    (λ v. absurd (err_ok (sym (cond-false (ltb (length octets) 6) _ _ (le-ltb (length octets) 6 long) ∙ cond-false (eqb (version_of octets) 0) _ _ v) ∙ e)))
+    (cases_Bool (eqb (version_of octets) 0)))
+    (cases_lt (length octets) 6)
+  where
+    err_ok : {fault : PacketFault} → ◌≡◌ {A = Result Fields PacketFault} (Err fault) (Ok h) → ⊥
+    err_ok p = cc
+
+    same : {g : Fields} → ◌≡◌ {A = Result Fields PacketFault} (Ok g) (Ok h) → g ≡ h
+    same p = cc
+
+reading-err : (octets : List ℕ) (fault : PacketFault) → version_of octets ≡ 0 → reading_of octets ≡ Err fault → length octets < 6
+reading-err octets fault zero e =
+    ⊎_elim (λ short. short)
+    (λ long.
+    absurd
+    (ok_err (sym (cond-false (ltb (length octets) 6) _ _ (le-ltb (length octets) 6 long) ∙ cond-true (eqb (version_of octets) 0) _ _ (eq-eqb (version_of octets) 0 zero)) ∙ e)))
+    (cases_lt (length octets) 6)
+  where
+    ok_err : {h : Fields} → ◌≡◌ {A = Result Fields PacketFault} (Ok h) (Err fault) → ⊥
+    ok_err p = cc
+
+-- the length by the header that is read
+pub reach_read : (octets : List ℕ) (h : Fields) → reading_of octets ≡ Ok h → h.data_length + 7 ≡ reach octets
+reach_read octets h e =
+    let r = reading-ok octets h e in
+    ap (λ (g : Fields). g.data_length + 7) r.1
+    ∙ ap (λ (n : ℕ). n + 7) (sym (part-front 6 octets 32 48 r.0 (omega arith) (omega arith)))
+    ∙ sym (reach-long octets r.0)
+
+-- and where none can be read
+pub reach_unread : (octets : List ℕ) (fault : PacketFault) → is_packet octets ≡ true → reading_of octets ≡ Err fault → 7 ≡ reach octets
+reach_unread octets fault p e = ⊎_elim (λ short. sym (reach-short octets short)) (λ long. absurd (no long)) (cases_lt (length octets) 6)
+  where
+    no : 6 ≤ length octets → ⊥
+    no long =
+        let zero : version_of octets ≡ 0 = sym (part-front 1 octets 0 3 (omega arith) (omega arith) (omega arith)) ∙ eqb-true (version_of (take 1 octets)) 0 p in
+        let short = reading-err octets fault zero e in
+        omega arith
+
+-- a packet has at most 65,542 octets
+pub reach_most : (octets : List ℕ) → reach octets ≤ 65542
+reach_most octets =
+    ⊎_elim (λ short. omega (arith, reach-short octets short))
+    (λ long.
+    let l : length (take 6 octets) ≡ 6 = length-take-le 6 octets long in
+    let small : part (take 6 octets) 32 48 < 2 ^ (48 - 32) = part-lt (take 6 octets) 32 48 (omega arith) (omega arith) in
+    let e = reach-long octets long in
+    omega arith)
+    (cases_lt (length octets) 6)
+
+-- a packet that lies whole in octets, by itself
+pub front_packet : (octets : List ℕ) (n : ℕ) → is_packet octets ≡ true → n ≡ reach octets → n ≤ length octets → IsOnePacket (take n octets)
+front_packet octets n p e fits =
+    let least = reach-least octets in
+    let l : length (take n octets) ≡ n = length-take-le n octets fits in
+    let whole : take n octets ++ drop n octets ≡ octets = take-append-drop n octets in
+    let same : reach (take n octets) ≡ n = sym (reach-append (take n octets) (drop n octets) (omega arith)) ∙ ap reach whole ∙ sym e in
+    let first : take 1 (take n octets) ≡ take 1 octets = sym (take-append-le 1 (take n octets) (drop n octets) (omega arith)) ∙ ap (take 1) whole in
+    record { version = ap (λ (xs : List ℕ). eqb (version_of xs) 0) first ∙ p; whole = l ∙ sym same }

@@ -1,0 +1,236 @@
+-- Where the parts of a chain lie: each begins where the one before ends, at the record and the place that it tells.
+use Rattle.std.proofs.Common.{◌≡◌, ℕ, suc, zero, pred, ◌+◌, ◌-◌, ◌<◌, ◌≤◌, Bool, true, false, Option, Some, None, List, [], ◌∷◌, ◌++◌, length, take, drop, refl, sym, ap, subst, ◌∙◌, ⊎_elim, arith, append_assoc, length-append, leb}
+use Rattle.std.proofs.lemmas.List.{append-nil, take-append-drop, map-append}
+use Rattle.std.proofs.lemmas.Bool.{cases_lt, cases_Bool, cond-true, cond-false, le-leb, lt-leb}
+use Rattle.tm_reassembly.specs.declared.items.Reason.TheVariants as why
+use Rattle.tm_reassembly.specs.declared.items.Reason.{Reason}
+use Rattle.tm_reassembly.specs.State.{Tail}
+use Rattle.tm_reassembly.specs.Chain.{Member}
+use Rattle.tm_reassembly.specs.Parts.{Part, reach, agrees, is_packet, lead_part, front_of}
+use Rattle.tm_reassembly.specs.Field.{stop_of, field_parts, unfinished, parts_in, left_in, tail_at, frame_parts, frame_tail, tail_parts, tail_left, step_parts, step_tail, ended_parts, chain_parts_at, chain_tail_at}
+use Rattle.tm_reassembly.specs.Tiles.{Spot, field_spots, octets_at, BeginsAt, IsHeld}
+use Rattle.tm_reassembly.proofs.Reach.{reach-least, reach-unsettled}
+use Rattle.tm_reassembly.proofs.Split.{whole_part, version_part, field_parts-whole, field_parts-version, field_parts-unfinished, unfinished-whole, unfinished-version, unfinished-last}
+use Rattle.tm_reassembly.proofs.Chained.{IsOpenTail, IsTail}
+use Rattle.tm_reassembly.proofs.Tiling.{take-past, front_taken}
+
+abbrev pub Piece : List Spot → ℕ → ℕ → List ℕ → List Spot → Type 0
+Piece spots first place octets rest =
+    (these : List Spot) × (spots ≡ these ++ rest) × (octets_at these ≡ octets) × BeginsAt first place these
+
+abbrev pub Lay : List Spot → List Part → List Spot → Type 0
+Lay spots [] rest = spots ≡ rest
+Lay spots (p ∷ ps) rest = (middle : List Spot) × Piece spots p.first p.place p.octets middle × Lay middle ps rest
+
+pub Lay-append : (a b c : List Spot) (ps qs : List Part) → Lay a ps b → Lay b qs c → Lay a (ps ++ qs) c
+Lay-append a b c [] qs h k = subst (λ (s : List Spot). Lay s qs c) (sym h) k
+Lay-append a b c (p ∷ ps) qs h k = (h.0, h.1, Lay-append h.0 b c ps qs h.2 k)
+
+pub Lay-more : (a b more : List Spot) (ps : List Part) → Lay a ps b → Lay (a ++ more) ps (b ++ more)
+Lay-more a b more [] h = ap (λ (s : List Spot). s ++ more) h
+Lay-more a b more (p ∷ ps) h = (
+  h.0 ++ more,
+  (h.1.0, ap (λ (s : List Spot). s ++ more) h.1.1 ∙ append_assoc h.1.0 h.0 more, h.1.2, h.1.3),
+  Lay-more h.0 b more ps h.2,
+)
+
+-- parts that leave the octets of a tail
+abbrev pub Laid : List Spot → List Part → Option Tail → Type 0
+Laid spots ps tail = (rest : List Spot) × Lay spots ps rest × IsHeld tail rest
+
+laid_by : (spots : List Spot) (ps qs : List Part) (t u : Option Tail) → ps ≡ qs → t ≡ u → Laid spots qs u → Laid spots ps t
+laid_by spots ps qs t u e f h =
+    subst (λ (z : List Part). Laid spots z t) (sym e) (subst (λ (z : Option Tail). Laid spots qs z) (sym f) h)
+
+octets-field : (number place : ℕ) (o : List ℕ) → octets_at (field_spots number place o) ≡ o
+octets-field number place [] = refl
+octets-field number place (x ∷ xs) = ap (λ (t : List ℕ). x ∷ t) (octets-field number (place + 1) xs)
+
+take-field : (k number place : ℕ) (o : List ℕ) → take k (field_spots number place o) ≡ field_spots number place (take k o)
+take-field zero number place [] = refl
+take-field (suc k) number place [] = refl
+take-field zero number place (x ∷ xs) = refl
+take-field (suc k) number place (x ∷ xs) =
+    ap (λ (t : List Spot). record { record_number = number; place = place; octet = x } ∷ t) (take-field k number (place + 1) xs)
+
+take_next : {A : Type 0} (n : ℕ) (x : A) (xs : List A) → 0 < n → take n (x ∷ xs) ++ drop (pred n) xs ≡ x ∷ xs
+take_next zero x xs h = absurd (omega arith)
+take_next {A} (suc n) x xs h = ap (λ (t : List A). x ∷ t) (take-append-drop n xs)
+
+begins-take : (n first place : ℕ) (x : Spot) (xs : List Spot) → 0 < n → BeginsAt first place (x ∷ xs) → BeginsAt first place (take n (x ∷ xs))
+begins-take zero first place x xs h k = absurd (omega arith)
+begins-take (suc n) first place x xs h k = k
+
+begins-more : (first place : ℕ) (a b : List Spot) → BeginsAt first place a → BeginsAt first place (a ++ b)
+begins-more first place [] b h = absurd h
+begins-more first place (x ∷ a) b h = h
+
+-- the packets and the unread part of a field, and its unfinished packet
+field_lays : (number place stop skip : ℕ) (o : List ℕ) → stop ≡ place + length o
+    → Laid (drop skip (field_spots number place o)) (field_parts number stop skip o) (tail_at number stop (unfinished skip o))
+field_lays number place stop zero [] h = ([], refl, refl)
+field_lays number place stop (suc skip) [] h = ([], refl, refl)
+field_lays number place stop (suc skip) (x ∷ xs) h = field_lays number (place + 1) stop skip xs (omega arith)
+field_lays number place stop zero (x ∷ xs) h =
+    let back : place ≡ stop - suc (length xs) = omega arith in
+    let spots : List Spot = field_spots number place (x ∷ xs) in
+    let r : ℕ = reach (x ∷ xs) in
+    let some : 0 < reach (x ∷ xs) = omega (arith, reach-least (x ∷ xs)) in
+    ⊎_elim
+    (λ p.
+    ⊎_elim
+    (λ less.
+    laid_by (field_spots number place (x ∷ xs)) _ [] _ (tail_at number stop (x ∷ xs))
+    (field_parts-unfinished number stop x xs p less) (ap (tail_at number stop) (unfinished-last x xs p less))
+    (field_spots number place (x ∷ xs), refl, (octets-field number place (x ∷ xs), (refl, back))))
+    (λ whole.
+    let rest = field_lays number (place + 1) stop (pred (reach (x ∷ xs))) xs (omega arith) in
+    laid_by (field_spots number place (x ∷ xs)) _ (whole_part number (stop - suc (length xs)) (x ∷ xs) ∷ field_parts number stop (pred (reach (x ∷ xs))) xs)
+    _ (tail_at number stop (unfinished (pred (reach (x ∷ xs))) xs))
+    (field_parts-whole number stop x xs p whole) (ap (tail_at number stop) (unfinished-whole x xs p whole)) (
+      rest.0,
+      (
+        drop (pred (reach (x ∷ xs))) (field_spots number (place + 1) xs),
+        (
+          take (reach (x ∷ xs)) (field_spots number place (x ∷ xs)),
+          sym (take_next (reach (x ∷ xs)) _ (field_spots number (place + 1) xs) some),
+          ap octets_at (take-field (reach (x ∷ xs)) number place (x ∷ xs)) ∙ octets-field number place (take (reach (x ∷ xs)) (x ∷ xs)),
+          begins-take (reach (x ∷ xs)) number (stop - suc (length xs)) _ (field_spots number (place + 1) xs) some (refl, back),
+        ),
+        rest.1,
+      ),
+      rest.2,
+    ))
+    (cases_lt (suc (length xs)) (reach (x ∷ xs))))
+    (λ p.
+    laid_by (field_spots number place (x ∷ xs)) _ (version_part number (stop - suc (length xs)) (x ∷ xs) ∷ []) _ None
+    (field_parts-version number stop x xs p) (ap (tail_at number stop) (unfinished-version x xs p)) (
+      [],
+      ([], (field_spots number place (x ∷ xs), sym (append-nil (field_spots number place (x ∷ xs))), octets-field number place (x ∷ xs), (refl, back)), refl),
+      refl,
+    ))
+    (cases_Bool (is_packet (x ∷ xs)))
+
+abbrev pub spots_of : Member → List Spot
+spots_of m = field_spots m.number m.base m.field
+
+lead_lays : (m : Member) (reason : Reason) (o : List ℕ) → Lay (field_spots m.number m.base o) (lead_part m reason o) []
+lead_lays m reason [] = refl
+lead_lays m reason (x ∷ xs) =
+    ([], (field_spots m.number m.base (x ∷ xs), sym (append-nil (field_spots m.number m.base (x ∷ xs))), octets-field m.number m.base (x ∷ xs), (refl, refl)), refl)
+
+-- a frame past its front
+front_lays : (m : Member)
+    → (middle : List Spot) × (spots_of m ≡ field_spots m.number m.base (front_of m.place m.field) ++ middle) × Laid middle (frame_parts m) (frame_tail m)
+front_lays m =
+    elim m.place as (λ v.
+    (middle : List Spot) × (field_spots m.number m.base m.field ≡ field_spots m.number m.base (front_of v m.field) ++ middle)
+    × Laid middle (parts_in m.number (stop_of m) v m.field) (tail_at m.number (stop_of m) (left_in v m.field))) [
+      | None ↦ ([], sym (append-nil (field_spots m.number m.base m.field)), ([], refl, refl))
+      | Some place ↦ (
+        drop place (field_spots m.number m.base m.field),
+        sym (take-append-drop place (field_spots m.number m.base m.field))
+            ∙ ap (λ (s : List Spot). s ++ drop place (field_spots m.number m.base m.field)) (take-field place m.number m.base m.field),
+        field_lays m.number m.base (stop_of m) place m.field refl,
+      )
+    ]
+
+frame_lays : (m : Member) (reason : Reason)
+    → Laid (spots_of m) (lead_part m reason (front_of m.place m.field) ++ frame_parts m) (frame_tail m)
+frame_lays m reason =
+    let f = front_lays m in (
+      f.2.0,
+      subst (λ (s : List Spot). Lay s (lead_part m reason (front_of m.place m.field) ++ frame_parts m) f.2.0) (sym f.1)
+          (Lay-append _ f.0 f.2.0 (lead_part m reason (front_of m.place m.field)) (frame_parts m)
+          (Lay-more (field_spots m.number m.base (front_of m.place m.field)) [] f.0 (lead_part m reason (front_of m.place m.field)) (lead_lays m reason (front_of m.place m.field)))
+          f.2.1),
+      f.2.2,
+    )
+
+-- a tail and a frame
+tail_lays : (t : Tail) (m : Member) (h : List Spot) → length t.octets ≤ reach (t.octets ++ m.field) → IsHeld (Some t) h
+    → Laid (h ++ spots_of m) (tail_parts t m (reach (t.octets ++ m.field))) (tail_left t m (reach (t.octets ++ m.field)))
+tail_lays t m h long held =
+    let d : ℕ = reach (t.octets ++ m.field) in
+    let a : ℕ = length t.octets in
+    let whole : ℕ = length (t.octets ++ m.field) in
+    let len : length (t.octets ++ m.field) ≡ length t.octets + length m.field = length-append t.octets m.field in
+    ⊎_elim
+    (λ agree.
+    ⊎_elim
+    (λ past.
+    laid_by (h ++ spots_of m) _ [] _ (Some (record { first = t.first; place = t.place; octets = t.octets ++ m.field }))
+    (cond-true (agrees d a m) _ _ agree ∙ cond-false (leb d whole) _ _ (lt-leb d whole past))
+    (cond-true (agrees d a m) _ _ agree ∙ cond-false (leb d whole) _ _ (lt-leb d whole past)) (
+      h ++ spots_of m,
+      refl,
+      (both_octets h (spots_of m) t.octets m.field held.0 (octets-field m.number m.base m.field), begins-more t.first t.place h (spots_of m) held.1),
+    ))
+    (λ within.
+    let front : take d (t.octets ++ m.field) ≡ t.octets ++ front_of m.place m.field =
+    take-past t.octets m.field d long
+    ∙ ap (λ (o : List ℕ). t.octets ++ o) (front_taken m.place d a m.field agree long (omega arith)) in
+    let f = front_lays m in
+    laid_by (h ++ spots_of m) _ _ _ (frame_tail m)
+    (cond-true (agrees d a m) _ _ agree ∙ cond-true (leb d whole) _ _ (le-leb d whole within))
+    (cond-true (agrees d a m) _ _ agree ∙ cond-true (leb d whole) _ _ (le-leb d whole within)) (
+      f.2.0,
+      (
+        f.0,
+        (
+          h ++ field_spots m.number m.base (front_of m.place m.field),
+          ap (λ (s : List Spot). h ++ s) f.1 ∙ sym (append_assoc h (field_spots m.number m.base (front_of m.place m.field)) f.0),
+          both_octets h _ t.octets (front_of m.place m.field) held.0 (octets-field m.number m.base (front_of m.place m.field)) ∙ sym front,
+          begins-more t.first t.place h _ held.1,
+        ),
+        f.2.1,
+      ),
+      f.2.2,
+    ))
+    (cases_lt whole d))
+    (λ differ.
+    let f = frame_lays m why.Pointer in
+    laid_by (h ++ spots_of m) _ _ _ (frame_tail m)
+    (cond-false (agrees d a m) _ _ differ)
+    (cond-false (agrees d a m) _ _ differ)
+    (f.0, (spots_of m, (h, refl, held.0, held.1), f.1), f.2))
+    (cases_Bool (agrees d a m))
+  where
+    both_octets : (a b : List Spot) (u v : List ℕ) → octets_at a ≡ u → octets_at b ≡ v → octets_at (a ++ b) ≡ u ++ v
+    both_octets a b u v e f = map-append (λ x. x.octet) a b ∙ rw (e, f)
+
+ended_lays : (tail : Option Tail) (reason : Reason) (number : ℕ) (h : List Spot) → IsHeld tail h → Lay h (ended_parts tail reason number) []
+ended_lays None reason number h held = held
+ended_lays (Some t) reason number h held = ([], (h, sym (append-nil h), held.0, held.1), refl)
+
+step_lays : (tail : Option Tail) (m : Member) (h : List Spot) → IsOpenTail tail → IsHeld tail h
+    → Laid (h ++ spots_of m) (step_parts tail m) (step_tail tail m)
+step_lays None m h unwhole held =
+    subst (λ (s : List Spot). Laid (s ++ spots_of m) (step_parts None m) (step_tail None m)) (sym held) (frame_lays m why.NoStart)
+step_lays (Some t) m h unwhole held = tail_lays t m h (long t.octets unwhole) held
+  where
+    long : (o : List ℕ) → IsTail o → length o ≤ reach (o ++ m.field)
+    long [] k = absurd k
+    long (x ∷ xs) k = let r : suc (length xs) < reach ((x ∷ xs) ++ m.field) = reach-unsettled (x ∷ xs) m.field k.1 in omega arith
+
+-- VCA frames are left out
+abbrev pub plain_spots : Bool → List Spot → List Spot
+plain_spots true spots = []
+plain_spots false spots = spots
+
+cut_lays : (tail : Option Tail) (reason : Reason) (number : ℕ) (h : List Spot) → IsHeld tail h → Laid (h ++ []) (ended_parts tail reason number) None
+cut_lays tail reason number h held =
+    ([], subst (λ (s : List Spot). Lay s (ended_parts tail reason number) []) (sym (append-nil h)) (ended_lays tail reason number h held), refl)
+
+pub chain_lays : (gap vca : Bool) (tail : Option Tail) (m : Member) (h : List Spot) → IsOpenTail tail → IsHeld tail h
+    → Laid (h ++ plain_spots vca (spots_of m)) (chain_parts_at gap vca tail m) (chain_tail_at gap vca tail m)
+chain_lays true true tail m h unwhole held = cut_lays tail why.Gap m.number h held
+chain_lays false true tail m h unwhole held = cut_lays tail why.Vca m.number h held
+chain_lays false false tail m h unwhole held = step_lays tail m h unwhole held
+chain_lays true false tail m h unwhole held =
+    let f = step_lays None m [] tt refl in (
+      f.0,
+      Lay-append (h ++ spots_of m) (spots_of m) f.0 (ended_parts tail why.Gap m.number) (step_parts None m)
+          (Lay-more h [] (spots_of m) (ended_parts tail why.Gap m.number) (ended_lays tail why.Gap m.number h held)) f.1,
+      f.2,
+    )

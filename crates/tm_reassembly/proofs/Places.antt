@@ -1,0 +1,270 @@
+-- The definitions relative to a start are those with places in the text.
+use Rattle.std.proofs.Common.{◌≡◌, ℕ, ◌+◌, ◌<◌, ◌≤◌, Bool, true, ◌&&◌, Option, Some, None, List, [], ◌∷◌, ◌++◌, length, take, drop, refl, sym, ap, subst, ◌∙◌, ⊎_elim, arith, append_assoc, length-append, ltb, leb}
+use Rattle.std.specs.Prelude.{is_none}
+use Rattle.std.proofs.lemmas.List.{append-nil, take-append-le}
+use Rattle.std.proofs.lemmas.List.Concat.{flat_map-append}
+use Rattle.std.proofs.lemmas.Bool.{cases_Bool, cases_lt, cond-true, cond-false, ltb-true, leb-true, lt-ltb, le-leb, lt-leb, eqb-true, eq-eqb}
+use Rattle.std.proofs.Math.Seq.{drop-append_seam}
+use Rattle.tm_packet.specs.Header.{version_of, header_of}
+use Rattle.tm_reassembly.specs.Chain.{Member}
+use Rattle.tm_reassembly.specs.Parts.{text, reach, far_end, is_packet, agrees, agrees_at, open_after, breaker}
+use Rattle.tm_reassembly.specs.Verdict.{is_whole}
+use Rattle.tm_reassembly.specs.Absolute.{reach_at, IsVersionZero, AgreesAt, Agrees, IsOpen, IsWhole, Iff}
+use Rattle.tm_reassembly.proofs.Reach.{reach-short, reach-long}
+use Rattle.tm_reassembly.proofs.OneOpen.{and_both}
+
+pub both_true : (a b : Bool) → a ≡ true → b ≡ true → (a && b) ≡ true
+both_true a b e f = rw (e, f) refl
+
+-- what follows some octets
+pub drop-place : (before t : List ℕ) → drop (length before) (before ++ t) ≡ t
+drop-place before t = drop-append_seam before t
+
+-- a packet's end, from the start on
+pub reach-place : (before t : List ℕ) → reach_at (before ++ t) (length before) ≡ length before + reach t
+reach-place before t =
+    let n : ℕ = length before in
+    let len : length (before ++ t) ≡ length before + length t = length-append before t in
+    ⊎_elim
+    (λ short.
+    cond-false (leb (n + 6) (length (before ++ t))) _ _ (lt-leb (n + 6) (length (before ++ t)) (omega arith))
+    ∙ ap (λ (k : ℕ). length before + k) (sym (reach-short t short)))
+    (λ long.
+    cond-true (leb (n + 6) (length (before ++ t))) _ _ (le-leb (n + 6) (length (before ++ t)) (omega arith))
+    ∙ ap (λ (o : List ℕ). length before + ((header_of (take 6 o)).data_length + 7)) (drop-place before t)
+    ∙ ap (λ (k : ℕ). length before + k) (sym (reach-long t long)))
+    (cases_lt (length t) 6)
+
+pub version-place : (before start t : List ℕ) → 0 < length start
+    → version_of (take 1 (drop (length before) (before ++ (start ++ t)))) ≡ version_of (take 1 start)
+version-place before start t some =
+    ap (λ (o : List ℕ). version_of (take 1 o)) (drop-place before (start ++ t)) ∙ ap version_of (take-append-le 1 start t (omega arith))
+
+-- one frame
+agrees-to : (q far at len : ℕ) (place : Option ℕ) → agrees_at far at len place ≡ true → AgreesAt (q + far) (q + at) len place
+agrees-to q far at len None h = let e = leb-true (at + len) far h in omega arith
+agrees-to q far at len (Some place) h = let e : far ≡ at + place = eqb-true far (at + place) h in omega arith
+
+agrees-from : (q far at len : ℕ) (place : Option ℕ) → AgreesAt (q + far) (q + at) len place → agrees_at far at len place ≡ true
+agrees-from q far at len None h = le-leb (at + len) far (omega arith)
+agrees-from q far at len (Some place) h = eq-eqb far (at + place) (omega arith)
+
+-- each frame between agrees
+abbrev pub Each : ℕ → ℕ → List Member → Type 0
+Each far at between =
+    (earlier later : List Member) (g : Member) → between ≡ earlier ++ g ∷ later → agrees far (at + length (text earlier)) g ≡ true
+
+not_split : (earlier later : List Member) (g : Member) → [] ≡ earlier ++ g ∷ later → ⊥
+not_split [] later g e = cc
+not_split (x ∷ earlier) later g e = cc
+
+each-cons : (far at : ℕ) (m : Member) (between : List Member) → agrees far at m ≡ true → Each far (at + length m.field) between → Each far at (m ∷ between)
+each-cons far at m between a h [] later g e =
+    let same : m ≡ g = cc in
+    let z : at + 0 ≡ at = omega arith in
+    ap (λ (k : ℕ). agrees far k g) z ∙ ap (agrees far at) (sym same) ∙ a
+each-cons far at m between a h (x ∷ earlier) later g e =
+    let same : m ≡ x = cc in
+    let rest : between ≡ earlier ++ g ∷ later = cc in
+    let len : length (x.field ++ text earlier) ≡ length x.field + length (text earlier) = length-append x.field (text earlier) in
+    let size : length m.field ≡ length x.field = ap (λ (z : Member). length z.field) same in
+    ap (λ (k : ℕ). agrees far k g) (omega arith) ∙ h earlier later g rest
+
+each-first : (far at : ℕ) (m : Member) (between : List Member) → Each far at (m ∷ between) → agrees far at m ≡ true
+each-first far at m between h = let z : at ≡ at + 0 = omega arith in ap (λ (k : ℕ). agrees far k m) z ∙ h [] between m refl
+
+each-rest : (far at : ℕ) (m : Member) (between : List Member) → Each far at (m ∷ between) → Each far (at + length m.field) between
+each-rest far at m between h earlier later g e =
+    let len : length (m.field ++ text earlier) ≡ length m.field + length (text earlier) = length-append m.field (text earlier) in
+    ap (λ (k : ℕ). agrees far k g) (omega arith) ∙ h (m ∷ earlier) later g (ap (λ (ms : List Member). m ∷ ms) e)
+
+pub open-to : (far at : ℕ) (between : List Member) → open_after far at between ≡ true → (at + length (text between) < far) × Each far at between
+open-to far at [] h = (let e = ltb-true at far h in omega arith, λ earlier later g e. absurd (not_split earlier later g e))
+open-to far at (m ∷ between) h =
+    let both = and_both (agrees far at m) (open_after far (at + length m.field) between) h in
+    let rest = open-to far (at + length m.field) between both.1 in
+    let len : length (m.field ++ text between) ≡ length m.field + length (text between) = length-append m.field (text between) in
+    (let r = rest.0 in omega arith, each-cons far at m between both.0 rest.1)
+
+open-from : (far at : ℕ) (between : List Member) → at + length (text between) < far → Each far at between → open_after far at between ≡ true
+open-from far at [] h each = lt-ltb at far (omega arith)
+open-from far at (m ∷ between) h each =
+    let len : length (m.field ++ text between) ≡ length m.field + length (text between) = length-append m.field (text between) in
+    both_true (agrees far at m) (open_after far (at + length m.field) between) (each-first far at m between each)
+    (open-from far (at + length m.field) between (omega arith) (each-rest far at m between each))
+
+-- no frame breaks
+abbrev pub Unbroken : ℕ → ℕ → List Member → Type 0
+Unbroken far at later =
+    (between more : List Member) (m : Member) → later ≡ between ++ m ∷ more → open_after far at between ≡ true
+    → agrees far (at + length (text between)) m ≡ true
+
+unbroken-to : (far at : ℕ) (later : List Member) → breaker far at later ≡ None → Unbroken far at later
+unbroken-to far at [] h between more m e o = absurd (not_split between more m e)
+unbroken-to far at (f ∷ later) h [] more m e o =
+    let same : f ≡ m = cc in
+    let z : at + 0 ≡ at = omega arith in
+    ap (λ (k : ℕ). agrees far k m) z
+    ∙ ap (agrees far at) (sym same)
+    ∙ ⊎_elim (λ a. a)
+    (λ a. absurd (some_none (sym (cond-true (ltb at far) _ _ o ∙ cond-false (agrees far at f) _ _ a) ∙ h)))
+    (cases_Bool (agrees far at f))
+  where
+    some_none : {x : Member} → ◌≡◌ {A = Option Member} (Some x) None → ⊥
+    some_none p = cc
+unbroken-to far at (f ∷ later) h (x ∷ between) more m e o =
+    let same : f ≡ x = cc in
+    let rest : later ≡ between ++ m ∷ more = cc in
+    let both = and_both (agrees far at x) (open_after far (at + length x.field) between) o in
+    let past = open-to far (at + length x.field) between both.1 in
+    let size : length f.field ≡ length x.field = ap (λ (z : Member). length z.field) same in
+    let len : length (x.field ++ text between) ≡ length x.field + length (text between) = length-append x.field (text between) in
+    let agreed : agrees far at f ≡ true = ap (agrees far at) same ∙ both.0 in
+    let here : at < far = let p = past.0 in omega arith in
+    let none : breaker far (at + length f.field) later ≡ None =
+    sym (cond-true (ltb at far) _ _ (lt-ltb at far here) ∙ cond-true (agrees far at f) _ _ agreed) ∙ h in
+    ap (λ (k : ℕ). agrees far k m) (omega arith)
+    ∙ unbroken-to far (at + length f.field) later none between more m rest (ap (λ (k : ℕ). open_after far (at + k) between) size ∙ both.1)
+
+pub unbroken-from : (far at : ℕ) (later : List Member) → Unbroken far at later → breaker far at later ≡ None
+unbroken-from far at [] h = refl
+unbroken-from far at (f ∷ later) h =
+    ⊎_elim
+    (λ here.
+    let z : at ≡ at + 0 = omega arith in
+    let agreed : agrees far at f ≡ true = ap (λ (k : ℕ). agrees far k f) z ∙ h [] later f refl here in
+    cond-true (ltb at far) _ _ here ∙ cond-true (agrees far at f) _ _ agreed
+    ∙ unbroken-from far (at + length f.field) later
+    (λ between more m e o.
+    let len : length (f.field ++ text between) ≡ length f.field + length (text between) = length-append f.field (text between) in
+    ap (λ (k : ℕ). agrees far k m) (omega arith)
+    ∙ h (f ∷ between) more m (ap (λ (ms : List Member). f ∷ ms) e) (both_true (agrees far at f) _ agreed o)))
+    (λ past. cond-false (ltb at far) _ _ past)
+    (cases_Bool (ltb at far))
+
+pub none-from : (b : Option Member) → is_none b ≡ true → b ≡ None
+none-from None h = refl
+none-from (Some m) h = absurd (cc)
+
+-- a start whose frame has the octets `skipped` before it
+module _ (before : List Member) (f : Member) (skipped start : List ℕ) (whole_field : f.field ≡ skipped ++ start) where
+  pub text_split : (later : List Member) → text (before ++ f ∷ later) ≡ (text before ++ skipped) ++ (start ++ text later)
+  text_split later =
+      flat_map-append (λ m. m.field) before (f ∷ later)
+      ∙ ap (λ (o : List ℕ). text before ++ (o ++ text later)) whole_field
+      ∙ regroup (text before) skipped start (text later)
+    where
+      regroup : (a b c d : List ℕ) → a ++ ((b ++ c) ++ d) ≡ (a ++ b) ++ (c ++ d)
+      regroup a b c d = simp append_assoc
+
+  pub ends-at : (later : List Member)
+      → reach_at (text (before ++ f ∷ later)) (length (text before) + length skipped) ≡ (length (text before) + length skipped) + far_end start later
+  ends-at later =
+      let len : length (text before ++ skipped) ≡ length (text before) + length skipped = length-append (text before) skipped in
+      ap (λ (t : List ℕ). reach_at t (length (text before) + length skipped)) (text_split later)
+      ∙ ap (reach_at ((text before ++ skipped) ++ (start ++ text later))) (sym len)
+      ∙ reach-place (text before ++ skipped) (start ++ text later)
+      ∙ ap (λ (k : ℕ). k + far_end start later) len
+
+  -- where a later frame begins
+  pub begins-at : (between : List Member)
+      → length (text ((before ++ f ∷ []) ++ between)) ≡ (length (text before) + length skipped) + (length start + length (text between))
+  begins-at between =
+      let own : length f.field ≡ length skipped + length start = ap (λ (o : List ℕ). length o) whole_field ∙ length-append skipped start in
+      let all : length (text ((before ++ f ∷ []) ++ between)) ≡ (length (text before) + length f.field) + length (text between) =
+      simp (flat_map-append, length-append, append-nil) in
+      omega arith
+
+  pub agreement-at : (between later : List Member) (m : Member)
+      → Iff (agrees (far_end start later) (length start + length (text between)) m ≡ true)
+      (Agrees (reach_at (text (before ++ f ∷ later)) (length (text before) + length skipped)) (length (text ((before ++ f ∷ []) ++ between))) m)
+  agreement-at between later m =
+      let q : ℕ = length (text before) + length skipped in
+      let far : ℕ = far_end start later in
+      let at : ℕ = length start + length (text between) in (
+        λ h. rw (ends-at later, begins-at between) (agrees-to q far at (length m.field) m.place h),
+        λ h. agrees-from q far at (length m.field) m.place (moved h),
+      )
+    where
+      moved : Agrees (reach_at (text (before ++ f ∷ later)) (length (text before) + length skipped)) (length (text ((before ++ f ∷ []) ++ between))) m
+          → AgreesAt ((length (text before) + length skipped) + far_end start later) ((length (text before) + length skipped) + (length start + length (text between))) (length m.field) m.place
+      moved h =
+          subst (λ (k : ℕ). AgreesAt k ((length (text before) + length skipped) + (length start + length (text between))) (length m.field) m.place) (ends-at later)
+          (subst (λ (k : ℕ). AgreesAt (reach_at (text (before ++ f ∷ later)) (length (text before) + length skipped)) k (length m.field) m.place) (begins-at between) h)
+
+  module _ (some : 0 < length start) where
+    version-at : (later : List Member)
+        → version_of (take 1 (drop (length (text before) + length skipped) (text (before ++ f ∷ later)))) ≡ version_of (take 1 start)
+    version-at later =
+        ap (λ (t : List ℕ). version_of (take 1 (drop (length (text before) + length skipped) t))) (text_split later)
+        ∙ ap (λ (k : ℕ). version_of (take 1 (drop k ((text before ++ skipped) ++ (start ++ text later))))) (sym (length-append (text before) skipped))
+        ∙ version-place (text before ++ skipped) start (text later) some
+
+    pub zero-to : (later : List Member) → is_packet start ≡ true → IsVersionZero (text (before ++ f ∷ later)) (length (text before) + length skipped)
+    zero-to later h = version-at later ∙ eqb-true (version_of (take 1 start)) 0 h
+
+    pub zero-from : (later : List Member) → IsVersionZero (text (before ++ f ∷ later)) (length (text before) + length skipped) → is_packet start ≡ true
+    zero-from later h = eq-eqb (version_of (take 1 start)) 0 (sym (version-at later) ∙ h)
+
+    begins-before : (r q b far at : ℕ) → r ≡ q + far → b ≡ q + at → at < far → b < r
+    begins-before r q b far at e g h = omega arith
+
+    reaches-past : (r q b far at : ℕ) → r ≡ q + far → b ≡ q + at → b < r → at < far
+    reaches-past r q b far at e g h = omega arith
+
+    pub open-at : (between later : List Member)
+        → Iff ((is_packet start && open_after (far_end start later) (length start) between) ≡ true)
+        (IsOpen (text (before ++ f ∷ later)) (length (text before) + length skipped) (before ++ f ∷ []) between)
+    open-at between later = (
+      λ h.
+          let both = and_both (is_packet start) (open_after (far_end start later) (length start) between) h in
+          let o = open-to (far_end start later) (length start) between both.1 in (
+            zero-to later both.0,
+            begins-before _ (length (text before) + length skipped) _ (far_end start later) (length start + length (text between)) (ends-at later) (begins-at between) o.0,
+            λ earlier more g e. (agreement-at earlier later g).0 (o.1 earlier more g e),
+          ),
+      λ h.
+          both_true (is_packet start) (open_after (far_end start later) (length start) between) (zero-from later h.0)
+          (open-from (far_end start later) (length start) between
+          (reaches-past _ (length (text before) + length skipped) _ (far_end start later) (length start + length (text between)) (ends-at later) (begins-at between) h.1)
+          (λ earlier more g e. (agreement-at earlier later g).1 (h.2 earlier more g e))),
+    )
+
+    pub text-length : (later : List Member) → length (text (before ++ f ∷ later)) ≡ (length (text before) + length skipped) + length (start ++ text later)
+    text-length later =
+        ap (λ (t : List ℕ). length t) (text_split later)
+        ∙ length-append (text before ++ skipped) (start ++ text later)
+        ∙ ap (λ (k : ℕ). k + length (start ++ text later)) (length-append (text before) skipped)
+
+    fits-to : (r q b far len : ℕ) → r ≡ q + far → b ≡ q + len → far ≤ len → r ≤ b
+    fits-to r q b far len e g h = omega arith
+
+    fits-from : (r q b far len : ℕ) → r ≡ q + far → b ≡ q + len → r ≤ b → far ≤ len
+    fits-from r q b far len e g h = omega arith
+
+    pub whole-at : (later : List Member)
+        → Iff (is_whole start later ≡ true)
+        (IsWhole (text (before ++ f ∷ later)) (length (text before) + length skipped) (before ++ f ∷ []) later)
+    whole-at later = (
+      λ h.
+          let one = and_both (is_packet start) (is_none (breaker (far_end start later) (length start) later) && leb (far_end start later) (length (start ++ text later))) h in
+          let two = and_both (is_none (breaker (far_end start later) (length start) later)) (leb (far_end start later) (length (start ++ text later))) one.1 in
+          let unbroken = unbroken-to (far_end start later) (length start) later (none-from _ two.0) in (
+            zero-to later one.0,
+            fits-to _ (length (text before) + length skipped) _ (far_end start later) (length (start ++ text later)) (ends-at later) (text-length later)
+                (leb-true (far_end start later) (length (start ++ text later)) two.1),
+            λ between more m e o.
+                (agreement-at between later m).0
+                (unbroken between more m e (and_both (is_packet start) (open_after (far_end start later) (length start) between) ((open-at between later).1 o)).1),
+          ),
+      λ h.
+          both_true (is_packet start) _ (zero-from later h.0)
+          (both_true (is_none (breaker (far_end start later) (length start) later)) (leb (far_end start later) (length (start ++ text later)))
+          (ap (λ (b : Option Member). is_none b)
+          (unbroken-from (far_end start later) (length start) later
+          (λ between more m e o.
+          (agreement-at between later m).1
+          (h.2 between more m e ((open-at between later).0 (both_true (is_packet start) (open_after (far_end start later) (length start) between) (zero-from later h.0) o))))))
+          (le-leb (far_end start later) (length (start ++ text later))
+          (fits-from _ (length (text before) + length skipped) _ (far_end start later) (length (start ++ text later)) (ends-at later) (text-length later) h.1))),
+    )

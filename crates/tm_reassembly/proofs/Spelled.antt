@@ -1,0 +1,181 @@
+-- What is read is the spelling of what it is read as.
+use Rattle.std.proofs.Common.{◌≡◌, ℕ, zero, suc, ◌+◌, ◌-◌, ◌*◌, ◌/◌, ◌%◌, ◌<◌, ◌≤◌, Bool, false, not, ◌||◌, Ok, Err, Result, Some, None, List, [], ◌∷◌, ◌++◌, length, take, drop, refl, sym, ap, subst, ◌∙◌, arith, length-drop, ltb, eqb}
+use Rattle.std.specs.Prelude.{slice_index, slice_range}
+use Rattle.std.specs.List.{flat_map}
+use Rattle.std.proofs.lemmas.Bool.{cond_both, ltb-false, eqb-true, eqb-false, or_parts}
+use Rattle.std.proofs.lemmas.List.{length-take-le}
+use Rattle.std.proofs.Math.Seq.{take-add}
+use Rattle.tm_bits.specs.Bits.{AreOctets}
+use Rattle.tm_bits.proofs.PartLemmas.{octets_behind}
+use Rattle.tm_frame.specs.declared.layout.LayoutParts.{LayoutParts}
+use Rattle.tm_reassembly.specs.declared.fault.StateFault.{StateFault}
+use Rattle.tm_reassembly.specs.State.{Tail}
+use Rattle.tm_reassembly.specs.Checkpoint.{two, four, block, spelling, four_at, two_at, Read, ReadAll, Decoded, is_unfinished, block_read, blocks_read, in_front, and_then, with_records, decoding_of}
+
+-- ---- numbers
+
+two_again : (a b : ℕ) → a < 256 → b < 256 → two (256 * a + b) ≡ a ∷ b ∷ []
+two_again a b p q =
+    let x : (256 * a + b) / 256 ≡ a = omega arith in
+    let y : (256 * a + b) % 256 ≡ b = omega arith in
+    rw (x, y) refl
+
+four_again : (a b c d : ℕ) → a < 256 → b < 256 → c < 256 → d < 256 → four (65536 * (256 * a + b) + (256 * c + d)) ≡ a ∷ b ∷ c ∷ d ∷ []
+four_again a b c d p q r s =
+    let x : (65536 * (256 * a + b) + (256 * c + d)) / 65536 ≡ 256 * a + b = omega arith in
+    let y : (65536 * (256 * a + b) + (256 * c + d)) % 65536 ≡ 256 * c + d = omega arith in
+    ap (λ (n : ℕ). two n ++ two ((65536 * (256 * a + b) + (256 * c + d)) % 65536)) x
+    ∙ ap (λ (n : ℕ). two (256 * a + b) ++ two n) y
+    ∙ ap (λ (l : List ℕ). l ++ two (256 * c + d)) (two_again a b p q)
+    ∙ ap (λ (l : List ℕ). (a ∷ b ∷ []) ++ l) (two_again c d r s)
+
+-- ---- a block
+
+-- the octets at the front are the block of what was read
+pub record IsBlock (xs : List ℕ) (one : Read) : Type 0 where
+  pub inside : one.octets ≤ length xs
+  pub same : take one.octets xs ≡ block one.kept
+
+pub IsSpelled : List ℕ → Result Read StateFault → Type 0
+IsSpelled xs (Ok one) = IsBlock xs one
+IsSpelled xs (Err found) = Unit {0}
+
+abbrev tail_of : List ℕ → ℕ → Tail
+tail_of xs size = record { first = four_at xs 2; place = two_at xs 6; octets = slice_range xs 12 (12 + size) }
+
+-- the fixed parts of a tail, and its octets
+tail_spelled : (xs : List ℕ) (size : ℕ) → AreOctets xs → slice_index xs 0 ≡ 2 → size ≡ four_at xs 8 → 12 + size ≤ length xs
+    → take (12 + size) xs ≡ block (Some (record { count = slice_index xs 1; tail = Some (tail_of xs size) }))
+tail_spelled (x0 ∷ x1 ∷ x2 ∷ x3 ∷ x4 ∷ x5 ∷ x6 ∷ x7 ∷ x8 ∷ x9 ∷ x10 ∷ x11 ∷ more) size h flag s long =
+    let n : 12 + size ≡ suc (suc (suc (suc (suc (suc (suc (suc (suc (suc (suc (suc size))))))))))) = omega arith in
+    let m : 12 + size - 12 ≡ size = omega arith in
+    let xs : List ℕ = x0 ∷ x1 ∷ x2 ∷ x3 ∷ x4 ∷ x5 ∷ x6 ∷ x7 ∷ x8 ∷ x9 ∷ x10 ∷ x11 ∷ more in
+    let octets : List ℕ = take size more in
+    let all : slice_range xs 12 (12 + size) ≡ octets = ap (λ (k : ℕ). take k more) m in
+    let len : length octets ≡ size = length-take-le size more (omega arith) in
+    let first : four (four_at xs 2) ≡ x2 ∷ x3 ∷ x4 ∷ x5 ∷ [] = four_again x2 x3 x4 x5 (h.below 2) (h.below 3) (h.below 4) (h.below 5) in
+    let place : two (two_at xs 6) ≡ x6 ∷ x7 ∷ [] = two_again x6 x7 (h.below 6) (h.below 7) in
+    let number : four (length octets) ≡ x8 ∷ x9 ∷ x10 ∷ x11 ∷ [] = ap (λ (k : ℕ). four k) (len ∙ s) ∙ four_again x8 x9 x10 x11 (h.below 8) (h.below 9) (h.below 10) (h.below 11) in
+    ap (λ (k : ℕ). take k xs) n
+    ∙ ap (λ (f : ℕ). f ∷ x1 ∷ x2 ∷ x3 ∷ x4 ∷ x5 ∷ x6 ∷ x7 ∷ x8 ∷ x9 ∷ x10 ∷ x11 ∷ octets) flag
+    ∙ sym
+    (ap (λ (o : List ℕ). 2 ∷ x1 ∷ (four (four_at xs 2) ++ two (two_at xs 6) ++ four (length o) ++ o)) all
+    ∙ ap (λ (l : List ℕ). 2 ∷ x1 ∷ (l ++ two (two_at xs 6) ++ four (length octets) ++ octets)) first
+    ∙ ap (λ (l : List ℕ). 2 ∷ x1 ∷ ((x2 ∷ x3 ∷ x4 ∷ x5 ∷ []) ++ l ++ four (length octets) ++ octets)) place
+    ∙ ap (λ (l : List ℕ). 2 ∷ x1 ∷ ((x2 ∷ x3 ∷ x4 ∷ x5 ∷ []) ++ (x6 ∷ x7 ∷ []) ++ l ++ octets)) number)
+tail_spelled xs size h flag s long = absurd (omega arith)
+
+-- the flag 1, and a count
+count_spelled : (xs : List ℕ) → slice_index xs 0 ≡ 1 → 2 ≤ length xs → take 2 xs ≡ block (Some (record { count = slice_index xs 1; tail = None }))
+count_spelled (x ∷ y ∷ more) e long = ap (λ (f : ℕ). f ∷ y ∷ []) e
+count_spelled xs e long = absurd (omega arith)
+
+-- the flag 0
+none_spelled : (xs : List ℕ) → slice_index xs 0 ≡ 0 → 1 ≤ length xs → take 1 xs ≡ block None
+none_spelled (x ∷ more) e long = ap (λ (f : ℕ). f ∷ []) e
+none_spelled [] e long = absurd (omega arith)
+
+module _ (layout : LayoutParts) (records : ℕ) where
+  pub block_spelled : (b : Bool) (xs : List ℕ) → AreOctets xs → IsSpelled xs (block_read layout b records xs)
+  unfolding block_read IsSpelled
+  block_spelled b xs h =
+      let flag : ℕ = slice_index xs 0 in
+      let size : ℕ = four_at xs 8 in
+      cond_both (eqb (length xs) 0) _ _ (IsSpelled xs) (λ p. tt)
+      (λ p.
+      let some : 1 ≤ length xs = let z = eqb-false (length xs) 0 p in omega arith in
+      cond_both (eqb flag 0) _ _ (IsSpelled xs) (λ q. record { inside = some; same = none_spelled xs (eqb-true flag 0 q) some })
+      (λ q.
+      cond_both (not b || ltb 2 flag) _ _ (IsSpelled xs) (λ r. tt)
+      (λ r.
+      cond_both (eqb flag 1) _ _ (IsSpelled xs)
+      (λ s. cond_both (ltb (length xs) 2) _ _ (IsSpelled xs) (λ t. tt) (λ t. record { inside = ltb-false (length xs) 2 t; same = count_spelled xs (eqb-true flag 1 s) (ltb-false (length xs) 2 t) }))
+      (λ s.
+      cond_both (ltb (length xs) 12) _ _ (IsSpelled xs) (λ t. tt)
+      (λ t.
+      cond_both (not (ltb (four_at xs 2) records) || ltb layout.frame_length (two_at xs 6 + 7)) _ _ (IsSpelled xs) (λ u. tt)
+      (λ u.
+      cond_both (eqb size 0 || ltb 65541 size) _ _ (IsSpelled xs) (λ v. tt)
+      (λ v.
+      cond_both (ltb (length xs) (12 + size)) _ _ (IsSpelled xs) (λ w. tt)
+      (λ w.
+      cond_both (not (is_unfinished (slice_range xs 12 (12 + size)))) _ _ (IsSpelled xs) (λ x. tt)
+      (λ x.
+      let long = ltb-false (length xs) (12 + size) w in
+      record { inside = long; same = tail_spelled xs size h (is_two flag q (or_parts _ _ r).1 s) refl long })))))))))
+    where
+      is_two : (n : ℕ) → eqb n 0 ≡ false → ltb 2 n ≡ false → eqb n 1 ≡ false → n ≡ 2
+      is_two n p q r = let a = eqb-false n 0 p in let b = ltb-false 2 n q in let c = eqb-false n 1 r in omega arith
+
+-- ---- the blocks
+
+-- the octets at the front are the blocks of what was read
+record AreBlocks (xs : List ℕ) (all : ReadAll) : Type 0 where
+  inside : all.octets ≤ length xs
+  same : take all.octets xs ≡ flat_map block all.kept
+
+AllSpelled : List ℕ → Result ReadAll StateFault → Type 0
+AllSpelled xs (Ok all) = AreBlocks xs all
+AllSpelled xs (Err found) = Unit {0}
+
+front_spelled : (xs : List ℕ) (one : Read) (x : Result ReadAll StateFault) → IsBlock xs one → AllSpelled (drop one.octets xs) x → AllSpelled xs (in_front one x)
+unfolding AllSpelled
+front_spelled xs one (Ok rest) h g =
+    let here = h.inside in
+    let later = g.inside in
+    let len = length-drop one.octets xs in
+    record {
+      inside = omega arith;
+      same =
+          take-add one.octets rest.octets xs
+          ∙ ap (λ (l : List ℕ). l ++ take rest.octets (drop one.octets xs)) h.same
+          ∙ ap (λ (l : List ℕ). block one.kept ++ l) g.same;
+    }
+front_spelled xs one (Err found) h g = tt
+
+then_spelled : (xs : List ℕ) (x : Result Read StateFault) (others : ℕ → Result ReadAll StateFault) → IsSpelled xs x
+    → ((used : ℕ) → AllSpelled (drop used xs) (others used)) → AllSpelled xs (and_then x others)
+unfolding AllSpelled IsSpelled
+then_spelled xs (Ok one) others h g = front_spelled xs one (others one.octets) h (g one.octets)
+then_spelled xs (Err found) others h g = tt
+
+blocks_spelled : (layout : LayoutParts) (chosen : ℕ → Bool) (records n c : ℕ) (xs : List ℕ) → AreOctets xs → AllSpelled xs (blocks_read layout chosen records n c xs)
+unfolding blocks_read AllSpelled
+blocks_spelled layout chosen records zero c xs h = record { inside = omega arith; same = refl }
+blocks_spelled layout chosen records (suc n) c xs h =
+    then_spelled xs (block_read layout (chosen c) records xs) (λ used. blocks_read layout chosen records n (c + 1) (drop used xs))
+    (block_spelled layout records (chosen c) xs h)
+    (λ used. blocks_spelled layout chosen records n (c + 1) (drop used xs) (octets_behind used xs h))
+
+-- ---- the state
+
+-- the octets at the front are the spelling of what was read
+StateSpelled : List ℕ → Result Decoded StateFault → Type 0
+StateSpelled xs (Ok d) = (d.octets ≤ length xs) × (take d.octets xs ≡ spelling d.state)
+StateSpelled xs (Err found) = Unit {0}
+
+with_spelled : (xs : List ℕ) (x : Result ReadAll StateFault) → AreOctets xs → 4 ≤ length xs → AllSpelled (drop 4 xs) x → StateSpelled xs (with_records (four_at xs 0) x)
+unfolding AllSpelled StateSpelled
+with_spelled (a ∷ b ∷ c ∷ d ∷ more) (Ok all) h long g =
+    let xs : List ℕ = a ∷ b ∷ c ∷ d ∷ more in
+    let later = g.inside in (
+      omega arith,
+      take-add 4 all.octets xs
+          ∙ ap (λ (l : List ℕ). (a ∷ b ∷ c ∷ d ∷ []) ++ l) g.same
+          ∙ ap (λ (l : List ℕ). l ++ flat_map block all.kept) (sym (four_again a b c d (h.below 0) (h.below 1) (h.below 2) (h.below 3))),
+    )
+with_spelled xs (Err found) h long g = tt
+with_spelled xs (Ok all) h long g = absurd (omega arith)
+
+decoding_spelled : (layout : LayoutParts) (chosen : ℕ → Bool) (xs : List ℕ) → AreOctets xs → StateSpelled xs (decoding_of layout chosen xs)
+unfolding decoding_of StateSpelled
+decoding_spelled layout chosen xs h =
+    cond_both (ltb (length xs) 4) _ _ (StateSpelled xs) (λ p. tt)
+    (λ p.
+    with_spelled xs (blocks_read layout chosen (four_at xs 0) 8 0 (drop 4 xs)) h (ltb-false (length xs) 4 p)
+    (blocks_spelled layout chosen (four_at xs 0) 8 0 (drop 4 xs) (octets_behind 4 xs h)))
+
+pub spelled-again : (layout : LayoutParts) (chosen : ℕ → Bool) (octets : List ℕ) (d : Decoded) → AreOctets octets → decoding_of layout chosen octets ≡ Ok d
+    → (d.octets ≤ length octets) × (take d.octets octets ≡ spelling d.state)
+unfolding StateSpelled
+spelled-again layout chosen octets d h e = subst (StateSpelled octets) e (decoding_spelled layout chosen octets h)

@@ -1,0 +1,12 @@
+use Rattle.tm_reassembly.proofs.Spelled.{spelled-again}
+use Rattle.tm_reassembly.proofs.Spelling.{read-again, no-prefix}
+use Rattle.tm_reassembly.proofs.laws.spellings.Goals as goal
+
+pub returns-clause-read_again : goal.returns-clause-read_again
+returns-clause-read_again c = read-again
+
+pub returns-clause-no_prefix : goal.returns-clause-no_prefix
+returns-clause-no_prefix c = no-prefix
+
+pub returns-clause-spelled_again : goal.returns-clause-spelled_again
+returns-clause-spelled_again c = spelled-again

@@ -1,0 +1,63 @@
+-- The same said with places in the text of a run: a second reading, that the first one is proved equal to.
+use Rattle.std.specs.Prelude.{◌≡◌, ◌⊎◌, ℕ, ◌+◌, ◌<◌, ◌≤◌, nat_le, Option, Some, None, List, [], ◌∷◌, ◌++◌, length, take, drop, slice_range, if◌then◌else◌}
+use Rattle.tm_packet.specs.Header.{version_of, header_of}
+use Rattle.tm_reassembly.specs.Chain.{Member}
+use Rattle.tm_reassembly.specs.Parts.{Part, Fate, Start, text}
+
+-- where the packet that starts at q ends, by the six octets of its header, or seven octets on where the text doesn't have them
+abbrev pub reach_at : List ℕ → ℕ → ℕ
+reach_at t q = if nat_le (q + 6) (length t) then q + ((header_of (take 6 (drop q t))).data_length + 7) else q + 7
+
+-- the octet at q begins with version 0
+abbrev pub IsVersionZero : List ℕ → ℕ → Type 0
+IsVersionZero t q = version_of (take 1 (drop q t)) ≡ 0
+
+-- a frame whose octets begin at `begin` agrees with a packet that ends at `end_of`
+abbrev pub AgreesAt : ℕ → ℕ → ℕ → Option ℕ → Type 0
+AgreesAt end_of begin len None = begin + len ≤ end_of
+AgreesAt end_of begin len (Some place) = end_of ≡ begin + place
+
+abbrev pub Agrees : ℕ → ℕ → Member → Type 0
+Agrees end_of begin m = AgreesAt end_of begin (length m.field) m.place
+
+-- The frames `front` are those up to and with the start's own, and `between` those from there to the frame in question: the start is of
+-- version 0, it reaches past the frame's beginning, and each frame between agrees with it.
+abbrev pub IsOpen : List ℕ → ℕ → List Member → List Member → Type 0
+IsOpen t q front between =
+    IsVersionZero t q × (length (text (front ++ between)) < reach_at t q)
+    × ((earlier later : List Member) (g : Member) → between ≡ earlier ++ g ∷ later → Agrees (reach_at t q) (length (text (front ++ earlier))) g)
+
+-- a start of version 0 that the text ends, and each later frame at which it is open agrees with it
+abbrev pub IsWhole : List ℕ → ℕ → List Member → List Member → Type 0
+IsWhole t q front later =
+    IsVersionZero t q × (reach_at t q ≤ length t)
+    × ((between more : List Member) (m : Member) → later ≡ between ++ m ∷ more → IsOpen t q front between
+    → Agrees (reach_at t q) (length (text (front ++ between))) m)
+
+abbrev pub Iff : Type 0 → Type 0 → Type 0
+Iff A B = (A → B) × (B → A)
+
+-- The starts of a frame whose octets are those of the text from `begin` up to, not with, `stop`: its place, and each place in it
+-- that a start of version 0 reaches.
+pub data IsStart (t : List ℕ) (begin stop : ℕ) (place : Option ℕ) : ℕ → Type 0 where
+  placed : (p : ℕ) → place ≡ Some p → begin + p < stop → IsStart t begin stop place (begin + p)
+  reached : (q : ℕ) → IsStart t begin stop place q → IsVersionZero t q → reach_at t q < stop → IsStart t begin stop place (reach_at t q)
+
+-- at the frame that follows those of `before`, the start at q of one of them is open
+abbrev pub IsOpenAt : List ℕ → List Member → ℕ → Type 0
+IsOpenAt t before q =
+    (earlier : List Member) × (between : List Member) × (f : Member) × (before ≡ earlier ++ f ∷ between)
+    × IsStart t (length (text earlier)) (length (text earlier) + length f.field) f.place q
+    × IsOpen t q (earlier ++ f ∷ []) between
+
+abbrev pub IsIn : Start → List Start → Type 0
+IsIn s [] = ⊥
+IsIn s (x ∷ xs) = (s ≡ x) ⊎ IsIn s xs
+
+-- what stands before a start in its frame, from the start's place
+abbrev pub LiesAfter : Member → Start → List ℕ → Type 0
+LiesAfter f s skipped = (f.field ≡ skipped ++ s.octets) × (s.place ≡ f.base + length skipped) × (0 < length s.octets)
+
+-- the part that a start of f becomes, with the octets of a text from q up to, not with, `stop`
+abbrev pub part_at : Member → Start → List ℕ → ℕ → ℕ → Fate → Part
+part_at f s t q stop fate = record { first = f.number; place = s.place; octets = slice_range t q stop; fate = fate }

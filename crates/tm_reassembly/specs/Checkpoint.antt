@@ -1,0 +1,117 @@
+-- How a state is spelled in octets, and what octets spell. Numbers have the most significant octet first.
+use Rattle.std.specs.Prelude.{ℕ, zero, suc, ◌+◌, ◌*◌, ◌/◌, ◌%◌, Bool, not, ◌==◌, ◌&&◌, ◌||◌, nat_lt, Option, Some, None, Result, Ok, Err, List, [], ◌∷◌, ◌++◌, length, drop, slice_index, slice_range, if◌then◌else◌}
+use Rattle.std.specs.List.{flat_map}
+use Rattle.tm_frame.specs.declared.layout.LayoutParts.{LayoutParts}
+use Rattle.tm_reassembly.specs.declared.fault.StateFault.{StateFault}
+use Rattle.tm_reassembly.specs.declared.fault.StateFault.TheVariants as fault
+use Rattle.tm_reassembly.specs.Parts.{is_packet, reach}
+use Rattle.tm_reassembly.specs.State.{State, Last, Tail}
+
+-- ---- spelling
+
+-- a number in two octets, and in four
+abbrev pub two : ℕ → List ℕ
+two n = n / 256 ∷ n % 256 ∷ []
+
+abbrev pub four : ℕ → List ℕ
+four n = two (n / 65536) ++ two (n % 65536)
+
+-- a tail: the record and the place where it begins, the number of its octets, and these
+abbrev pub tail_octets : Tail → List ℕ
+tail_octets t = four t.first ++ two t.place ++ four (length t.octets) ++ t.octets
+
+-- the block of a channel: 0 where nothing is kept; 1 and the last count; or 2, the last count and the tail
+abbrev pub with_tail : ℕ → Option Tail → List ℕ
+with_tail count None = 1 ∷ count ∷ []
+with_tail count (Some t) = 2 ∷ count ∷ tail_octets t
+
+abbrev pub block : Option Last → List ℕ
+block None = 0 ∷ []
+block (Some last) = with_tail last.count last.tail
+
+-- the number of records, and the blocks of the channels
+abbrev pub spelling : State → List ℕ
+spelling s = four s.records ++ flat_map block s.channels
+
+-- ---- reading
+
+-- the number in two octets from a place on, and in four
+abbrev pub two_at : List ℕ → ℕ → ℕ
+two_at xs i = 256 * slice_index xs i + slice_index xs (i + 1)
+
+abbrev pub four_at : List ℕ → ℕ → ℕ
+four_at xs i = 65536 * two_at xs i + two_at xs (i + 2)
+
+-- what is kept of a channel, and how many octets spelled it
+pub record Read : Type 0 where
+  pub kept : Option Last
+  pub octets : ℕ
+
+-- an unfinished packet: of version 0, and not whole
+abbrev pub is_unfinished : List ℕ → Bool
+is_unfinished octets = is_packet octets && nat_lt (length octets) (reach octets)
+
+-- the tail in a block of which the fixed parts are there: its beginning, its length, its octets, and what these begin
+abbrev pub tail_read : LayoutParts → ℕ → List ℕ → ℕ → ℕ → ℕ → Result Read StateFault
+tail_read layout records xs first place size =
+    if not (nat_lt first records) || nat_lt layout.frame_length (place + 7) then Err fault.Place
+    else if (size == 0) || nat_lt 65541 size then Err fault.Tail
+    else if nat_lt (length xs) (12 + size) then Err fault.Short
+    else if not (is_unfinished (slice_range xs 12 (12 + size))) then Err fault.Tail
+    else Ok (record {
+      kept = Some (record {
+        count = slice_index xs 1;
+        tail = Some (record { first = first; place = place; octets = slice_range xs 12 (12 + size) });
+      });
+      octets = 12 + size;
+    })
+
+-- the block of a channel, by its flag
+abbrev pub flagged : LayoutParts → Bool → ℕ → List ℕ → ℕ → Result Read StateFault
+flagged layout chosen records xs flag =
+    if flag == 0 then Ok (record { kept = None; octets = 1 })
+    else if not chosen || nat_lt 2 flag then Err fault.Flag
+    else if flag == 1
+    then (if nat_lt (length xs) 2 then Err fault.Short else Ok (record { kept = Some (record { count = slice_index xs 1; tail = None }); octets = 2 }))
+    else if nat_lt (length xs) 12 then Err fault.Short
+    else tail_read layout records xs (four_at xs 2) (two_at xs 6) (four_at xs 8)
+
+-- the block at the front of octets
+unfoldable pub block_read : LayoutParts → Bool → ℕ → List ℕ → Result Read StateFault
+block_read layout chosen records xs = if length xs == 0 then Err fault.Short else flagged layout chosen records xs (slice_index xs 0)
+
+-- what is kept of several channels, and how many octets spelled it
+pub record ReadAll : Type 0 where
+  pub kept : List (Option Last)
+  pub octets : ℕ
+
+-- one more in front
+abbrev pub in_front : Read → Result ReadAll StateFault → Result ReadAll StateFault
+in_front one (Ok rest) = Ok (record { kept = one.kept ∷ rest.kept; octets = one.octets + rest.octets })
+in_front one (Err found) = Err found
+
+-- a block, and then the others behind its octets
+abbrev pub and_then : Result Read StateFault → (ℕ → Result ReadAll StateFault) → Result ReadAll StateFault
+and_then (Ok one) others = in_front one (others one.octets)
+and_then (Err found) others = Err found
+
+-- the blocks of n channels from channel c on: the first fault, or what they spell
+unfoldable pub blocks_read : LayoutParts → (ℕ → Bool) → ℕ → ℕ → ℕ → List ℕ → Result ReadAll StateFault
+blocks_read layout chosen records zero c xs = Ok (record { kept = []; octets = 0 })
+blocks_read layout chosen records (suc n) c xs =
+    and_then (block_read layout (chosen c) records xs) (λ used. blocks_read layout chosen records n (c + 1) (drop used xs))
+
+-- the state, and the number of octets that were read
+pub record Decoded : Type 0 where
+  pub state : State
+  pub octets : ℕ
+
+abbrev pub with_records : ℕ → Result ReadAll StateFault → Result Decoded StateFault
+with_records records (Ok all) = Ok (record { state = record { records = records; channels = all.kept }; octets = 4 + all.octets })
+with_records records (Err found) = Err found
+
+-- what octets spell: too few of them, or the first fault of a block, or a state
+unfoldable pub decoding_of : LayoutParts → (ℕ → Bool) → List ℕ → Result Decoded StateFault
+decoding_of layout chosen xs =
+    if nat_lt (length xs) 4 then Err fault.Short
+    else with_records (four_at xs 0) (blocks_read layout chosen (four_at xs 0) 8 0 (drop 4 xs))

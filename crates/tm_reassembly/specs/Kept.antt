@@ -1,0 +1,61 @@
+-- What the code keeps of a channel, as the state has it, and what a frame makes of it. These stand in private contracts alone, and in
+-- the model of the public type.
+use Rattle.std.specs.Prelude.{ℕ, Option, Some, None, List, [], ◌∷◌, ◌++◌, false}
+use Rattle.tm_reassembly.specs.Chain.{Member, has_gap}
+use Rattle.tm_reassembly.specs.Field.{chain_parts_at, chain_tail_at}
+use Rattle.tm_reassembly.specs.Item.{Item}
+use Rattle.tm_reassembly.specs.Items.{gap_at, vca_at}
+use Rattle.tm_reassembly.specs.Parts.{Part, Given}
+use Rattle.tm_reassembly.specs.Sinks.{part_items}
+use Rattle.tm_reassembly.specs.State.{Last, Tail}
+
+-- octets that are held are a tail, and no octets are none
+abbrev pub tail_of_octets : ℕ → ℕ → List ℕ → Option Tail
+tail_of_octets first place [] = None
+tail_of_octets first place (x ∷ xs) = Some (record { first = first; place = place; octets = x ∷ xs })
+
+-- the octets of a tail
+abbrev pub octets_in : Option Tail → List ℕ
+octets_in None = []
+octets_in (Some t) = t.octets
+
+-- a last count, if there is one, and a tail
+abbrev pub last_of : Option ℕ → Option Tail → Option Last
+last_of None tail = None
+last_of (Some count) tail = Some (record { count = count; tail = tail })
+
+-- the two of them again
+abbrev pub count_in : Option Last → Option ℕ
+count_in None = None
+count_in (Some last) = Some last.count
+
+abbrev pub tail_in : Option Last → Option Tail
+tail_in None = None
+tail_in (Some last) = last.tail
+
+-- a frame of a chain, whose count doesn't matter
+abbrev pub member_at : ℕ → Option ℕ → List ℕ → Member
+member_at number place field = record { number = number; count = 0; is_vca = false; place = place; field = field; base = 0 }
+
+-- a tail with more octets behind it
+abbrev pub grown : Option Tail → List ℕ → Option Tail
+grown None more = None
+grown (Some t) more = Some (record { first = t.first; place = t.place; octets = t.octets ++ more })
+
+-- the packet of a tail with more octets behind it
+abbrev pub completed : Option Tail → List ℕ → ℕ → List Part
+completed None more seen = []
+completed (Some t) more seen = record { first = t.first; place = t.place; octets = t.octets ++ more; fate = Given seen } ∷ []
+
+-- The items of one frame of a channel of which this is kept, with no other frame in view, and what is kept after it. That these are
+-- what the definitions give for a list of one record is proved.
+abbrev pub kept_items : ℕ → Option Last → Member → List Item
+kept_items channel kept m =
+    gap_at channel (count_in kept) m ++ vca_at channel m ++ part_items channel (chain_parts_at (has_gap (count_in kept) m) m.is_vca (tail_in kept) m)
+
+abbrev pub kept_after : Option Last → Member → Option Last
+kept_after kept m = Some (record { count = m.count; tail = chain_tail_at (has_gap (count_in kept) m) m.is_vca (tail_in kept) m })
+
+-- a frame of which only the count matters
+abbrev pub counted : ℕ → ℕ → Member
+counted number count = record { number = number; count = count; is_vca = false; place = None; field = []; base = 0 }

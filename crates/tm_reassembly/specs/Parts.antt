@@ -1,0 +1,170 @@
+-- A run's text is cut into packets and other parts (CCSDS 132.0-B-3, packet extraction). Each packet is judged by looking ahead over
+-- the whole run.
+--
+-- A place in a run is told by what lies ahead of it: a start is the rest of its frame's field from it on, and with it go the
+-- frames that come later in the run. `reach` is the number of octets from the start to where its packet ends.
+use Rattle.std.specs.Prelude.{ℕ, suc, zero, pred, ◌+◌, ◌==◌, nat_lt, nat_le, Bool, ◌&&◌, Option, None, Some, List, [], ◌∷◌, ◌++◌, length, take, map, if◌then◌else◌}
+use Rattle.std.specs.List.{flat_map}
+use Rattle.tm_packet.specs.Header.{version_of, header_of}
+use Rattle.tm_reassembly.specs.declared.items.Reason.TheVariants as why
+use Rattle.tm_reassembly.specs.declared.items.Reason.{Reason}
+use Rattle.tm_reassembly.specs.Chain.{Member, Run, End, Unended, Ended}
+
+-- the text of a run: all its fields, joined
+abbrev pub text : List Member → List ℕ
+text ms = flat_map (λ m. m.field) ms
+
+-- whether octets begin with version 0, the first three bits of a packet header (CCSDS 133.0-B-2, 4.1.3.2)
+abbrev pub is_packet : List ℕ → Bool
+is_packet octets = version_of (take 1 octets) == 0
+
+-- how many octets the packet at the front of a text has, by its header (4.1.3.5.3); 7, the fewest, where the text has fewer than six octets
+abbrev pub reach : List ℕ → ℕ
+reach t = if nat_lt (length t) 6 then 7 else (header_of (take 6 t)).data_length + 7
+
+-- A start: the place of its first octet in the data field of its record, and the rest of its frame's field from there on.
+pub record Start : Type 0 where
+  pub place : ℕ
+  pub octets : List ℕ
+
+-- The starts among octets of which the first is at a place of its record's data field: the first `skip` octets hold none; the next
+-- octet is one; and where that has version 0, so is what its packet reaches, if it is among these octets.
+abbrev pub starts : ℕ → ℕ → List ℕ → List Start
+starts place skip [] = []
+starts place zero (x ∷ xs) =
+    record { place = place; octets = x ∷ xs } ∷ (if is_packet (x ∷ xs) then starts (place + 1) (pred (reach (x ∷ xs))) xs else [])
+starts place (suc skip) (x ∷ xs) = starts (place + 1) skip xs
+
+abbrev pub starts_from : ℕ → Option ℕ → List ℕ → List Start
+starts_from base None field = []
+starts_from base (Some place) field = starts base place field
+
+abbrev pub starts_of : Member → List Start
+starts_of m = starts_from m.base m.place m.field
+
+-- Of a start, octets are counted from the start itself: `far` is how many there are to where its packet ends, and `at` how many
+-- there are to a frame's beginning.
+
+-- how many octets there are from a start to where its packet ends, by the whole text ahead
+abbrev pub far_end : List ℕ → List Member → ℕ
+far_end start later = reach (start ++ text later)
+
+-- the frame has no place, and the packet reaches its end; or the packet reaches just its place
+abbrev pub agrees_at : ℕ → ℕ → ℕ → Option ℕ → Bool
+agrees_at far at len None = nat_le (at + len) far
+agrees_at far at len (Some place) = far == at + place
+
+abbrev pub agrees : ℕ → ℕ → Member → Bool
+agrees far at m = agrees_at far at (length m.field) m.place
+
+-- A start reaches past the frames `between`, and each of them agrees with it. Of a start of version 0 this says that it is open at the
+-- frame after them.
+abbrev pub open_after : ℕ → ℕ → List Member → Bool
+open_after far at [] = nat_lt at far
+open_after far at (m ∷ between) = agrees far at m && open_after far (at + length m.field) between
+
+-- looking ahead, the frames at which a start is open and that agree with it
+abbrev pub joined : ℕ → ℕ → List Member → List Member
+joined far at [] = []
+joined far at (m ∷ later) = if nat_lt at far && agrees far at m then m ∷ joined far (at + length m.field) later else []
+
+-- looking ahead, the frame at which a start is open and that doesn't agree with it
+abbrev pub breaker : ℕ → ℕ → List Member → Option Member
+breaker far at [] = None
+breaker far at (m ∷ later) =
+    if nat_lt at far then (if agrees far at m then breaker far (at + length m.field) later else Some m) else None
+
+-- the record that holds a packet's last octet, where the octets before `at` end in the record of this number
+abbrev pub holder : ℕ → ℕ → ℕ → List Member → ℕ
+holder far at number [] = number
+holder far at number (m ∷ later) = if nat_le far at then number else holder far (at + length m.field) m.number later
+
+-- what becomes of a part: a packet is given at a record, or octets are lost at a record, or a tail is held at the end
+pub data Fate : Type 0 where
+  Given : (seen : ℕ) → Fate
+  Lost : (reason : Reason) (seen : ℕ) → Fate
+  Held : Fate
+
+-- a packet, or another part of the text, with the record and the place of its first octet
+pub record Part : Type 0 where
+  pub first : ℕ
+  pub place : ℕ
+  pub octets : List ℕ
+  pub fate : Fate
+
+abbrev pub fate_at : End → Fate
+fate_at Unended = Held
+fate_at (Ended reason seen) = Lost reason seen
+
+-- A start of version 0: a tail up to the frame that doesn't agree; else a whole packet, if the text has it; else a tail up to the
+-- end of the run.
+abbrev pub packet_part : ℕ → ℕ → List Member → End → List ℕ → ℕ → Option Member → Part
+packet_part first place later end start far (Some broken) =
+    record {
+      first = first;
+      place = place;
+      octets = start ++ text (joined far (length start) later);
+      fate = Lost why.Pointer broken.number;
+    }
+packet_part first place later end start far None =
+    if nat_le far (length (start ++ text later))
+    then record {
+      first = first;
+      place = place;
+      octets = take far (start ++ text later);
+      fate = Given (holder far (length start) first later);
+    }
+    else record { first = first; place = place; octets = start ++ text later; fate = fate_at end }
+
+-- of another version: the rest of the frame is unread
+abbrev pub part_from : ℕ → ℕ → List Member → End → List ℕ → Part
+part_from first place later end start =
+    if is_packet start
+    then packet_part first place later end start (far_end start later) (breaker (far_end start later) (length start) later)
+    else record { first = first; place = place; octets = start; fate = Lost why.Version first }
+
+abbrev pub start_part : Member → List Member → End → Start → Part
+start_part m later end start = part_from m.number start.place later end start.octets
+
+-- a start that is open at a frame
+pub record Claim : Type 0 where
+  pub far : ℕ
+  pub at : ℕ
+
+-- what one start claims at the first of `ahead`, where `between` are the frames after its own
+abbrev pub claim : List Member → List Member → Start → List Claim
+claim between ahead start =
+    if is_packet start.octets && open_after (far_end start.octets (between ++ ahead)) (length start.octets) between
+    then record { far = far_end start.octets (between ++ ahead); at = length start.octets + length (text between) } ∷ []
+    else []
+
+-- the claims at the first of `ahead`, of the starts in the frames before it
+abbrev pub claims : List Member → List Member → List Claim
+claims [] ahead = []
+claims (f ∷ between) ahead = flat_map (claim between ahead) (starts_of f) ++ claims between ahead
+
+-- the octets before the place, or all of them without one
+abbrev pub front_of : Option ℕ → List ℕ → List ℕ
+front_of None field = field
+front_of (Some place) field = take place field
+
+abbrev pub lead_part : Member → Reason → List ℕ → List Part
+lead_part m reason [] = []
+lead_part m reason (x ∷ xs) = record { first = m.number; place = m.base; octets = x ∷ xs; fate = Lost reason m.number } ∷ []
+
+-- the lead of a frame: lost where no start is open there, or where one is and the frame doesn't agree (there is at most one, which is
+-- proved)
+abbrev pub lead : List Claim → Member → List Part
+lead [] m = lead_part m why.NoStart (front_of m.place m.field)
+lead (c ∷ more) m = if agrees c.far c.at m then [] else lead_part m why.Pointer (front_of m.place m.field)
+
+-- the parts of a run from a frame on, in the order of the text
+abbrev pub parts_from : List Member → List Member → End → List Part
+parts_from before [] end = []
+parts_from before (m ∷ later) end =
+    lead (claims before (m ∷ later)) m
+    ++ map (start_part m later end) (starts_of m)
+    ++ parts_from (before ++ m ∷ []) later end
+
+abbrev pub parts : Run → List Part
+parts r = parts_from [] r.members r.end

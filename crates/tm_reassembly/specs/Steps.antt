@@ -1,0 +1,69 @@
+-- What the code is seen as, and how a step and a closed end may be refused.
+use Rattle.std.specs.Prelude.{◌≡◌, ℕ, ◌-◌, ◌^◌, ◌<◌, Bool, true, false, Option, Some, None, List, [], ◌∷◌, slice_get}
+use Rattle.tm_frame.specs.declared.layout.LayoutParts.{LayoutParts}
+use Rattle.tm_reassembly.specs.declared.fault.StepFault as fault
+use Rattle.tm_reassembly.specs.declared.fault.StepFault.TheVariants.{Sink, Failed, TooMany}
+use Rattle.tm_reassembly.specs.Channels.{is_chosen}
+use Rattle.tm_reassembly.specs.Item.{Item}
+use Rattle.tm_reassembly.specs.Items.{empty}
+use Rattle.tm_reassembly.specs.Recording.{items, after}
+use Rattle.tm_reassembly.specs.Sinks.{RefusesOne}
+use Rattle.tm_reassembly.specs.State.{State, Last}
+
+-- the layout of records, the chosen channels, the state, and whether a sink refused an item
+pub record Progress : Type 0 where
+  pub layout : LayoutParts
+  pub channels : List Bool
+  pub state : State
+  pub failed : Bool
+
+-- before any record
+abbrev pub begun : LayoutParts → List Bool → Progress
+begun layout channels = record { layout = layout; channels = channels; state = empty; failed = false }
+
+-- the greatest number of records
+abbrev pub most_records : ℕ
+most_records = 2 ^ 32 - 1
+
+-- the items of one more record, and the progress with it
+abbrev pub step_items : Progress → List ℕ → List Item
+step_items p octets = items p.layout (is_chosen p.channels) p.state (octets ∷ [])
+
+abbrev pub stepped : Progress → List ℕ → Progress
+stepped p octets = record {
+  layout = p.layout;
+  channels = p.channels;
+  state = after p.layout (is_chosen p.channels) p.state (octets ∷ []);
+  failed = false;
+}
+
+-- the last count that a state has of a channel
+abbrev pub count_of : Option (Option Last) → Option ℕ
+count_of None = None
+count_of (Some None) = None
+count_of (Some (Some last)) = Some last.count
+
+abbrev pub last_count_of : State → ℕ → Option ℕ
+last_count_of s channel = count_of (slice_get s.channels channel)
+
+-- given up: nothing is said any more of the channels
+pub record IsGivenUp (old new : Progress) : Type 0 where
+  pub failed : new.failed ≡ true
+  pub layout : new.layout ≡ old.layout
+  pub channels : new.channels ≡ old.channels
+  pub records : new.state.records ≡ old.state.records
+
+module _ {S F : Type 0} (takes : S → Item → S → Type 0) (refuses : S → Item → F → S → Type 0) where
+  -- how a step may be refused: asked in the order failed, too many, sink
+  abbrev pub StepRefused : Progress → Progress → S → S → List Item → fault.StepFault F → Type 0
+  StepRefused old new sink_old sink_new xs (Sink f) =
+      (old.failed ≡ false) × (old.state.records < most_records) × IsGivenUp old new × RefusesOne takes refuses sink_old xs f sink_new
+  StepRefused old new sink_old sink_new xs Failed = (old.failed ≡ true) × (new ≡ old) × (sink_new ≡ sink_old)
+  StepRefused old new sink_old sink_new xs TooMany =
+      (old.failed ≡ false) × (old.state.records ≡ most_records) × (new ≡ old) × (sink_new ≡ sink_old)
+
+  -- how a closed end may be refused
+  abbrev pub CloseRefused : Progress → S → S → List Item → fault.StepFault F → Type 0
+  CloseRefused old sink_old sink_new xs (Sink f) = (old.failed ≡ false) × RefusesOne takes refuses sink_old xs f sink_new
+  CloseRefused old sink_old sink_new xs Failed = (old.failed ≡ true) × (sink_new ≡ sink_old)
+  CloseRefused old sink_old sink_new xs TooMany = ⊥

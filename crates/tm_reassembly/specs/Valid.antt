@@ -1,0 +1,65 @@
+-- Which records and which states may be.
+use Rattle.std.specs.Prelude.{◌≡◌, ℕ, ◌+◌, ◌^◌, ◌<◌, ◌≤◌, Bool, true, false, Option, Some, None, Ok, Err, List, [], ◌∷◌, length, slice_get}
+use Rattle.tm_bits.specs.Bits.{AreOctets}
+use Rattle.tm_frame.specs.declared.layout.LayoutParts.{LayoutParts}
+use Rattle.tm_reassembly.specs.Readings.{Reading}
+use Rattle.tm_reassembly.specs.State.{State, Last, Tail}
+use Rattle.tm_reassembly.specs.Chain.{Member, place_of, counted_field}
+use Rattle.tm_reassembly.specs.Parts.{is_packet, reach}
+
+-- ---- records
+
+-- each record is of octets
+abbrev pub AllOctets : List (List ℕ) → Type 0
+AllOctets [] = Unit {0}
+AllOctets (octets ∷ more) = AreOctets octets × AllOctets more
+
+-- a place isn't past its field's end
+abbrev pub PlaceFits : Option ℕ → ℕ → Type 0
+PlaceFits None len = Unit {0}
+PlaceFits (Some place) len = place ≤ len
+
+abbrev pub PlacesFit : List Member → Type 0
+PlacesFit [] = Unit {0}
+PlacesFit (m ∷ ms) = PlaceFits m.place (length m.field) × PlacesFit ms
+
+-- a good frame's channel is one of eight, and its place isn't past its field's end
+abbrev pub IsFit : Reading → Type 0
+IsFit (Err fault) = Unit {0}
+IsFit (Ok f) = (f.channel < 8) × PlaceFits (place_of f.kind) (length (counted_field f.kind f.field))
+
+abbrev pub AllFit : List Reading → Type 0
+AllFit [] = Unit {0}
+AllFit (r ∷ rs) = IsFit r × AllFit rs
+
+-- ---- states
+
+-- an unfinished packet: octets that begin a packet of version 0 and don't hold it whole
+abbrev pub IsTail : List ℕ → Type 0
+IsTail [] = ⊥
+IsTail (x ∷ xs) = (is_packet (x ∷ xs) ≡ true) × (length (x ∷ xs) < reach (x ∷ xs))
+
+-- what is held, if anything, is an unfinished packet
+abbrev pub IsOpenTail : Option Tail → Type 0
+IsOpenTail None = Unit {0}
+IsOpenTail (Some t) = IsTail t.octets
+
+-- eight channels; nothing is kept of one that isn't chosen; and each tail is an unfinished packet
+pub record HasShape (chosen : ℕ → Bool) (s : State) : Type 0 where
+  pub eight_channels : length s.channels ≡ 8
+  pub only_chosen : (c : ℕ) → chosen c ≡ false → c < 8 → slice_get s.channels c ≡ Some None
+  pub tails : (c : ℕ) (last : Last) (t : Tail) → slice_get s.channels c ≡ Some (Some last) → last.tail ≡ Some t → IsTail t.octets
+
+-- a tail begins in a record that is done, at a place at which a packet can start in the longest data field of this frame length
+pub record IsWithin (layout : LayoutParts) (records : ℕ) (t : Tail) : Type 0 where
+  pub first : t.first < records
+  pub place : t.place + 7 ≤ layout.frame_length
+  pub octets : AreOctets t.octets
+
+-- A valid state: what the checks of a checkpoint ask. Some valid states are left by no recording.
+pub record IsState (layout : LayoutParts) (chosen : ℕ → Bool) (s : State) : Type 0 where
+  pub records : s.records < 2 ^ 32
+  pub shape : HasShape chosen s
+  pub counts : (c : ℕ) (last : Last) → slice_get s.channels c ≡ Some (Some last) → last.count < 256
+  pub within : (c : ℕ) (last : Last) (t : Tail) → slice_get s.channels c ≡ Some (Some last) → last.tail ≡ Some t
+      → IsWithin layout s.records t

@@ -1,0 +1,175 @@
+//! The block of a channel in a checkpoint.
+
+ghost use Rattle.std.specs.Prelude.{◌≡◌, ◌+◌, ◌<◌, ◌≤◌, ◌++◌, None, Some, Ok, Err, true, length, slice_index, vec_len, vec_capacity, IfOk, IfErr};
+ghost use Rattle.tm_reassembly.specs.Checkpoint.{two, four, two_at, four_at, is_unfinished, tail_read, flagged, block_read};
+ghost use Rattle.tm_reassembly.specs.Blocks.{kept_of};
+ghost use Rattle.tm_reassembly.specs.declared.fault.StateFault.TheVariants as found;
+
+use crate::fault::StateFault;
+use crate::packets::{is_packet, reach};
+use tm_frame::LayoutParts;
+
+/// What is spelled of a channel: the last count, if there is one, and the tail, whose octets are lent from the checkpoint.
+#[derive(Clone, Copy)]
+pub struct Block<'a> {
+    pub count: Option<u8>,
+    pub first: u32,
+    pub place: u16,
+    pub tail: &'a [u8],
+}
+
+impl<'a> Block<'a> {
+    /// Nothing.
+    pub const NONE: Block<'static> = Block {
+        count: None,
+        first: 0,
+        place: 0,
+        tail: &[],
+    };
+}
+
+/// Appends a number in two octets, for which there is room.
+pub fn push_two(out: &mut Vec<u8>, number: u16)
+    requires { vec_len out.old + 2 ≤ vec_capacity out.old }
+    ensures items { out.new.items ≡ out.old.items ++ two number }
+    ensures len { vec_len out.new ≡ vec_len out.old + 2 }
+    ensures room { vec_capacity out.old ≤ vec_capacity out.new }
+{
+    push(out, &number.to_be_bytes());
+}
+
+/// Appends a number in four octets, for which there is room.
+pub fn push_four(out: &mut Vec<u8>, number: u32)
+    requires { vec_len out.old + 4 ≤ vec_capacity out.old }
+    ensures items { out.new.items ≡ out.old.items ++ four number }
+    ensures len { vec_len out.new ≡ vec_len out.old + 4 }
+    ensures room { vec_capacity out.old ≤ vec_capacity out.new }
+{
+    push(out, &number.to_be_bytes());
+}
+
+/// Appends octets, for which there is room.
+pub fn push(out: &mut Vec<u8>, octets: &[u8])
+    requires { vec_len out.old + length octets.now ≤ vec_capacity out.old }
+    ensures items { out.new.items ≡ out.old.items ++ octets.now }
+    ensures len { vec_len out.new ≡ vec_len out.old + length octets.now }
+    ensures room { vec_capacity out.old ≤ vec_capacity out.new }
+{
+    match out.extend_from_slice(octets) {
+        Ok(()) => {}
+        Err(_) => unreachable!(),
+    }
+}
+
+/// The number in the two octets at a place.
+pub fn two_at(octets: &[u8], at: usize) -> u16
+    requires { at + 2 ≤ length octets.now }
+    ensures { result ≡ two_at octets.now at }
+{
+    u16::from_be_bytes([octets[at], octets[at + 1]])
+}
+
+/// The number in the four octets at a place.
+pub fn four_at(octets: &[u8], at: usize) -> u32
+    requires { at + 4 ≤ length octets.now }
+    ensures { result ≡ four_at octets.now at }
+{
+    u32::from_be_bytes([octets[at], octets[at + 1], octets[at + 2], octets[at + 3]])
+}
+
+// Octets begin a packet of version 0, and don't hold it whole.
+fn is_unfinished(octets: &[u8]) -> bool
+    requires { 0 < length octets.now }
+    ensures { result ≡ is_unfinished octets.now }
+{
+    is_packet(octets) && octets.len() < reach(octets)
+}
+
+/// Reads the block of a channel at the front of octets: what it says, and how many octets it has.
+///
+/// # Errors
+///
+/// The first fault of the block.
+#[tactic(auto, unfolding(crate::specs::Checkpoint::block_read))]
+pub fn read_block<'a>(
+    layout: &LayoutParts,
+    chosen: bool,
+    records: u32,
+    octets: &'a [u8],
+) -> Result<(Block<'a>, usize), StateFault>
+    ensures ok { IfOk result (λ found. block_read layout.now chosen records octets.now ≡ Ok (record { kept = kept_of found.0; octets = found.1 })) }
+    ensures inside { IfOk result (λ found. found.1 ≤ length octets.now) }
+    ensures most { IfOk result (λ found. length found.0.tail.now ≤ 65541) }
+    ensures refused { IfErr result (λ fault. block_read layout.now chosen records octets.now ≡ Err fault) }
+{
+    if octets.is_empty() {
+        return Err(StateFault::Short);
+    }
+    let flag = octets[0];
+    if flag == 0 {
+        return Ok((Block::NONE, 1));
+    }
+    if !chosen || flag > 2 {
+        return Err(StateFault::Flag);
+    }
+    if flag == 1 {
+        return read_count(octets);
+    }
+    if octets.len() < 12 {
+        return Err(StateFault::Short);
+    }
+    read_tail(layout, records, octets)
+}
+
+// Reads the block of a channel without a tail, whose flag is there.
+fn read_count<'a>(octets: &'a [u8]) -> Result<(Block<'a>, usize), StateFault>
+    ensures ok { IfOk result (λ found. (2 ≤ length octets.now) × (kept_of found.0 ≡ Some (record { count = slice_index octets.now 1; tail = None })) × (found.1 ≡ 2) × (length found.0.tail.now ≡ 0)) }
+    ensures refused { IfErr result (λ fault. (length octets.now < 2) × (fault ≡ found.Short)) }
+{
+    if octets.len() < 2 {
+        return Err(StateFault::Short);
+    }
+    let block = Block {
+        count: Some(octets[1]),
+        ..Block::NONE
+    };
+    Ok((block, 2))
+}
+
+// Reads the block of a channel with a tail, whose fixed parts are there.
+fn read_tail<'a>(
+    layout: &LayoutParts,
+    records: u32,
+    octets: &'a [u8],
+) -> Result<(Block<'a>, usize), StateFault>
+    requires { 12 ≤ length octets.now }
+    ensures ok { IfOk result (λ found. tail_read layout.now records octets.now (four_at octets.now 2) (two_at octets.now 6) (four_at octets.now 8)
+        ≡ Ok (record { kept = kept_of found.0; octets = found.1 })) }
+    ensures inside { IfOk result (λ found. found.1 ≤ length octets.now) }
+    ensures most { IfOk result (λ found. length found.0.tail.now ≤ 65541) }
+    ensures refused { IfErr result (λ fault. tail_read layout.now records octets.now (four_at octets.now 2) (two_at octets.now 6) (four_at octets.now 8) ≡ Err fault) }
+{
+    let first = four_at(octets, 2);
+    let place = two_at(octets, 6);
+    let length = four_at(octets, 8) as usize;
+    if first >= records || layout.frame_length < u32::from(place) + 7 {
+        return Err(StateFault::Place);
+    }
+    if length == 0 || length > 65541 {
+        return Err(StateFault::Tail);
+    }
+    if octets.len() < 12 + length {
+        return Err(StateFault::Short);
+    }
+    let tail = &octets[12..12 + length];
+    if !is_unfinished(tail) {
+        return Err(StateFault::Tail);
+    }
+    let block = Block {
+        count: Some(octets[1]),
+        first,
+        place,
+        tail,
+    };
+    Ok((block, 12 + length))
+}

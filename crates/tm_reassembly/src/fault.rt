@@ -1,0 +1,31 @@
+//! Refusals.
+
+/// Memory was wanted and not found.
+#[derive(Clone, Copy, Debug, PartialEq, Eq)]
+pub struct NoMemory;
+
+/// Why a step, or a closed end, is refused.
+#[derive(Clone, Copy, Debug, PartialEq, Eq)]
+pub enum StepFault<F> {
+    /// The sink refused an item, with this fault.
+    Sink(F),
+    /// An earlier step was refused by its sink.
+    Failed,
+    /// The greatest number of records, 2^32 - 1, is done.
+    TooMany,
+}
+
+/// Why octets are no spelling of a reassembly's state.
+#[derive(Clone, Copy, Debug, PartialEq, Eq)]
+pub enum StateFault {
+    /// Octets are wanting.
+    Short,
+    /// A channel's flag is none of 0, 1 and 2, or not 0 where the channel isn't chosen.
+    Flag,
+    /// A tail has no octets or too many, or isn't the beginning of a packet of version 0 that is longer.
+    Tail,
+    /// A tail begins in a record that isn't done, or where no packet can start.
+    Place,
+    /// Memory was wanted and not found.
+    NoMemory,
+}

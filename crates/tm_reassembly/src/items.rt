@@ -1,0 +1,107 @@
+//! What is reported of records, and who takes it.
+
+ghost use Rattle.std.specs.Prelude.{◌≡◌, IfErr, OnOk};
+ghost use Rattle.tm_reassembly.specs.Reasons.{word_of};
+ghost use Rattle.tm_reassembly.specs.Item as value;
+ghost use Rattle.tm_reassembly.specs.Sinks.{item_of, ItemFits};
+
+use tm_frame::FrameFault;
+
+/// Why octets of a channel are dropped.
+#[derive(Clone, Copy, Debug, PartialEq, Eq)]
+pub enum Reason {
+    /// A first header pointer disagrees with the packet that is open.
+    Pointer,
+    /// The counts of the channel's frames have a gap.
+    Gap,
+    /// A VCA frame comes between.
+    Vca,
+    /// The recording ends.
+    Close,
+    /// No packet is open to which the octets could belong.
+    NoStart,
+    /// The packet is not of version 0.
+    Version,
+}
+
+impl Reason {
+    /// The word that names the reason.
+    pub fn word(self) -> &'static str
+        ensures { result.now ≡ word_of self }
+    {
+        match self {
+            Reason::Pointer => "pointer",
+            Reason::Gap => "gap",
+            Reason::Vca => "vca",
+            Reason::Close => "end",
+            Reason::NoStart => "no-start",
+            Reason::Version => "version",
+        }
+    }
+}
+
+/// What is reported of records. `seen` is the record at which the item is given, at a closed end the number of records; `first` and
+/// `place` are the record in which a packet or part begins and its place in that record's data field. Records and places are counted
+/// from 0.
+#[derive(Clone, Copy, Debug, PartialEq, Eq)]
+pub enum Item<'a> {
+    /// A record that is no good frame, and its fault.
+    Bad {
+        seen: u32,
+        fault: FrameFault,
+    },
+    /// The counts of the channel's frames have a gap before this record: the virtual channel frame count that was expected and the one that was
+    /// found, and how many are missing, modulo 256 (CCSDS 132.0-B-3, 4.1.2.6).
+    Gap {
+        seen: u32,
+        channel: u8,
+        expected: u8,
+        found: u8,
+        missing: u8,
+    },
+    /// A frame that holds a VCA_SDU, which is not delivered.
+    Vca {
+        seen: u32,
+        channel: u8,
+    },
+    /// So many octets of the channel are lost.
+    Dropped {
+        seen: u32,
+        channel: u8,
+        first: u32,
+        place: u16,
+        octets: u32,
+        reason: Reason,
+    },
+    /// A whole packet, 7 to 65,542 octets.
+    Packet {
+        seen: u32,
+        channel: u8,
+        first: u32,
+        place: u16,
+        octets: &'a [u8],
+    },
+    /// So many octets are left at the end, fewer than a record.
+    Short {
+        seen: u32,
+        octets: u32,
+    },
+}
+
+/// Takes items one by one.
+pub trait Sink {
+    /// Why an item is refused.
+    type Fault;
+
+    /// The sink may take the item, and is `new` then.
+    ghost takes: { Self → value.Item → Self → Type 0 };
+
+    /// The sink may refuse the item with this fault, and is `new` then.
+    ghost refuses: { Self → value.Item → Self.Fault → Self → Type 0 };
+
+    /// Takes an item, or refuses it. Its channel is at most 7, and a packet's octets are one whole packet of version 0.
+    fn take(&mut self, item: Item<'_>) -> Result<(), Self::Fault>
+        requires fits { ItemFits (item_of item) }
+        ensures taken { OnOk result (takes self.old (item_of item.entry) self.new) }
+        ensures refused { IfErr result (λ fault. refuses self.old (item_of item.entry) fault self.new) };
+}

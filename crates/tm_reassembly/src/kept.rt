@@ -1,0 +1,256 @@
+//! What is kept of a channel from frame to frame.
+
+ghost use Rattle.std.specs.Prelude.{◌≡◌, ◌+◌, ◌<◌, ◌≤◌, vec_len, vec_capacity, ◌∷◌, ◌++◌, length, IfOk, IfErr, OnOk, Option, None, Some, IsSome, true, false};
+ghost use Rattle.tm_reassembly.specs.Blocks.{kept_of};
+ghost use Rattle.tm_reassembly.specs.Checkpoint.{block};
+ghost use Rattle.tm_reassembly.specs.Chain.{member, has_gap, is_vca_kind};
+ghost use Rattle.tm_reassembly.specs.Field.{chain_parts_at, chain_tail_at, ended_parts, step_parts, step_tail};
+ghost use Rattle.tm_reassembly.specs.Items.{gap_at, vca_at, close_last};
+ghost use Rattle.tm_reassembly.specs.Item as value;
+ghost use Rattle.tm_reassembly.specs.Kept.{last_of, octets_in, count_in, tail_in, kept_items, kept_after, counted, member_at};
+ghost use Rattle.tm_reassembly.specs.Sinks.{TakesAll, RefusesOne, part_items};
+ghost use Rattle.tm_reassembly.specs.State.{Last};
+ghost use Rattle.tm_reassembly.specs.Valid.{PlaceFits, IsOpenTail};
+
+use crate::checkpoint::{Block, push};
+use crate::items::{Item, Reason, Sink};
+use crate::tail::Tail;
+use std::alloc::{AllocError, Global};
+use std::marker::Model;
+use tm_frame::{Frame, Kind};
+
+/// The virtual channel frame count of the last good frame, if there was one, and the tail.
+#[derive(Drop)]
+pub struct Kept {
+    count: Option<u8>,
+    tail: Tail,
+}
+
+impl Model for Kept {
+    ghost Value = { Option Last };
+
+    ghost view = { λ k. last_of k.count k.tail };
+
+    ghost invariant = { λ k. k.count ≡ None → k.tail ≡ None };
+}
+
+impl Kept {
+    /// Of a channel that had no frame, with room for a tail.
+    pub fn new(alloc: Global) -> Result<Kept, AllocError>
+        ensures { IfOk result (λ kept. kept ≡ None) }
+    {
+        Ok(Kept {
+            count: None,
+            tail: Tail::new(alloc)?,
+        })
+    }
+
+    /// The last count.
+    pub fn count(&self) -> Option<u8>
+        ensures { result ≡ count_in self.now }
+    {
+        self.count
+    }
+
+    /// The octets of the tail.
+    pub fn octets(&self) -> &[u8]
+        ensures { result.now ≡ octets_in (tail_in self.now) }
+    {
+        self.tail.octets()
+    }
+
+    /// Takes a good frame of the channel.
+    pub fn take_frame<S: Sink>(
+        &mut self,
+        seen: u32,
+        channel: u8,
+        frame: &Frame<'_>,
+        sink: &mut S,
+    ) -> Result<(), S::Fault>
+        requires channel { channel < 8 }
+        requires open { IsOpenTail (tail_in self.old) }
+        ensures taken { OnOk result (TakesAll S.takes sink.old (kept_items channel self.old (member seen frame.now)) sink.new) }
+        ensures left { OnOk result (self.new ≡ kept_after self.old (member seen frame.now)) }
+        ensures refused { IfErr result (λ fault. RefusesOne S.takes S.refuses sink.old (kept_items channel self.old (member seen frame.now)) fault sink.new) }
+    {
+        let count = frame.count();
+        match give_gap(seen, channel, self.count, count, sink) {
+            Ok(gap) => {
+                self.count = Some(count);
+                self.take_data(seen, channel, gap, frame, sink)
+            }
+            Err(fault) => Err(fault),
+        }
+    }
+
+    // Takes what the frame holds, after a gap or none.
+    fn take_data<S: Sink>(
+        &mut self,
+        seen: u32,
+        channel: u8,
+        gap: bool,
+        frame: &Frame<'_>,
+        sink: &mut S,
+    ) -> Result<(), S::Fault>
+        requires channel { channel < 8 }
+        requires open { IsOpenTail (tail_in self.old) }
+        requires counted { count_in self.old ≡ Some frame.now.count }
+        ensures taken { OnOk result (TakesAll S.takes sink.old
+            (vca_at channel (member seen frame.now) ++ part_items channel (chain_parts_at gap (is_vca_kind frame.now.kind) (tail_in self.old) (member seen frame.now))) sink.new) }
+        ensures left { OnOk result (self.new ≡ Some (record {
+          count = frame.now.count;
+          tail = chain_tail_at gap (is_vca_kind frame.now.kind) (tail_in self.old) (member seen frame.now);
+        })) }
+        ensures refused { IfErr result (λ fault. RefusesOne S.takes S.refuses sink.old
+            (vca_at channel (member seen frame.now) ++ part_items channel (chain_parts_at gap (is_vca_kind frame.now.kind) (tail_in self.old) (member seen frame.now))) fault sink.new) }
+    {
+        match frame.kind() {
+            Kind::Vca => self.take_vca(seen, channel, gap, sink),
+            Kind::Idle => self.take_field(seen, channel, gap, None, &[], sink),
+            Kind::NoStart => self.take_field(seen, channel, gap, None, frame.field(), sink),
+            Kind::Packets(place) => {
+                self.take_field(seen, channel, gap, Some(place), frame.field(), sink)
+            }
+        }
+    }
+
+    // Takes a VCA frame: the tail is lost.
+    fn take_vca<S: Sink>(
+        &mut self,
+        seen: u32,
+        channel: u8,
+        gap: bool,
+        sink: &mut S,
+    ) -> Result<(), S::Fault>
+        requires { channel < 8 }
+        ensures taken { OnOk result (TakesAll S.takes sink.old
+            (value.Vca seen channel ∷ part_items channel (chain_parts_at gap true (tail_in self.old) (counted seen 0))) sink.new) }
+        ensures left { OnOk result (self.new ≡ last_of (count_in self.old) None) }
+        ensures refused { IfErr result (λ fault. RefusesOne S.takes S.refuses sink.old
+            (value.Vca seen channel ∷ part_items channel (chain_parts_at gap true (tail_in self.old) (counted seen 0))) fault sink.new) }
+    {
+        let reason = if gap { Reason::Gap } else { Reason::Vca };
+        match sink.take(Item::Vca { seen, channel }) {
+            Ok(()) => self.tail.end(seen, channel, reason, sink),
+            Err(fault) => Err(fault),
+        }
+    }
+
+    // Takes a field of packets, after a gap or none.
+    fn take_field<S: Sink>(
+        &mut self,
+        seen: u32,
+        channel: u8,
+        gap: bool,
+        place: Option<u16>,
+        field: &[u8],
+        sink: &mut S,
+    ) -> Result<(), S::Fault>
+        requires channel { channel < 8 }
+        requires most { length field.now ≤ 2042 }
+        requires place { PlaceFits place (length field.now) }
+        requires open { IsOpenTail (tail_in self.old) }
+        requires counted { IsSome (count_in self.old) }
+        ensures taken { OnOk result (TakesAll S.takes sink.old (part_items channel (chain_parts_at gap false (tail_in self.old) (member_at seen place field.now))) sink.new) }
+        ensures left { OnOk result (self.new ≡ last_of (count_in self.old) (chain_tail_at gap false (tail_in self.old) (member_at seen place field.now))) }
+        ensures refused { IfErr result (λ fault. RefusesOne S.takes S.refuses sink.old (part_items channel (chain_parts_at gap false (tail_in self.old) (member_at seen place field.now))) fault sink.new) }
+    {
+        if !gap {
+            return self.tail.take_field(seen, channel, place, field, sink);
+        }
+        match self.tail.end(seen, channel, Reason::Gap, sink) {
+            Ok(()) => self
+                .tail
+                .begin(seen, channel, Reason::NoStart, place, field, sink),
+            Err(fault) => Err(fault),
+        }
+    }
+
+    /// Gives the tail that is held, as lost by the closed end.
+    pub fn close<S: Sink>(&self, seen: u32, channel: u8, sink: &mut S) -> Result<(), S::Fault>
+        requires { channel < 8 }
+        ensures taken { OnOk result (TakesAll S.takes sink.old (close_last seen channel self.now) sink.new) }
+        ensures refused { IfErr result (λ fault. RefusesOne S.takes S.refuses sink.old (close_last seen channel self.now) fault sink.new) }
+    {
+        match self.tail.give_lost(seen, channel, Reason::Close, sink) {
+            Ok(()) => Ok(()),
+            Err(fault) => Err(fault),
+        }
+    }
+
+    /// How many octets spell the channel in a checkpoint.
+    pub fn spelled_length(&self) -> usize
+        ensures value { result ≡ length (block self.now) }
+        ensures most { result ≤ 65554 }
+    {
+        if self.count.is_none() {
+            1
+        } else if self.tail.is_held() {
+            2 + self.tail.spelled_length()
+        } else {
+            2
+        }
+    }
+
+    /// Appends the spelling of the channel, for which there is room.
+    pub fn push(&self, out: &mut Vec<u8>)
+        requires { vec_len out.old + length (block self.now) ≤ vec_capacity out.old }
+        ensures items { out.new.items ≡ out.old.items ++ block self.now }
+        ensures len { vec_len out.new ≡ vec_len out.old + length (block self.now) }
+        ensures room { vec_capacity out.old ≤ vec_capacity out.new }
+    {
+        let Some(count) = self.count else {
+            push(out, &[0]);
+            return;
+        };
+        if self.tail.is_held() {
+            push(out, &[2, count]);
+            self.tail.push(out);
+        } else {
+            push(out, &[1, count]);
+        }
+    }
+
+    /// Keeps what a checkpoint says of the channel.
+    pub fn restore(&mut self, read: &Block<'_>)
+        requires { length read.now.tail.now ≤ 65542 }
+        ensures { self.new ≡ kept_of read.now }
+    {
+        let tail = if read.count.is_some() { read.tail } else { &[] };
+        self.count = read.count;
+        self.tail.hold(read.first, read.place, tail);
+    }
+}
+
+// Gives the gap between a count and the one before it, if there is one; answers whether there is.
+fn give_gap<S: Sink>(
+    seen: u32,
+    channel: u8,
+    before: Option<u8>,
+    found: u8,
+    sink: &mut S,
+) -> Result<bool, S::Fault>
+    requires { channel < 8 }
+    ensures taken { OnOk result (TakesAll S.takes sink.old (gap_at channel before (counted seen found)) sink.new) }
+    ensures answer { IfOk result (λ gap. gap ≡ has_gap before (counted seen found)) }
+    ensures refused { IfErr result (λ fault. RefusesOne S.takes S.refuses sink.old (gap_at channel before (counted seen found)) fault sink.new) }
+{
+    let Some(before) = before else {
+        return Ok(false);
+    };
+    let expected = before.wrapping_add(1);
+    if found == expected {
+        return Ok(false);
+    }
+    let gap = Item::Gap {
+        seen,
+        channel,
+        expected,
+        found,
+        missing: found.wrapping_sub(expected),
+    };
+    match sink.take(gap) {
+        Ok(()) => Ok(true),
+        Err(fault) => Err(fault),
+    }
+}

@@ -1,0 +1,17 @@
+//! The packets and the lost parts of channels (CCSDS 132.0-B-3, section 4.1 and packet extraction).
+#![tactic(auto)]
+
+mod channels;
+mod checkpoint;
+mod fault;
+mod items;
+mod kept;
+pub mod laws;
+mod packets;
+mod reassembly;
+mod tail;
+
+pub use channels::Channels;
+pub use fault::{NoMemory, StateFault, StepFault};
+pub use items::{Item, Reason, Sink};
+pub use reassembly::Reassembly;

@@ -1,0 +1,190 @@
+//! The packets that begin in one data field.
+
+ghost use Rattle.std.specs.Prelude.{◌≡◌, ◌+◌, ◌<◌, ◌≤◌, ◌==◌, true, length, take, drop, None, Some, ◌++◌, IfOk, IfErr, OnOk};
+ghost use Rattle.tm_reassembly.specs.Field.{field_parts, unfinished, left_in, frame_parts};
+ghost use Rattle.tm_reassembly.specs.Kept.{member_at};
+ghost use Rattle.tm_reassembly.specs.Parts as model;
+ghost use Rattle.tm_reassembly.specs.Parts.{lead_part, front_of};
+ghost use Rattle.tm_reassembly.specs.Sinks.{TakesAll, RefusesOne, part_items};
+ghost use Rattle.tm_reassembly.specs.Valid.{PlaceFits};
+
+use crate::items::{Item, Reason, Sink};
+use tm_packet::{packet_version, read_header};
+
+/// Whether octets begin with version 0.
+#[tactic(auto, using(crate::proofs::Headers::version_first))]
+pub fn is_packet(octets: &[u8]) -> bool
+    requires { 0 < length octets.now }
+    ensures { result ≡ model.is_packet octets.now }
+{
+    packet_version(octets[0]) == 0
+}
+
+/// How many octets the packet at the front has, by its header; 7, the fewest, where the header is not there yet.
+#[tactic(auto, using(crate::proofs::Headers::reach_read, crate::proofs::Headers::reach_unread))]
+pub fn reach(octets: &[u8]) -> usize
+    requires { model.is_packet octets.now ≡ true }
+    ensures value { result ≡ model.reach octets.now }
+    ensures most { result ≤ 65542 }
+{
+    match read_header(octets) {
+        Ok(header) => header.length() as usize,
+        Err(_) => 7,
+    }
+}
+
+/// The same for a text of which the first octets are a tail, and the others a field.
+pub fn reach_over(tail: &[u8], field: &[u8]) -> usize
+    requires some { 0 < length tail.now }
+    requires packet { model.is_packet tail.now ≡ true }
+    ensures value { result ≡ model.reach (tail.now ++ field.now) }
+    ensures most { result ≤ 65542 }
+{
+    if tail.len() >= 6 {
+        reach(tail)
+    } else if tail.len() + field.len() < 6 {
+        7
+    } else {
+        reach(&joined_header(tail, field))
+    }
+}
+
+// The first six octets of a tail and a field.
+#[tactic(auto, using(crate::proofs::Tails::join_six))]
+fn joined_header(tail: &[u8], field: &[u8]) -> [u8; 6]
+    requires short { length tail.now ≤ 6 }
+    requires enough { 6 ≤ length tail.now + length field.now }
+    ensures { result ≡ take 6 (tail.now ++ field.now) }
+{
+    let mut header = [0; 6];
+    let (front, back) = header.split_at_mut(tail.len());
+    front.copy_from_slice(tail);
+    back.copy_from_slice(&field[..6 - tail.len()]);
+    header
+}
+
+/// Gives octets before which no packet starts, if there are any: they are lost.
+pub fn give_lead<S: Sink>(
+    seen: u32,
+    channel: u8,
+    reason: Reason,
+    lead: &[u8],
+    sink: &mut S,
+) -> Result<(), S::Fault>
+    requires channel { channel < 8 }
+    requires most { length lead.now ≤ 2042 }
+    ensures taken { OnOk result (TakesAll S.takes sink.old
+        (part_items channel (lead_part (member_at seen None lead.now) reason lead.now)) sink.new) }
+    ensures refused { IfErr result (λ fault. RefusesOne S.takes S.refuses sink.old
+        (part_items channel (lead_part (member_at seen None lead.now) reason lead.now)) fault sink.new) }
+{
+    match lead {
+        [] => Ok(()),
+        [_, ..] => {
+            let dropped = Item::Dropped {
+                seen,
+                channel,
+                first: seen,
+                place: 0,
+                octets: lead.len() as u32,
+                reason,
+            };
+            match sink.take(dropped) {
+                Ok(()) => Ok(()),
+                Err(fault) => Err(fault),
+            }
+        }
+    }
+}
+
+/// Gives the packets that lie whole in a field from `place` on, and its unread part. Answers where its unfinished packet begins.
+pub fn read_field<S: Sink>(
+    seen: u32,
+    channel: u8,
+    field: &[u8],
+    place: usize,
+    sink: &mut S,
+) -> Result<usize, S::Fault>
+    requires channel { channel < 8 }
+    requires most { length field.now ≤ 2042 }
+    requires inside { place ≤ length field.now }
+    ensures taken { OnOk result (TakesAll S.takes sink.old
+        (part_items channel (field_parts seen (length field.now) place field.now)) sink.new) }
+    ensures rest { IfOk result (λ at. drop at field.now ≡ unfinished place field.now) }
+    ensures inside { IfOk result (λ at. at ≤ length field.now) }
+    ensures refused { IfErr result (λ fault. RefusesOne S.takes S.refuses sink.old
+        (part_items channel (field_parts seen (length field.now) place field.now)) fault sink.new) }
+{
+    let mut at = place;
+    while at < field.len() {
+        let rest = &field[at..];
+        if !is_packet(rest) {
+            let unread = Item::Dropped {
+                seen,
+                channel,
+                first: seen,
+                place: at as u16,
+                octets: rest.len() as u32,
+                reason: Reason::Version,
+            };
+            return match sink.take(unread) {
+                Ok(()) => Ok(field.len()),
+                Err(fault) => Err(fault),
+            };
+        }
+        let end = reach(rest);
+        if end > rest.len() {
+            return Ok(at);
+        }
+        let packet = Item::Packet {
+            seen,
+            channel,
+            first: seen,
+            place: at as u16,
+            octets: &rest[..end],
+        };
+        if let Err(fault) = sink.take(packet) {
+            return Err(fault);
+        }
+        at += end;
+    }
+    Ok(field.len())
+}
+
+/// Gives what a field has where no packet is open: what stands before its place is lost for this reason, and then come its packets
+/// and its unread part. Answers where its unfinished packet begins.
+pub fn give_field<S: Sink>(
+    seen: u32,
+    channel: u8,
+    reason: Reason,
+    place: Option<u16>,
+    field: &[u8],
+    sink: &mut S,
+) -> Result<usize, S::Fault>
+    requires channel { channel < 8 }
+    requires most { length field.now ≤ 2042 }
+    requires place { PlaceFits place (length field.now) }
+    ensures taken { OnOk result (TakesAll S.takes sink.old
+        (part_items channel (lead_part (member_at seen place field.now) reason (front_of place field.now) ++ frame_parts (member_at seen place field.now))) sink.new) }
+    ensures rest { IfOk result (λ at. drop at field.now ≡ left_in place field.now) }
+    ensures inside { IfOk result (λ at. at ≤ length field.now) }
+    ensures refused { IfErr result (λ fault. RefusesOne S.takes S.refuses sink.old
+        (part_items channel (lead_part (member_at seen place field.now) reason (front_of place field.now) ++ frame_parts (member_at seen place field.now))) fault sink.new) }
+{
+    match place {
+        None => match give_lead(seen, channel, reason, field, sink) {
+            Ok(()) => Ok(field.len()),
+            Err(fault) => Err(fault),
+        },
+        Some(place) => {
+            let start = place as usize;
+            if let Err(fault) = give_lead(seen, channel, reason, &field[..start], sink) {
+                return Err(fault);
+            }
+            match read_field(seen, channel, field, start, sink) {
+                Ok(at) => Ok(at),
+                Err(fault) => Err(fault),
+            }
+        }
+    }
+}

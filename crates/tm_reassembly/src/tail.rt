@@ -1,0 +1,323 @@
+//! The tail of a channel: the octets so far of a packet that isn't whole.
+
+ghost use Rattle.std.specs.Prelude.{◌≡◌, ◌+◌, ◌<◌, ◌≤◌, ◌++◌, length, take, IfOk, IfErr, OnOk, Option, None, Some, is_some, true, vec_len, vec_capacity};
+ghost use Rattle.tm_reassembly.specs.Blocks.{spelled_tail};
+ghost use Rattle.tm_reassembly.specs.declared.items.Reason.TheVariants as why;
+ghost use Rattle.tm_reassembly.specs.Field.{step_parts, step_tail, ended_parts, frame_parts, frame_tail, tail_at};
+ghost use Rattle.tm_reassembly.specs.Item as value;
+ghost use Rattle.tm_reassembly.specs.Kept.{tail_of_octets, octets_in, grown, completed, member_at};
+ghost use Rattle.tm_reassembly.specs.Parts as model;
+ghost use Rattle.tm_reassembly.specs.Parts.{lead_part, front_of, agrees_at};
+ghost use Rattle.tm_reassembly.specs.Sinks.{IsOnePacket, TakesAll, RefusesOne, part_items};
+ghost use Rattle.tm_reassembly.specs.State as state;
+ghost use Rattle.tm_reassembly.specs.Valid.{PlaceFits, IsOpenTail};
+
+use crate::checkpoint::{push, push_four, push_two};
+use crate::items::{Item, Reason, Sink};
+use crate::packets::{give_field, reach_over, read_field};
+use std::alloc::{AllocError, Global};
+use std::marker::Model;
+
+/// The octets of the greatest packet: a header of 6, and a data field of 65,536.
+pub const GREATEST: usize = 65542;
+
+/// The tail that is held, if its octets are not empty, and the record and place where it begins. There is room for the greatest
+/// packet.
+#[derive(Drop)]
+pub struct Tail {
+    first: u32,
+    place: u16,
+    octets: Vec<u8>,
+}
+
+impl Model for Tail {
+    ghost Value = { Option state.Tail };
+
+    ghost view = { λ t. tail_of_octets t.first t.place t.octets.items };
+
+    ghost invariant = { λ t. (65542 ≤ vec_capacity t.octets) × (length t.octets.items ≤ 65542) };
+}
+
+impl Tail {
+    /// No tail, with its room.
+    pub fn new(alloc: Global) -> Result<Tail, AllocError>
+        ensures { IfOk result (λ tail. tail ≡ None) }
+    {
+        Ok(Tail {
+            first: 0,
+            place: 0,
+            octets: Vec::with_capacity(alloc, GREATEST)?,
+        })
+    }
+
+    /// The octets that are held.
+    pub fn octets(&self) -> &[u8]
+        ensures { result.now ≡ octets_in self.now }
+    {
+        self.octets.as_slice()
+    }
+
+    /// Whether a tail is held.
+    pub fn is_held(&self) -> bool
+        ensures { result ≡ is_some self.now }
+    {
+        !self.octets.is_empty()
+    }
+
+    /// Holds these octets in place of what was held.
+    pub fn hold(&mut self, first: u32, place: u16, octets: &[u8])
+        requires { length octets.now ≤ 65542 }
+        ensures { self.new ≡ tail_of_octets first place octets.now }
+    {
+        self.octets.clear();
+        match self.octets.extend_from_slice(octets) {
+            Ok(()) => {}
+            Err(_) => unreachable!(),
+        }
+        self.first = first;
+        self.place = place;
+    }
+
+    /// Gives the tail, if one is held, as lost for this reason.
+    pub fn give_lost<S: Sink>(
+        &self,
+        seen: u32,
+        channel: u8,
+        reason: Reason,
+        sink: &mut S,
+    ) -> Result<(), S::Fault>
+        requires { channel < 8 }
+        ensures taken { OnOk result (TakesAll S.takes sink.old (part_items channel (ended_parts self.now reason seen)) sink.new) }
+        ensures refused { IfErr result (λ fault. RefusesOne S.takes S.refuses sink.old (part_items channel (ended_parts self.now reason seen)) fault sink.new) }
+    {
+        if self.octets.is_empty() {
+            return Ok(());
+        }
+        let lost = Item::Dropped {
+            seen,
+            channel,
+            first: self.first,
+            place: self.place,
+            octets: self.octets.len() as u32,
+            reason,
+        };
+        match sink.take(lost) {
+            Ok(()) => Ok(()),
+            Err(fault) => Err(fault),
+        }
+    }
+
+    /// Loses the tail, if one is held, for this reason.
+    pub fn end<S: Sink>(
+        &mut self,
+        seen: u32,
+        channel: u8,
+        reason: Reason,
+        sink: &mut S,
+    ) -> Result<(), S::Fault>
+        requires { channel < 8 }
+        ensures taken { OnOk result (TakesAll S.takes sink.old (part_items channel (ended_parts self.old reason seen)) sink.new) }
+        ensures left { OnOk result (self.new ≡ None) }
+        ensures refused { IfErr result (λ fault. RefusesOne S.takes S.refuses sink.old (part_items channel (ended_parts self.old reason seen)) fault sink.new) }
+    {
+        match self.give_lost(seen, channel, reason, sink) {
+            Ok(()) => {
+                self.octets.clear();
+                Ok(())
+            }
+            Err(fault) => Err(fault),
+        }
+    }
+
+    /// Takes a frame of no packet that is open: what stands before its place is lost for this reason, its packets are given, and its
+    /// unfinished packet is held.
+    pub fn begin<S: Sink>(
+        &mut self,
+        seen: u32,
+        channel: u8,
+        reason: Reason,
+        place: Option<u16>,
+        field: &[u8],
+        sink: &mut S,
+    ) -> Result<(), S::Fault>
+        requires channel { channel < 8 }
+        requires most { length field.now ≤ 2042 }
+        requires place { PlaceFits place (length field.now) }
+        ensures taken { OnOk result (TakesAll S.takes sink.old
+            (part_items channel (lead_part (member_at seen place field.now) reason (front_of place field.now) ++ frame_parts (member_at seen place field.now))) sink.new) }
+        ensures left { OnOk result (self.new ≡ frame_tail (member_at seen place field.now)) }
+        ensures refused { IfErr result (λ fault. RefusesOne S.takes S.refuses sink.old
+            (part_items channel (lead_part (member_at seen place field.now) reason (front_of place field.now) ++ frame_parts (member_at seen place field.now))) fault sink.new) }
+    {
+        match give_field(seen, channel, reason, place, field, sink) {
+            Ok(at) => {
+                self.hold(seen, at as u16, &field[at..]);
+                Ok(())
+            }
+            Err(fault) => Err(fault),
+        }
+    }
+
+    /// Takes a frame's field, by what is held and by the place of the first packet that starts in it.
+    #[tactic(auto, using(crate::proofs::Tails::step_completed))]
+    pub fn take_field<S: Sink>(
+        &mut self,
+        seen: u32,
+        channel: u8,
+        place: Option<u16>,
+        field: &[u8],
+        sink: &mut S,
+    ) -> Result<(), S::Fault>
+        requires channel { channel < 8 }
+        requires most { length field.now ≤ 2042 }
+        requires place { PlaceFits place (length field.now) }
+        requires open { IsOpenTail self.old }
+        ensures taken { OnOk result (TakesAll S.takes sink.old (part_items channel (step_parts self.old (member_at seen place field.now))) sink.new) }
+        ensures left { OnOk result (self.new ≡ step_tail self.old (member_at seen place field.now)) }
+        ensures refused { IfErr result (λ fault. RefusesOne S.takes S.refuses sink.old (part_items channel (step_parts self.old (member_at seen place field.now))) fault sink.new) }
+    {
+        if self.octets.is_empty() {
+            return self.begin(seen, channel, Reason::NoStart, place, field, sink);
+        }
+        let held = self.octets.len();
+        let reach = reach_over(self.octets.as_slice(), field);
+        match place {
+            None if held + field.len() < reach => {
+                self.grow(field);
+                Ok(())
+            }
+            None if held + field.len() == reach => self.complete(seen, channel, field, sink),
+            Some(start) if held + start as usize == reach => {
+                self.complete_in(seen, channel, start, field, sink)
+            }
+            _ => self.break_off(seen, channel, place, field, sink),
+        }
+    }
+
+    // Holds more octets of the packet.
+    #[tactic(auto, using(crate::proofs::Tails::grown_octets, crate::proofs::Tails::octets_again))]
+    fn grow(&mut self, more: &[u8])
+        requires some { 0 < length (octets_in self.old) }
+        requires most { length (octets_in self.old) + length more.now ≤ 65542 }
+        ensures { self.new ≡ grown self.old more.now }
+    {
+        match self.octets.extend_from_slice(more) {
+            Ok(()) => {}
+            Err(_) => unreachable!(),
+        }
+    }
+
+    // Gives the packet, which is whole with these octets.
+    fn complete<S: Sink>(
+        &mut self,
+        seen: u32,
+        channel: u8,
+        last: &[u8],
+        sink: &mut S,
+    ) -> Result<(), S::Fault>
+        requires channel { channel < 8 }
+        requires most { length (octets_in self.old) + length last.now ≤ 65542 }
+        requires some { 0 < length (octets_in self.old) }
+        requires whole { IsOnePacket (octets_in self.old ++ last.now) }
+        ensures taken { OnOk result (TakesAll S.takes sink.old (part_items channel (completed self.old last.now seen)) sink.new) }
+        ensures left { OnOk result (self.new ≡ None) }
+        ensures refused { IfErr result (λ fault. RefusesOne S.takes S.refuses sink.old (part_items channel (completed self.old last.now seen)) fault sink.new) }
+    {
+        self.grow(last);
+        let packet = Item::Packet {
+            seen,
+            channel,
+            first: self.first,
+            place: self.place,
+            octets: self.octets.as_slice(),
+        };
+        if let Err(fault) = sink.take(packet) {
+            return Err(fault);
+        }
+        self.octets.clear();
+        Ok(())
+    }
+
+    // Gives the packet, which ends where the next one starts in the field, and reads on from there.
+    fn complete_in<S: Sink>(
+        &mut self,
+        seen: u32,
+        channel: u8,
+        start: u16,
+        field: &[u8],
+        sink: &mut S,
+    ) -> Result<(), S::Fault>
+        requires channel { channel < 8 }
+        requires most { length field.now ≤ 2042 }
+        requires start { start ≤ length field.now }
+        requires some { 0 < length (octets_in self.old) }
+        requires whole { IsOnePacket (octets_in self.old ++ take start field.now) }
+        requires room { length (octets_in self.old) + start ≤ 65542 }
+        ensures taken { OnOk result (TakesAll S.takes sink.old
+            (part_items channel (completed self.old (take start field.now) seen ++ frame_parts (member_at seen (Some start) field.now))) sink.new) }
+        ensures left { OnOk result (self.new ≡ frame_tail (member_at seen (Some start) field.now)) }
+        ensures refused { IfErr result (λ fault. RefusesOne S.takes S.refuses sink.old
+            (part_items channel (completed self.old (take start field.now) seen ++ frame_parts (member_at seen (Some start) field.now))) fault sink.new) }
+    {
+        let start = start as usize;
+        if let Err(fault) = self.complete(seen, channel, &field[..start], sink) {
+            return Err(fault);
+        }
+        match read_field(seen, channel, field, start, sink) {
+            Ok(at) => {
+                self.hold(seen, at as u16, &field[at..]);
+                Ok(())
+            }
+            Err(fault) => Err(fault),
+        }
+    }
+
+    // The frame doesn't agree: the tail is lost, and so is what stands before the frame's place.
+    fn break_off<S: Sink>(
+        &mut self,
+        seen: u32,
+        channel: u8,
+        place: Option<u16>,
+        field: &[u8],
+        sink: &mut S,
+    ) -> Result<(), S::Fault>
+        requires channel { channel < 8 }
+        requires most { length field.now ≤ 2042 }
+        requires place { PlaceFits place (length field.now) }
+        ensures taken { OnOk result (TakesAll S.takes sink.old
+            (part_items channel (ended_parts self.old why.Pointer seen ++ lead_part (member_at seen place field.now) why.Pointer (front_of place field.now) ++ frame_parts (member_at seen place field.now))) sink.new) }
+        ensures left { OnOk result (self.new ≡ frame_tail (member_at seen place field.now)) }
+        ensures refused { IfErr result (λ fault. RefusesOne S.takes S.refuses sink.old
+            (part_items channel (ended_parts self.old why.Pointer seen ++ lead_part (member_at seen place field.now) why.Pointer (front_of place field.now) ++ frame_parts (member_at seen place field.now))) fault sink.new) }
+    {
+        if let Err(fault) = self.end(seen, channel, Reason::Pointer, sink) {
+            return Err(fault);
+        }
+        match self.begin(seen, channel, Reason::Pointer, place, field, sink) {
+            Ok(()) => Ok(()),
+            Err(fault) => Err(fault),
+        }
+    }
+
+    /// How many octets spell the tail in a checkpoint, where one is held.
+    pub fn spelled_length(&self) -> usize
+        ensures value { result ≡ 10 + length (octets_in self.now) }
+        ensures most { result ≤ 65552 }
+    {
+        10 + self.octets.len()
+    }
+
+    /// Appends the spelling of the tail that is held, for which there is room.
+    pub fn push(&self, out: &mut Vec<u8>)
+        requires held { is_some self.now ≡ true }
+        requires room { vec_len out.old + (10 + length (octets_in self.now)) ≤ vec_capacity out.old }
+        ensures items { out.new.items ≡ out.old.items ++ spelled_tail self.now }
+        ensures len { vec_len out.new ≡ vec_len out.old + (10 + length (octets_in self.now)) }
+        ensures room { vec_capacity out.old ≤ vec_capacity out.new }
+    {
+        push_four(out, self.first);
+        push_two(out, self.place);
+        push_four(out, self.octets.len() as u32);
+        push(out, self.octets.as_slice());
+    }
+}

@@ -1,0 +1,410 @@
+//! Records of channels, with the packets and the lost parts that they give.
+
+ghost use Rattle.std.specs.Prelude.{◌≡◌};
+
+use std::alloc::{AllocError, Global};
+use std::test::Fail;
+use tm_frame::{FrameFault, Layout, LayoutParts, Presence};
+use tm_reassembly::{Channels, Item, NoMemory, Reason, Reassembly, Sink, StateFault, StepFault};
+
+// A sink that wants these items, one after the other. It refuses any other, and the one at `refuses`.
+#[derive(Drop)]
+struct Wanted<'w> {
+    items: &'w [Item<'w>],
+    taken: usize,
+    refuses: usize,
+}
+
+#[derive(Clone, Copy, Debug, PartialEq, Eq)]
+struct Refused;
+
+impl<'w> Wanted<'w> {
+    fn new(items: &'w [Item<'w>]) -> Self {
+        Wanted {
+            items,
+            taken: 0,
+            refuses: usize::MAX,
+        }
+    }
+}
+
+impl<'w> Sink for Wanted<'w> {
+    type Fault = Refused;
+
+    ghost takes = { λ old item new. Unit {0} };
+
+    ghost refuses = { λ old item fault new. Unit {0} };
+
+    fn take(&mut self, item: Item<'_>) -> Result<(), Refused> {
+        if self.taken == self.refuses || self.items.get(self.taken) != Some(&item) {
+            return Err(Refused);
+        }
+        self.taken = self.taken.saturating_add(1);
+        Ok(())
+    }
+}
+
+// The layout of frames of this length of spacecraft 42.
+fn layout(frame_length: u32) -> Option<Layout> {
+    let parts = LayoutParts {
+        frame_length,
+        skip_before: 0,
+        skip_after: 0,
+        spacecraft: 42,
+        secondary: Presence::Flag,
+        ocf: Presence::Flag,
+        error_control: false,
+    };
+    Layout::new(parts).ok()
+}
+
+// A reassembly of the records of a layout, which looks at what its calls ask for.
+#[derive(Drop)]
+struct Station {
+    layout: Layout,
+    reassembly: Reassembly,
+    ghost same: { reassembly.layout ≡ layout },
+}
+
+impl Station {
+    fn new(alloc: Global, frame_length: u32) -> Result<Station, Fail> {
+        let Some(layout) = layout(frame_length) else {
+            return Err(Fail::from("a layout"));
+        };
+        match Reassembly::new(alloc, layout, Channels::all()) {
+            Ok(reassembly) => Ok(Station { layout, reassembly }),
+            Err(NoMemory) => Err(Fail::from("memory")),
+        }
+    }
+
+    fn decode(alloc: Global, octets: &[u8]) -> Result<(Station, usize), StateFault> {
+        let Some(layout) = layout(24) else {
+            return Err(StateFault::NoMemory);
+        };
+        match Reassembly::decode(alloc, layout, Channels::all(), octets) {
+            Ok((reassembly, read)) => Ok((Station { layout, reassembly }, read)),
+            Err(fault) => Err(fault),
+        }
+    }
+
+    fn step(&mut self, octets: &[u8], sink: &mut Wanted<'_>) -> Result<(), StepFault<Refused>> {
+        if octets.len() != self.layout.record_length() {
+            return Err(StepFault::Sink(Refused));
+        }
+        match self.reassembly.step(octets, sink) {
+            Ok(()) => Ok(()),
+            Err(StepFault::Sink(refused)) => Err(StepFault::Sink(refused)),
+            Err(StepFault::Failed) => Err(StepFault::Failed),
+            Err(StepFault::TooMany) => Err(StepFault::TooMany),
+        }
+    }
+
+    fn finish(self, rest: usize, sink: &mut Wanted<'_>) -> Result<(), StepFault<Refused>> {
+        if rest >= self.layout.record_length() {
+            return Err(StepFault::Sink(Refused));
+        }
+        self.reassembly.finish(rest, sink)
+    }
+
+    fn held(&self, channel: u8) -> &[u8] {
+        if self.reassembly.failed() || channel > 7 {
+            return &[];
+        }
+        self.reassembly.held(channel)
+    }
+
+    fn last_count(&self, channel: u8) -> Option<u8> {
+        if self.reassembly.failed() || channel > 7 {
+            return None;
+        }
+        self.reassembly.last_count(channel)
+    }
+
+    fn encode(&self, out: &mut Vec<u8>) -> Result<(), NoMemory> {
+        if self.reassembly.failed() {
+            return Err(NoMemory);
+        }
+        self.reassembly.encode(out)
+    }
+}
+
+// A packet of so many octets of application 100: its header, and octets 55.
+fn packet<const N: usize>(count: u8) -> [u8; N] {
+    let mut octets = [0x55; N];
+    let [high, low] = (N.saturating_sub(7).min(0xFFFF) as u16).to_be_bytes();
+    let header = [0x00, 0x64, 0xC0, count, high, low];
+    for (octet, value) in octets.iter_mut().zip(header) {
+        *octet = value;
+    }
+    octets
+}
+
+// The first octets, and those behind them.
+fn front(octets: &[u8], n: usize) -> &[u8] {
+    octets.get(..n).unwrap_or(&[])
+}
+
+fn behind(octets: &[u8], n: usize) -> &[u8] {
+    octets.get(n..).unwrap_or(&[])
+}
+
+// A record: the primary header, and octets behind it.
+fn record(
+    alloc: Global,
+    header: [u8; 6],
+    first: &[u8],
+    second: &[u8],
+) -> Result<Vec<u8>, AllocError> {
+    let mut octets = header.to_vec(alloc)?;
+    octets.extend_from_slice(first)?;
+    octets.extend_from_slice(second)?;
+    Ok(octets)
+}
+
+// A packet, and a dropped part.
+fn given(seen: u32, channel: u8, first: u32, place: u16, octets: &[u8]) -> Item<'_> {
+    Item::Packet {
+        seen,
+        channel,
+        first,
+        place,
+        octets,
+    }
+}
+
+fn lost(
+    seen: u32,
+    channel: u8,
+    first: u32,
+    place: u16,
+    octets: u32,
+    reason: Reason,
+) -> Item<'static> {
+    Item::Dropped {
+        seen,
+        channel,
+        first,
+        place,
+        octets,
+        reason,
+    }
+}
+
+#[test]
+fn channels(rt: HostRuntime) -> Result<(), Fail> {
+    let Some(two) = Channels::of(&[0, 3]) else {
+        return Err(Fail::from("two channels"));
+    };
+    assert_eq!(rt; two.mask(), 9);
+    assert!(rt; two.has(3));
+    assert!(rt; !two.has(1));
+    assert_eq!(rt; Channels::of(&[0, 0]), None);
+    assert_eq!(rt; Channels::of(&[8]), None);
+    assert_eq!(rt; Channels::of(&[]), None);
+    assert_eq!(rt; Channels::all().mask(), 255);
+    assert_eq!(rt; Reason::Close.word(), "end");
+    Ok(())
+}
+
+#[test]
+fn pointer_disagrees(rt: HostRuntime) -> Result<(), Fail> {
+    let alloc = rt.alloc();
+    let whole: [u8; 15] = packet(0);
+    let cut: [u8; 10] = packet(1);
+    let next: [u8; 17] = packet(1);
+    let first = record(
+        alloc,
+        [0x02, 0xA0, 0, 0, 0x18, 0x00],
+        &whole,
+        front(&cut, 3),
+    )?;
+    let second = record(alloc, [0x02, 0xA0, 1, 1, 0x18, 0x01], &[0x55], &next)?;
+    let items = [
+        given(0, 0, 0, 0, &whole),
+        lost(1, 0, 0, 15, 3, Reason::Pointer),
+        lost(1, 0, 1, 0, 1, Reason::Pointer),
+        given(1, 0, 1, 1, &next),
+    ];
+    let mut sink = Wanted::new(&items);
+    let mut station = Station::new(alloc, 24)?;
+    assert_eq!(rt; station.step(&first, &mut sink), Ok(()));
+    assert_eq!(rt; station.step(&second, &mut sink), Ok(()));
+    assert_eq!(rt; sink.taken, 4);
+    assert_eq!(rt; station.finish(0, &mut sink), Ok(()));
+
+    let mut sink = Wanted::new(&items);
+    sink.refuses = 2;
+    let mut station = Station::new(alloc, 24)?;
+    assert_eq!(rt; station.step(&first, &mut sink), Ok(()));
+    assert_eq!(rt;
+        station.step(&second, &mut sink),
+        Err(StepFault::Sink(Refused))
+    );
+    assert_eq!(rt; sink.taken, 2);
+    assert!(rt; station.reassembly.failed());
+    assert_eq!(rt; station.reassembly.records(), 1);
+    assert_eq!(rt; station.step(&second, &mut sink), Err(StepFault::Failed));
+    assert_eq!(rt; station.finish(0, &mut sink), Err(StepFault::Failed));
+    Ok(())
+}
+
+#[test]
+fn held_and_closed(rt: HostRuntime) -> Result<(), Fail> {
+    let alloc = rt.alloc();
+    let first: [u8; 26] = packet(0);
+    let second: [u8; 22] = packet(0);
+    let items = [
+        Item::Short {
+            seen: 2,
+            octets: 10,
+        },
+        lost(2, 0, 0, 0, 18, Reason::Close),
+        lost(2, 1, 1, 0, 18, Reason::Close),
+    ];
+    let mut sink = Wanted::new(&items);
+    let mut station = Station::new(alloc, 24)?;
+    let octets = record(
+        alloc,
+        [0x02, 0xA0, 0, 0, 0x18, 0x00],
+        front(&first, 18),
+        &[],
+    )?;
+    assert_eq!(rt; station.step(&octets, &mut sink), Ok(()));
+    let octets = record(
+        alloc,
+        [0x02, 0xA2, 1, 0, 0x18, 0x00],
+        front(&second, 18),
+        &[],
+    )?;
+    assert_eq!(rt; station.step(&octets, &mut sink), Ok(()));
+    assert_eq!(rt; station.reassembly.records(), 2);
+    assert_eq!(rt; station.held(0), front(&first, 18));
+    assert_eq!(rt; station.last_count(1), Some(0));
+    assert_eq!(rt; station.last_count(2), None);
+    assert_eq!(rt; station.finish(10, &mut sink), Ok(()));
+    assert_eq!(rt; sink.taken, 3);
+    Ok(())
+}
+
+#[test]
+fn state_after_three_records(rt: HostRuntime) -> Result<(), Fail> {
+    let alloc = rt.alloc();
+    let first: [u8; 26] = packet(0);
+    let second: [u8; 22] = packet(0);
+    let third: [u8; 14] = packet(1);
+    let items = [given(2, 1, 1, 0, &second), given(2, 1, 2, 4, &third)];
+    let mut sink = Wanted::new(&items);
+    let mut station = Station::new(alloc, 24)?;
+    let octets = record(
+        alloc,
+        [0x02, 0xA0, 0, 0, 0x18, 0x00],
+        front(&first, 18),
+        &[],
+    )?;
+    assert_eq!(rt; station.step(&octets, &mut sink), Ok(()));
+    let octets = record(
+        alloc,
+        [0x02, 0xA2, 1, 0, 0x18, 0x00],
+        front(&second, 18),
+        &[],
+    )?;
+    assert_eq!(rt; station.step(&octets, &mut sink), Ok(()));
+    let octets = record(
+        alloc,
+        [0x02, 0xA2, 2, 1, 0x18, 0x04],
+        behind(&second, 18),
+        &third,
+    )?;
+    assert_eq!(rt; station.step(&octets, &mut sink), Ok(()));
+
+    let mut spelled = [0, 0, 0, 3, 2, 0, 0, 0, 0, 0, 0, 0, 0, 0, 0, 18].to_vec(alloc)?;
+    spelled.extend_from_slice(front(&first, 18))?;
+    spelled.extend_from_slice(&[1, 1, 0, 0, 0, 0, 0, 0])?;
+    let mut octets = Vec::new(alloc);
+    assert_eq!(rt; station.encode(&mut octets), Ok(()));
+    assert_eq!(rt; octets.as_slice(), spelled.as_slice());
+    octets.push(0x77)?;
+    let Ok((mut again, read)) = Station::decode(alloc, &octets) else {
+        return Err(Fail::from("what was spelled"));
+    };
+    assert_eq!(rt; read, 42);
+    assert_eq!(rt; again.reassembly.records(), 3);
+    assert_eq!(rt; again.held(0), front(&first, 18));
+    assert_eq!(rt; again.last_count(1), Some(1));
+    assert_eq!(rt; sink.taken, 2);
+    let bad = [Item::Bad {
+        seen: 3,
+        fault: FrameFault::Version,
+    }];
+    let mut sink = Wanted::new(&bad);
+    assert_eq!(rt; again.step(&[0x42; 24], &mut sink), Ok(()));
+    assert_eq!(rt; sink.taken, 1);
+    Ok(())
+}
+
+#[test]
+fn decode_faults(rt: HostRuntime) -> Result<(), Fail> {
+    let alloc = rt.alloc();
+    let full = [0xFF, 0xFF, 0xFF, 0xFF, 0, 0, 0, 0, 0, 0, 0, 0];
+    let Ok((mut station, _)) = Station::decode(alloc, &full) else {
+        return Err(Fail::from("the greatest number of records"));
+    };
+    let mut sink = Wanted::new(&[]);
+    assert_eq!(rt;
+        station.step(&[0x55; 24], &mut sink),
+        Err(StepFault::TooMany)
+    );
+    assert_eq!(rt; station.reassembly.records(), 4_294_967_295);
+    let tail = [
+        0, 0, 0, 1, 2, 0, 0, 0, 0, 0, 0, 0, 0, 0, 0, 1, 0xE0, 0, 0, 0, 0, 0, 0, 0,
+    ];
+    let mut place = tail;
+    place[9] = 1;
+    let rows: [(&[u8], StateFault); 4] = [
+        (&[0, 0, 0], StateFault::Short),
+        (&[0, 0, 0, 0, 3], StateFault::Flag),
+        (&tail, StateFault::Tail),
+        (&place, StateFault::Place),
+    ];
+    for (octets, fault) in rows {
+        let answer = Station::decode(alloc, octets).err();
+        assert_eq!(rt; answer, Some(fault));
+    }
+    Ok(())
+}
+
+#[test]
+fn greatest_packet(rt: HostRuntime) -> Result<(), Fail> {
+    let alloc = rt.alloc();
+    let before: [u8; 1845] = packet(0);
+    let after: [u8; 2041] = packet(2);
+    let mut greatest = [0x00, 0x64, 0xC0, 0x01, 0xFF, 0xFF].to_vec(alloc)?;
+    greatest.resize(65_542, 0x55)?;
+    let items = [
+        given(0, 0, 0, 0, &before),
+        given(33, 0, 0, 1845, &greatest),
+        given(33, 0, 33, 1, &after),
+    ];
+    let mut sink = Wanted::new(&items);
+    let mut station = Station::new(alloc, 2048)?;
+    let mut rest = greatest.as_slice();
+    let Some((front, more)) = rest.split_at_checked(197) else {
+        return Err(Fail::from("197 octets"));
+    };
+    rest = more;
+    let octets = record(alloc, [0x02, 0xA0, 0, 0, 0x18, 0x00], &before, front)?;
+    assert_eq!(rt; station.step(&octets, &mut sink), Ok(()));
+    for n in 1..33u8 {
+        let Some((front, more)) = rest.split_at_checked(2042) else {
+            return Err(Fail::from("2042 octets"));
+        };
+        rest = more;
+        let octets = record(alloc, [0x02, 0xA0, n, n, 0x1F, 0xFF], front, &[])?;
+        assert_eq!(rt; station.step(&octets, &mut sink), Ok(()));
+    }
+    assert_eq!(rt; station.held(0).len(), 65_541);
+    let octets = record(alloc, [0x02, 0xA0, 33, 33, 0x18, 0x01], &[0x55], &after)?;
+    assert_eq!(rt; station.step(&octets, &mut sink), Ok(()));
+    assert_eq!(rt; sink.taken, 3);
+    Ok(())
+}

@@ -1,6 +1,6 @@
 //! The tracker of sequence counts and groups, and its spelling in octets.
 
-ghost use Rattle.std.specs.Prelude.{◌≡◌, ◌+◌, ◌*◌, ◌<◌, ◌≤◌, ◌⊎◌, IfOk, IfErr, OnOk, OnErr, IsOk, Ok, Err, Some, None, true, [], ◌∷◌, ◌++◌, length, drop, slice_set, vec_len, vec_capacity};
+ghost use Rattle.std.specs.Prelude.{◌≡◌, ◌+◌, ◌*◌, ◌<◌, ◌≤◌, ◌⊎◌, IfOk, IfErr, IfSome, OnOk, OnErr, IsOk, Ok, Err, Some, None, true, [], ◌∷◌, ◌++◌, length, drop, slice_set, vec_len, vec_capacity};
 
 use crate::step::{kept_after, notes_after};
 use crate::{Header, Note, Notes, Why};
@@ -116,7 +116,8 @@ impl Tracker {
 
     /// The least key from `at` on whose group is open, with the note that the end breaks it. No memory is taken.
     pub fn next_unclosed(&self, at: u16) -> Option<Unclosed>
-        ensures { result ≡ sequence.next_unclosed_of self.now at }
+        ensures value { result ≡ sequence.next_unclosed_of self.now at }
+        ensures below { IfSome result (λ unclosed. unclosed.key < 16384) }
     {
         for key in usize::from(at)..PLACES {
             if let Some(

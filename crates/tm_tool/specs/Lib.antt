@@ -6,3 +6,9 @@ pub mod Lines
 pub mod Cuts
 pub mod Faults
 pub mod Listing
+pub mod Outputs
+pub mod Pieces
+pub mod Jobs
+pub mod Runs
+pub mod Stepping
+pub mod Sinking

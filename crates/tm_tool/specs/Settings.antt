@@ -1,6 +1,5 @@
 -- What a settings text says: a TOML document, by `toml`'s own definition of one.
-use Rattle.std.specs.Prelude.{ℕ, ℤ, pos, Bool, true, not, ◌&&◌, ◌==◌, nat_le, if◌then◌else◌, List, [], ◌∷◌, map, length, Option, Some, None, option_map, option_and_then, Result, Ok, Err, codes}
-use Rattle.std.specs.List.{list_all, list_any}
+use Rattle.std.specs.Prelude.{ℕ, ℤ, pos, Bool, ◌&&◌, nat_le, if◌then◌else◌, List, [], ◌∷◌, map, Option, Some, None, option_map, option_and_then, Result, Ok, Err, codes}
 use Rattle.std.specs.Cmp.Lexicographic.{slice_cmp}
 use Rattle.std.specs.Ordering.{is_lt, nat_cmp}
 use Rattle.std.specs.Str.{bytes_eq}
@@ -8,6 +7,7 @@ use Rattle.toml.specs.Data.{Data, Items, no_items, item, Members, no_members, me
 use Rattle.tm_frame.specs.declared.layout.LayoutParts.{LayoutParts}
 use Rattle.tm_frame.specs.declared.layout.Presence.{Presence}
 use Rattle.tm_frame.specs.declared.layout.Presence.TheVariants.{Flag, Always, Never}
+use Rattle.tm_reassembly.specs.Channels.{all_channels, channels_of}
 use Rattle.tm_tool.specs.declared.key.Key.{Key}
 use Rattle.tm_tool.specs.declared.key.Key.TheVariants.{Spacecraft, FrameLength, SkipBefore, SkipAfter, Secondary, Ocf, ErrorControl, Channels}
 use Rattle.tm_tool.specs.declared.fault.SettingsFault.{SettingsFault}
@@ -98,29 +98,10 @@ abbrev pub channel_number : ℤ → ℕ
 channel_number (pos n) = if nat_le n 7 then n else 8
 channel_number _ = 8
 
--- no number stands twice
-abbrev pub are_distinct : List ℕ → Bool
-are_distinct [] = true
-are_distinct (n ∷ ns) = not (list_any (λ m. m == n) ns) && are_distinct ns
-
--- at least one channel, and each once
-abbrev pub is_choice : List ℕ → Bool
-is_choice ns = (not (length ns == 0) && list_all (λ n. nat_le n 7) ns) && are_distinct ns
-
--- for each channel whether the list has it
-abbrev pub chosen_in : List ℕ → List Bool
-chosen_in ns = map (λ c. list_any (λ m. m == c) ns) (0 ∷ 1 ∷ 2 ∷ 3 ∷ 4 ∷ 5 ∷ 6 ∷ 7 ∷ [])
-
-abbrev pub choice_of : List ℕ → Option (List Bool)
-choice_of ns = if is_choice ns then Some (chosen_in ns) else None
-
 -- an array of channels
-abbrev pub channels_of : Key → Data → ReadAs (List Bool)
-channels_of key d = of_kind key (λ zs. of_range key (choice_of (map channel_number zs)))
+abbrev pub channels_at : Key → Data → ReadAs (List Bool)
+channels_at key d = of_kind key (λ zs. of_range key (channels_of (map channel_number zs)))
     (option_and_then integers (as_array d))
-
-abbrev pub every_channel : List Bool
-every_channel = true ∷ true ∷ true ∷ true ∷ true ∷ true ∷ true ∷ true ∷ []
 
 -- ---- the settings
 
@@ -138,7 +119,7 @@ choices_from ms =
     read_and_then (optional Flag (presence_of Secondary) (value_at Secondary ms)) (λ secondary.
     read_and_then (optional Flag (presence_of Ocf) (value_at Ocf ms)) (λ ocf.
     read_and_then (required ErrorControl (truth_of ErrorControl) (value_at ErrorControl ms)) (λ error_control.
-    read_and_then (optional every_channel (channels_of Channels) (value_at Channels ms)) (λ channels.
+    read_and_then (optional all_channels (channels_at Channels) (value_at Channels ms)) (λ channels.
     Ok (record {
       layout = record {
         frame_length = frame_length;

@@ -32,6 +32,9 @@ pub enum RunFault {
     /// A write or a flush of the output failed.
     #[error("write failed")]
     Write,
+    /// A write or a flush of the report failed.
+    #[error("report failed")]
+    Report,
     /// A whole record followed the greatest number of records, 2^32 - 1.
     #[error("too many records")]
     TooMany,
@@ -49,3 +52,7 @@ impl From<AllocError> for RunFault {
         RunFault::NoMemory
     }
 }
+
+/// Memory was wanted and not found.
+#[derive(Clone, Copy, Debug, PartialEq, Eq)]
+pub struct NoMemory;

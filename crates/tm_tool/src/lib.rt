@@ -3,17 +3,21 @@
 
 mod device;
 mod fault;
+mod job;
 mod key;
 mod lines;
 mod listing;
 mod octets;
+mod output;
+mod recording;
 mod settings;
 mod standard;
 mod transfer;
 mod values;
 
 pub use device::{DeviceFailed, Drain, Source};
-pub use fault::{RunFault, SettingsFault};
+pub use fault::{NoMemory, RunFault, SettingsFault};
+pub use job::{Command, Done, Ending, Job, run};
 pub use key::Key;
 pub use listing::list_frames;
 pub use octets::Octets;

@@ -1,6 +1,6 @@
 //! A line for each frame of a recording.
 
-ghost use Rattle.std.specs.Prelude.{◌≡◌, ◌<◌, ◌-◌, ◌^◌, length, IfOk, IfErr, OnOk, IfSome, IsErrOf, string_bytes};
+ghost use Rattle.std.specs.Prelude.{◌≡◌, ◌<◌, ◌-◌, ◌^◌, ◌++◌, length, IfOk, IfErr, OnOk, IfSome, IsErrOf, string_bytes};
 ghost use Rattle.std.specs.List.{concat};
 ghost use Rattle.std.specs.Io.KnownBytes.{Appends, Keeps};
 ghost use Rattle.tm_frame.specs.Layout.{record_length_of};
@@ -9,33 +9,33 @@ ghost use Rattle.tm_tool.specs.Faults.{FaultsCounted, WritesCounted};
 ghost use Rattle.tm_tool.specs.Listing.{IsListed, IsStopped, LineStopped, listing, record_line, rest_lines};
 ghost use Rattle.tm_tool.specs.Records.{record_count};
 
-use crate::lines::{bad_text, frame_text, short_text};
+use crate::lines::{push_bad, push_frame, push_short};
 use crate::transfer::{fill, put_all};
 use crate::{Drain, RunFault, Settings, Source};
 use std::alloc::{AllocError, Global};
 use tm_frame::{Layout, read};
 
-// The line of a record.
+// Makes the line of a record.
 #[tactic(auto, unfolding(crate::specs::Listing::record_line))]
-fn record_text(
-    alloc: Global,
+fn push_record(
+    line: &mut String,
     layout: &Layout,
     seen: u32,
     octets: &[u8],
-) -> Result<String, AllocError>
+) -> Result<(), AllocError>
     requires { length octets.now ≡ record_length_of layout.now }
-    ensures { IfOk result (λ line. string_bytes line ≡ record_line layout.now seen octets.now) }
+    ensures { OnOk result (string_bytes line.new ≡ string_bytes line.old ++ record_line layout.now seen octets.now) }
 {
     match read(layout, octets) {
-        Ok(frame) => frame_text(alloc, seen, &frame),
-        Err(fault) => bad_text(alloc, seen, fault),
+        Ok(frame) => push_frame(line, seen, &frame),
+        Err(fault) => push_bad(line, seen, fault),
     }
 }
 
 // Writes the line of a record.
 #[tactic(auto, using(crate::proofs::ListingLemmas::some_record_line))]
 fn put_record<W: Drain>(
-    alloc: Global,
+    line: &mut String,
     layout: &Layout,
     seen: u32,
     octets: &[u8],
@@ -46,20 +46,27 @@ fn put_record<W: Drain>(
     ensures stopped { IfErr result (LineStopped (W.written out.old) (W.written out.new) (record_line layout.now seen octets.now)) }
     ensures counts { WritesCounted (W.failures out.old) (W.failures out.new) result }
 {
-    let line = record_text(alloc, layout, seen, octets)?;
+    line.clear();
+    push_record(line, layout, seen, octets)?;
     put_all(out, line.as_bytes()).map_err(|_| RunFault::Write)
 }
 
 // Writes the line of a rest, if there is one, and flushes.
 #[tactic(auto, using(crate::proofs::ListingLemmas::some_rest_line))]
-fn put_end<W: Drain>(alloc: Global, seen: u32, octets: usize, out: &mut W) -> Result<(), RunFault>
+fn put_end<W: Drain>(
+    line: &mut String,
+    seen: u32,
+    octets: usize,
+    out: &mut W,
+) -> Result<(), RunFault>
     ensures whole { OnOk result (Appends (W.written out.old) (W.written out.new) (concat (rest_lines seen octets))) }
     ensures flushed { OnOk result (Keeps (W.flushed out.new) (W.written out.new)) }
     ensures stopped { IfErr result (LineStopped (W.written out.old) (W.written out.new) (concat (rest_lines seen octets))) }
     ensures counts { WritesCounted (W.failures out.old) (W.failures out.new) result }
 {
     if octets > 0 {
-        let line = short_text(alloc, seen, octets)?;
+        line.clear();
+        push_short(line, seen, octets)?;
         put_all(out, line.as_bytes()).map_err(|_| RunFault::Write)?;
     }
     out.flush().map_err(|_| RunFault::Write)
@@ -80,19 +87,20 @@ fn list_records<R: Source, W: Drain>(
     ensures stopped { IfErr result (IsStopped layout.now (R.left recording.old) (R.left recording.new) (W.written out.old) (W.written out.new)) }
     ensures counts { FaultsCounted (R.failures recording.old) (R.failures recording.new) (W.failures out.old) (W.failures out.new) result }
 {
+    let mut line = String::new(alloc);
     let mut seen = 0u32;
     loop {
         let Ok(octets) = fill(recording, buffer) else {
             return Err(RunFault::Read);
         };
         if octets < buffer.len() {
-            put_end(alloc, seen, octets, out)?;
+            put_end(&mut line, seen, octets, out)?;
             return Ok(seen);
         }
         if seen == u32::MAX {
             return Err(RunFault::TooMany);
         }
-        put_record(alloc, layout, seen, buffer, out)?;
+        put_record(&mut line, layout, seen, buffer, out)?;
         seen += 1;
     }
 }

@@ -14,13 +14,14 @@ use crate::{Key, Octets, SettingsFault};
 use std::alloc::Global;
 use std::marker::Model;
 use tm_frame::{Layout, LayoutParts};
+use tm_reassembly::Channels;
 use toml::Table;
 
 /// The settings of a recording.
 #[derive(Debug, Drop)]
 pub struct Settings {
     layout: Layout,
-    channels: [bool; 8],
+    channels: Channels,
 }
 
 impl Model for Settings {
@@ -148,5 +149,11 @@ impl Settings {
         ensures { result ≡ self.now.layout }
     {
         self.layout
+    }
+    /// The channels whose packets are wanted.
+    pub fn channels(&self) -> Channels
+        ensures { result ≡ self.now.channels }
+    {
+        self.channels
     }
 }

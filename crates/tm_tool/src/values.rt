@@ -1,13 +1,14 @@
 //! The values of the settings, one by one.
 
-ghost use Rattle.std.specs.Prelude.{◌≡◌, ◌≢◌, Err, Ok, option_map, map, nat_le, IfOk, IfErr};
-ghost use Rattle.std.specs.List.{list_all};
+ghost use Rattle.std.specs.Prelude.{◌≡◌, ◌≢◌, Err, Ok, option_map, map, IfOk, IfErr};
 ghost use Rattle.toml.specs.View.{view, items_view, table_view};
-ghost use Rattle.tm_tool.specs.Settings.{are_distinct, channel_number, channels_of, choice_of, chosen_in, every_channel, integers, is_choice, integer_between, integer_of, optional, presence_named, presence_of, required, truth_of, value_at};
+ghost use Rattle.tm_reassembly.specs.Channels.{all_channels};
+ghost use Rattle.tm_tool.specs.Settings.{channel_number, channels_at, integers, integer_between, integer_of, optional, presence_named, presence_of, required, truth_of, value_at};
 
 use crate::{Key, SettingsFault};
 use std::alloc::{AllocError, Global};
 use tm_frame::Presence;
+use tm_reassembly::Channels;
 use toml::{Table, Value};
 
 // What a document has at a key.
@@ -115,57 +116,6 @@ pub fn presence_at(table: &Table, key: Key) -> Result<Presence, SettingsFault>
 
 // ---- channels
 
-// Each number is a channel.
-fn are_channels(numbers: &[u8]) -> bool
-    ensures { result ≡ list_all (λ n. nat_le n 7) numbers.now }
-{
-    numbers.iter().all(|n| *n <= 7)
-}
-
-// No number stands twice.
-fn are_distinct(numbers: &[u8]) -> bool
-    ensures { result ≡ are_distinct numbers.now }
-{
-    match numbers {
-        [] => true,
-        [first, rest @ ..] => !rest.contains(first) && are_distinct(rest),
-    }
-}
-
-// At least one channel, and each once. Among channels the recursion ends at the ninth number.
-fn is_choice(numbers: &[u8]) -> bool
-    ensures { result ≡ is_choice numbers.now }
-{
-    !numbers.is_empty() && are_channels(numbers) && are_distinct(numbers)
-}
-
-// For each channel whether the list has it.
-fn chosen_in(numbers: &[u8]) -> [bool; 8]
-    ensures { result ≡ chosen_in numbers.now }
-{
-    [
-        numbers.contains(&0),
-        numbers.contains(&1),
-        numbers.contains(&2),
-        numbers.contains(&3),
-        numbers.contains(&4),
-        numbers.contains(&5),
-        numbers.contains(&6),
-        numbers.contains(&7),
-    ]
-}
-
-// The choice of channels that a list makes.
-fn choice_of(numbers: &[u8]) -> Option<[bool; 8]>
-    ensures { result ≡ choice_of numbers.now }
-{
-    if is_choice(numbers) {
-        Some(chosen_in(numbers))
-    } else {
-        None
-    }
-}
-
 // The channel of a number, or 8.
 fn channel_by(number: i64) -> u8
     ensures { result ≡ channel_number number }
@@ -191,15 +141,15 @@ fn channel_numbers(alloc: Global, array: &[Value]) -> Result<Option<Vec<u8>>, Al
     Ok(Some(numbers))
 }
 
-fn read_channels(alloc: Global, key: Key, value: &Value) -> Result<[bool; 8], SettingsFault>
-    ensures ok { IfOk result (λ c. channels_of key (view value.now) ≡ Ok c) }
-    ensures refused { IfErr result (λ f. f ≢ SettingsFault.NoMemory → channels_of key (view value.now) ≡ Err f) }
+fn read_channels(alloc: Global, key: Key, value: &Value) -> Result<Channels, SettingsFault>
+    ensures ok { IfOk result (λ c. channels_at key (view value.now) ≡ Ok c) }
+    ensures refused { IfErr result (λ f. f ≢ SettingsFault.NoMemory → channels_at key (view value.now) ≡ Err f) }
 {
     let Some(array) = value.as_array() else {
         return Err(SettingsFault::Kind(key));
     };
     match channel_numbers(alloc, array.as_slice()) {
-        Ok(Some(numbers)) => match choice_of(numbers.as_slice()) {
+        Ok(Some(numbers)) => match Channels::of(numbers.as_slice()) {
             Some(channels) => Ok(channels),
             None => Err(SettingsFault::Range(key)),
         },
@@ -209,13 +159,13 @@ fn read_channels(alloc: Global, key: Key, value: &Value) -> Result<[bool; 8], Se
 }
 
 /// The chosen channels, all eight where the key is absent.
-pub fn channels_at(alloc: Global, table: &Table, key: Key) -> Result<[bool; 8], SettingsFault>
-    ensures ok { IfOk result (λ c. optional every_channel (channels_of key) (value_at key (table_view table.now)) ≡ Ok c) }
+pub fn channels_at(alloc: Global, table: &Table, key: Key) -> Result<Channels, SettingsFault>
+    ensures ok { IfOk result (λ c. optional all_channels (channels_at key) (value_at key (table_view table.now)) ≡ Ok c) }
     ensures refused { IfErr result (λ f. f ≢ SettingsFault.NoMemory
-        → optional every_channel (channels_of key) (value_at key (table_view table.now)) ≡ Err f) }
+        → optional all_channels (channels_at key) (value_at key (table_view table.now)) ≡ Err f) }
 {
     match value_at(table, key) {
         Some(value) => read_channels(alloc, key, value),
-        None => Ok([true; 8]),
+        None => Ok(Channels::all()),
     }
 }

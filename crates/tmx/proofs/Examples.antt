@@ -1,9 +1,9 @@
 -- Worked examples: what the definitions say of known words.
-use Rattle.std.proofs.Common.{◌≡◌, true, List, [], ◌∷◌, Some, refl, codes}
+use Rattle.std.proofs.Common.{◌≡◌, true, List, [], ◌∷◌, Some, None, refl, codes}
 use Rattle.clap.specs.Words.{Text}
 use Rattle.clap.specs.declared.error.kind.ErrorKind.TheVariants.{MissingRequiredArgument, UnknownArgument}
 use Rattle.clap.proofs.OnLiterals.{clap_on_literals}
-use Rattle.tmx.specs.declared.request.Action.TheVariants.{Frames}
+use Rattle.tmx.specs.declared.request.Action.TheVariants.{Frames, Packets, Extract}
 use Rattle.tmx.specs.CommandLine.{faults_of, is_taken, matches_of, plan_of}
 
 words : List Text
@@ -13,14 +13,32 @@ words_taken : is_taken words ≡ true
 unfolding clap_on_literals is_taken words
 words_taken = refl
 
-words_planned : plan_of words ≡ Some (record { action = Frames; recording = Some (codes "r"); settings = Some (codes "s") })
+words_planned : plan_of words ≡ Some (record { action = Frames; recording = Some (codes "r"); settings = Some (codes "s"); report = None })
 unfolding clap_on_literals matches_of words
 words_planned = refl
+
+packets_planned : plan_of (codes "packets" ∷ codes "r" ∷ codes "--settings" ∷ codes "s" ∷ [])
+    ≡ Some (record { action = Packets; recording = Some (codes "r"); settings = Some (codes "s"); report = None })
+unfolding clap_on_literals matches_of
+packets_planned = refl
+
+report_planned : plan_of (codes "extract" ∷ codes "--settings" ∷ codes "s" ∷ codes "--report" ∷ codes "x" ∷ [])
+    ≡ Some (record { action = Extract; recording = None; settings = Some (codes "s"); report = Some (codes "x") })
+unfolding clap_on_literals matches_of
+report_planned = refl
 
 one_word_more : faults_of (codes "frames" ∷ codes "--settings" ∷ codes "s" ∷ codes "r" ∷ codes "extra" ∷ []) ≡ UnknownArgument ∷ []
 unfolding clap_on_literals faults_of
 one_word_more = refl
 
+report_of_frames : faults_of (codes "frames" ∷ codes "--settings" ∷ codes "s" ∷ codes "--report" ∷ codes "x" ∷ []) ≡ UnknownArgument ∷ []
+unfolding clap_on_literals faults_of
+report_of_frames = refl
+
 settings_missing : faults_of (codes "frames" ∷ codes "r" ∷ []) ≡ MissingRequiredArgument ∷ []
 unfolding clap_on_literals faults_of
 settings_missing = refl
+
+report_alone : faults_of (codes "extract" ∷ codes "--report" ∷ codes "x" ∷ []) ≡ MissingRequiredArgument ∷ []
+unfolding clap_on_literals faults_of
+report_alone = refl

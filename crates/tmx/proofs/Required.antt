@@ -1,6 +1,8 @@
 -- Words that give no error have a plan, with what its action needs.
-use Rattle.std.proofs.Common.{◌≡◌, ◌∙◌, ◌||◌, Bool, sym, List, [], ◌∷◌, true, false, not, refl, Option, Some, None, is_some, option_map, Result, Ok, Err, IfOk, codes, inl, inr, slice_index_or, subst, ap, Bor}
-use Rattle.std.specs.Prelude.{if◌then◌else◌}
+use Rattle.std.proofs.Common.{◌≡◌, ◌∙◌, ◌||◌, Bool, sym, List, [], ◌∷◌, true, false, not, refl, Option, Some, None, is_some, option_map, Result, Ok, Err, IfOk, codes, inl, inr, subst, Bor}
+use Rattle.std.specs.Prelude.{if◌then◌else◌, find, IfSome}
+use Rattle.std.specs.List.{AllByRecursion, list_all}
+use Rattle.std.specs.Option.{option_map_or}
 use Rattle.std.proofs.lemmas.Bool.{cases_Bool, false≢true}
 use Rattle.std.proofs.lemmas.Option.{same_Some}
 use Rattle.clap.specs.Kinds.{Kinds, FailsBy}
@@ -14,9 +16,10 @@ use Rattle.clap.specs.Takes.{is_given}
 use Rattle.clap.specs.Faults.{check_fault, entered_fault, level_fault}
 use Rattle.clap.proofs.OnLiterals.{clap_on_literals}
 use Rattle.clap.proofs.WalkLemmas.{first_value-rows}
+use Rattle.tmx.specs.declared.request.Action.{Action}
 use Rattle.tmx.specs.declared.request.Plan.{Plan}
-use Rattle.tmx.specs.CommandLine.{tmx, faults_of, matches_of, plan_of, HasRequired}
-use Rattle.tmx.proofs.Filled.{Filled, level-filled, given-first}
+use Rattle.tmx.specs.CommandLine.{tmx, action_named, faults_of, matches_of, plan_of, HasRequired}
+use Rattle.tmx.proofs.Filled.{is_sized, level-filled, given-first}
 
 -- what a getter gives is the value in the row
 pub value_in_rows : (f : Found) (id : Text) (r : Option (Bor Text)) → option_map (λ s. s.now) r ≡ first_value f id → option_map (λ s. s.now) r ≡ first_of id (rows_of f)
@@ -38,17 +41,21 @@ whole_of (Err x) a b e h = tt
 abbrev tmx_built : App
 tmx_built = built tmx
 
--- the subcommand `frames`, as it is built
-abbrev frames_shape : Shape
-frames_shape = slice_index_or tmx_built.subs 0 tmx_built.top
-
 -- the option has a value
 abbrev HasValue : Text → List Row → Type 0
 HasValue id rows = is_some (first_of id rows) ≡ true
 
--- the matches are of `frames`, and have its settings
+-- the matches are of a subcommand that names an action, and have its settings
 abbrev Reaches : Option (Text × List Row) → Type 0
-Reaches found = (rows : List Row) × (found ≡ Some (codes "frames", rows)) × HasValue (codes "settings") rows
+Reaches found =
+    (name : Text) × (rows : List Row) × (found ≡ Some (name, rows)) × (is_some (action_named name) ≡ true) × HasValue (codes "settings") rows
+
+-- ---- the subcommands
+
+-- the subcommand names an action, and its last checks ask for its settings
+abbrev IsAsking : Shape → Type 0
+IsAsking s = (list_all is_sized s.rules ≡ true) × (is_some (action_named s.name) ≡ true)
+    × ((rows : List Row) → check_fault s rows false ≡ [] → is_given (codes "settings") rows ≡ true)
 
 none_missing : (b : Bool) → (if b then MissingRequiredArgument ∷ [] else []) ≡ [] → b ≡ false
 none_missing true e = cc
@@ -58,27 +65,43 @@ given : (b : Bool) → (not b || false) ≡ false → b ≡ true
 given true e = refl
 given false e = cc
 
-settings_given : (rows : List Row) → Filled rows → check_fault frames_shape rows false ≡ [] → HasValue (codes "settings") rows
-settings_given rows f e =
-    given-first (codes "settings") rows f (given (is_given (codes "settings") rows) (none_missing (not (is_given (codes "settings") rows) || false) e))
+asked : (rows : List Row) → (if not (is_given (codes "settings") rows) || false then MissingRequiredArgument ∷ [] else []) ≡ []
+    → is_given (codes "settings") rows ≡ true
+asked rows e = given (is_given (codes "settings") rows) (none_missing (not (is_given (codes "settings") rows) || false) e)
 
-reach : (words : List Text) → level_fault frames_shape [] nothing_held words false [] ≡ [] → Reaches (Some (rows_at frames_shape words))
-reach words e =
-    let leaf = level-filled frames_shape [] words false [] refl e in
-    let rows : List Row = rows_after frames_shape.rules [] words in
-    (rows, refl, settings_given rows leaf.0 leaf.1)
+subcommands_ask : AllByRecursion IsAsking tmx_built.subs
+subcommands_ask = ((refl, refl, asked), ((refl, refl, asked), ((refl, refl, asked), tt)))
+
+find_asking : (p : Shape → Bool) (subs : List Shape) → AllByRecursion IsAsking subs → IfSome (find p subs) IsAsking
+find_asking p [] h = tt
+find_asking p (s ∷ ss) h =
+    elim (cases_Bool (p s)) [
+      | inl here ↦ rw here h.0
+      | inr more ↦ rw more (find_asking p ss h.1)
+    ]
+
+-- ---- the matches
+
+reach : (s : Shape) (words : List Text) → IsAsking s → level_fault s [] nothing_held words false [] ≡ [] → Reaches (Some (rows_at s words))
+reach s words (sized, named, asks) e =
+    let leaf = level-filled s [] words false [] sized e in
+    let rows : List Row = rows_after s.rules [] words in
+    (s.name, rows, refl, named, given-first (codes "settings") rows leaf.0 (asks rows leaf.1))
 
 wants_subcommand : (rows : List Row) (has : Bool) → check_fault tmx_built.top rows has ≡ [] → has ≡ true
 wants_subcommand rows true e = refl
 wants_subcommand rows false e = let bad : MissingSubcommand ∷ [] ≡ [] = e in cc
 
+enter_found : (o : Option Shape) (words : List Text) → IfSome o IsAsking → option_map_or (λ s. level_fault s [] nothing_held words false []) o [] ≡ []
+    → is_some (option_map (λ s. rows_at s words) o) ≡ true → Reaches (option_map (λ s. rows_at s words) o)
+enter_found None words asks e some = absurd (false≢true some)
+enter_found (Some s) words asks e some = reach s words asks e
+
 enter : (stop : Option (Text × List Text)) → entered_fault tmx_built stop ≡ [] → is_some (entered tmx_built stop) ≡ true → Reaches (entered tmx_built stop)
 enter None e some = absurd (false≢true some)
 enter (Some q) e some =
-    elim (cases_Bool (answers_to q.0 (label_of frames_shape))) [
-      | inl a ↦ rw a (reach q.1 (rw a at e))
-      | inr m ↦ absurd (false≢true (rw m at some))
-    ]
+    let chosen : Shape → Bool = λ s. answers_to q.0 (label_of s) in
+    enter_found (find chosen tmx_built.subs) q.1 (find_asking chosen tmx_built.subs subcommands_ask) e some
 
 pub reaches : (words : List Text) → faults_of words ≡ [] → Reaches (matches_of words)
 unfolding faults_of matches_of
@@ -87,8 +110,18 @@ reaches words h =
     let top = level-filled tmx_built.top (names_of tmx_built) words (is_some (entered tmx_built stop)) (entered_fault tmx_built stop) refl h in
     enter stop top.2 (wants_subcommand (rows_after tmx_built.top.rules (names_of tmx_built) words) _ top.1)
 
+-- ---- the plan
+
+planned : (f : Action → Plan) (o : Option Action) (plan : Plan) → ((action : Action) → HasRequired (f action)) → option_map f o ≡ Some plan → HasRequired plan
+planned f None plan h e = cc
+planned f (Some action) plan h e = subst HasRequired (same_Some _ _ e) (h action)
+
+planless : (f : Action → Plan) (o : Option Action) → is_some o ≡ true → option_map f o ≡ None → ⊥
+planless f None named e = false≢true named
+planless f (Some action) named e = cc
+
 pub required_by : (words : List Text) (plan : Plan) → Reaches (matches_of words) → plan_of words ≡ Some plan → HasRequired plan
-required_by words plan (rows, is, settings) e = subst HasRequired (same_Some _ _ (rw is at e)) settings
+required_by words plan (name, rows, is, named, settings) e = planned _ (action_named name) plan (λ action. settings) (rw is at e)
 
 pub some_plan : (words : List Text) → Reaches (matches_of words) → plan_of words ≡ None → ⊥
-some_plan words (rows, is, settings) e = let bad = rw is at e in false≢true (sym (ap is_some bad))
+some_plan words (name, rows, is, named, settings) e = planless _ (action_named name) named (rw is at e)

@@ -7,7 +7,7 @@ use Rattle.clap.specs.Takes.{takes}
 use Rattle.clap.specs.Faults.{fault_of}
 use Rattle.clap.specs.Kinds.{Kinds}
 use Rattle.tmx.specs.declared.request.Action.{Action}
-use Rattle.tmx.specs.declared.request.Action.TheVariants.{Frames}
+use Rattle.tmx.specs.declared.request.Action.TheVariants.{Frames, Packets, Extract}
 use Rattle.tmx.specs.declared.request.Plan.{Plan}
 
 -- ---- the command
@@ -28,11 +28,18 @@ recording_rule = record (new_rule (codes "recording")) { value_names = 1 }
 abbrev pub frames_app : App
 frames_app = with_rule (with_rule (new_app (codes "frames")) (required_rule (codes "settings"))) recording_rule
 
--- the whole command, of the words after the program's name, one of whose subcommands has to be there
+-- `NAME --settings FILE [--report FILE] [RECORDING]`
+abbrev pub reported_app : Text → App
+reported_app name = with_rule (with_rule (with_rule (new_app name) (required_rule (codes "settings"))) (option_rule (codes "report"))) recording_rule
+
+-- without a subcommand, of the words after the program's name
+abbrev pub bare : App
+bare = on_top (λ s. record s { no_binary_name = true; disable_help_subcommand = true; subcommand_required = true }) (new_app (codes "tmx"))
+
+-- the whole command, one of whose subcommands has to be there
 abbrev pub tmx : App
-tmx = with_subcommand
-    (on_top (λ s. record s { no_binary_name = true; disable_help_subcommand = true; subcommand_required = true }) (new_app (codes "tmx")))
-    frames_app.top
+tmx = with_subcommand (with_subcommand (with_subcommand bare frames_app.top) (reported_app (codes "packets")).top)
+    (reported_app (codes "extract")).top
 
 -- ---- what `clap` makes of the words
 
@@ -51,7 +58,10 @@ matches_of words = subcommand_of tmx words
 -- ---- what the matches say
 
 abbrev pub action_named : Text → Option Action
-action_named word = if bytes_eq word (codes "frames") then Some Frames else None
+action_named word =
+    if bytes_eq word (codes "frames") then Some Frames
+    else (if bytes_eq word (codes "packets") then Some Packets
+    else (if bytes_eq word (codes "extract") then Some Extract else None))
 
 -- the plan of a subcommand and its matches
 abbrev pub plan_in : Text × List Row → Option Plan
@@ -59,6 +69,7 @@ plan_in p = option_map (λ action. record {
   action = action;
   recording = first_of (codes "recording") p.1;
   settings = first_of (codes "settings") p.1;
+  report = first_of (codes "report") p.1;
 }) (action_named p.0)
 
 -- the plan of the words

@@ -51,6 +51,7 @@ settings_text settings.NoMemory = out_of_memory
 abbrev pub run_text : RunFault → List ℕ
 run_text run.Read = codes "tmx: read failed\n"
 run_text run.Write = codes "tmx: write failed\n"
+run_text run.Report = codes "tmx: report failed\n"
 run_text run.TooMany = codes "tmx: too many records\n"
 run_text run.NoMemory = out_of_memory
 
@@ -73,5 +74,6 @@ status_of (tool.File name) = 1
 status_of (tool.TooLong name) = 2
 status_of (tool.Run run.Read) = 1
 status_of (tool.Run run.Write) = 1
+status_of (tool.Run run.Report) = 1
 status_of (tool.Run run.TooMany) = 1
 status_of (tool.Run run.NoMemory) = 3

@@ -1,9 +1,9 @@
 //! The command line, as `clap` reads it.
 
-ghost use Rattle.std.specs.Prelude.{◌≡◌, IfOk, false};
+ghost use Rattle.std.specs.Prelude.{◌≡◌, IfOk, codes, false};
 ghost use Rattle.clap.specs.Words.{app_of, rule_of};
 ghost use Rattle.clap.specs.declared.builder.command.Command.TheViews.{out-Command as fields_of};
-ghost use Rattle.tmx.specs.CommandLine.{frames_app, option_rule, recording_rule, required_rule, tmx};
+ghost use Rattle.tmx.specs.CommandLine.{bare, frames_app, option_rule, recording_rule, reported_app, required_rule, tmx};
 
 use clap::{Arg, Command};
 use std::alloc::{AllocError, Global};
@@ -24,6 +24,24 @@ fn required<'a>(alloc: Global, name: &'a str, value: &'a str) -> Arg<'a>
     option(alloc, name, value).required(true)
 }
 
+// `--settings FILE`.
+fn settings_option<'a>(alloc: Global) -> Arg<'a>
+    ensures rule { rule_of result ≡ required_rule (codes "settings") }
+    ensures local { result.global ≡ false }
+{
+    required(alloc, "settings", "FILE").help("The settings of the recording: a TOML file")
+}
+
+// `--report FILE`.
+fn report_option<'a>(alloc: Global) -> Arg<'a>
+    ensures rule { rule_of result ≡ option_rule (codes "report") }
+    ensures local { result.global ≡ false }
+{
+    option(alloc, "report", "FILE").help(
+        "The report of what is bad or lost; standard error if it is left out",
+    )
+}
+
 // RECORDING.
 fn recording_word<'a>(alloc: Global) -> Arg<'a>
     ensures rule { rule_of result ≡ recording_rule }
@@ -39,18 +57,55 @@ fn frames_command<'a>(alloc: Global) -> Result<Command<'a>, AllocError>
     ensures app { IfOk result (λ c. app_of c ≡ frames_app) }
     ensures local { IfOk result (λ c. (fields_of c).has_globals ≡ false) }
 {
-    let settings = required(alloc, "settings", "FILE").help(
-        "The settings of the recording: a TOML file",
-    );
     Command::new(alloc, "frames")
         .about("Lists the frames: one line for each record of the recording")
-        .arg(settings)?
+        .arg(settings_option(alloc))?
         .arg(recording_word(alloc))
 }
 
-/// The whole command, for the words after the program's name.
-pub fn tmx_command<'a>(alloc: Global) -> Result<Command<'a>, AllocError>
-    ensures app { IfOk result (λ c. app_of c ≡ tmx) }
+// A subcommand of this name that gives a report.
+fn reported_command<'a>(
+    alloc: Global,
+    name: &'a str,
+    about: &'a str,
+) -> Result<Command<'a>, AllocError>
+    ensures app { IfOk result (λ c. app_of c ≡ reported_app name.entry.now) }
+    ensures local { IfOk result (λ c. (fields_of c).has_globals ≡ false) }
+{
+    Command::new(alloc, name)
+        .about(about)
+        .arg(settings_option(alloc))?
+        .arg(report_option(alloc))?
+        .arg(recording_word(alloc))
+}
+
+// `tmx packets`.
+fn packets_command<'a>(alloc: Global) -> Result<Command<'a>, AllocError>
+    ensures app { IfOk result (λ c. app_of c ≡ reported_app (codes "packets")) }
+    ensures local { IfOk result (λ c. (fields_of c).has_globals ≡ false) }
+{
+    reported_command(
+        alloc,
+        "packets",
+        "Lists the packets of the chosen channels: one line for each",
+    )
+}
+
+// `tmx extract`.
+fn extract_command<'a>(alloc: Global) -> Result<Command<'a>, AllocError>
+    ensures app { IfOk result (λ c. app_of c ≡ reported_app (codes "extract")) }
+    ensures local { IfOk result (λ c. (fields_of c).has_globals ≡ false) }
+{
+    reported_command(
+        alloc,
+        "extract",
+        "Extracts the packets of the chosen channels: their octets, with nothing between them",
+    )
+}
+
+// `tmx`, without its subcommands.
+fn bare_command<'a>(alloc: Global) -> Result<Command<'a>, AllocError>
+    ensures app { IfOk result (λ c. app_of c ≡ bare) }
     ensures local { IfOk result (λ c. (fields_of c).has_globals ≡ false) }
 {
     Command::new(alloc, "tmx")
@@ -58,6 +113,16 @@ pub fn tmx_command<'a>(alloc: Global) -> Result<Command<'a>, AllocError>
         .no_binary_name(true)
         .disable_help_subcommand(true)
         .subcommand_required(true)
-        .bin_name("tmx")?
-        .subcommand(frames_command(alloc)?)
+        .bin_name("tmx")
+}
+
+/// The whole command, for the words after the program's name.
+pub fn tmx_command<'a>(alloc: Global) -> Result<Command<'a>, AllocError>
+    ensures app { IfOk result (λ c. app_of c ≡ tmx) }
+    ensures local { IfOk result (λ c. (fields_of c).has_globals ≡ false) }
+{
+    bare_command(alloc)?
+        .subcommand(frames_command(alloc)?)?
+        .subcommand(packets_command(alloc)?)?
+        .subcommand(extract_command(alloc)?)
 }

@@ -27,7 +27,7 @@ pub enum ToolFault {
     Usage(UsageFault),
     /// The settings' file is no settings.
     Settings(SettingsFault),
-    /// The file of this name can't be opened or read.
+    /// The file of this name can't be opened, made or read.
     File(Octets),
     /// The file of this name is over 1,048,576 octets.
     TooLong(Octets),

@@ -1,4 +1,4 @@
-//! Files that are read whole.
+//! Files that are opened by their names, and files that are read whole.
 
 ghost use Rattle.std.specs.Prelude.{◌≡◌, ◌<◌, ◌≤◌, length, vec_len, IfOk, IfErr, IfSome, MatchOption};
 ghost use Rattle.tmx.specs.Files.{IsFaultOf};
@@ -40,8 +40,8 @@ fn copied(alloc: Global, name: &Octets) -> Option<Octets>
     }
 }
 
-// The fault of a file that can't be opened or read.
-fn file_fault(alloc: Global, name: &Octets) -> ToolFault
+/// The fault of a file that can't be opened, made or read.
+pub fn file_fault(alloc: Global, name: &Octets) -> ToolFault
     ensures { IsFaultOf name.now result }
 {
     match copied(alloc, name) {
@@ -50,14 +50,31 @@ fn file_fault(alloc: Global, name: &Octets) -> ToolFault
     }
 }
 
+// The path that a file's name is.
+fn path_of<'n>(alloc: Global, name: &'n Octets) -> Result<&'n str, ToolFault>
+    ensures { IfErr result (IsFaultOf name.now) }
+{
+    match std::str::from_utf8(name.as_slice()) {
+        Ok(path) => Ok(path),
+        Err(_) => Err(file_fault(alloc, name)),
+    }
+}
+
 /// Opens a file for reading. A fault names the file as it was given.
 pub fn open<R: Files + AllocGlobal>(rt: &R, name: &Octets) -> Result<R::File, ToolFault>
     ensures { IfErr result (IsFaultOf name.now) }
 {
-    let Ok(path) = std::str::from_utf8(name.as_slice()) else {
-        return Err(file_fault(rt.alloc(), name));
-    };
-    match File::open(rt, path) {
+    match File::open(rt, path_of(rt.alloc(), name)?) {
+        Ok(file) => Ok(file),
+        Err(_) => Err(file_fault(rt.alloc(), name)),
+    }
+}
+
+/// Opens a file for writing, made where it is not there, and empty from then on. A fault names the file as it was given.
+pub fn create<R: Files + AllocGlobal>(rt: &R, name: &Octets) -> Result<R::File, ToolFault>
+    ensures { IfErr result (IsFaultOf name.now) }
+{
+    match File::create(rt, path_of(rt.alloc(), name)?) {
         Ok(file) => Ok(file),
         Err(_) => Err(file_fault(rt.alloc(), name)),
     }

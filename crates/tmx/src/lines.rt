@@ -64,6 +64,7 @@ fn run_line(fault: RunFault) -> &'static str
     match fault {
         RunFault::Read => "tmx: read failed\n",
         RunFault::Write => "tmx: write failed\n",
+        RunFault::Report => "tmx: report failed\n",
         RunFault::TooMany => "tmx: too many records\n",
         RunFault::NoMemory => "tmx: out of memory\n",
     }
@@ -92,7 +93,8 @@ pub fn status(fault: &ToolFault) -> u8
         ToolFault::Usage(UsageFault::NoMemory)
         | ToolFault::Settings(SettingsFault::NoMemory)
         | ToolFault::Run(RunFault::NoMemory) => 3,
-        ToolFault::File(_) | ToolFault::Run(RunFault::Read | RunFault::Write | RunFault::TooMany) =>
+        ToolFault::File(_)
+        | ToolFault::Run(RunFault::Read | RunFault::Write | RunFault::Report | RunFault::TooMany) =>
             1,
         ToolFault::Usage(UsageFault::Usage(_)) | ToolFault::Settings(_) | ToolFault::TooLong(_) =>
             2,

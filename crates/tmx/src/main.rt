@@ -6,6 +6,7 @@ mod escape;
 mod fault;
 mod files;
 mod lines;
+mod report;
 mod request;
 mod run;
 #[cfg(test)]
@@ -46,7 +47,7 @@ fn help(rt: &HostRuntime, fault: &ToolFault) -> ExitCode {
 }
 
 fn main(rt: HostRuntime) -> ExitCode {
-    match run(&rt) {
+    match run(&rt, rt.stderr()) {
         Ok(()) => ExitCode::SUCCESS,
         Err(fault) if matches!(&fault, ToolFault::Usage(UsageFault::Help(_))) => help(&rt, &fault),
         Err(fault) => refuse(&rt, &fault),

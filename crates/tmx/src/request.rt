@@ -7,6 +7,10 @@ use tm_tool::Octets;
 pub enum Action {
     /// List the frames.
     Frames,
+    /// List the packets.
+    Packets,
+    /// Give the packets' octets.
+    Extract,
 }
 
 /// What the words ask for. Texts are the octets of their UTF-8.
@@ -17,6 +21,8 @@ pub struct Plan {
     pub recording: Option<Octets>,
     /// The settings' file, which each action needs.
     pub settings: Option<Octets>,
+    /// The report's file; standard error where it is absent.
+    pub report: Option<Octets>,
 }
 
 /// Why the words are no plan.

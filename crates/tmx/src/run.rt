@@ -1,16 +1,23 @@
-//! The order of steps: command line, settings, recording, run.
+//! The order of steps: command line, settings, recording, report, run.
 
 use crate::fault::ToolFault;
-use crate::files::{open, read_file};
-use crate::request::{Action, UsageFault};
+use crate::files::{create, file_fault, open, read_file};
+use crate::report::Report;
+use crate::request::{Action, Plan, UsageFault};
 use crate::words::plan;
+use std::alloc::Global;
 use std::env;
-use std::io::{self, BufReader, BufWriter, ErrorKind, Read};
+use std::io::{self, BufReader, BufWriter, ErrorKind, Read, Write};
 use std::rt::{Env, Files};
-use tm_tool::{Octets, Reading, RunFault, Settings, Writing, list_frames};
+use tm_tool::{
+    Command, Ending, Job, Octets, Reading, RunFault, Settings, Writing, list_frames, run as run_job,
+};
 
 // The octets of the buffers behind the recording and before the output.
 const BUFFER: usize = 262_144;
+
+// The octets of the buffer before the report.
+const REPORT_BUFFER: usize = 65_536;
 
 const NOT_TEXT: &str =
     "error: the arguments are not UTF-8\n\nFor more information, try '--help'.\n";
@@ -33,6 +40,26 @@ fn words<R: Env + AllocGlobal>(rt: &R) -> Result<Vec<String>, ToolFault> {
     }
 }
 
+// A source over a buffer behind the recording.
+fn source<S: Read + Drop>(alloc: Global, recording: S) -> Result<Reading<BufReader<S>>, ToolFault> {
+    match BufReader::with_capacity(alloc, BUFFER, recording) {
+        Ok(reader) => Ok(Reading::new(reader)),
+        Err(_) => Err(no_memory()),
+    }
+}
+
+// A drain into a buffer of this many octets before the writer. What is in the buffer is written when the drain is let go, too.
+fn drain<W: Write + Drop>(
+    alloc: Global,
+    octets: usize,
+    writer: W,
+) -> Result<Writing<BufWriter<W>>, ToolFault> {
+    match BufWriter::with_capacity(alloc, octets, writer) {
+        Ok(writer) => Ok(Writing::new(writer)),
+        Err(_) => Err(no_memory()),
+    }
+}
+
 // Lists the frames of a recording on standard output.
 fn list<R: Print + AllocGlobal, S: Read + Drop>(
     rt: &R,
@@ -40,30 +67,92 @@ fn list<R: Print + AllocGlobal, S: Read + Drop>(
     recording: S,
 ) -> Result<(), ToolFault> {
     let alloc = rt.alloc();
-    let Ok(input) = BufReader::with_capacity(alloc, BUFFER, recording) else {
-        return Err(no_memory());
-    };
-    let Ok(output) = BufWriter::with_capacity(alloc, BUFFER, io::writer(rt)) else {
-        return Err(no_memory());
-    };
-    let mut source = Reading::new(input);
-    let mut out = Writing::new(output);
+    let mut source = source(alloc, recording)?;
+    let mut out = drain(alloc, BUFFER, io::writer(rt))?;
     match list_frames(alloc, settings, &mut source, &mut out) {
         Ok(_) => Ok(()),
         Err(fault) => Err(ToolFault::Run(fault)),
     }
 }
 
-/// Does what the command line asks for.
-pub fn run<R: Files + Env + Input + Print + AllocGlobal>(rt: &R) -> Result<(), ToolFault> {
+// Gives the packets of a recording on standard output.
+fn give_packets<R: Print + AllocGlobal, S: Read + Drop, V: Write + Drop>(
+    rt: &R,
+    settings: &Settings,
+    command: Command,
+    recording: S,
+    report: V,
+) -> Result<(), ToolFault> {
+    let alloc = rt.alloc();
+    let mut source = source(alloc, recording)?;
+    let mut out = drain(alloc, BUFFER, io::writer(rt))?;
+    let mut report = drain(alloc, REPORT_BUFFER, report)?;
+    let Ok(job) = Job::new(alloc, settings) else {
+        return Err(no_memory());
+    };
+    match run_job(
+        alloc,
+        job,
+        command,
+        &mut source,
+        &mut out,
+        &mut report,
+        Ending::Close,
+    ) {
+        Ok(_) => Ok(()),
+        Err(fault) => Err(ToolFault::Run(fault)),
+    }
+}
+
+// A file of this name is read, and so must not be emptied for the report.
+fn is_read(plan: &Plan, name: &Octets) -> bool {
+    let is_it = |file: &Octets| file.as_slice() == name.as_slice();
+    plan.recording.as_ref().is_some_and(is_it) || plan.settings.as_ref().is_some_and(is_it)
+}
+
+// Where the plan wants the report.
+fn report_by<R: Files + AllocGlobal, E: Write + Drop>(
+    rt: &R,
+    plan: &Plan,
+    errors: E,
+) -> Result<Report<R::File, E>, ToolFault> {
+    match &plan.report {
+        Some(name) if is_read(plan, name) => Err(file_fault(rt.alloc(), name)),
+        Some(name) => Ok(Report::File(create(rt, name)?)),
+        None => Ok(Report::Errors(errors)),
+    }
+}
+
+// Does what the plan asks for with the recording.
+fn run_on<R: Files + Print + AllocGlobal, S: Read + Drop, E: Write + Drop>(
+    rt: &R,
+    plan: &Plan,
+    settings: &Settings,
+    recording: S,
+    errors: E,
+) -> Result<(), ToolFault> {
+    let command = match plan.action {
+        Action::Frames => return list(rt, settings, recording),
+        Action::Packets => Command::Packets,
+        Action::Extract => Command::Extract,
+    };
+    let report = report_by(rt, plan, errors)?;
+    give_packets(rt, settings, command, recording, report)
+}
+
+/// Does what the command line asks for. A report that has no file goes to `errors`, all of it before this returns.
+pub fn run<R: Files + Env + Input + Print + AllocGlobal, E: Write + Drop>(
+    rt: &R,
+    errors: E,
+) -> Result<(), ToolFault> {
     let plan = plan(rt.alloc(), words(rt)?).map_err(ToolFault::Usage)?;
     let Some(name) = &plan.settings else {
         unreachable!();
     };
     let octets = read_file(rt, name)?;
     let settings = Settings::read(rt.alloc(), octets.as_slice()).map_err(ToolFault::Settings)?;
-    match (plan.action, &plan.recording) {
-        (Action::Frames, Some(name)) => list(rt, &settings, open(rt, name)?),
-        (Action::Frames, None) => list(rt, &settings, rt.reader()),
+    match &plan.recording {
+        Some(name) => run_on(rt, &plan, &settings, open(rt, name)?, errors),
+        None => run_on(rt, &plan, &settings, rt.reader(), errors),
     }
 }

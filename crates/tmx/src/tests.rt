@@ -36,6 +36,22 @@ fn command_words(rt: HostRuntime) -> Result<(), Fail> {
     assert_eq!(rt; settings.as_slice(), b"s".as_slice());
     let recording = plan.recording.as_ref().ok_or("recording")?;
     assert_eq!(rt; recording.as_slice(), b"r".as_slice());
+    assert!(rt; plan.report.is_none());
+    let words = ["extract", "--settings", "s", "--report", "r", "x"];
+    let Ok(plan) = planned(rt.alloc(), &words)? else {
+        return Ok(assert!(rt; false));
+    };
+    assert_eq!(rt; plan.action, Action::Extract);
+    let report = plan.report.as_ref().ok_or("report")?;
+    assert_eq!(rt; report.as_slice(), b"r".as_slice());
+    let recording = plan.recording.as_ref().ok_or("recording")?;
+    assert_eq!(rt; recording.as_slice(), b"x".as_slice());
+    let Ok(plan) = planned(rt.alloc(), &["packets", "--settings", "s"])? else {
+        return Ok(assert!(rt; false));
+    };
+    assert_eq!(rt; plan.action, Action::Packets);
+    assert!(rt; plan.report.is_none());
+    assert!(rt; plan.recording.is_none());
     Ok(())
 }
 
@@ -52,17 +68,27 @@ fn texts_of_usage_and_help(rt: HostRuntime) -> Result<(), Fail> {
     let Err(UsageFault::Usage(_)) = planned(alloc, &["split", "--settings", "s"])? else {
         return Ok(assert!(rt; false));
     };
+    let words = ["frames", "--settings", "s", "--report", "r"];
+    let Err(UsageFault::Usage(_)) = planned(alloc, &words)? else {
+        return Ok(assert!(rt; false));
+    };
     let Err(UsageFault::Help(text)) = planned(alloc, &["--help"])? else {
         return Ok(assert!(rt; false));
     };
     let wanted =
-        "Reads recordings of TM transfer frames (CCSDS 132.0-B-3)\n\nUsage: tmx <COMMAND>\n\nCommands:\n  frames  Lists the frames: one line for each record of the recording\n\nOptions:\n  -h, --help  Print help\n";
+        "Reads recordings of TM transfer frames (CCSDS 132.0-B-3)\n\nUsage: tmx <COMMAND>\n\nCommands:\n  frames   Lists the frames: one line for each record of the recording\n  packets  Lists the packets of the chosen channels: one line for each\n  extract  Extracts the packets of the chosen channels: their octets, with nothing between them\n\nOptions:\n  -h, --help  Print help\n";
     assert_eq!(rt; text.as_slice(), wanted.as_bytes());
     let Err(UsageFault::Help(text)) = planned(alloc, &["frames", "--help"])? else {
         return Ok(assert!(rt; false));
     };
     let wanted =
         "Lists the frames: one line for each record of the recording\n\nUsage: tmx frames --settings <FILE> [RECORDING]\n\nArguments:\n  [RECORDING]  The recording; standard input if it is left out\n\nOptions:\n      --settings <FILE>  The settings of the recording: a TOML file\n  -h, --help             Print help\n";
+    assert_eq!(rt; text.as_slice(), wanted.as_bytes());
+    let Err(UsageFault::Help(text)) = planned(alloc, &["packets", "--help"])? else {
+        return Ok(assert!(rt; false));
+    };
+    let wanted =
+        "Lists the packets of the chosen channels: one line for each\n\nUsage: tmx packets [OPTIONS] --settings <FILE> [RECORDING]\n\nArguments:\n  [RECORDING]  The recording; standard input if it is left out\n\nOptions:\n      --settings <FILE>  The settings of the recording: a TOML file\n      --report <FILE>    The report of what is bad or lost; standard error if it is left out\n  -h, --help             Print help\n";
     assert_eq!(rt; text.as_slice(), wanted.as_bytes());
     Ok(())
 }
@@ -108,6 +134,7 @@ fn lines_and_statuses(rt: HostRuntime) -> Result<(), Fail> {
         ),
         (ToolFault::Run(RunFault::Read), "tmx: read failed\n", 1),
         (ToolFault::Run(RunFault::Write), "tmx: write failed\n", 1),
+        (ToolFault::Run(RunFault::Report), "tmx: report failed\n", 1),
         (
             ToolFault::Run(RunFault::TooMany),
             "tmx: too many records\n",

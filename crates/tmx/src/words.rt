@@ -32,10 +32,11 @@ fn value_of(alloc: Global, matches: &ArgMatches<'_>, id: &str) -> Result<Option<
 fn action_by_name(name: &str) -> Option<Action>
     ensures { result ≡ action_named name.now }
 {
-    if name == "frames" {
-        Some(Action::Frames)
-    } else {
-        None
+    match name {
+        "frames" => Some(Action::Frames),
+        "packets" => Some(Action::Packets),
+        "extract" => Some(Action::Extract),
+        _ => None,
     }
 }
 
@@ -52,10 +53,12 @@ fn plan_within(
     };
     let recording = value_of(alloc, matches, "recording")?;
     let settings = value_of(alloc, matches, "settings")?;
+    let report = value_of(alloc, matches, "report")?;
     Ok(Some(Plan {
         action,
         recording,
         settings,
+        report,
     }))
 }
 
@@ -97,8 +100,9 @@ fn matches_by<'a>(alloc: Global, words: &'a [String]) -> Result<ArgMatches<'a>, 
     tmx_command(alloc)?.try_get_matches_from(words)
 }
 
-/// What the words after the program's name ask for: `frames --settings FILE [RECORDING]`. Other words
-/// are `Usage`, `--help` is `Help`, each with a text to print.
+/// What the words after the program's name ask for: `frames --settings FILE [RECORDING]`, or `packets` or
+/// `extract` with `--settings FILE [--report FILE] [RECORDING]`. Other words are `Usage`, `--help` is
+/// `Help`, each with a text to print.
 pub fn plan(alloc: Global, words: Vec<String>) -> Result<Plan, UsageFault>
     // A plan is what `clap`'s matches of the words say, with what its action needs, and comes only for words in
     // which `clap` finds nothing wrong.

@@ -1,6 +1,6 @@
 use Rattle.std.proofs.Common.{append_assoc}
 use Rattle.tm_tool.specs.Lines.{frame_line}
-use Rattle.tm_tool.proofs.lines.frame_text.Goals as goal
+use Rattle.tm_tool.proofs.lines.push_frame.Goals as goal
 
 pub returns : goal.returns
 unfolding frame_line
@@ -20,4 +20,4 @@ returns c =
       c.order_flag.ensures,
       c.segment-segment.ensures.value,
       c.field.ensures.value,
-    ) at c.format.ensures.ok
+    ) at c.write.ensures.bytes

@@ -1,0 +1,88 @@
+-- Worked examples: what the definitions say is written of known recordings.
+use Rattle.std.proofs.Common.{◌≡◌, ℕ, ◌-◌, ◌/◌, ◌%◌, false, List, [], ◌∷◌, ◌++◌, take, drop, refl}
+use Rattle.std.specs.Prelude.{replicate}
+use Rattle.tm_bits.specs.Bits.{bits_of, low_bits, number, part}
+use Rattle.tm_frame.specs.declared.layout.LayoutParts.{LayoutParts}
+use Rattle.tm_frame.specs.declared.layout.Presence.TheVariants.{Flag}
+use Rattle.tm_frame.specs.Fault.{fault_of}
+use Rattle.tm_packet.specs.declared.header.Flags.TheVariants.{Unsegmented}
+use Rattle.tm_packet.specs.declared.notes.Note.TheVariants as note
+use Rattle.tm_packet.specs.declared.notes.Why.TheVariants as why
+use Rattle.tm_packet.specs.Header.{Fields}
+use Rattle.tm_packet.specs.Merge.{no_entries}
+use Rattle.tm_reassembly.specs.declared.items.Reason.TheVariants as reason
+use Rattle.tm_reassembly.specs.Channels.{all_channels}
+use Rattle.tm_reassembly.specs.Recording.{items, after}
+use Rattle.tm_tool.specs.declared.job.Command.TheVariants.{Extract, Packets}
+use Rattle.tm_tool.specs.Jobs.{begun}
+use Rattle.tm_tool.specs.Lines.{drop_line, note_line, packet_line, short_line}
+use Rattle.tm_tool.specs.Outputs.{outs, reports}
+use Rattle.tm_tool.specs.Pieces.{Work, line_of, noted, notes_of, pieces, report_of, text_of, unclosed_piece}
+use Rattle.tm_tool.specs.Records.{records, rest_of}
+
+-- frames of so many octets of spacecraft 42: a data field has six fewer
+layout : ℕ → LayoutParts
+layout n = record { frame_length = n; skip_before = 0; skip_after = 0; spacecraft = 42; secondary = Flag; ocf = Flag; error_control = false }
+
+-- a job before any record, of all channels
+job : ℕ → Work
+job n = begun (record { layout = layout n; channels = all_channels })
+
+fifty_fives : ℕ → List ℕ
+fifty_fives n = replicate n 0x55
+
+-- a packet of n octets of application 100 with this count, and octets of it from one up to, not with, another
+packet : ℕ → ℕ → List ℕ
+packet n count = 0 ∷ 100 ∷ 0xC0 ∷ count ∷ (n - 7) / 256 ∷ (n - 7) % 256 ∷ fifty_fives (n - 6)
+
+cut : ℕ → ℕ → List ℕ → List ℕ
+cut from to octets = take (to - from) (drop from octets)
+
+-- the header of an unsegmented packet of application 100 with this count
+header : ℕ → ℕ → Fields
+header count data_length = record {
+  telecommand = false;
+  secondary = false;
+  application = 100;
+  flags = Unsegmented;
+  count = count;
+  data_length = data_length;
+}
+
+two_packets : outs (pieces (text_of Packets) (job 24) (0x02 ∷ 0xA0 ∷ 0x00 ∷ 0x00 ∷ 0x18 ∷ 0x00 ∷ (packet 7 0 ++ packet 11 1)))
+    ≡ packet_line 0 0 0 0 (header 0 0) 7 ++ (packet_line 0 0 0 7 (header 1 4) 11 ++ [])
+unfolding pieces records rest_of items after text_of noted no_entries header layout job fifty_fives packet cut fault_of part number bits_of low_bits
+two_packets = refl
+
+pointer_drop_and_sequence_gap : reports (pieces (text_of Extract) (job 24)
+    ((0x02 ∷ 0xA0 ∷ 0x00 ∷ 0x00 ∷ 0x18 ∷ 0x00 ∷ (packet 10 0 ++ cut 0 8 (packet 14 1)))
+    ++ (0x02 ∷ 0xA0 ∷ 0x01 ∷ 0x01 ∷ 0x18 ∷ 0x08 ∷ (fifty_fives 8 ++ packet 10 2))))
+    ≡ drop_line 1 0 0 10 8 reason.Pointer ++ (drop_line 1 0 1 0 8 reason.Pointer ++ ((note_line 1 0 100 (note.Gap 1 2 1) ++ []) ++ []))
+unfolding pieces records rest_of items after text_of report_of line_of noted notes_of no_entries unclosed_piece layout job fifty_fives packet cut fault_of part number bits_of low_bits
+pointer_drop_and_sequence_gap = refl
+
+groups : reports (pieces (text_of Extract) (job 27)
+    ((0x02 ∷ 0xA0 ∷ 0x00 ∷ 0x00 ∷ 0x18 ∷ 0x00
+    ∷ (0x00 ∷ 0x64 ∷ 0x40 ∷ 0x05 ∷ 0x00 ∷ 0x00 ∷ 0x55 ∷ 0x00 ∷ 0x64 ∷ 0x00 ∷ 0x06 ∷ 0x00 ∷ 0x00 ∷ 0x55 ∷ 0x00 ∷ 0x64 ∷ 0x80 ∷ 0x07 ∷ 0x00 ∷ 0x00 ∷ 0x55 ∷ []))
+    ++ ((0x02 ∷ 0xA0 ∷ 0x01 ∷ 0x01 ∷ 0x18 ∷ 0x00 ∷ (0x00 ∷ 0x64 ∷ 0x40 ∷ 0x08 ∷ 0x00 ∷ 0x00 ∷ 0x55 ∷ packet 14 9))
+    ++ (0x02 ∷ 0xA0 ∷ 0x02 ∷ 0x02 ∷ 0x18 ∷ 0x00 ∷ (0x00 ∷ 0x64 ∷ 0x40 ∷ 0x0A ∷ 0x00 ∷ 0x00 ∷ 0x55 ∷ 0x07 ∷ 0xFF ∷ 0xC0 ∷ 0x00 ∷ 0x00 ∷ 0x07 ∷ fifty_fives 8)))))
+    ≡ (note_line 0 0 100 (note.Whole 5 7) ++ [])
+    ++ ((note_line 1 0 100 (note.Broken 8 8 why.Unsegmented) ++ []) ++ (note_line 3 0 100 (note.Broken 10 10 why.Close) ++ []))
+unfolding pieces records rest_of items after text_of report_of line_of noted notes_of no_entries unclosed_piece layout job fifty_fives packet cut fault_of part number bits_of low_bits
+groups = refl
+
+short_rest : reports (pieces (text_of Extract) (job 24)
+    ((0x02 ∷ 0xA0 ∷ 0x00 ∷ 0x00 ∷ 0x18 ∷ 0x00 ∷ cut 0 18 (packet 26 0))
+    ++ ((0x02 ∷ 0xA2 ∷ 0x01 ∷ 0x00 ∷ 0x18 ∷ 0x00 ∷ cut 0 18 (packet 22 0)) ++ replicate 10 0)))
+    ≡ short_line 2 10 ++ (drop_line 2 0 0 0 18 reason.Close ++ (drop_line 2 1 1 0 18 reason.Close ++ []))
+unfolding pieces records rest_of items after text_of report_of line_of noted notes_of no_entries unclosed_piece layout job fifty_fives packet cut fault_of part number bits_of low_bits
+short_rest = refl
+
+two_channels : outs (pieces (text_of Extract) (job 24)
+    ((0x02 ∷ 0xA0 ∷ 0x00 ∷ 0x00 ∷ 0x18 ∷ 0x00 ∷ cut 0 18 (packet 26 0))
+    ++ ((0x02 ∷ 0xA2 ∷ 0x01 ∷ 0x00 ∷ 0x18 ∷ 0x00 ∷ cut 0 18 (packet 22 0))
+    ++ ((0x02 ∷ 0xA2 ∷ 0x02 ∷ 0x01 ∷ 0x18 ∷ 0x04 ∷ (cut 18 22 (packet 22 0) ++ packet 14 1))
+    ++ (0x02 ∷ 0xA0 ∷ 0x03 ∷ 0x01 ∷ 0x18 ∷ 0x08 ∷ (cut 18 26 (packet 26 0) ++ packet 10 1))))))
+    ≡ packet 22 0 ++ (packet 14 1 ++ (packet 26 0 ++ packet 10 1))
+unfolding pieces records rest_of items after text_of noted no_entries layout job fifty_fives packet cut fault_of part number bits_of low_bits
+two_channels = refl

@@ -1,0 +1,80 @@
+-- What was read and written when a run ended. Of a source that doesn't tell its octets nothing is said of what was read.
+use Rattle.std.specs.Prelude.{◌≡◌, ◌⊎◌, ◌<◌, ◌+◌, ◌-◌, ◌^◌, ℕ, Bool, List, [], ◌∷◌, ◌++◌, length, Option}
+use Rattle.std.specs.List.{concat}
+use Rattle.std.specs.Io.KnownBytes.{Consumes, IsAtEnd}
+use Rattle.tm_frame.specs.Layout.{record_length_of}
+use Rattle.tm_reassembly.specs.Item.{Item}
+use Rattle.tm_tool.specs.declared.fault.RunFault.{RunFault}
+use Rattle.tm_tool.specs.declared.fault.RunFault.TheVariants.{Read, Write, Report, TooMany, NoMemory}
+use Rattle.tm_tool.specs.Outputs.{View, Took, Stopped}
+use Rattle.tm_tool.specs.Pieces.{Work, worked, record_pieces, closing_pieces, pieces_after}
+use Rattle.tm_tool.specs.Records.{AreRecords}
+
+-- these records were read, and then these octets
+pub record HasRead (size : ℕ) (left_old left_new : Option (List ℕ)) (read : List (List ℕ)) (part : List ℕ) : Type 0 where
+  pub sized : AreRecords size read
+  pub octets : Consumes left_old left_new (concat read ++ part)
+
+-- these records were read, and then less than a record to the end
+pub record HasReadAll (size : ℕ) (left_old left_new : Option (List ℕ)) (read : List (List ℕ)) (rest : List ℕ) : Type 0 where
+  pub octets : HasRead size left_old left_new read rest
+  pub short : length rest < size
+  pub ended : IsAtEnd left_new
+
+-- records and a closed end are written one after the other, from where the job has got
+module _ {A K : Type 0} (grows : K → K → List A → Type 0) (rows : Bool) (text : Item → List A) (w : Work) where
+  -- all was read, and all pieces written, the closed end's too
+  pub record IsRun (left_old left_new : Option (List ℕ)) (old new : View K) (count : ℕ) : Type 0 where
+    pub read : List (List ℕ)
+    pub rest : List ℕ
+    pub all : HasReadAll (record_length_of w.layout) left_old left_new read rest
+    pub count_is : count ≡ w.state.records + length read
+    pub took : Took grows old new (pieces_after text w read (length rest))
+
+  -- a read failed in a record: the pieces of every whole record before it are written
+  pub record StopsAtRead (left_old left_new : Option (List ℕ)) (old new : View K) : Type 0 where
+    pub read : List (List ℕ)
+    pub part : List ℕ
+    pub octets : HasRead (record_length_of w.layout) left_old left_new read part
+    pub short : length part < record_length_of w.layout
+    pub took : Took grows old new (record_pieces text w read)
+
+  -- a whole record followed the greatest number of records: the pieces of those before it are written
+  pub record StopsAtTooMany (left_old left_new : Option (List ℕ)) (old new : View K) : Type 0 where
+    pub read : List (List ℕ)
+    pub one : List ℕ
+    pub octets : HasRead (record_length_of w.layout) left_old left_new read one
+    pub exact : length one ≡ record_length_of w.layout
+    pub most : w.state.records + length read ≡ 2 ^ 32 - 1
+    pub took : Took grows old new (record_pieces text w read)
+
+  -- writing stopped at a piece of the record that was read last: nothing was read past it, and all pieces before it are written
+  pub record StopsAtRecord (left_old left_new : Option (List ℕ)) (old new : View K) (fault : RunFault) : Type 0 where
+    pub read : List (List ℕ)
+    pub one : List ℕ
+    pub octets : HasRead (record_length_of w.layout) left_old left_new read one
+    pub exact : length one ≡ record_length_of w.layout
+    pub mid : View K
+    pub took : Took grows old mid (record_pieces text w read)
+    pub stopped : Stopped grows rows mid new (record_pieces text (worked w read) (one ∷ [])) fault
+
+  -- all was read, and writing stopped at a piece of the closed end, or no piece was left and a flush failed
+  pub record StopsAtEnd (left_old left_new : Option (List ℕ)) (old new : View K) (fault : RunFault) : Type 0 where
+    pub read : List (List ℕ)
+    pub rest : List ℕ
+    pub all : HasReadAll (record_length_of w.layout) left_old left_new read rest
+    pub mid : View K
+    pub took : Took grows old mid (record_pieces text w read)
+    pub stopped : Stopped grows rows mid new (closing_pieces text (worked w read) (length rest)) fault
+
+  abbrev pub StopsWriting : Option (List ℕ) → Option (List ℕ) → View K → View K → RunFault → Type 0
+  StopsWriting left_old left_new old new fault =
+      StopsAtRecord left_old left_new old new fault ⊎ StopsAtEnd left_old left_new old new fault
+
+  -- where a fault leaves the devices
+  abbrev pub IsStoppedAt : Option (List ℕ) → Option (List ℕ) → View K → View K → RunFault → Type 0
+  IsStoppedAt left_old left_new old new Read = StopsAtRead left_old left_new old new
+  IsStoppedAt left_old left_new old new Write = StopsWriting left_old left_new old new Write
+  IsStoppedAt left_old left_new old new Report = StopsWriting left_old left_new old new Report
+  IsStoppedAt left_old left_new old new TooMany = StopsAtTooMany left_old left_new old new
+  IsStoppedAt left_old left_new old new NoMemory = StopsWriting left_old left_new old new NoMemory

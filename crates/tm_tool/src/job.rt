@@ -1,0 +1,177 @@
+//! A job: the packets of a recording, and the report of what is lost.
+
+ghost use Rattle.std.specs.Prelude.{◌≡◌, ◌+◌, ◌-◌, ◌^◌, ◌<◌, IfOk, IfErr, IfSome, OnOk, IsErrOf};
+ghost use Rattle.std.specs.Io.KnownBytes.{Appends, Keeps};
+ghost use Rattle.tm_frame.specs.Layout.{record_length_of};
+ghost use Rattle.tm_tool.specs.Faults.{RunCounted};
+ghost use Rattle.tm_tool.specs.Jobs.{begun};
+ghost use Rattle.tm_tool.specs.Outputs.{AppendsCut, Took, WantsMemory, view};
+ghost use Rattle.tm_tool.specs.Pieces.{makes_rows, pieces, text_of};
+ghost use Rattle.tm_tool.specs.Records.{record_count};
+ghost use Rattle.tm_tool.specs.Runs.{IsRun, IsStoppedAt};
+
+use crate::recording::run_to_end;
+use crate::{Drain, NoMemory, RunFault, Settings, Source};
+use std::alloc::Global;
+use std::marker::Model;
+use tm_packet::Tracker;
+use tm_reassembly::Reassembly;
+
+/// What of the packets is written to the output.
+#[derive(Clone, Copy, Debug, PartialEq, Eq)]
+pub enum Command {
+    /// Their octets.
+    Extract,
+    /// A line for each.
+    Packets,
+}
+
+/// Where a run ends.
+#[derive(Clone, Copy, Debug, PartialEq, Eq)]
+pub enum Ending {
+    /// At the end of the recording, which is closed there.
+    Close,
+}
+
+/// What a run did.
+#[derive(Clone, Copy, Debug, PartialEq, Eq)]
+pub struct Done {
+    /// The number of records that are done.
+    pub records: u32,
+}
+
+/// The packets of a recording, as far as it has been read.
+#[derive(Drop)]
+pub struct Job {
+    reassembly: Reassembly,
+    tracker: Tracker,
+    buffer: Vec<u8>,
+}
+
+impl Model for Job {
+    ghost use Rattle.std.specs.Prelude.{◌≡◌, ◌<◌, false, length};
+    ghost use Rattle.tm_frame.specs.Layout.{record_length_of};
+    ghost use Rattle.tm_reassembly.specs.Channels.{is_chosen};
+    ghost use Rattle.tm_reassembly.specs.Valid.{IsState};
+    ghost use Rattle.tm_tool.specs.Pieces.{Work};
+
+    ghost Value = { Work };
+
+    ghost view = { λ j. record {
+      layout = j.reassembly.layout;
+      channels = j.reassembly.channels;
+      state = j.reassembly.state;
+      entries = j.tracker;
+    } };
+
+    ghost invariant = { λ j. (j.reassembly.failed ≡ false) × (length j.buffer.items ≡ record_length_of j.reassembly.layout) × (0 < length j.buffer.items)
+        × IsState j.reassembly.layout (is_chosen j.reassembly.channels) j.reassembly.state };
+}
+
+impl Job {
+    /// Before any record. What `run` needs is reserved here: the room of eight channels' tails, the places of all sequence counts, and a
+    /// buffer of one record.
+    ///
+    /// # Errors
+    ///
+    /// `NoMemory` where that can't be had.
+    #[tactic(auto, using(crate::proofs::Running::none_valid))]
+    pub fn new(alloc: Global, settings: &Settings) -> Result<Job, NoMemory>
+        ensures { IfOk result (λ job. job ≡ begun settings.now) }
+    {
+        let layout = settings.layout();
+        let Ok(reassembly) = Reassembly::new(alloc, layout, settings.channels()) else {
+            return Err(NoMemory);
+        };
+        let Ok(tracker) = Tracker::new(alloc) else {
+            return Err(NoMemory);
+        };
+        match vec![in alloc; 0u8; layout.record_length()] {
+            Ok(buffer) => Ok(Job {
+                reassembly,
+                tracker,
+                buffer,
+            }),
+            Err(_) => Err(NoMemory),
+        }
+    }
+
+    /// The number of records that are done.
+    pub fn records(&self) -> u32
+        ensures { result ≡ self.now.state.records }
+    {
+        self.reassembly.records()
+    }
+}
+
+/// Reads the recording to its end, one record at a time, and gives what the job's settings choose: to `out` each whole packet, its octets
+/// or its line; to the report each bad frame, gap, VCA frame and dropped part, and the notes of the packets' sequence counts. For each
+/// item what belongs to `out` is written first. At the end the recording is closed, and both outputs are flushed.
+///
+/// # Errors
+///
+/// `Read`, `Write` or `Report` where a call of that device failed; `TooMany` where a whole record follows 2^32 - 1; `NoMemory` where a
+/// line can't be made: with `Extract` only a line for the report. The job is given up.
+pub fn run<R: Source, W: Drain, V: Drain>(
+    alloc: Global,
+    job: Job,
+    command: Command,
+    recording: &mut R,
+    out: &mut W,
+    report: &mut V,
+    ending: Ending,
+) -> Result<Done, RunFault>
+    // With Ok all was read, and just the pieces of the recording were written, and passed on.
+    ensures all { IfOk result (λ done. IsRun Appends (makes_rows command) (text_of command) job (R.left recording.old) (R.left recording.new)
+        (view (W.written out.old) (V.written report.old) (W.failures out.old) (V.failures report.old))
+        (view (W.written out.new) (V.written report.new) (W.failures out.new) (V.failures report.new)) done.records) }
+    ensures done { IfOk result (λ done. IfSome (R.left recording.old) (λ octets.
+        Took Appends (view (W.written out.old) (V.written report.old) (W.failures out.old) (V.failures report.old))
+        (view (W.written out.new) (V.written report.new) (W.failures out.new) (V.failures report.new)) (pieces (text_of command) job octets)
+        × (done.records ≡ job.state.records + record_count (record_length_of job.layout) octets))) }
+    ensures flushed_out { OnOk result (Keeps (W.flushed out.new) (W.written out.new)) }
+    ensures flushed_report { OnOk result (Keeps (V.flushed report.new) (V.written report.new)) }
+
+    // A device is blamed only where a call of it failed.
+    ensures counts { RunCounted (R.failures recording.old) (R.failures recording.new)
+        (view (W.written out.old) (V.written report.old) (W.failures out.old) (V.failures report.old))
+        (view (W.written out.new) (V.written report.new) (W.failures out.new) (V.failures report.new)) result }
+
+    // After a fault there is one place up to which these pieces were written. Without memory it is a piece's end; and a text was to be made.
+    ensures cut { IfErr result (λ fault. IfSome (R.left recording.old) (λ octets.
+        AppendsCut Appends (view (W.written out.old) (V.written report.old) (W.failures out.old) (V.failures report.old))
+        (view (W.written out.new) (V.written report.new) (W.failures out.new) (V.failures report.new)) (pieces (text_of command) job octets))) }
+    ensures memory { IsErrOf result RunFault.NoMemory → IfSome (R.left recording.old) (λ octets.
+        WantsMemory Appends (makes_rows command) (view (W.written out.old) (V.written report.old) (W.failures out.old) (V.failures report.old))
+        (view (W.written out.new) (V.written report.new) (W.failures out.new) (V.failures report.new)) (pieces (text_of command) job octets)) }
+    ensures too_many { IsErrOf result RunFault.TooMany → IfSome (R.left recording.old) (λ octets.
+        2 ^ 32 - 1 < job.state.records + record_count (record_length_of job.layout) octets) }
+
+    // What was read by then, and written: nothing past the record at a piece of which writing stopped.
+    ensures stopped { IfErr result (IsStoppedAt Appends (makes_rows command) (text_of command) job (R.left recording.old) (R.left recording.new)
+        (view (W.written out.old) (V.written report.old) (W.failures out.old) (V.failures report.old))
+        (view (W.written out.new) (V.written report.new) (W.failures out.new) (V.failures report.new))) }
+{
+    let Job {
+        reassembly,
+        tracker,
+        mut buffer,
+    } = job;
+    match ending {
+        Ending::Close => {
+            match run_to_end(
+                alloc,
+                command,
+                reassembly,
+                tracker,
+                buffer.as_mut_slice(),
+                recording,
+                out,
+                report,
+            ) {
+                Ok(records) => Ok(Done { records }),
+                Err(fault) => Err(fault),
+            }
+        }
+    }
+}

@@ -12,4 +12,6 @@ mod packets;
 #[cfg(test)]
 mod reassembly;
 #[cfg(test)]
+mod runs;
+#[cfg(test)]
 mod settings;

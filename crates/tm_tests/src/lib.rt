@@ -3,7 +3,7 @@
 
 mod memory;
 
-pub use memory::{MemoryDrain, MemorySource};
+pub use memory::{MemoryDrain, MemoryShelf, MemorySource, Put};
 
 #[cfg(test)]
 mod frames;

@@ -1,9 +1,11 @@
-//! Devices over memory, which tell their octets. Each moves at most so many octets per call, and one
+//! Devices and a shelf over memory, which tell their octets. Each moves at most so many octets per call, and one
 //! of its calls fails, if that is asked for.
 
 ghost use Rattle.std.specs.Prelude.{◌≡◌, ◌<◌, ◌≤◌, Some, take, drop, vec_len};
+ghost use Rattle.tm_tests.specs.Stored.{stored};
 
-use tm_tool::{DeviceFailed, Drain, Source};
+use std::alloc::Global;
+use tm_tool::{DeviceFailed, Drain, Shelf, Source};
 
 /// A source over octets in memory.
 #[derive(Drop)]
@@ -114,5 +116,65 @@ impl Drain for MemoryDrain {
         }
         self.passed = self.octets.len();
         Ok(())
+    }
+}
+
+/// Octets that were put for an application.
+#[derive(Drop)]
+pub struct Put {
+    pub application: u16,
+    pub octets: Vec<u8>,
+}
+
+/// A put was refused.
+#[derive(Clone, Copy, Debug, PartialEq, Eq)]
+pub struct PutRefused;
+
+/// A shelf in memory.
+#[derive(Drop)]
+pub struct MemoryShelf {
+    pub alloc: Global,
+    pub puts: Vec<Put>,
+    pub calls: u64,
+    /// The call that is refused, counted from 1; 0 for none.
+    pub refuses_at: u64,
+    pub refused: u64,
+}
+
+impl MemoryShelf {
+    pub fn new(alloc: Global, refuses_at: u64) -> Self {
+        MemoryShelf {
+            alloc,
+            puts: Vec::new(alloc),
+            calls: 0,
+            refuses_at,
+            refused: 0,
+        }
+    }
+}
+
+impl Shelf for MemoryShelf {
+    type Fault = PutRefused;
+
+    ghost refusals = { λ s. s.refused };
+
+    ghost kept = { λ s. Some (stored s.puts.items) };
+
+    #[tactic(auto, using(crate::proofs::Stored::stored_one, crate::proofs::Stored::put_none))]
+    fn put(&mut self, application: u16, octets: &[u8]) -> Result<(), PutRefused> {
+        self.calls = self.calls.saturating_add(1);
+        if self.calls != self.refuses_at {
+            if let Ok(copy) = octets.to_vec(self.alloc) {
+                let put = Put {
+                    application,
+                    octets: copy,
+                };
+                if let Ok(()) = self.puts.push(put) {
+                    return Ok(());
+                }
+            }
+        }
+        self.refused = self.refused.saturating_add(1);
+        Err(PutRefused)
     }
 }

@@ -1,9 +1,9 @@
 //! Recordings with their packets, and with the report of what is lost.
 
-use crate::{MemoryDrain, MemorySource};
+use crate::{MemoryDrain, MemoryShelf, MemorySource};
 use std::alloc::{AllocError, Global};
 use std::test::Fail;
-use tm_tool::{Command, Done, Ending, Job, RunFault, Settings, run};
+use tm_tool::{Command, Done, Ending, Job, RunFault, Settings, run, split};
 
 const BASE: &str = "spacecraft = 42\nframe_length = 24\nerror_control = false\n";
 
@@ -508,5 +508,94 @@ fn each_call_failing(rt: HostRuntime) -> Result<(), Fail> {
         }
         assert_eq!(rt; refused, calls, "{device:?}");
     }
+    Ok(())
+}
+
+// ---- a shelf
+
+const SPLIT_WITH_IDLE: &str = "02A000001800 0064C000000055 07FFC00000045555555555";
+
+// Splits a recording with a new job. The put of this number is refused, none for 0.
+fn split_all(
+    alloc: Global,
+    settings: &str,
+    recording: &str,
+    refuses_at: u64,
+) -> Result<(Result<Done, RunFault>, MemoryShelf, Vec<u8>), Fail> {
+    let job = new_job(alloc, settings)?;
+    let mut source = MemorySource::new(octets_of(alloc, recording)?, 65_536, 0);
+    let mut shelf = MemoryShelf::new(alloc, refuses_at);
+    let mut report = MemoryDrain::new(Vec::new(alloc), 65_536, 0);
+    let answer = split(
+        alloc,
+        job,
+        &mut source,
+        &mut shelf,
+        &mut report,
+        Ending::Close,
+    );
+    Ok((answer, shelf, report.octets))
+}
+
+// The octets that a shelf has of an application.
+fn octets_on(alloc: Global, shelf: &MemoryShelf, application: u16) -> Result<Vec<u8>, AllocError> {
+    let mut octets = Vec::new(alloc);
+    for put in &shelf.puts {
+        if put.application == application {
+            octets.extend_from_slice(put.octets.as_slice())?;
+        }
+    }
+    Ok(octets)
+}
+
+#[test]
+fn worked_rows_by_split(rt: HostRuntime) -> Result<(), Fail> {
+    let alloc = rt.alloc();
+    let idle = "07FFC00000075555555555555555";
+    let table = [
+        (
+            BASE,
+            SPLIT_WITH_IDLE,
+            "",
+            "0064C000000055",
+            "07FFC00000045555555555",
+        ),
+        (
+            BASE,
+            TWO_CHANNELS.recording,
+            TWO_CHANNELS.report,
+            TWO_CHANNELS.octets,
+            "",
+        ),
+        (
+            WIDE,
+            GROUPS.recording,
+            GROUPS.report,
+            "00644005000055 00640006000055 00648007000055 00644008000055 \
+                0064C00900075555555555555555 0064400A000055",
+            idle,
+        ),
+    ];
+    for (settings, recording, lines, packets, idle) in table {
+        let (answer, shelf, report) = split_all(alloc, settings, recording, 0)?;
+        assert!(rt; answer.is_ok());
+        assert_eq!(rt; report.as_slice(), lines.as_bytes());
+        let wanted = octets_of(alloc, packets)?;
+        let found = octets_on(alloc, &shelf, 100)?;
+        assert_eq!(rt; found.as_slice(), wanted.as_slice());
+        let wanted = octets_of(alloc, idle)?;
+        let found = octets_on(alloc, &shelf, 2047)?;
+        assert_eq!(rt; found.as_slice(), wanted.as_slice());
+    }
+    Ok(())
+}
+
+#[test]
+fn refusing_shelf(rt: HostRuntime) -> Result<(), Fail> {
+    let alloc = rt.alloc();
+    let (answer, shelf, _) = split_all(alloc, BASE, SPLIT_WITH_IDLE, 2)?;
+    assert_eq!(rt; answer, Err(RunFault::Write));
+    assert_eq!(rt; octets_on(alloc, &shelf, 100)?.len(), 7);
+    assert!(rt; octets_on(alloc, &shelf, 2047)?.is_empty());
     Ok(())
 }

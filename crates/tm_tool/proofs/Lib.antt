@@ -7,10 +7,10 @@ pub mod ListingEnds
 pub mod LineLemmas
 pub mod Running
 pub mod PieceLemmas
-pub mod Drains
 pub mod PacketLemmas
 pub mod Sinks
 pub mod OpenGroups
 pub mod RunEnds
 pub mod RunPieces
 pub mod Examples
+pub mod ShelfLemmas

@@ -1,8 +1,6 @@
 -- The open groups, one after the other by rising key.
 use Rattle.std.proofs.Common.{◌≡◌, ◌≤◌, ℕ, Bool, suc, zero, ◌+◌, ◌-◌, List, [], ◌∷◌, ◌++◌, drop, Option, None, Some, refl, sym, ap, subst, ◌∙◌, append_assoc, append-nil, arith}
 use Rattle.std.specs.Prelude.{slice_get}
-use Rattle.std.specs.Io.KnownBytes.{Appends}
-use Rattle.std.proofs.KnownBytes.{Appends-nil, Appends-trans}
 use Rattle.std.proofs.lemmas.List.{drop-drop}
 use Rattle.tm_packet.specs.declared.tracker.Last.{Last}
 use Rattle.tm_packet.specs.declared.tracker.Unclosed.{Unclosed}
@@ -92,27 +90,29 @@ parted_all entries done at h is =
 
 -- ---- their lines
 
-pieces-append : (seen : ℕ) (us vs : List Unclosed) → unclosed_pieces {A = ℕ} seen (us ++ vs) ≡ unclosed_pieces seen us ++ unclosed_pieces seen vs
+pieces-append : {A : Type 0} (seen : ℕ) (us vs : List Unclosed) → unclosed_pieces {A = A} seen (us ++ vs) ≡ unclosed_pieces seen us ++ unclosed_pieces seen vs
 pieces-append seen [] vs = refl
-pieces-append seen (u ∷ us) vs = ap (λ (l : List (Piece ℕ)). unclosed_piece seen u ∷ l) (pieces-append seen us vs)
+pieces-append {A} seen (u ∷ us) vs = ap (λ (l : List (Piece A)). unclosed_piece seen u ∷ l) (pieces-append seen us vs)
 
-module _ (old now new : View (Option (List ℕ))) (seen : ℕ) (done : List Unclosed) (u : Unclosed) (took : Took Appends old now (unclosed_pieces seen done)) where
+module _ {A K : Type 0} (grows : K → K → List A → Type 0) (grows-nil : (k : K) → grows k k [])
+    (grows-trans : (j k l : K) (xs ys : List A) → grows j k xs → grows k l ys → grows j l (xs ++ ys))
+    (old now new : View K) (seen : ℕ) (done : List Unclosed) (u : Unclosed) (took : Took grows old now (unclosed_pieces seen done)) where
   -- one more line was written
-  pub unclosed_more : Took Appends now new (unclosed_piece seen u ∷ []) → Took Appends old new (unclosed_pieces seen (done ++ u ∷ []))
+  pub unclosed_more : Took grows now new (unclosed_piece seen u ∷ []) → Took grows old new (unclosed_pieces seen (done ++ u ∷ []))
   unclosed_more more =
-      subst (Took Appends old new) (sym (pieces-append seen done (u ∷ [])))
-      (took_took Appends Appends-nil Appends-trans old now new (unclosed_pieces seen done) (unclosed_piece seen u ∷ []) took more)
+      subst (Took grows old new) (sym (pieces-append seen done (u ∷ [])))
+      (took_took grows grows-nil grows-trans old now new (unclosed_pieces seen done) (unclosed_piece seen u ∷ []) took more)
 
   -- writing stopped in its line
   pub unclosed_stopped : (entries : List (Option Last)) (at : ℕ) (rows : Bool) (fault : RunFault) → Parted entries done at
-      → slice_get (unclosed at (drop at entries)) 0 ≡ Some u → Stopped Appends rows now new (unclosed_piece seen u ∷ []) fault
-      → Stopped Appends rows old new (unclosed_pieces seen (unclosed 0 entries)) fault
+      → slice_get (unclosed at (drop at entries)) 0 ≡ Some u → Stopped grows rows now new (unclosed_piece seen u ∷ []) fault
+      → Stopped grows rows old new (unclosed_pieces seen (unclosed 0 entries)) fault
   unclosed_stopped entries at rows fault parted is stopped =
       let more = parted_more entries done at u parted is in
       let rest = unclosed (u.key + 1) (drop (u.key + 1) entries) in
-      let all : unclosed_pieces {A = ℕ} seen (unclosed 0 entries) ≡ (unclosed_pieces seen done ++ unclosed_piece seen u ∷ []) ++ unclosed_pieces seen rest =
+      let all : unclosed_pieces {A = A} seen (unclosed 0 entries) ≡ (unclosed_pieces seen done ++ unclosed_piece seen u ∷ []) ++ unclosed_pieces seen rest =
       ap (unclosed_pieces seen) more.parts ∙ pieces-append seen (done ++ u ∷ []) rest
-      ∙ ap (λ (l : List (Piece ℕ)). l ++ unclosed_pieces seen rest) (pieces-append seen done (u ∷ [])) in
-      subst (λ (ps : List (Piece ℕ)). Stopped Appends rows old new ps fault) (sym all)
-      (stopped_more Appends Appends-nil Appends-trans rows old new (unclosed_pieces seen done ++ unclosed_piece seen u ∷ []) (unclosed_pieces seen rest) fault
-      (took_stopped Appends Appends-nil Appends-trans rows old now new (unclosed_pieces seen done) (unclosed_piece seen u ∷ []) took fault stopped))
+      ∙ ap (λ (l : List (Piece A)). l ++ unclosed_pieces seen rest) (pieces-append seen done (u ∷ [])) in
+      subst (λ (ps : List (Piece A)). Stopped grows rows old new ps fault) (sym all)
+      (stopped_more grows grows-nil grows-trans rows old new (unclosed_pieces seen done ++ unclosed_piece seen u ∷ []) (unclosed_pieces seen rest) fault
+      (took_stopped grows grows-nil grows-trans rows old now new (unclosed_pieces seen done) (unclosed_piece seen u ∷ []) took fault stopped))

@@ -63,3 +63,12 @@ some_report entries (Vca seen channel) has some = some
 some_report entries (Dropped seen channel first place octets reason) has some = some
 some_report entries (Packet seen channel first place octets) has some = absurd has
 some_report entries (Short seen octets) has some = some
+
+pub line_report : (entries : Entries) (x : Item) → HasLine x → line_of x ≡ report_of entries x
+unfolding report_of
+line_report entries (Bad seen fault) has = refl
+line_report entries (Gap seen channel expected found missing) has = refl
+line_report entries (Vca seen channel) has = refl
+line_report entries (Dropped seen channel first place octets reason) has = refl
+line_report entries (Packet seen channel first place octets) has = absurd has
+line_report entries (Short seen octets) has = refl

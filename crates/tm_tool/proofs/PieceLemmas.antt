@@ -6,6 +6,7 @@ use Rattle.std.proofs.KnownBytes.{Appends-nil, Appends-kept, Appends-trans}
 use Rattle.tm_tool.specs.Devices.{raised, AppendsFront}
 use Rattle.tm_tool.specs.declared.fault.RunFault.{RunFault}
 use Rattle.tm_tool.specs.declared.fault.RunFault.TheVariants.{Read, Write, Report, TooMany, NoMemory}
+use Rattle.tm_tool.specs.Outlets.{PutStopped}
 use Rattle.tm_tool.specs.Outputs.{Piece, View, outs, reports, Cut, SameCounts, Caused, TakesMemory, AppendsPieces, Took, WantsMemory, Stopped}
 
 module _ {A : Type 0} where
@@ -136,7 +137,7 @@ module _ {A K : Type 0} (grows : K → K → List A → Type 0) (grows-nil : (k 
   took_failed rows old mid new ps fault a b =
       subst (λ (l : List (Piece A)). Stopped grows rows old new l fault) (append-nil ps) (took_stopped rows old mid new ps [] a fault b)
 
--- ---- drains
+-- ---- one piece
 
 -- no fault of a device is want of memory
 abbrev IsDevice : RunFault → Type 0
@@ -149,57 +150,61 @@ IsDevice NoMemory = ⊥
 not_memory : {P : Type 0} (fault : RunFault) → IsDevice fault → fault ≡ NoMemory → P
 not_memory fault device e = absurd (subst IsDevice e device)
 
--- writing stopped in the text for `out`
-pub stopped_out : (rows : Bool) (old new : View (Option (List ℕ))) (text lines : List ℕ) → AppendsFront old.out new.out text → Appends old.report new.report []
-    → new.out_failures ≡ raised old.out_failures → new.report_failures ≡ old.report_failures
-    → Stopped Appends rows old new (record { out = text; report = lines } ∷ []) Write
-stopped_out rows old new text lines front kept out report =
-    let (some, rest, parts, grown) = front in record {
-      cut = (some, [], inl (rest, parts, refl), grown, kept);
-      cause = (out, report);
-      memory = not_memory Write tt;
-    }
-
--- writing stopped in the text for the report
-pub stopped_report : (rows : Bool) (old new : View (Option (List ℕ))) (text lines : List ℕ) → Appends old.out new.out text → AppendsFront old.report new.report lines
-    → new.out_failures ≡ old.out_failures → new.report_failures ≡ raised old.report_failures
-    → Stopped Appends rows old new (record { out = text; report = lines } ∷ []) Report
-stopped_report rows old new text lines whole front out report =
-    let (some, rest, parts, grown) = front in record {
-      cut = (text, some, inr (inl (rest, refl, parts)), whole, grown);
-      cause = (out, report);
-      memory = not_memory Report tt;
-    }
-
--- both texts were written
-pub took_texts : (old new : View (Option (List ℕ))) (text lines : List ℕ) → Appends old.out new.out text → Appends old.report new.report lines
-    → new.out_failures ≡ old.out_failures → new.report_failures ≡ old.report_failures
-    → Took Appends old new (record { out = text; report = lines } ∷ [])
-took_texts old new text lines a b out report = record {
-  whole = (subst (Appends old.out new.out) (sym (append-nil text)) a, subst (Appends old.report new.report) (sym (append-nil lines)) b);
-  counts = (out, report);
-}
-
 keeps_nil : (old new : Option (List ℕ)) → Keeps old new → Appends old new []
 keeps_nil old new kept = Appends-kept old old new [] (Appends-nil old) kept
 
--- a flush failed
-pub flush_out : (rows : Bool) (old new : View (Option (List ℕ))) → Keeps old.out new.out → Keeps old.report new.report
-    → new.out_failures ≡ raised old.out_failures → new.report_failures ≡ old.report_failures → Stopped Appends rows old new [] Write
-flush_out rows old new a b out report = record {
-  cut = ([], [], (refl, refl), keeps_nil _ _ a, keeps_nil _ _ b);
-  cause = (out, report);
-  memory = not_memory Write tt;
-}
+module _ {A K : Type 0} (grows : K → K → List A → Type 0) (old new : View K) (p : Piece A) where
+  -- both of its parts were written
+  pub took_piece : grows old.out new.out p.out → Appends old.report new.report p.report → SameCounts old new → Took grows old new (p ∷ [])
+  took_piece a b counts = record {
+    whole = (subst (grows old.out new.out) (sym (append-nil p.out)) a, subst (Appends old.report new.report) (sym (append-nil p.report)) b);
+    counts = counts;
+  }
 
-pub flush_report : (rows : Bool) (old new : View (Option (List ℕ))) → Keeps old.out new.out → Keeps old.report new.report
-    → new.out_failures ≡ old.out_failures → new.report_failures ≡ raised old.report_failures → Stopped Appends rows old new [] Report
-flush_report rows old new a b out report = record {
-  cut = ([], [], (refl, refl), keeps_nil _ _ a, keeps_nil _ _ b);
-  cause = (out, report);
-  memory = not_memory Report tt;
-}
+  -- writing stopped in what belongs to `out`
+  pub stopped_put : (rows : Bool) (fault : RunFault)
+      → PutStopped grows rows old.out new.out old.out_failures new.out_failures p.out fault → Appends old.report new.report [] → new.report_failures ≡ old.report_failures
+      → Stopped grows rows old new (p ∷ []) fault
+  stopped_put rows Read h kept report = absurd h
+  stopped_put rows Write h kept report =
+      let (some, rest, parts, grown) = h.1 in record {
+        cut = (some, [], inl (rest, parts, refl), grown, kept);
+        cause = (h.0, report);
+        memory = not_memory Write tt;
+      }
+  stopped_put rows Report h kept report = absurd h
+  stopped_put rows TooMany h kept report = absurd h
+  stopped_put rows NoMemory h kept report = record {
+    cut = ([], [], inl (p.out, refl, refl), h.2, kept);
+    cause = (h.1, report);
+    memory = λ e. record {
+      done = [];
+      next = p;
+      more = [];
+      split = refl;
+      wanted = inl h.0;
+      whole = (h.2, kept);
+    };
+  }
 
-pub flushed : (old new : View (Option (List ℕ))) → Keeps old.out new.out → Keeps old.report new.report
-    → new.out_failures ≡ old.out_failures → new.report_failures ≡ old.report_failures → Took Appends old new []
-flushed old new a b out report = record { whole = (keeps_nil _ _ a, keeps_nil _ _ b); counts = (out, report) }
+  -- writing stopped in the text for the report
+  pub stopped_lines : (rows : Bool) → grows old.out new.out p.out → AppendsFront old.report new.report p.report
+      → new.out_failures ≡ old.out_failures → new.report_failures ≡ raised old.report_failures → Stopped grows rows old new (p ∷ []) Report
+  stopped_lines rows whole front out report =
+      let (some, rest, parts, grown) = front in record {
+        cut = (p.out, some, inr (inl (rest, refl, parts)), whole, grown);
+        cause = (out, report);
+        memory = not_memory Report tt;
+      }
+
+-- ---- flushes
+
+module _ {A K : Type 0} (grows : K → K → List A → Type 0) (old new : View K) (a : grows old.out new.out []) (b : Appends old.report new.report []) where
+  pub flush_out : (rows : Bool) → new.out_failures ≡ raised old.out_failures → new.report_failures ≡ old.report_failures → Stopped grows rows old new [] Write
+  flush_out rows out report = record { cut = ([], [], (refl, refl), a, b); cause = (out, report); memory = not_memory Write tt }
+
+  pub flush_report : (rows : Bool) → new.out_failures ≡ old.out_failures → new.report_failures ≡ raised old.report_failures → Stopped grows rows old new [] Report
+  flush_report rows out report = record { cut = ([], [], (refl, refl), a, b); cause = (out, report); memory = not_memory Report tt }
+
+  pub flushed : SameCounts old new → Took grows old new []
+  flushed counts = record { whole = (a, b); counts = counts }

@@ -2,7 +2,7 @@
 use Rattle.std.proofs.Common.{◌≡◌, ◌<◌, ◌+◌, ℕ, Bool, List, [], ◌∷◌, ◌++◌, length, refl, sym, ap, subst, ◌∙◌, Option, inl}
 use Rattle.std.proofs.lemmas.List.{length-map}
 use Rattle.std.specs.List.{concat}
-use Rattle.std.specs.Io.KnownBytes.{Appends, Consumes, IsAtEnd}
+use Rattle.std.specs.Io.KnownBytes.{Consumes, IsAtEnd}
 use Rattle.std.proofs.KnownBytes.{Consumes-nil, Consumes-trans}
 use Rattle.tm_frame.specs.declared.layout.LayoutParts.{LayoutParts}
 use Rattle.tm_frame.specs.Fault.{reading_of}
@@ -35,13 +35,13 @@ pub stepped_work : (p q : Progress) (e e' : Entries) (octets : List ℕ) → q �
 stepped_work p q e e' octets left noted = ap (λ (x : Progress). work_of x e') left ∙ ap (λ (x : Entries). work_of (stepped p octets) x) noted
 
 -- a fault of writing is a fault of stepping
-pub step_stopped : (rows : Bool) (records : ℕ) (old new : View (Option (List ℕ))) (ps : List (Piece ℕ)) (fault : RunFault)
-    → Stopped Appends rows old new ps fault → StepStopped Appends rows records old new ps fault
-step_stopped rows records old new ps Read s = absurd s.cause
-step_stopped rows records old new ps Write s = s
-step_stopped rows records old new ps Report s = s
-step_stopped rows records old new ps TooMany s = absurd s.cause
-step_stopped rows records old new ps NoMemory s = s
+pub step_stopped : {A K : Type 0} (grows : K → K → List A → Type 0) (rows : Bool) (records : ℕ) (old new : View K) (ps : List (Piece A)) (fault : RunFault)
+    → Stopped grows rows old new ps fault → StepStopped grows rows records old new ps fault
+step_stopped grows rows records old new ps Read s = absurd s.cause
+step_stopped grows rows records old new ps Write s = s
+step_stopped grows rows records old new ps Report s = s
+step_stopped grows rows records old new ps TooMany s = absurd s.cause
+step_stopped grows rows records old new ps NoMemory s = s
 
 -- ---- joining, for pieces
 

@@ -12,3 +12,6 @@ pub mod Jobs
 pub mod Runs
 pub mod Stepping
 pub mod Sinking
+pub mod Outlets
+pub mod Shelves
+pub mod ShelfLaws

@@ -5,21 +5,22 @@ use Rattle.tm_tool.specs.declared.fault.RunFault.{RunFault}
 use Rattle.tm_tool.specs.Outputs.{View, Took, Stopped}
 use Rattle.tm_tool.specs.Pieces.{Entries, noted, piece_of}
 
--- Of a sink are known the names of the three references that it holds, its command, the entries of its tracker, and its two outputs.
-module _ {A K C S L M N : Type 0} (grows : K → K → List A → Type 0) (text : C → Item → List A) (rows : C → Bool)
-    (tracker_name : S → L) (out_name : S → M) (report_name : S → N) (command : S → C) (entries : S → Entries) (seen : S → View K) where
+-- Of a sink are known the names of the references that it holds, the entries of its tracker, and its two outputs.
+module _ {A K S J L M N : Type 0} (grows : K → K → List A → Type 0) (text : Item → List A) (rows : Bool)
+    (tracker_name : S → J) (outlet_name : S → L) (out_name : S → M) (report_name : S → N) (entries : S → Entries) (seen : S → View K) where
   -- it takes an item: its two texts were written
   pub record Takes (s : S) (x : Item) (t : S) : Type 0 where
     pub tracker : tracker_name t ≡ tracker_name s
+    pub outlet : outlet_name t ≡ outlet_name s
     pub out : out_name t ≡ out_name s
     pub report : report_name t ≡ report_name s
-    pub same : command t ≡ command s
     pub noted_is : entries t ≡ noted (entries s) x
-    pub took : Took grows (seen s) (seen t) (piece_of (text (command s)) (entries s) x ∷ [])
+    pub took : Took grows (seen s) (seen t) (piece_of text (entries s) x ∷ [])
 
   -- it refuses an item: writing stopped at one place of its two texts
   pub record Refuses (s : S) (x : Item) (fault : RunFault) (t : S) : Type 0 where
     pub tracker : tracker_name t ≡ tracker_name s
+    pub outlet : outlet_name t ≡ outlet_name s
     pub out : out_name t ≡ out_name s
     pub report : report_name t ≡ report_name s
-    pub stopped : Stopped grows (rows (command s)) (seen s) (seen t) (piece_of (text (command s)) (entries s) x ∷ []) fault
+    pub stopped : Stopped grows rows (seen s) (seen t) (piece_of text (entries s) x ∷ []) fault

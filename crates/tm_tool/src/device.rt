@@ -1,8 +1,9 @@
 //! Where octets come from, and where they go to.
 
-ghost use Rattle.std.specs.Prelude.{◌≤◌, ℕ, List, length, Option, None, IfOk, OnOk};
+ghost use Rattle.std.specs.Prelude.{◌≤◌, ℕ, List, length, Option, None, IfOk, OnOk, OnErr};
 ghost use Rattle.std.specs.Io.KnownBytes.{Keeps, ReadConsumes, WriteAppends};
 ghost use Rattle.tm_tool.specs.Devices.{Counts, TakesSome};
+ghost use Rattle.tm_tool.specs.Shelves.{Puts, PutsFront};
 
 /// A call of a device failed.
 #[derive(Clone, Copy, Debug, PartialEq, Eq)]
@@ -47,4 +48,23 @@ pub trait Drain {
         ensures octets { Keeps (written self.old) (written self.new) }
         ensures passed { OnOk result (Keeps (flushed self.new) (written self.new)) }
         ensures counts { Counts (failures self.old) (failures self.new) result };
+}
+
+/// Where the packets of applications go, to a place for each.
+pub trait Shelf {
+    /// Why a put is refused.
+    type Fault: Drop;
+
+    /// How many puts were refused, up to 2^64 - 1.
+    ghost refusals: { Self → ℕ };
+
+    /// For each application the octets that were put there, of a shelf that tells it; none where nothing was put.
+    ghost kept: { Self → Option (ℕ → List ℕ) } = { λ _. None };
+
+    /// Puts octets behind those of the application. A put that is refused may have put some of them, not all, from the first on.
+    /// Nothing is changed for other applications.
+    fn put(&mut self, application: u16, octets: &[u8]) -> Result<(), Self::Fault>
+        ensures whole { OnOk result (Puts (kept self.old) (kept self.new) application octets.now) }
+        ensures front { OnErr result (PutsFront (kept self.old) (kept self.new) application octets.now) }
+        ensures counts { Counts (refusals self.old) (refusals self.new) result };
 }

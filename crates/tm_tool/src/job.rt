@@ -1,17 +1,23 @@
 //! A job: the packets of a recording, and the report of what is lost.
 
-ghost use Rattle.std.specs.Prelude.{◌≡◌, ◌+◌, ◌-◌, ◌^◌, ◌<◌, IfOk, IfErr, IfSome, OnOk, IsErrOf};
+ghost use Rattle.std.specs.Prelude.{◌≡◌, ◌+◌, ◌-◌, ◌^◌, ◌<◌, true, false, length, IfOk, IfErr, IfSome, OnOk, IsErrOf};
 ghost use Rattle.std.specs.Io.KnownBytes.{Appends, Keeps};
 ghost use Rattle.tm_frame.specs.Layout.{record_length_of};
+ghost use Rattle.tm_reassembly.specs.Channels.{is_chosen};
+ghost use Rattle.tm_reassembly.specs.Valid.{IsState};
+ghost use Rattle.tm_tool.specs.declared.job.Command.TheVariants.{Extract, Packets};
 ghost use Rattle.tm_tool.specs.Faults.{RunCounted};
 ghost use Rattle.tm_tool.specs.Jobs.{begun};
 ghost use Rattle.tm_tool.specs.Outputs.{AppendsCut, Took, WantsMemory, view};
 ghost use Rattle.tm_tool.specs.Pieces.{makes_rows, pieces, text_of};
 ghost use Rattle.tm_tool.specs.Records.{record_count};
 ghost use Rattle.tm_tool.specs.Runs.{IsRun, IsStoppedAt};
+ghost use Rattle.tm_tool.specs.Shelves.{Shelves, shelf_text};
+ghost use Rattle.tm_tool.specs.Stepping.{work_of};
 
+use crate::outlet::{PacketLines, PacketOctets, PacketShelf};
 use crate::recording::run_to_end;
-use crate::{Drain, NoMemory, RunFault, Settings, Source};
+use crate::{Drain, NoMemory, RunFault, Settings, Shelf, Source};
 use std::alloc::Global;
 use std::marker::Model;
 use tm_packet::Tracker;
@@ -104,6 +110,208 @@ impl Job {
     }
 }
 
+// The packets' octets into a drain.
+fn run_extract<R: Source, W: Drain, V: Drain>(
+    alloc: Global,
+    reassembly: Reassembly,
+    tracker: Tracker,
+    buffer: &mut [u8],
+    recording: &mut R,
+    out: &mut W,
+    report: &mut V,
+) -> Result<u32, RunFault>
+    requires exact { length buffer.old ≡ record_length_of reassembly.layout }
+    requires some { 0 < length buffer.old }
+    requires going { reassembly.failed ≡ false }
+    requires valid { IsState reassembly.layout (is_chosen reassembly.channels) reassembly.state }
+    ensures run { IfOk result (IsRun Appends false (text_of Extract) (work_of reassembly tracker)
+        (R.left recording.old) (R.left recording.new)
+        (view (W.written out.old) (V.written report.old) (W.failures out.old) (V.failures report.old))
+        (view (W.written out.new) (V.written report.new) (W.failures out.new) (V.failures report.new))) }
+    ensures flushed_out { OnOk result (Keeps (W.flushed out.new) (W.written out.new)) }
+    ensures flushed_report { OnOk result (Keeps (V.flushed report.new) (V.written report.new)) }
+    ensures stopped { IfErr result (IsStoppedAt Appends false (text_of Extract) (work_of reassembly tracker)
+        (R.left recording.old) (R.left recording.new)
+        (view (W.written out.old) (V.written report.old) (W.failures out.old) (V.failures report.old))
+        (view (W.written out.new) (V.written report.new) (W.failures out.new) (V.failures report.new))) }
+    ensures counts { RunCounted (R.failures recording.old) (R.failures recording.new)
+        (view (W.written out.old) (V.written report.old) (W.failures out.old) (V.failures report.old))
+        (view (W.written out.new) (V.written report.new) (W.failures out.new) (V.failures report.new)) result }
+{
+    let mut outlet = PacketOctets { out };
+    match run_to_end(
+        alloc,
+        reassembly,
+        tracker,
+        buffer,
+        recording,
+        &mut outlet,
+        report,
+    ) {
+        Ok(records) => Ok(records),
+        Err(fault) => Err(fault),
+    }
+}
+
+// A line for each packet into a drain, made in this text.
+fn run_lines<R: Source, W: Drain, V: Drain>(
+    alloc: Global,
+    line: &mut String,
+    reassembly: Reassembly,
+    tracker: Tracker,
+    buffer: &mut [u8],
+    recording: &mut R,
+    out: &mut W,
+    report: &mut V,
+) -> Result<u32, RunFault>
+    requires exact { length buffer.old ≡ record_length_of reassembly.layout }
+    requires some { 0 < length buffer.old }
+    requires going { reassembly.failed ≡ false }
+    requires valid { IsState reassembly.layout (is_chosen reassembly.channels) reassembly.state }
+    ensures run { IfOk result (IsRun Appends true (text_of Packets) (work_of reassembly tracker)
+        (R.left recording.old) (R.left recording.new)
+        (view (W.written out.old) (V.written report.old) (W.failures out.old) (V.failures report.old))
+        (view (W.written out.new) (V.written report.new) (W.failures out.new) (V.failures report.new))) }
+    ensures flushed_out { OnOk result (Keeps (W.flushed out.new) (W.written out.new)) }
+    ensures flushed_report { OnOk result (Keeps (V.flushed report.new) (V.written report.new)) }
+    ensures stopped { IfErr result (IsStoppedAt Appends true (text_of Packets) (work_of reassembly tracker)
+        (R.left recording.old) (R.left recording.new)
+        (view (W.written out.old) (V.written report.old) (W.failures out.old) (V.failures report.old))
+        (view (W.written out.new) (V.written report.new) (W.failures out.new) (V.failures report.new))) }
+    ensures counts { RunCounted (R.failures recording.old) (R.failures recording.new)
+        (view (W.written out.old) (V.written report.old) (W.failures out.old) (V.failures report.old))
+        (view (W.written out.new) (V.written report.new) (W.failures out.new) (V.failures report.new)) result }
+{
+    let mut outlet = PacketLines { line, out };
+    match run_to_end(
+        alloc,
+        reassembly,
+        tracker,
+        buffer,
+        recording,
+        &mut outlet,
+        report,
+    ) {
+        Ok(records) => Ok(records),
+        Err(fault) => Err(fault),
+    }
+}
+
+// A line for each packet into a drain.
+fn run_packets<R: Source, W: Drain, V: Drain>(
+    alloc: Global,
+    reassembly: Reassembly,
+    tracker: Tracker,
+    buffer: &mut [u8],
+    recording: &mut R,
+    out: &mut W,
+    report: &mut V,
+) -> Result<u32, RunFault>
+    requires exact { length buffer.old ≡ record_length_of reassembly.layout }
+    requires some { 0 < length buffer.old }
+    requires going { reassembly.failed ≡ false }
+    requires valid { IsState reassembly.layout (is_chosen reassembly.channels) reassembly.state }
+    ensures run { IfOk result (IsRun Appends true (text_of Packets) (work_of reassembly tracker)
+        (R.left recording.old) (R.left recording.new)
+        (view (W.written out.old) (V.written report.old) (W.failures out.old) (V.failures report.old))
+        (view (W.written out.new) (V.written report.new) (W.failures out.new) (V.failures report.new))) }
+    ensures flushed_out { OnOk result (Keeps (W.flushed out.new) (W.written out.new)) }
+    ensures flushed_report { OnOk result (Keeps (V.flushed report.new) (V.written report.new)) }
+    ensures stopped { IfErr result (IsStoppedAt Appends true (text_of Packets) (work_of reassembly tracker)
+        (R.left recording.old) (R.left recording.new)
+        (view (W.written out.old) (V.written report.old) (W.failures out.old) (V.failures report.old))
+        (view (W.written out.new) (V.written report.new) (W.failures out.new) (V.failures report.new))) }
+    ensures counts { RunCounted (R.failures recording.old) (R.failures recording.new)
+        (view (W.written out.old) (V.written report.old) (W.failures out.old) (V.failures report.old))
+        (view (W.written out.new) (V.written report.new) (W.failures out.new) (V.failures report.new)) result }
+{
+    let mut line = String::new(alloc);
+    run_lines(
+        alloc, &mut line, reassembly, tracker, buffer, recording, out, report,
+    )
+}
+
+// What the command wants of the packets, into a drain.
+fn run_by<R: Source, W: Drain, V: Drain>(
+    alloc: Global,
+    command: Command,
+    reassembly: Reassembly,
+    tracker: Tracker,
+    buffer: &mut [u8],
+    recording: &mut R,
+    out: &mut W,
+    report: &mut V,
+) -> Result<u32, RunFault>
+    requires exact { length buffer.old ≡ record_length_of reassembly.layout }
+    requires some { 0 < length buffer.old }
+    requires going { reassembly.failed ≡ false }
+    requires valid { IsState reassembly.layout (is_chosen reassembly.channels) reassembly.state }
+    ensures run { IfOk result (IsRun Appends (makes_rows command) (text_of command) (work_of reassembly tracker)
+        (R.left recording.old) (R.left recording.new)
+        (view (W.written out.old) (V.written report.old) (W.failures out.old) (V.failures report.old))
+        (view (W.written out.new) (V.written report.new) (W.failures out.new) (V.failures report.new))) }
+    ensures flushed_out { OnOk result (Keeps (W.flushed out.new) (W.written out.new)) }
+    ensures flushed_report { OnOk result (Keeps (V.flushed report.new) (V.written report.new)) }
+    ensures stopped { IfErr result (IsStoppedAt Appends (makes_rows command) (text_of command) (work_of reassembly tracker)
+        (R.left recording.old) (R.left recording.new)
+        (view (W.written out.old) (V.written report.old) (W.failures out.old) (V.failures report.old))
+        (view (W.written out.new) (V.written report.new) (W.failures out.new) (V.failures report.new))) }
+    ensures counts { RunCounted (R.failures recording.old) (R.failures recording.new)
+        (view (W.written out.old) (V.written report.old) (W.failures out.old) (V.failures report.old))
+        (view (W.written out.new) (V.written report.new) (W.failures out.new) (V.failures report.new)) result }
+{
+    match command {
+        Command::Extract => {
+            run_extract(alloc, reassembly, tracker, buffer, recording, out, report)
+        }
+        Command::Packets => {
+            run_packets(alloc, reassembly, tracker, buffer, recording, out, report)
+        }
+    }
+}
+
+// The packets' octets into a shelf.
+fn run_split<R: Source, H: Shelf, V: Drain>(
+    alloc: Global,
+    reassembly: Reassembly,
+    tracker: Tracker,
+    buffer: &mut [u8],
+    recording: &mut R,
+    shelf: &mut H,
+    report: &mut V,
+) -> Result<u32, RunFault>
+    requires exact { length buffer.old ≡ record_length_of reassembly.layout }
+    requires some { 0 < length buffer.old }
+    requires going { reassembly.failed ≡ false }
+    requires valid { IsState reassembly.layout (is_chosen reassembly.channels) reassembly.state }
+    ensures run { IfOk result (IsRun Shelves false shelf_text (work_of reassembly tracker)
+        (R.left recording.old) (R.left recording.new)
+        (view (H.kept shelf.old) (V.written report.old) (H.refusals shelf.old) (V.failures report.old))
+        (view (H.kept shelf.new) (V.written report.new) (H.refusals shelf.new) (V.failures report.new))) }
+    ensures flushed_report { OnOk result (Keeps (V.flushed report.new) (V.written report.new)) }
+    ensures stopped { IfErr result (IsStoppedAt Shelves false shelf_text (work_of reassembly tracker)
+        (R.left recording.old) (R.left recording.new)
+        (view (H.kept shelf.old) (V.written report.old) (H.refusals shelf.old) (V.failures report.old))
+        (view (H.kept shelf.new) (V.written report.new) (H.refusals shelf.new) (V.failures report.new))) }
+    ensures counts { RunCounted (R.failures recording.old) (R.failures recording.new)
+        (view (H.kept shelf.old) (V.written report.old) (H.refusals shelf.old) (V.failures report.old))
+        (view (H.kept shelf.new) (V.written report.new) (H.refusals shelf.new) (V.failures report.new)) result }
+{
+    let mut outlet = PacketShelf { shelf };
+    match run_to_end(
+        alloc,
+        reassembly,
+        tracker,
+        buffer,
+        recording,
+        &mut outlet,
+        report,
+    ) {
+        Ok(records) => Ok(records),
+        Err(fault) => Err(fault),
+    }
+}
+
 /// Reads the recording to its end, one record at a time, and gives what the job's settings choose: to `out` each whole packet, its octets
 /// or its line; to the report each bad frame, gap, VCA frame and dropped part, and the notes of the packets' sequence counts. For each
 /// item what belongs to `out` is written first. At the end the recording is closed, and both outputs are flushed.
@@ -159,7 +367,7 @@ pub fn run<R: Source, W: Drain, V: Drain>(
     } = job;
     match ending {
         Ending::Close => {
-            match run_to_end(
+            match run_by(
                 alloc,
                 command,
                 reassembly,
@@ -167,6 +375,73 @@ pub fn run<R: Source, W: Drain, V: Drain>(
                 buffer.as_mut_slice(),
                 recording,
                 out,
+                report,
+            ) {
+                Ok(records) => Ok(Done { records }),
+                Err(fault) => Err(fault),
+            }
+        }
+    }
+}
+
+/// Reads the recording to its end as `run` does, and puts the octets of each whole packet, idle packets included, behind those of its
+/// application, all channels together. The report is that of `run`, and is flushed at the end.
+///
+/// # Errors
+///
+/// As `run`: `Write` where a put was refused, and `NoMemory` only where a line for the report can't be made. The job is given up.
+pub fn split<R: Source, H: Shelf, V: Drain>(
+    alloc: Global,
+    job: Job,
+    recording: &mut R,
+    shelf: &mut H,
+    report: &mut V,
+    ending: Ending,
+) -> Result<Done, RunFault>
+    // With Ok all was read, and just the pieces of the recording were written, and passed on.
+    ensures all { IfOk result (λ done. IsRun Shelves false shelf_text job (R.left recording.old) (R.left recording.new)
+        (view (H.kept shelf.old) (V.written report.old) (H.refusals shelf.old) (V.failures report.old))
+        (view (H.kept shelf.new) (V.written report.new) (H.refusals shelf.new) (V.failures report.new)) done.records) }
+    ensures done { IfOk result (λ done. IfSome (R.left recording.old) (λ octets.
+        Took Shelves (view (H.kept shelf.old) (V.written report.old) (H.refusals shelf.old) (V.failures report.old))
+        (view (H.kept shelf.new) (V.written report.new) (H.refusals shelf.new) (V.failures report.new)) (pieces shelf_text job octets)
+        × (done.records ≡ job.state.records + record_count (record_length_of job.layout) octets))) }
+    ensures flushed_report { OnOk result (Keeps (V.flushed report.new) (V.written report.new)) }
+
+    // A device is blamed only where a call of it failed.
+    ensures counts { RunCounted (R.failures recording.old) (R.failures recording.new)
+        (view (H.kept shelf.old) (V.written report.old) (H.refusals shelf.old) (V.failures report.old))
+        (view (H.kept shelf.new) (V.written report.new) (H.refusals shelf.new) (V.failures report.new)) result }
+
+    // After a fault there is one place up to which these pieces were written. Without memory it is a piece's end; and a text was to be made.
+    ensures cut { IfErr result (λ fault. IfSome (R.left recording.old) (λ octets.
+        AppendsCut Shelves (view (H.kept shelf.old) (V.written report.old) (H.refusals shelf.old) (V.failures report.old))
+        (view (H.kept shelf.new) (V.written report.new) (H.refusals shelf.new) (V.failures report.new)) (pieces shelf_text job octets))) }
+    ensures memory { IsErrOf result RunFault.NoMemory → IfSome (R.left recording.old) (λ octets.
+        WantsMemory Shelves false (view (H.kept shelf.old) (V.written report.old) (H.refusals shelf.old) (V.failures report.old))
+        (view (H.kept shelf.new) (V.written report.new) (H.refusals shelf.new) (V.failures report.new)) (pieces shelf_text job octets)) }
+    ensures too_many { IsErrOf result RunFault.TooMany → IfSome (R.left recording.old) (λ octets.
+        2 ^ 32 - 1 < job.state.records + record_count (record_length_of job.layout) octets) }
+
+    // What was read by then, and written: nothing past the record at a piece of which writing stopped.
+    ensures stopped { IfErr result (IsStoppedAt Shelves false shelf_text job (R.left recording.old) (R.left recording.new)
+        (view (H.kept shelf.old) (V.written report.old) (H.refusals shelf.old) (V.failures report.old))
+        (view (H.kept shelf.new) (V.written report.new) (H.refusals shelf.new) (V.failures report.new))) }
+{
+    let Job {
+        reassembly,
+        tracker,
+        mut buffer,
+    } = job;
+    match ending {
+        Ending::Close => {
+            match run_split(
+                alloc,
+                reassembly,
+                tracker,
+                buffer.as_mut_slice(),
+                recording,
+                shelf,
                 report,
             ) {
                 Ok(records) => Ok(Done { records }),

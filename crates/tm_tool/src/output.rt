@@ -1,53 +1,31 @@
 //! Where the texts of items go.
 
-ghost use Rattle.std.specs.Prelude.{◌≡◌, ◌≢◌, ◌<◌, ◌++◌, ◌∷◌, [], Bool, IfErr, OnOk, OnErr, string_bytes};
-ghost use Rattle.std.specs.Io.KnownBytes.{Appends, Keeps};
+ghost use Rattle.std.specs.Prelude.{◌≡◌, ◌≢◌, ◌<◌, ◌++◌, ◌∷◌, [], OnOk, OnErr, string_bytes};
+ghost use Rattle.std.specs.Io.KnownBytes.{Keeps};
 ghost use Rattle.tm_packet.specs.Merge as sequence;
 ghost use Rattle.tm_reassembly.specs.Item as value;
 ghost use Rattle.tm_packet.specs.Header.{header_of};
 ghost use Rattle.tm_reassembly.specs.Sinks.{item_of, IsOnePacket};
 ghost use Rattle.tm_tool.specs.Lines.{note_lines};
-ghost use Rattle.tm_tool.specs.Outputs.{Stopped, Took, Written, view};
-ghost use Rattle.tm_tool.specs.Pieces.{HasLine, line_of, makes_rows, noted, notes_of, piece_of, text_of, unclosed_piece, unclosed_pieces};
+ghost use Rattle.tm_tool.specs.Outputs.{Written, view};
+ghost use Rattle.tm_tool.specs.Pieces.{HasLine, line_of, noted, notes_of, piece_of, unclosed_piece, unclosed_pieces};
 ghost use Rattle.tm_tool.specs.Sinking.{Refuses, Takes};
 
-use crate::lines::{push_bad, push_drop, push_gap, push_note, push_packet, push_short, push_vca};
+use crate::lines::{push_bad, push_drop, push_gap, push_note, push_short, push_vca};
+use crate::outlet::Outlet;
 use crate::transfer::put_all;
-use crate::{Command, Drain, RunFault};
+use crate::{Drain, RunFault};
 use std::alloc::AllocError;
 use tm_packet::{Header, Notes, Tracker, Unclosed, read_header};
 use tm_reassembly::{Item, Sink};
 
-/// Writes the texts of the items that it takes. The two lines are made in memory that is kept from item to item.
+/// Writes the texts of the items that it takes. Lines are made in memory that is kept from item to item.
 #[derive(Drop)]
-pub struct Output<'a, W, V> {
-    pub command: Command,
+pub struct Output<'a, O, V> {
     pub tracker: &'a mut Tracker,
-    pub line: &'a mut String,
     pub notes: &'a mut String,
-    pub out: &'a mut W,
+    pub outlet: &'a mut O,
     pub report: &'a mut V,
-}
-
-// Writes what belongs to `out`, and then what belongs to the report.
-fn put_texts<W: Drain, V: Drain>(
-    text: &[u8],
-    lines: &[u8],
-    out: &mut W,
-    report: &mut V,
-) -> Result<(), RunFault>
-    ensures whole { OnOk result (Took Appends (view (W.written out.old) (V.written report.old) (W.failures out.old) (V.failures report.old))
-        (view (W.written out.new) (V.written report.new) (W.failures out.new) (V.failures report.new)) (record { out = text.now; report = lines.now } ∷ [])) }
-    ensures stopped { IfErr result (λ fault. (rows : Bool) → Stopped Appends rows (view (W.written out.old) (V.written report.old) (W.failures out.old) (V.failures report.old))
-        (view (W.written out.new) (V.written report.new) (W.failures out.new) (V.failures report.new)) (record { out = text.now; report = lines.now } ∷ []) fault) }
-{
-    if let Err(_) = put_all(out, text) {
-        return Err(RunFault::Write);
-    }
-    if let Err(_) = put_all(report, lines) {
-        return Err(RunFault::Report);
-    }
-    Ok(())
 }
 
 // Makes the lines of notes, one after the other.
@@ -133,9 +111,9 @@ fn note_packet(
     push_notes(lines, seen, channel, header.application(), &notes)
 }
 
-impl<W: Drain, V: Drain> Output<'_, W, V> {
+impl<O: Outlet, V: Drain> Output<'_, O, V> {
     // Takes a packet.
-    #[tactic(auto, unfolding(crate::specs::Pieces::report_of, crate::specs::Pieces::text_of, crate::specs::Pieces::noted))]
+    #[tactic(auto, unfolding(crate::specs::Pieces::report_of, crate::specs::Pieces::noted))]
     fn put_packet(
         &mut self,
         seen: u32,
@@ -147,86 +125,83 @@ impl<W: Drain, V: Drain> Output<'_, W, V> {
         requires channel { channel < 8 }
         requires packet { IsOnePacket octets.now }
         ensures same_tracker { self.new.tracker.ghost_name ≡ self.old.tracker.ghost_name }
-        ensures same_out { self.new.out.ghost_name ≡ self.old.out.ghost_name }
+        ensures same_outlet { self.new.outlet.ghost_name ≡ self.old.outlet.ghost_name }
+        ensures same_out { O.name self.new.outlet.now ≡ O.name self.old.outlet.now }
         ensures same_report { self.new.report.ghost_name ≡ self.old.report.ghost_name }
-        ensures command { self.new.command ≡ self.old.command }
         ensures noted { self.new.tracker.now ≡ noted self.old.tracker.now (value.Packet seen channel first place octets.now) }
-        ensures written { Written Appends (makes_rows self.old.command) (view (W.written self.old.out.now) (V.written self.old.report.now) (W.failures self.old.out.now) (V.failures self.old.report.now))
-            (view (W.written self.new.out.now) (V.written self.new.report.now) (W.failures self.new.out.now) (V.failures self.new.report.now)) (piece_of (text_of self.old.command) self.old.tracker.now (value.Packet seen channel first place octets.now) ∷ []) result }
+        ensures written { Written O.grows O.rows (view (O.held self.old.outlet.now) (V.written self.old.report.now) (O.failures self.old.outlet.now) (V.failures self.old.report.now))
+            (view (O.held self.new.outlet.now) (V.written self.new.report.now) (O.failures self.new.outlet.now) (V.failures self.new.report.now)) (piece_of O.text self.old.tracker.now (value.Packet seen channel first place octets.now) ∷ []) result }
     {
         let header = header_in(octets);
         if let Err(_) = note_packet(self.tracker, self.notes, seen, channel, header) {
             return Err(RunFault::NoMemory);
         }
-        match self.command {
-            Command::Extract => put_texts(octets, self.notes.as_bytes(), self.out, self.report),
-            Command::Packets => {
-                self.line.clear();
-                let length = octets.len();
-                match push_packet(self.line, seen, channel, first, place, &header, length) {
-                    Ok(()) => {
-                        let line = self.line.as_bytes();
-                        put_texts(line, self.notes.as_bytes(), self.out, self.report)
-                    }
-                    Err(_) => Err(RunFault::NoMemory),
-                }
-            }
+        if let Err(fault) = self
+            .outlet
+            .put(seen, channel, first, place, &header, octets)
+        {
+            return Err(fault);
         }
+        if let Err(_) = put_all(self.report, self.notes.as_bytes()) {
+            return Err(RunFault::Report);
+        }
+        Ok(())
     }
 
     // Writes the line of an item that is no packet.
-    #[tactic(auto, unfolding(crate::specs::Pieces::report_of, crate::specs::Pieces::text_of, crate::specs::Pieces::noted))]
+    #[tactic(auto, unfolding(crate::specs::Pieces::report_of, crate::specs::Pieces::noted))]
     fn put_line(&mut self, item: Item<'_>) -> Result<(), RunFault>
         requires { HasLine (item_of item) }
         ensures same_tracker { self.new.tracker.ghost_name ≡ self.old.tracker.ghost_name }
-        ensures same_out { self.new.out.ghost_name ≡ self.old.out.ghost_name }
+        ensures same_outlet { self.new.outlet.ghost_name ≡ self.old.outlet.ghost_name }
+        ensures same_out { O.name self.new.outlet.now ≡ O.name self.old.outlet.now }
         ensures same_report { self.new.report.ghost_name ≡ self.old.report.ghost_name }
-        ensures command { self.new.command ≡ self.old.command }
         ensures noted { self.new.tracker.now ≡ noted self.old.tracker.now (item_of item.entry) }
-        ensures written { Written Appends (makes_rows self.old.command) (view (W.written self.old.out.now) (V.written self.old.report.now) (W.failures self.old.out.now) (V.failures self.old.report.now))
-            (view (W.written self.new.out.now) (V.written self.new.report.now) (W.failures self.new.out.now) (V.failures self.new.report.now)) (piece_of (text_of self.old.command) self.old.tracker.now (item_of item.entry) ∷ []) result }
+        ensures written { Written O.grows O.rows (view (O.held self.old.outlet.now) (V.written self.old.report.now) (O.failures self.old.outlet.now) (V.failures self.old.report.now))
+            (view (O.held self.new.outlet.now) (V.written self.new.report.now) (O.failures self.new.outlet.now) (V.failures self.new.report.now)) (piece_of O.text self.old.tracker.now (item_of item.entry) ∷ []) result }
     {
         self.notes.clear();
-        match push_item(self.notes, item) {
-            Ok(()) => put_texts(&[], self.notes.as_bytes(), self.out, self.report),
-            Err(_) => Err(RunFault::NoMemory),
+        if let Err(_) = push_item(self.notes, item) {
+            return Err(RunFault::NoMemory);
         }
+        if let Err(_) = put_all(self.report, self.notes.as_bytes()) {
+            return Err(RunFault::Report);
+        }
+        Ok(())
     }
 
     // Writes the line of a group that is open at a closed end.
-    #[tactic(auto, using(crate::proofs::Drains::no_room_out, crate::proofs::LineLemmas::some_note), unfolding(crate::specs::Pieces::unclosed_piece))]
+    #[tactic(auto, using(crate::proofs::LineLemmas::some_note), unfolding(crate::specs::Pieces::unclosed_piece))]
     fn put_unclosed(&mut self, seen: u32, unclosed: Unclosed) -> Result<(), RunFault>
         requires { unclosed.key < 16384 }
         ensures same_tracker { self.new.tracker.ghost_name ≡ self.old.tracker.ghost_name }
-        ensures same_out { self.new.out.ghost_name ≡ self.old.out.ghost_name }
+        ensures same_outlet { self.new.outlet.ghost_name ≡ self.old.outlet.ghost_name }
+        ensures same_out { O.name self.new.outlet.now ≡ O.name self.old.outlet.now }
         ensures same_report { self.new.report.ghost_name ≡ self.old.report.ghost_name }
-        ensures command { self.new.command ≡ self.old.command }
         ensures tracker { self.new.tracker.now ≡ self.old.tracker.now }
-        ensures written { Written Appends (makes_rows self.old.command) (view (W.written self.old.out.now) (V.written self.old.report.now) (W.failures self.old.out.now) (V.failures self.old.report.now))
-            (view (W.written self.new.out.now) (V.written self.new.report.now) (W.failures self.new.out.now) (V.failures self.new.report.now)) (unclosed_piece seen unclosed ∷ []) result }
+        ensures written { Written O.grows O.rows (view (O.held self.old.outlet.now) (V.written self.old.report.now) (O.failures self.old.outlet.now) (V.failures self.old.report.now))
+            (view (O.held self.new.outlet.now) (V.written self.new.report.now) (O.failures self.new.outlet.now) (V.failures self.new.report.now)) (unclosed_piece seen unclosed ∷ []) result }
     {
         self.notes.clear();
         let channel = (unclosed.key / 2048) as u8;
-        match push_note(
-            self.notes,
-            seen,
-            channel,
-            unclosed.key % 2048,
-            unclosed.note,
-        ) {
-            Ok(()) => put_texts(&[], self.notes.as_bytes(), self.out, self.report),
-            Err(_) => Err(RunFault::NoMemory),
+        let apid = unclosed.key % 2048;
+        if let Err(_) = push_note(self.notes, seen, channel, apid, unclosed.note) {
+            return Err(RunFault::NoMemory);
         }
+        if let Err(_) = put_all(self.report, self.notes.as_bytes()) {
+            return Err(RunFault::Report);
+        }
+        Ok(())
     }
 
     /// Writes the lines of the groups that are open at a closed end of so many records, by rising key.
     pub fn put_all_unclosed(&mut self, seen: u32) -> Result<(), RunFault>
-        ensures command { OnOk result (self.new.command ≡ self.old.command) }
         ensures same_tracker { self.new.tracker.ghost_name ≡ self.old.tracker.ghost_name }
-        ensures same_out { self.new.out.ghost_name ≡ self.old.out.ghost_name }
+        ensures same_outlet { self.new.outlet.ghost_name ≡ self.old.outlet.ghost_name }
+        ensures same_out { O.name self.new.outlet.now ≡ O.name self.old.outlet.now }
         ensures same_report { self.new.report.ghost_name ≡ self.old.report.ghost_name }
-        ensures written { Written Appends (makes_rows self.old.command) (view (W.written self.old.out.now) (V.written self.old.report.now) (W.failures self.old.out.now) (V.failures self.old.report.now))
-            (view (W.written self.new.out.now) (V.written self.new.report.now) (W.failures self.new.out.now) (V.failures self.new.report.now)) (unclosed_pieces seen (sequence.unclosed 0 self.old.tracker.now)) result }
+        ensures written { Written O.grows O.rows (view (O.held self.old.outlet.now) (V.written self.old.report.now) (O.failures self.old.outlet.now) (V.failures self.old.report.now))
+            (view (O.held self.new.outlet.now) (V.written self.new.report.now) (O.failures self.new.outlet.now) (V.failures self.new.report.now)) (unclosed_pieces seen (sequence.unclosed 0 self.old.tracker.now)) result }
     {
         let mut at = 0;
         while let Some(unclosed) = self.tracker.next_unclosed(at) {
@@ -241,14 +216,15 @@ impl<W: Drain, V: Drain> Output<'_, W, V> {
     /// Flushes both outputs.
     pub fn flush(&mut self) -> Result<(), RunFault>
         ensures same_tracker { self.new.tracker.ghost_name ≡ self.old.tracker.ghost_name }
-        ensures same_out { self.new.out.ghost_name ≡ self.old.out.ghost_name }
+        ensures same_outlet { self.new.outlet.ghost_name ≡ self.old.outlet.ghost_name }
+        ensures same_out { O.name self.new.outlet.now ≡ O.name self.old.outlet.now }
         ensures same_report { self.new.report.ghost_name ≡ self.old.report.ghost_name }
-        ensures flushed_out { OnOk result (Keeps (W.flushed self.new.out.now) (W.written self.new.out.now)) }
+        ensures flushed_out { OnOk result (O.passed self.new.outlet.now) }
         ensures flushed_report { OnOk result (Keeps (V.flushed self.new.report.now) (V.written self.new.report.now)) }
-        ensures written { Written Appends (makes_rows self.old.command) (view (W.written self.old.out.now) (V.written self.old.report.now) (W.failures self.old.out.now) (V.failures self.old.report.now))
-            (view (W.written self.new.out.now) (V.written self.new.report.now) (W.failures self.new.out.now) (V.failures self.new.report.now)) [] result }
+        ensures written { Written O.grows O.rows (view (O.held self.old.outlet.now) (V.written self.old.report.now) (O.failures self.old.outlet.now) (V.failures self.old.report.now))
+            (view (O.held self.new.outlet.now) (V.written self.new.report.now) (O.failures self.new.outlet.now) (V.failures self.new.report.now)) [] result }
     {
-        if let Err(_) = self.out.flush() {
+        if let Err(_) = self.outlet.flush() {
             return Err(RunFault::Write);
         }
         if let Err(_) = self.report.flush() {
@@ -258,14 +234,14 @@ impl<W: Drain, V: Drain> Output<'_, W, V> {
     }
 }
 
-impl<W: Drain, V: Drain> Sink for Output<'_, W, V> {
+impl<O: Outlet, V: Drain> Sink for Output<'_, O, V> {
     type Fault = RunFault;
 
-    ghost takes = { Takes Appends text_of makes_rows (λ s. s.tracker.ghost_name) (λ s. s.out.ghost_name) (λ s. s.report.ghost_name) (λ s. s.command) (λ s. s.tracker.now)
-        (λ s. (view (W.written s.out.now) (V.written s.report.now) (W.failures s.out.now) (V.failures s.report.now))) };
+    ghost takes = { Takes O.grows O.text O.rows (λ s. s.tracker.ghost_name) (λ s. s.outlet.ghost_name) (λ s. O.name s.outlet.now) (λ s. s.report.ghost_name) (λ s. s.tracker.now)
+        (λ s. (view (O.held s.outlet.now) (V.written s.report.now) (O.failures s.outlet.now) (V.failures s.report.now))) };
 
-    ghost refuses = { Refuses Appends text_of makes_rows (λ s. s.tracker.ghost_name) (λ s. s.out.ghost_name) (λ s. s.report.ghost_name) (λ s. s.command) (λ s. s.tracker.now)
-        (λ s. (view (W.written s.out.now) (V.written s.report.now) (W.failures s.out.now) (V.failures s.report.now))) };
+    ghost refuses = { Refuses O.grows O.text O.rows (λ s. s.tracker.ghost_name) (λ s. s.outlet.ghost_name) (λ s. O.name s.outlet.now) (λ s. s.report.ghost_name) (λ s. s.tracker.now)
+        (λ s. (view (O.held s.outlet.now) (V.written s.report.now) (O.failures s.outlet.now) (V.failures s.report.now))) };
 
     fn take(&mut self, item: Item<'_>) -> Result<(), RunFault> {
         match item {

@@ -14,9 +14,9 @@ returns-in-Ok-clause-done g c =
     let valid = subst IsValid c.job.view_is c.job.invariant.3 in
     let some = subst (λ (w : Work). 0 < record_length_of w.layout) c.job.view_is (omega (arith, c.job.invariant.1, c.job.invariant.2)) in
     let done = rw c.job.view_is at c.in-Ok.ensures.run in
-    run_told Appends Appends-nil Appends-trans (makes_rows c.args.command) (text_of c.args.command) c.args.job valid some (g.R.Source.left c.args.recording.now) (g.R.Source.left c.run_to_end.new.recording)
+    run_told Appends Appends-nil Appends-trans (makes_rows c.args.command) (text_of c.args.command) c.args.job valid some (g.R.Source.left c.args.recording.now) (g.R.Source.left c.run_by.new.recording)
     (view (g.W.Drain.written c.args.out.now) (g.V.Drain.written c.args.report.now) (g.W.Drain.failures c.args.out.now) (g.V.Drain.failures c.args.report.now))
-    (view (g.W.Drain.written c.run_to_end.new.out) (g.V.Drain.written c.run_to_end.new.report) (g.W.Drain.failures c.run_to_end.new.out) (g.V.Drain.failures c.run_to_end.new.report))
+    (view (g.W.Drain.written c.run_by.new.out) (g.V.Drain.written c.run_by.new.report) (g.W.Drain.failures c.run_by.new.out) (g.V.Drain.failures c.run_by.new.report))
     c.in-Ok.records done
 
 pub returns-clause-cut : goal.returns-clause-cut
@@ -24,9 +24,9 @@ returns-clause-cut g c =
     let valid = subst IsValid c.job.view_is c.job.invariant.3 in
     let some = subst (λ (w : Work). 0 < record_length_of w.layout) c.job.view_is (omega (arith, c.job.invariant.1, c.job.invariant.2)) in
     let stopped = rw c.job.view_is at c.in-Err.ensures.stopped in
-    run_cut Appends Appends-nil Appends-trans (makes_rows c.args.command) (text_of c.args.command) c.args.job valid some (g.R.Source.left c.args.recording.now) (g.R.Source.left c.run_to_end.new.recording)
+    run_cut Appends Appends-nil Appends-trans (makes_rows c.args.command) (text_of c.args.command) c.args.job valid some (g.R.Source.left c.args.recording.now) (g.R.Source.left c.run_by.new.recording)
     (view (g.W.Drain.written c.args.out.now) (g.V.Drain.written c.args.report.now) (g.W.Drain.failures c.args.out.now) (g.V.Drain.failures c.args.report.now))
-    (view (g.W.Drain.written c.run_to_end.new.out) (g.V.Drain.written c.run_to_end.new.report) (g.W.Drain.failures c.run_to_end.new.out) (g.V.Drain.failures c.run_to_end.new.report))
+    (view (g.W.Drain.written c.run_by.new.out) (g.V.Drain.written c.run_by.new.report) (g.W.Drain.failures c.run_by.new.out) (g.V.Drain.failures c.run_by.new.report))
     c.in-Err.fault stopped
 
 pub returns-clause-memory : goal.returns-clause-memory
@@ -34,21 +34,21 @@ returns-clause-memory g c without =
     let valid = subst IsValid c.job.view_is c.job.invariant.3 in
     let some = subst (λ (w : Work). 0 < record_length_of w.layout) c.job.view_is (omega (arith, c.job.invariant.1, c.job.invariant.2)) in
     let stopped = rw c.job.view_is at c.in-Err.ensures.stopped in
-    run_memory Appends Appends-nil Appends-trans (makes_rows c.args.command) (text_of c.args.command) c.args.job valid some (g.R.Source.left c.args.recording.now) (g.R.Source.left c.run_to_end.new.recording)
+    run_memory Appends Appends-nil Appends-trans (makes_rows c.args.command) (text_of c.args.command) c.args.job valid some (g.R.Source.left c.args.recording.now) (g.R.Source.left c.run_by.new.recording)
     (view (g.W.Drain.written c.args.out.now) (g.V.Drain.written c.args.report.now) (g.W.Drain.failures c.args.out.now) (g.V.Drain.failures c.args.report.now))
-    (view (g.W.Drain.written c.run_to_end.new.out) (g.V.Drain.written c.run_to_end.new.report) (g.W.Drain.failures c.run_to_end.new.out) (g.V.Drain.failures c.run_to_end.new.report))
-    (subst (IsStoppedAt Appends (makes_rows c.args.command) (text_of c.args.command) c.args.job (g.R.Source.left c.args.recording.now) (g.R.Source.left c.run_to_end.new.recording)
+    (view (g.W.Drain.written c.run_by.new.out) (g.V.Drain.written c.run_by.new.report) (g.W.Drain.failures c.run_by.new.out) (g.V.Drain.failures c.run_by.new.report))
+    (subst (IsStoppedAt Appends (makes_rows c.args.command) (text_of c.args.command) c.args.job (g.R.Source.left c.args.recording.now) (g.R.Source.left c.run_by.new.recording)
     (view (g.W.Drain.written c.args.out.now) (g.V.Drain.written c.args.report.now) (g.W.Drain.failures c.args.out.now) (g.V.Drain.failures c.args.report.now))
-    (view (g.W.Drain.written c.run_to_end.new.out) (g.V.Drain.written c.run_to_end.new.report) (g.W.Drain.failures c.run_to_end.new.out) (g.V.Drain.failures c.run_to_end.new.report))) (same_fault without) stopped)
+    (view (g.W.Drain.written c.run_by.new.out) (g.V.Drain.written c.run_by.new.report) (g.W.Drain.failures c.run_by.new.out) (g.V.Drain.failures c.run_by.new.report))) (same_fault without) stopped)
 
 pub returns-clause-too_many : goal.returns-clause-too_many
 returns-clause-too_many g c many =
     let valid = subst IsValid c.job.view_is c.job.invariant.3 in
     let some = subst (λ (w : Work). 0 < record_length_of w.layout) c.job.view_is (omega (arith, c.job.invariant.1, c.job.invariant.2)) in
     let stopped = rw c.job.view_is at c.in-Err.ensures.stopped in
-    run_many Appends Appends-nil Appends-trans (makes_rows c.args.command) (text_of c.args.command) c.args.job valid some (g.R.Source.left c.args.recording.now) (g.R.Source.left c.run_to_end.new.recording)
+    run_many Appends Appends-nil Appends-trans (makes_rows c.args.command) (text_of c.args.command) c.args.job valid some (g.R.Source.left c.args.recording.now) (g.R.Source.left c.run_by.new.recording)
     (view (g.W.Drain.written c.args.out.now) (g.V.Drain.written c.args.report.now) (g.W.Drain.failures c.args.out.now) (g.V.Drain.failures c.args.report.now))
-    (view (g.W.Drain.written c.run_to_end.new.out) (g.V.Drain.written c.run_to_end.new.report) (g.W.Drain.failures c.run_to_end.new.out) (g.V.Drain.failures c.run_to_end.new.report))
-    (subst (IsStoppedAt Appends (makes_rows c.args.command) (text_of c.args.command) c.args.job (g.R.Source.left c.args.recording.now) (g.R.Source.left c.run_to_end.new.recording)
+    (view (g.W.Drain.written c.run_by.new.out) (g.V.Drain.written c.run_by.new.report) (g.W.Drain.failures c.run_by.new.out) (g.V.Drain.failures c.run_by.new.report))
+    (subst (IsStoppedAt Appends (makes_rows c.args.command) (text_of c.args.command) c.args.job (g.R.Source.left c.args.recording.now) (g.R.Source.left c.run_by.new.recording)
     (view (g.W.Drain.written c.args.out.now) (g.V.Drain.written c.args.report.now) (g.W.Drain.failures c.args.out.now) (g.V.Drain.failures c.args.report.now))
-    (view (g.W.Drain.written c.run_to_end.new.out) (g.V.Drain.written c.run_to_end.new.report) (g.W.Drain.failures c.run_to_end.new.out) (g.V.Drain.failures c.run_to_end.new.report))) (same_fault many) stopped)
+    (view (g.W.Drain.written c.run_by.new.out) (g.V.Drain.written c.run_by.new.report) (g.W.Drain.failures c.run_by.new.out) (g.V.Drain.failures c.run_by.new.report))) (same_fault many) stopped)

@@ -1,27 +1,25 @@
 -- The records that were read are taken, and no call failed.
 use Rattle.std.proofs.Common.{◌≡◌, ◌-◌, ◌^◌, ◌<◌, length, false}
-use Rattle.std.specs.Io.KnownBytes.{Appends}
 use Rattle.tm_frame.specs.Layout.{record_length_of}
 use Rattle.tm_tool.specs.Outputs.{view}
-use Rattle.tm_tool.specs.Pieces.{text_of}
 use Rattle.tm_tool.specs.Stepping.{HasTaken, work_of}
 use Rattle.tm_tool.proofs.recording.step_records.Given as goal
 
 abbrev pub invariant-loop-octets : goal.invariant-loop-octets
 invariant-loop-octets g l = record {
   named : l.output.tracker.ghost_name ≡ l.initial.output.tracker.ghost_name;
-  out : l.output.out.ghost_name ≡ l.initial.output.out.ghost_name;
+  outlet : l.output.outlet.ghost_name ≡ l.initial.output.outlet.ghost_name;
+  out : g.O.Outlet.name l.output.outlet.now ≡ g.O.Outlet.name l.initial.output.outlet.now;
   report : l.output.report.ghost_name ≡ l.initial.output.report.ghost_name;
-  command : l.output.command ≡ l.initial.output.command;
   layout : l.reassembly.layout ≡ l.initial.reassembly.layout;
   going : l.reassembly.failed ≡ false;
   few : l.reassembly.state.records < 2 ^ 32;
   exact : length l.buffer ≡ record_length_of l.initial.reassembly.layout;
   reads : g.R.Source.failures l.recording ≡ g.R.Source.failures l.initial.recording;
-  taken : HasTaken Appends (text_of l.initial.output.command) (work_of l.initial.reassembly l.initial.output.tracker.now)
+  taken : HasTaken g.O.Outlet.grows g.O.Outlet.text (work_of l.initial.reassembly l.initial.output.tracker.now)
       (g.R.Source.left l.initial.recording) (g.R.Source.left l.recording)
-      (view (g.W.Drain.written l.initial.output.out.now) (g.V.Drain.written l.initial.output.report.now) (g.W.Drain.failures l.initial.output.out.now) (g.V.Drain.failures l.initial.output.report.now))
-      (view (g.W.Drain.written l.output.out.now) (g.V.Drain.written l.output.report.now) (g.W.Drain.failures l.output.out.now) (g.V.Drain.failures l.output.report.now))
+      (view (g.O.Outlet.held l.initial.output.outlet.now) (g.V.Drain.written l.initial.output.report.now) (g.O.Outlet.failures l.initial.output.outlet.now) (g.V.Drain.failures l.initial.output.report.now))
+      (view (g.O.Outlet.held l.output.outlet.now) (g.V.Drain.written l.output.report.now) (g.O.Outlet.failures l.output.outlet.now) (g.V.Drain.failures l.output.report.now))
       (work_of l.reassembly l.output.tracker.now);
 }
 

@@ -1,6 +1,5 @@
 -- The lines of the open groups below the next key are written.
 use Rattle.std.proofs.Common.{◌≡◌, ◌≤◌, ◌-◌, List}
-use Rattle.std.specs.Io.KnownBytes.{Appends}
 use Rattle.tm_packet.specs.declared.tracker.Unclosed.{Unclosed}
 use Rattle.tm_tool.specs.Outputs.{Took, view}
 use Rattle.tm_tool.specs.Pieces.{unclosed_pieces}
@@ -10,16 +9,16 @@ use Rattle.tm_tool.proofs.output.Output.put_all_unclosed.Given as goal
 abbrev pub invariant-loop-unclosed : goal.invariant-loop-unclosed
 invariant-loop-unclosed g l = record {
   named : l.self.tracker.ghost_name ≡ l.initial.self.tracker.ghost_name;
-  out : l.self.out.ghost_name ≡ l.initial.self.out.ghost_name;
+  outlet : l.self.outlet.ghost_name ≡ l.initial.self.outlet.ghost_name;
+  out : g.O.Outlet.name l.self.outlet.now ≡ g.O.Outlet.name l.initial.self.outlet.now;
   report : l.self.report.ghost_name ≡ l.initial.self.report.ghost_name;
-  command : l.self.command ≡ l.initial.self.command;
   tracker : l.self.tracker.now ≡ l.initial.self.tracker.now;
   below : l.at ≤ 16384;
   done : List Unclosed;
   parted : Parted l.initial.self.tracker.now done l.at;
-  took : Took Appends
-      (view (g.W.Drain.written l.initial.self.out.now) (g.V.Drain.written l.initial.self.report.now) (g.W.Drain.failures l.initial.self.out.now) (g.V.Drain.failures l.initial.self.report.now))
-      (view (g.W.Drain.written l.self.out.now) (g.V.Drain.written l.self.report.now) (g.W.Drain.failures l.self.out.now) (g.V.Drain.failures l.self.report.now))
+  took : Took g.O.Outlet.grows
+      (view (g.O.Outlet.held l.initial.self.outlet.now) (g.V.Drain.written l.initial.self.report.now) (g.O.Outlet.failures l.initial.self.outlet.now) (g.V.Drain.failures l.initial.self.report.now))
+      (view (g.O.Outlet.held l.self.outlet.now) (g.V.Drain.written l.self.report.now) (g.O.Outlet.failures l.self.outlet.now) (g.V.Drain.failures l.self.report.now))
       (unclosed_pieces l.seen done);
 }
 

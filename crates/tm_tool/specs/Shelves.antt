@@ -1,0 +1,38 @@
+-- Places for the packets of applications.
+use Rattle.std.specs.Prelude.{◌≡◌, ◌≢◌, ⊤, ℕ, ◌==◌, List, [], ◌∷◌, ◌++◌, map, Option, None, Some, if◌then◌else◌}
+use Rattle.tm_packet.specs.Header.{header_of}
+use Rattle.tm_reassembly.specs.Item.{Item, Packet}
+
+-- known places grow by octets of one application, and no other place changes
+abbrev pub Puts : Option (ℕ → List ℕ) → Option (ℕ → List ℕ) → ℕ → List ℕ → Type 0
+Puts None new application octets = ⊤
+Puts (Some held) None application octets = ⊥
+Puts (Some held) (Some now) application octets = (k : ℕ) → now k ≡ held k ++ (if application == k then octets else [])
+
+-- by a front of them, by a proper one if there are any
+abbrev pub PutsFront : Option (ℕ → List ℕ) → Option (ℕ → List ℕ) → ℕ → List ℕ → Type 0
+PutsFront old new application octets = (front rest : List ℕ) × (octets ≡ front ++ rest) × (octets ≢ [] → rest ≢ []) × Puts old new application front
+
+-- an octet of an application
+pub record Shelved : Type 0 where
+  pub application : ℕ
+  pub octet : ℕ
+
+abbrev pub shelved : ℕ → List ℕ → List Shelved
+shelved application octets = map (λ octet. record { application = application; octet = octet }) octets
+
+-- the octets of one application, in their order
+abbrev pub of_application : ℕ → List Shelved → List ℕ
+of_application k [] = []
+of_application k (x ∷ xs) = (if x.application == k then x.octet ∷ [] else []) ++ of_application k xs
+
+-- known places grow by these octets, each in its application's place
+abbrev pub Shelves : Option (ℕ → List ℕ) → Option (ℕ → List ℕ) → List Shelved → Type 0
+Shelves None new xs = ⊤
+Shelves (Some held) None xs = ⊥
+Shelves (Some held) (Some now) xs = (k : ℕ) → now k ≡ held k ++ of_application k xs
+
+-- what of an item belongs to the places: a packet's octets, in its application's
+unfoldable pub shelf_text : Item → List Shelved
+shelf_text (Packet seen channel first place octets) = shelved (header_of octets).application octets
+shelf_text _ = []

@@ -1,0 +1,257 @@
+//! Where packets go: their octets into a drain or a shelf, or a line for each into a drain.
+
+ghost use Rattle.std.specs.Prelude.{◌≡◌, ◌++◌, [], ◌∷◌, ℕ, Bool, true, false, List, Option, OnOk, IfErr};
+ghost use Rattle.std.specs.Io.KnownBytes.{Appends, Keeps};
+ghost use Rattle.std.proofs.KnownBytes.{Appends-nil, Appends-trans};
+ghost use Rattle.tm_packet.specs.Header.{header_of};
+ghost use Rattle.tm_reassembly.specs.Item as value;
+ghost use Rattle.tm_reassembly.specs.Item.{Item};
+ghost use Rattle.tm_tool.specs.Devices.{Counts};
+ghost use Rattle.tm_tool.specs.Outlets.{PutStopped};
+ghost use Rattle.tm_tool.specs.Pieces.{HasLine, text_of};
+ghost use Rattle.tm_tool.specs.ShelfLaws.{no_shelf, shelves_nil, shelves_trans};
+ghost use Rattle.tm_tool.specs.Shelves.{Shelved, Shelves, shelf_text};
+ghost use Rattle.tm_tool.specs.Outlets.{no_text};
+
+use crate::lines::push_packet;
+use crate::transfer::put_all;
+use crate::{DeviceFailed, Drain, RunFault, Shelf};
+use tm_packet::Header;
+
+/// Where packets go.
+pub trait Outlet {
+    /// What belongs here is a list of these.
+    ghost Part: { Type 0 };
+
+    /// What is known of what is held here.
+    ghost Held: { Type 0 };
+
+    /// The name of the reference to the device.
+    ghost Name: { Type 0 };
+
+    ghost name: { Self → Self.Name };
+
+    /// How many calls of the device have failed.
+    ghost failures: { Self → ℕ };
+
+    ghost held: { Self → Self.Held };
+
+    /// What is held has grown by these.
+    ghost grows: { Self.Held → Self.Held → List Self.Part → Type 0 };
+
+    /// What of an item belongs here.
+    ghost text: { Item → List Self.Part };
+
+    /// It is made in memory.
+    ghost rows: { Bool };
+
+    /// All that is held was passed on.
+    ghost passed: { Self → Type 0 };
+
+    /// Writes what of a packet belongs here.
+    fn put(
+        &mut self,
+        seen: u32,
+        channel: u8,
+        first: u32,
+        place: u16,
+        header: &Header,
+        octets: &[u8],
+    ) -> Result<(), RunFault>
+        requires { header.now ≡ header_of octets.now }
+        ensures same { Self.name self.new ≡ Self.name self.old }
+        ensures whole { OnOk result (Self.grows (Self.held self.old) (Self.held self.new) (Self.text (value.Packet seen channel first place octets.now))
+            × (Self.failures self.new ≡ Self.failures self.old)) }
+        ensures stopped { IfErr result (PutStopped Self.grows Self.rows (Self.held self.old) (Self.held self.new) (Self.failures self.old) (Self.failures self.new)
+            (Self.text (value.Packet seen channel first place octets.now))) };
+
+    /// Passes on all that was written.
+    fn flush(&mut self) -> Result<(), DeviceFailed>
+        ensures same { Self.name self.new ≡ Self.name self.old }
+        ensures kept { Self.grows (Self.held self.old) (Self.held self.new) [] }
+        ensures passed { OnOk result (Self.passed self.new) }
+        ensures counts { Counts (Self.failures self.old) (Self.failures self.new) result };
+
+    /// Of an item that has a line nothing belongs here.
+    ghost text_none: { (x : Item) → HasLine x → text x ≡ [] };
+
+    /// Nothing is added by nothing.
+    ghost grows_nil: { (k : Held) → grows k k [] };
+
+    /// What is added after other parts is added to them.
+    ghost grows_trans: { (j k l : Held) (xs ys : List Part) → grows j k xs → grows k l ys → grows j l (xs ++ ys) };
+}
+
+/// Packets' octets into a drain.
+#[derive(Drop)]
+pub struct PacketOctets<'a, W> {
+    pub out: &'a mut W,
+}
+
+impl<W: Drain> Outlet for PacketOctets<'_, W> {
+    ghost use Rattle.tm_tool.specs.declared.job.Command.TheVariants.{Extract};
+
+    ghost Part = { ℕ };
+
+    ghost Held = { Option (List ℕ) };
+
+    ghost Name = { ℕ };
+
+    ghost name = { λ o. o.out.ghost_name };
+
+    ghost failures = { λ o. W.failures o.out.now };
+
+    ghost held = { λ o. W.written o.out.now };
+
+    ghost grows = { Appends };
+
+    ghost text = { text_of Extract };
+
+    ghost rows = { false };
+
+    ghost passed = { λ o. Keeps (W.flushed o.out.now) (W.written o.out.now) };
+
+    ghost text_none = { no_text Extract };
+
+    ghost grows_nil = { Appends-nil };
+
+    ghost grows_trans = { Appends-trans };
+
+    #[tactic(auto, unfolding(crate::specs::Pieces::text_of))]
+    fn put(
+        &mut self,
+        _seen: u32,
+        _channel: u8,
+        _first: u32,
+        _place: u16,
+        _header: &Header,
+        octets: &[u8],
+    ) -> Result<(), RunFault> {
+        match put_all(self.out, octets) {
+            Ok(()) => Ok(()),
+            Err(_) => Err(RunFault::Write),
+        }
+    }
+
+    fn flush(&mut self) -> Result<(), DeviceFailed> {
+        self.out.flush()
+    }
+}
+
+/// A line for each packet into a drain.
+#[derive(Drop)]
+pub struct PacketLines<'a, W> {
+    pub line: &'a mut String,
+    pub out: &'a mut W,
+}
+
+impl<W: Drain> Outlet for PacketLines<'_, W> {
+    ghost use Rattle.tm_tool.specs.declared.job.Command.TheVariants.{Packets};
+
+    ghost Part = { ℕ };
+
+    ghost Held = { Option (List ℕ) };
+
+    ghost Name = { ℕ };
+
+    ghost name = { λ o. o.out.ghost_name };
+
+    ghost failures = { λ o. W.failures o.out.now };
+
+    ghost held = { λ o. W.written o.out.now };
+
+    ghost grows = { Appends };
+
+    ghost text = { text_of Packets };
+
+    ghost rows = { true };
+
+    ghost passed = { λ o. Keeps (W.flushed o.out.now) (W.written o.out.now) };
+
+    ghost text_none = { no_text Packets };
+
+    ghost grows_nil = { Appends-nil };
+
+    ghost grows_trans = { Appends-trans };
+
+    #[tactic(auto, unfolding(crate::specs::Pieces::text_of))]
+    fn put(
+        &mut self,
+        seen: u32,
+        channel: u8,
+        first: u32,
+        place: u16,
+        header: &Header,
+        octets: &[u8],
+    ) -> Result<(), RunFault> {
+        self.line.clear();
+        let length = octets.len();
+        if let Err(_) = push_packet(self.line, seen, channel, first, place, header, length) {
+            return Err(RunFault::NoMemory);
+        }
+        match put_all(self.out, self.line.as_bytes()) {
+            Ok(()) => Ok(()),
+            Err(_) => Err(RunFault::Write),
+        }
+    }
+
+    fn flush(&mut self) -> Result<(), DeviceFailed> {
+        self.out.flush()
+    }
+}
+
+/// Packets' octets into a shelf.
+#[derive(Drop)]
+pub struct PacketShelf<'a, H> {
+    pub shelf: &'a mut H,
+}
+
+impl<H: Shelf> Outlet for PacketShelf<'_, H> {
+    ghost use Rattle.std.specs.Prelude.{⊤};
+
+    ghost Part = { Shelved };
+
+    ghost Held = { Option (ℕ → List ℕ) };
+
+    ghost Name = { ℕ };
+
+    ghost name = { λ o. o.shelf.ghost_name };
+
+    ghost failures = { λ o. H.refusals o.shelf.now };
+
+    ghost held = { λ o. H.kept o.shelf.now };
+
+    ghost grows = { Shelves };
+
+    ghost text = { shelf_text };
+
+    ghost rows = { false };
+
+    ghost passed = { λ _. ⊤ };
+
+    ghost text_none = { no_shelf };
+
+    ghost grows_nil = { shelves_nil };
+
+    ghost grows_trans = { shelves_trans };
+
+    #[tactic(auto, using(crate::proofs::ShelfLemmas::shelf_stopped, crate::specs::ShelfLaws::shelves_put), unfolding(crate::specs::Shelves::shelf_text))]
+    fn put(
+        &mut self,
+        _seen: u32,
+        _channel: u8,
+        _first: u32,
+        _place: u16,
+        header: &Header,
+        octets: &[u8],
+    ) -> Result<(), RunFault> {
+        if let Err(_) = self.shelf.put(header.application(), octets) {
+            return Err(RunFault::Write);
+        }
+        Ok(())
+    }
+
+    fn flush(&mut self) -> Result<(), DeviceFailed> {
+        Ok(())
+    }
+}

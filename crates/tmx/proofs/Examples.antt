@@ -3,7 +3,7 @@ use Rattle.std.proofs.Common.{◌≡◌, true, List, [], ◌∷◌, Some, None, 
 use Rattle.clap.specs.Words.{Text}
 use Rattle.clap.specs.declared.error.kind.ErrorKind.TheVariants.{MissingRequiredArgument, UnknownArgument}
 use Rattle.clap.proofs.OnLiterals.{clap_on_literals}
-use Rattle.tmx.specs.declared.request.Action.TheVariants.{Frames, Packets, Extract}
+use Rattle.tmx.specs.declared.request.Action.TheVariants.{Frames, Packets, Extract, Split}
 use Rattle.tmx.specs.CommandLine.{faults_of, is_taken, matches_of, plan_of}
 
 words : List Text
@@ -13,17 +13,17 @@ words_taken : is_taken words ≡ true
 unfolding clap_on_literals is_taken words
 words_taken = refl
 
-words_planned : plan_of words ≡ Some (record { action = Frames; recording = Some (codes "r"); settings = Some (codes "s"); report = None })
+words_planned : plan_of words ≡ Some (record { action = Frames; recording = Some (codes "r"); settings = Some (codes "s"); report = None; dir = None })
 unfolding clap_on_literals matches_of words
 words_planned = refl
 
 packets_planned : plan_of (codes "packets" ∷ codes "r" ∷ codes "--settings" ∷ codes "s" ∷ [])
-    ≡ Some (record { action = Packets; recording = Some (codes "r"); settings = Some (codes "s"); report = None })
+    ≡ Some (record { action = Packets; recording = Some (codes "r"); settings = Some (codes "s"); report = None; dir = None })
 unfolding clap_on_literals matches_of
 packets_planned = refl
 
 report_planned : plan_of (codes "extract" ∷ codes "--settings" ∷ codes "s" ∷ codes "--report" ∷ codes "x" ∷ [])
-    ≡ Some (record { action = Extract; recording = None; settings = Some (codes "s"); report = Some (codes "x") })
+    ≡ Some (record { action = Extract; recording = None; settings = Some (codes "s"); report = Some (codes "x"); dir = None })
 unfolding clap_on_literals matches_of
 report_planned = refl
 
@@ -42,3 +42,12 @@ settings_missing = refl
 report_alone : faults_of (codes "extract" ∷ codes "--report" ∷ codes "x" ∷ []) ≡ MissingRequiredArgument ∷ []
 unfolding clap_on_literals faults_of
 report_alone = refl
+
+split_planned : plan_of (codes "split" ∷ codes "--settings" ∷ codes "s" ∷ codes "--dir" ∷ codes "d" ∷ [])
+    ≡ Some (record { action = Split; recording = None; settings = Some (codes "s"); report = None; dir = Some (codes "d") })
+unfolding clap_on_literals matches_of
+split_planned = refl
+
+folder_missing : faults_of (codes "split" ∷ codes "--settings" ∷ codes "s" ∷ []) ≡ MissingRequiredArgument ∷ []
+unfolding clap_on_literals faults_of
+folder_missing = refl

@@ -2,3 +2,4 @@ pub mod Filled
 pub mod Required
 pub mod FileLemmas
 pub mod Examples
+pub mod ShelfLemmas

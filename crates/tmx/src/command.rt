@@ -3,7 +3,7 @@
 ghost use Rattle.std.specs.Prelude.{◌≡◌, IfOk, codes, false};
 ghost use Rattle.clap.specs.Words.{app_of, rule_of};
 ghost use Rattle.clap.specs.declared.builder.command.Command.TheViews.{out-Command as fields_of};
-ghost use Rattle.tmx.specs.CommandLine.{bare, frames_app, option_rule, recording_rule, reported_app, required_rule, tmx};
+ghost use Rattle.tmx.specs.CommandLine.{bare, frames_app, option_rule, recording_rule, reported_app, required_rule, of_lines, split_app, tmx};
 
 use clap::{Arg, Command};
 use std::alloc::{AllocError, Global};
@@ -103,6 +103,27 @@ fn extract_command<'a>(alloc: Global) -> Result<Command<'a>, AllocError>
     )
 }
 
+// `--dir DIR`.
+fn dir_option<'a>(alloc: Global) -> Arg<'a>
+    ensures rule { rule_of result ≡ required_rule (codes "dir") }
+    ensures local { result.global ≡ false }
+{
+    required(alloc, "dir", "DIR").help("The folder for the files, which has to be there")
+}
+
+// `tmx split`.
+fn split_command<'a>(alloc: Global) -> Result<Command<'a>, AllocError>
+    ensures app { IfOk result (λ c. app_of c ≡ split_app) }
+    ensures local { IfOk result (λ c. (fields_of c).has_globals ≡ false) }
+{
+    Command::new(alloc, "split")
+        .about("Extracts the packets of the chosen channels to a file for each application")
+        .arg(settings_option(alloc))?
+        .arg(dir_option(alloc))?
+        .arg(report_option(alloc))?
+        .arg(recording_word(alloc))
+}
+
 // `tmx`, without its subcommands.
 fn bare_command<'a>(alloc: Global) -> Result<Command<'a>, AllocError>
     ensures app { IfOk result (λ c. app_of c ≡ bare) }
@@ -116,13 +137,22 @@ fn bare_command<'a>(alloc: Global) -> Result<Command<'a>, AllocError>
         .bin_name("tmx")
 }
 
+// `tmx`, with the subcommands that print lines.
+fn lines_command<'a>(alloc: Global) -> Result<Command<'a>, AllocError>
+    ensures app { IfOk result (λ c. app_of c ≡ of_lines) }
+    ensures local { IfOk result (λ c. (fields_of c).has_globals ≡ false) }
+{
+    bare_command(alloc)?
+        .subcommand(frames_command(alloc)?)?
+        .subcommand(packets_command(alloc)?)
+}
+
 /// The whole command, for the words after the program's name.
 pub fn tmx_command<'a>(alloc: Global) -> Result<Command<'a>, AllocError>
     ensures app { IfOk result (λ c. app_of c ≡ tmx) }
     ensures local { IfOk result (λ c. (fields_of c).has_globals ≡ false) }
 {
-    bare_command(alloc)?
-        .subcommand(frames_command(alloc)?)?
-        .subcommand(packets_command(alloc)?)?
-        .subcommand(extract_command(alloc)?)
+    lines_command(alloc)?
+        .subcommand(extract_command(alloc)?)?
+        .subcommand(split_command(alloc)?)
 }

@@ -9,6 +9,7 @@ mod lines;
 mod report;
 mod request;
 mod run;
+mod shelf;
 #[cfg(test)]
 mod tests;
 mod words;

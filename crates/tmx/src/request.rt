@@ -11,6 +11,8 @@ pub enum Action {
     Packets,
     /// Give the packets' octets.
     Extract,
+    /// Give the packets' octets, to a file for each application.
+    Split,
 }
 
 /// What the words ask for. Texts are the octets of their UTF-8.
@@ -23,6 +25,8 @@ pub struct Plan {
     pub settings: Option<Octets>,
     /// The report's file; standard error where it is absent.
     pub report: Option<Octets>,
+    /// The folder for the files of applications, which splitting needs.
+    pub dir: Option<Octets>,
 }
 
 /// Why the words are no plan.

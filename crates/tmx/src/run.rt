@@ -4,13 +4,15 @@ use crate::fault::ToolFault;
 use crate::files::{create, file_fault, open, read_file};
 use crate::report::Report;
 use crate::request::{Action, Plan, UsageFault};
+use crate::shelf::FileShelf;
 use crate::words::plan;
 use std::alloc::Global;
 use std::env;
 use std::io::{self, BufReader, BufWriter, ErrorKind, Read, Write};
 use std::rt::{Env, Files};
 use tm_tool::{
-    Command, Ending, Job, Octets, Reading, RunFault, Settings, Writing, list_frames, run as run_job,
+    Command, Ending, Job, Octets, Reading, RunFault, Settings, Writing, list_frames,
+    run as run_job, split,
 };
 
 // The octets of the buffers behind the recording and before the output.
@@ -104,6 +106,41 @@ fn give_packets<R: Print + AllocGlobal, S: Read + Drop, V: Write + Drop>(
     }
 }
 
+// Gives the packets of a recording to a file for each application.
+fn split_packets<R: Files + AllocGlobal, S: Read + Drop, V: Write + Drop>(
+    rt: &R,
+    settings: &Settings,
+    dir: &Octets,
+    recording: S,
+    report: V,
+) -> Result<(), ToolFault> {
+    let alloc = rt.alloc();
+    let Ok(dir) = std::str::from_utf8(dir.as_slice()) else {
+        return Err(file_fault(alloc, dir));
+    };
+    let mut source = source(alloc, recording)?;
+    let mut report = drain(alloc, REPORT_BUFFER, report)?;
+    let Ok(mut shelf) = FileShelf::new(rt, dir) else {
+        return Err(no_memory());
+    };
+    let Ok(job) = Job::new(alloc, settings) else {
+        return Err(no_memory());
+    };
+    let done = split(
+        alloc,
+        job,
+        &mut source,
+        &mut shelf,
+        &mut report,
+        Ending::Close,
+    );
+    match (done, shelf.write_held()) {
+        (Ok(_), Ok(())) => Ok(()),
+        (Ok(_), Err(_)) => Err(ToolFault::Run(RunFault::Write)),
+        (Err(fault), _) => Err(ToolFault::Run(fault)),
+    }
+}
+
 // A file of this name is read, and so must not be emptied for the report.
 fn is_read(plan: &Plan, name: &Octets) -> bool {
     let is_it = |file: &Octets| file.as_slice() == name.as_slice();
@@ -131,13 +168,15 @@ fn run_on<R: Files + Print + AllocGlobal, S: Read + Drop, E: Write + Drop>(
     recording: S,
     errors: E,
 ) -> Result<(), ToolFault> {
-    let command = match plan.action {
-        Action::Frames => return list(rt, settings, recording),
-        Action::Packets => Command::Packets,
-        Action::Extract => Command::Extract,
-    };
+    if plan.action == Action::Frames {
+        return list(rt, settings, recording);
+    }
     let report = report_by(rt, plan, errors)?;
-    give_packets(rt, settings, command, recording, report)
+    match (plan.action, &plan.dir) {
+        (Action::Split, Some(dir)) => split_packets(rt, settings, dir, recording, report),
+        (Action::Packets, _) => give_packets(rt, settings, Command::Packets, recording, report),
+        _ => give_packets(rt, settings, Command::Extract, recording, report),
+    }
 }
 
 /// Does what the command line asks for. A report that has no file goes to `errors`, all of it before this returns.

@@ -56,6 +56,18 @@ fn command_words(rt: HostRuntime) -> Result<(), Fail> {
 }
 
 #[test]
+fn words_of_split(rt: HostRuntime) -> Result<(), Fail> {
+    let words = ["split", "--settings", "s", "--dir", "d"];
+    let Ok(plan) = planned(rt.alloc(), &words)? else {
+        return Ok(assert!(rt; false));
+    };
+    assert_eq!(rt; plan.action, Action::Split);
+    let dir = plan.dir.as_ref().ok_or("dir")?;
+    assert_eq!(rt; dir.as_slice(), b"d".as_slice());
+    Ok(())
+}
+
+#[test]
 fn texts_of_usage_and_help(rt: HostRuntime) -> Result<(), Fail> {
     let alloc = rt.alloc();
     let Err(UsageFault::Usage(text)) = planned(alloc, &["frames", "--settings", "s", "a", "b"])?
@@ -76,7 +88,7 @@ fn texts_of_usage_and_help(rt: HostRuntime) -> Result<(), Fail> {
         return Ok(assert!(rt; false));
     };
     let wanted =
-        "Reads recordings of TM transfer frames (CCSDS 132.0-B-3)\n\nUsage: tmx <COMMAND>\n\nCommands:\n  frames   Lists the frames: one line for each record of the recording\n  packets  Lists the packets of the chosen channels: one line for each\n  extract  Extracts the packets of the chosen channels: their octets, with nothing between them\n\nOptions:\n  -h, --help  Print help\n";
+        "Reads recordings of TM transfer frames (CCSDS 132.0-B-3)\n\nUsage: tmx <COMMAND>\n\nCommands:\n  frames   Lists the frames: one line for each record of the recording\n  packets  Lists the packets of the chosen channels: one line for each\n  extract  Extracts the packets of the chosen channels: their octets, with nothing between them\n  split    Extracts the packets of the chosen channels to a file for each application\n\nOptions:\n  -h, --help  Print help\n";
     assert_eq!(rt; text.as_slice(), wanted.as_bytes());
     let Err(UsageFault::Help(text)) = planned(alloc, &["frames", "--help"])? else {
         return Ok(assert!(rt; false));

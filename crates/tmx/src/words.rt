@@ -36,6 +36,7 @@ fn action_by_name(name: &str) -> Option<Action>
         "frames" => Some(Action::Frames),
         "packets" => Some(Action::Packets),
         "extract" => Some(Action::Extract),
+        "split" => Some(Action::Split),
         _ => None,
     }
 }
@@ -54,11 +55,13 @@ fn plan_within(
     let recording = value_of(alloc, matches, "recording")?;
     let settings = value_of(alloc, matches, "settings")?;
     let report = value_of(alloc, matches, "report")?;
+    let dir = value_of(alloc, matches, "dir")?;
     Ok(Some(Plan {
         action,
         recording,
         settings,
         report,
+        dir,
     }))
 }
 
@@ -101,7 +104,7 @@ fn matches_by<'a>(alloc: Global, words: &'a [String]) -> Result<ArgMatches<'a>, 
 }
 
 /// What the words after the program's name ask for: `frames --settings FILE [RECORDING]`, or `packets` or
-/// `extract` with `--settings FILE [--report FILE] [RECORDING]`. Other words are `Usage`, `--help` is
+/// `extract` with `--settings FILE [--report FILE] [RECORDING]`, or `split` with `--dir DIR` as well. Other words are `Usage`, `--help` is
 /// `Help`, each with a text to print.
 pub fn plan(alloc: Global, words: Vec<String>) -> Result<Plan, UsageFault>
     // A plan is what `clap`'s matches of the words say, with what its action needs, and comes only for words in

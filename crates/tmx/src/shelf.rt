@@ -1,0 +1,122 @@
+//! A file for each application.
+
+ghost use Rattle.std.specs.Prelude.{◌≡◌, ◌<◌, vec_len};
+
+use std::alloc::{AllocError, Global};
+use std::fs::{File, OpenOptions};
+use std::io::Write;
+use std::rt::Files;
+use tm_tool::Shelf;
+
+// So many applications there are.
+const APPLICATIONS: usize = 2048;
+
+// So many octets are held at the most before they are written.
+const MOST_HELD: usize = 8_388_608;
+
+/// A file can't be written.
+#[derive(Clone, Copy, Debug, PartialEq, Eq)]
+pub struct NotWritten;
+
+/// The files `apid-NNNN.pkt` of a folder. Octets are held in memory and written from time to time, with one file open at a time.
+#[derive(Drop)]
+pub struct FileShelf<'a, R> {
+    rt: &'a R,
+    alloc: Global,
+    dir: &'a str,
+    // For each application what is not written yet, and whether its file was begun.
+    held: Vec<Vec<u8>>,
+    begun: Vec<bool>,
+    octets: usize,
+    refused: u64,
+    ghost all_held: { vec_len held ≡ 2048 },
+    ghost all_begun: { vec_len begun ≡ 2048 },
+}
+
+impl<'a, R: Files + AllocGlobal> FileShelf<'a, R> {
+    /// Files in this folder, none begun.
+    pub fn new(rt: &'a R, dir: &'a str) -> Result<Self, AllocError> {
+        let alloc = rt.alloc();
+        let mut held = Vec::with_capacity(alloc, APPLICATIONS)?;
+        for application in 0..APPLICATIONS {
+            held.push(Vec::new(alloc))?;
+        }
+        Ok(FileShelf {
+            rt,
+            alloc,
+            dir,
+            held,
+            begun: vec![in alloc; false; APPLICATIONS]?,
+            octets: 0,
+            refused: 0,
+        })
+    }
+
+    // Writes what is held of an application, and holds it no more.
+    fn write_one(&mut self, application: usize) -> Result<(), NotWritten>
+        requires { application < 2048 }
+        ensures { self.new.refused ≡ self.old.refused }
+    {
+        let dir = self.dir;
+        let Ok(name) = format!(in self.alloc; "{dir}/apid-{application:04}.pkt") else {
+            return Err(NotWritten);
+        };
+        let opened = if self.begun[application] {
+            OpenOptions::new().append(true).open(self.rt, name.as_str())
+        } else {
+            File::create(self.rt, name.as_str())
+        };
+        let Ok(mut file) = opened else {
+            return Err(NotWritten);
+        };
+        self.begun[application] = true;
+        let written = file.write_all(self.held[application].as_slice());
+        self.held[application].clear();
+        written.map_err(|_| NotWritten)
+    }
+
+    /// Writes all that is held. Where a file can't be written the others still are.
+    pub fn write_held(&mut self) -> Result<(), NotWritten>
+        ensures { self.new.refused ≡ self.old.refused }
+    {
+        let mut done = Ok(());
+        for application in 0..APPLICATIONS {
+            if !self.held[application].is_empty() && self.write_one(application).is_err() {
+                done = Err(NotWritten);
+            }
+        }
+        self.octets = 0;
+        done
+    }
+
+    // Holds octets of an application, and writes what is held where that is much.
+    fn hold(&mut self, application: usize, octets: &[u8]) -> Result<(), NotWritten>
+        requires { application < 2048 }
+        ensures { self.new.refused ≡ self.old.refused }
+    {
+        if self.held[application].extend_from_slice(octets).is_err() {
+            return Err(NotWritten);
+        }
+        self.octets = self.octets.saturating_add(octets.len());
+        if self.octets < MOST_HELD {
+            return Ok(());
+        }
+        self.write_held()
+    }
+}
+
+impl<R: Files + AllocGlobal> Shelf for FileShelf<'_, R> {
+    type Fault = NotWritten;
+
+    ghost refusals = { λ s. s.refused };
+
+    #[tactic(auto, using(crate::proofs::ShelfLemmas::none_put))]
+    fn put(&mut self, application: u16, octets: &[u8]) -> Result<(), NotWritten> {
+        let at = usize::from(application);
+        if at < APPLICATIONS && self.hold(at, octets).is_ok() {
+            return Ok(());
+        }
+        self.refused = self.refused.saturating_add(1);
+        Err(NotWritten)
+    }
+}

@@ -1,6 +1,6 @@
 //! A file for each application.
 
-ghost use Rattle.std.specs.Prelude.{◌≡◌, ◌<◌, vec_len};
+ghost use Rattle.std.specs.Prelude.{◌≡◌, ◌<◌, vec_len, IfOk};
 
 use std::alloc::{AllocError, Global};
 use std::fs::{File, OpenOptions};
@@ -18,7 +18,8 @@ const MOST_HELD: usize = 8_388_608;
 #[derive(Clone, Copy, Debug, PartialEq, Eq)]
 pub struct NotWritten;
 
-/// The files `apid-NNNN.pkt` of a folder. Octets are held in memory and written from time to time, with one file open at a time.
+/// The files `apid-NNNN.pkt` of a folder. A file is made at its application's first packet. Octets are held in memory and written
+/// from time to time, with one file open at a time.
 #[derive(Drop)]
 pub struct FileShelf<'a, R> {
     rt: &'a R,
@@ -35,7 +36,9 @@ pub struct FileShelf<'a, R> {
 
 impl<'a, R: Files + AllocGlobal> FileShelf<'a, R> {
     /// Files in this folder, none begun.
-    pub fn new(rt: &'a R, dir: &'a str) -> Result<Self, AllocError> {
+    pub fn new(rt: &'a R, dir: &'a str) -> Result<Self, AllocError>
+        ensures { IfOk result (λ s. s.refused ≡ 0) }
+    {
         let alloc = rt.alloc();
         let mut held = Vec::with_capacity(alloc, APPLICATIONS)?;
         for application in 0..APPLICATIONS {
@@ -52,24 +55,40 @@ impl<'a, R: Files + AllocGlobal> FileShelf<'a, R> {
         })
     }
 
-    // Writes what is held of an application, and holds it no more.
+    // The name of an application's file.
+    fn name_of(&self, application: usize) -> Result<String, NotWritten> {
+        let dir = self.dir;
+        format!(in self.alloc; "{dir}/apid-{application:04}.pkt").map_err(|_| NotWritten)
+    }
+
+    // Makes the file of an application at its first packet. It is empty from then on.
+    fn begin(&mut self, application: usize) -> Result<(), NotWritten>
+        requires { application < 2048 }
+        ensures { self.new.refused ≡ self.old.refused }
+    {
+        if self.begun[application] {
+            return Ok(());
+        }
+        let name = self.name_of(application)?;
+        match File::create(self.rt, name.as_str()) {
+            Ok(_) => {
+                self.begun[application] = true;
+                Ok(())
+            }
+            Err(_) => Err(NotWritten),
+        }
+    }
+
+    // Writes what is held of an application behind what its file has, and holds it no more.
     fn write_one(&mut self, application: usize) -> Result<(), NotWritten>
         requires { application < 2048 }
         ensures { self.new.refused ≡ self.old.refused }
     {
-        let dir = self.dir;
-        let Ok(name) = format!(in self.alloc; "{dir}/apid-{application:04}.pkt") else {
-            return Err(NotWritten);
-        };
-        let opened = if self.begun[application] {
-            OpenOptions::new().append(true).open(self.rt, name.as_str())
-        } else {
-            File::create(self.rt, name.as_str())
-        };
+        let name = self.name_of(application)?;
+        let opened = OpenOptions::new().append(true).open(self.rt, name.as_str());
         let Ok(mut file) = opened else {
             return Err(NotWritten);
         };
-        self.begun[application] = true;
         let written = file.write_all(self.held[application].as_slice());
         self.held[application].clear();
         written.map_err(|_| NotWritten)
@@ -89,11 +108,12 @@ impl<'a, R: Files + AllocGlobal> FileShelf<'a, R> {
         done
     }
 
-    // Holds octets of an application, and writes what is held where that is much.
+    // Holds octets of an application, whose file is made at the first, and writes what is held where that is much.
     fn hold(&mut self, application: usize, octets: &[u8]) -> Result<(), NotWritten>
         requires { application < 2048 }
         ensures { self.new.refused ≡ self.old.refused }
     {
+        self.begin(application)?;
         if self.held[application].extend_from_slice(octets).is_err() {
             return Err(NotWritten);
         }

@@ -4,10 +4,11 @@ use crate::fault::ToolFault;
 use crate::files::read_file;
 use crate::lines::{fault_line, status};
 use crate::request::{Action, Plan, UsageFault};
+use crate::shelf::FileShelf;
 use crate::words::plan;
 use std::alloc::{AllocError, Global};
 use std::test::Fail;
-use tm_tool::{Key, Octets, RunFault, SettingsFault};
+use tm_tool::{Key, Octets, RunFault, SettingsFault, Shelf};
 
 fn owned(alloc: Global, words: &[&str]) -> Result<Vec<String>, AllocError> {
     let mut all = Vec::new(alloc);
@@ -195,5 +196,12 @@ fn files_that_are_not_read(rt: HostRuntime) -> Result<(), Fail> {
         return Ok(assert!(rt; false));
     };
     assert!(rt; octets.is_empty());
+    Ok(())
+}
+
+#[test]
+fn shelf_without_folder(rt: HostRuntime) -> Result<(), Fail> {
+    let mut shelf = FileShelf::new(&rt, "/no such folder")?;
+    assert!(rt; shelf.put(200, b"packet".as_slice()).is_err());
     Ok(())
 }

@@ -6,6 +6,10 @@ mod memory;
 pub use memory::{MemoryDrain, MemoryShelf, MemorySource, Put};
 
 #[cfg(test)]
+mod field_rows;
+#[cfg(test)]
+mod fields;
+#[cfg(test)]
 mod frames;
 #[cfg(test)]
 mod packets;

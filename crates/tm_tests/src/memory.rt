@@ -1,7 +1,7 @@
 //! Devices and a shelf over memory, which tell their octets. Each moves at most so many octets per call, and one
 //! of its calls fails, if that is asked for.
 
-ghost use Rattle.std.specs.Prelude.{◌≡◌, ◌<◌, ◌≤◌, Some, take, drop, vec_len};
+ghost use Rattle.std.specs.Prelude.{◌≡◌, ◌<◌, ◌≤◌, [], Some, take, drop, vec_len};
 ghost use Rattle.tm_tests.specs.Stored.{stored};
 
 use std::alloc::Global;
@@ -142,7 +142,10 @@ pub struct MemoryShelf {
 }
 
 impl MemoryShelf {
-    pub fn new(alloc: Global, refuses_at: u64) -> Self {
+    pub fn new(alloc: Global, refuses_at: u64) -> Self
+        ensures empty { result.puts.items ≡ [] }
+        ensures none { result.refused ≡ 0 }
+    {
         MemoryShelf {
             alloc,
             puts: Vec::new(alloc),

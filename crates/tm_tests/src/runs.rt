@@ -259,8 +259,8 @@ const ROWS: [Row; 15] = [
     ERROR_CONTROL,
 ];
 
-// The octets that a text spells in hexadecimal. What is no digit is passed over.
-fn octets_of(alloc: Global, text: &str) -> Result<Vec<u8>, AllocError> {
+/// The octets that a text spells in hexadecimal. What is no digit is passed over.
+pub fn octets_of(alloc: Global, text: &str) -> Result<Vec<u8>, AllocError> {
     let mut octets = Vec::new(alloc);
     let mut high = None;
     for letter in text.chars() {
@@ -279,8 +279,8 @@ fn octets_of(alloc: Global, text: &str) -> Result<Vec<u8>, AllocError> {
     Ok(octets)
 }
 
-// A job before any record.
-fn new_job(alloc: Global, settings: &str) -> Result<Job, Fail> {
+/// A job before any record.
+pub fn new_job(alloc: Global, settings: &str) -> Result<Job, Fail> {
     let Ok(settings) = Settings::read(alloc, settings.as_bytes()) else {
         return Err(Fail::from("the settings"));
     };
@@ -290,16 +290,21 @@ fn new_job(alloc: Global, settings: &str) -> Result<Job, Fail> {
     }
 }
 
-// What a run answered, and what it wrote.
+/// What a run answered, and what it wrote.
 #[derive(Drop)]
-struct Ran {
-    answer: Result<Done, RunFault>,
-    out: Vec<u8>,
-    report: Vec<u8>,
+pub struct Ran {
+    pub answer: Result<Done, RunFault>,
+    pub out: Vec<u8>,
+    pub report: Vec<u8>,
 }
 
 // Runs a new job over a recording, which is read and written in few calls.
-fn run_all(alloc: Global, settings: &str, recording: &str, command: Command) -> Result<Ran, Fail> {
+fn run_all(
+    alloc: Global,
+    settings: &str,
+    recording: &str,
+    command: Command<'_>,
+) -> Result<Ran, Fail> {
     let job = new_job(alloc, settings)?;
     let mut source = MemorySource::new(octets_of(alloc, recording)?, 65_536, 0);
     let mut out = MemoryDrain::new(Vec::new(alloc), 65_536, 0);

@@ -1,7 +1,11 @@
 -- Worked examples: what the definitions say is written of known recordings.
-use Rattle.std.proofs.Common.{◌≡◌, ℕ, ◌-◌, ◌/◌, ◌%◌, false, List, [], ◌∷◌, ◌++◌, take, drop, refl}
+use Rattle.std.proofs.Common.{◌≡◌, ℕ, ◌-◌, ◌/◌, ◌%◌, true, false, List, [], ◌∷◌, ◌++◌, take, drop, refl, codes}
+use Rattle.std.specs.Fmt.{digits}
 use Rattle.std.specs.Prelude.{replicate}
 use Rattle.tm_bits.specs.Bits.{bits_of, low_bits, number, part}
+use Rattle.tm_fields.specs.declared.field.DataType.TheVariants.{Uint, Int, Float, Str, Fill}
+use Rattle.tm_fields.specs.declared.field.Field.{Field}
+use Rattle.tm_fields.specs.Rows.{head_of, row_of}
 use Rattle.tm_frame.specs.declared.layout.LayoutParts.{LayoutParts}
 use Rattle.tm_frame.specs.declared.layout.Presence.TheVariants.{Flag}
 use Rattle.tm_frame.specs.Fault.{fault_of}
@@ -14,10 +18,11 @@ use Rattle.tm_reassembly.specs.declared.items.Reason.TheVariants as reason
 use Rattle.tm_reassembly.specs.Channels.{all_channels}
 use Rattle.tm_reassembly.specs.Recording.{items, after}
 use Rattle.tm_tool.specs.declared.job.Command.TheVariants.{Extract, Packets}
-use Rattle.tm_tool.specs.Jobs.{begun}
-use Rattle.tm_tool.specs.Lines.{drop_line, note_line, packet_line, short_line}
+use Rattle.tm_tool.specs.FieldRows.{tabled, too_short}
+use Rattle.tm_tool.specs.Jobs.{begun, rows_head}
+use Rattle.tm_tool.specs.Lines.{drop_line, note_line, packet_line, short_line, short_packet_line}
 use Rattle.tm_tool.specs.Outputs.{outs, reports}
-use Rattle.tm_tool.specs.Pieces.{Work, line_of, noted, notes_of, pieces, report_of, text_of, unclosed_piece}
+use Rattle.tm_tool.specs.Pieces.{Work, line_of, listed, noted, notes_of, octets_of, pieces, report_of, rows_text, text_of, unclosed_piece}
 use Rattle.tm_tool.specs.Records.{records, rest_of}
 
 -- frames of so many octets of spacecraft 42: a data field has six fewer
@@ -26,7 +31,7 @@ layout n = record { frame_length = n; skip_before = 0; skip_after = 0; spacecraf
 
 -- a job before any record, of all channels
 job : ℕ → Work
-job n = begun (record { layout = layout n; channels = all_channels })
+job n = (begun (record { layout = layout n; channels = all_channels })).work
 
 fifty_fives : ℕ → List ℕ
 fifty_fives n = replicate n 0x55
@@ -51,14 +56,14 @@ header count data_length = record {
 
 two_packets : outs (pieces (text_of Packets) (job 24) (0x02 ∷ 0xA0 ∷ 0x00 ∷ 0x00 ∷ 0x18 ∷ 0x00 ∷ (packet 7 0 ++ packet 11 1)))
     ≡ packet_line 0 0 0 0 (header 0 0) 7 ++ (packet_line 0 0 0 7 (header 1 4) 11 ++ [])
-unfolding pieces records rest_of items after text_of noted no_entries header layout job fifty_fives packet cut fault_of part number bits_of low_bits
+unfolding pieces records rest_of items after octets_of listed noted no_entries header layout job fifty_fives packet cut fault_of part number bits_of low_bits
 two_packets = refl
 
 pointer_drop_and_sequence_gap : reports (pieces (text_of Extract) (job 24)
     ((0x02 ∷ 0xA0 ∷ 0x00 ∷ 0x00 ∷ 0x18 ∷ 0x00 ∷ (packet 10 0 ++ cut 0 8 (packet 14 1)))
     ++ (0x02 ∷ 0xA0 ∷ 0x01 ∷ 0x01 ∷ 0x18 ∷ 0x08 ∷ (fifty_fives 8 ++ packet 10 2))))
     ≡ drop_line 1 0 0 10 8 reason.Pointer ++ (drop_line 1 0 1 0 8 reason.Pointer ++ ((note_line 1 0 100 (note.Gap 1 2 1) ++ []) ++ []))
-unfolding pieces records rest_of items after text_of report_of line_of noted notes_of no_entries unclosed_piece layout job fifty_fives packet cut fault_of part number bits_of low_bits
+unfolding pieces records rest_of items after octets_of listed report_of line_of drop_line note_line short_line digits noted notes_of no_entries unclosed_piece layout job fifty_fives packet cut fault_of part number bits_of low_bits
 pointer_drop_and_sequence_gap = refl
 
 groups : reports (pieces (text_of Extract) (job 27)
@@ -68,14 +73,14 @@ groups : reports (pieces (text_of Extract) (job 27)
     ++ (0x02 ∷ 0xA0 ∷ 0x02 ∷ 0x02 ∷ 0x18 ∷ 0x00 ∷ (0x00 ∷ 0x64 ∷ 0x40 ∷ 0x0A ∷ 0x00 ∷ 0x00 ∷ 0x55 ∷ 0x07 ∷ 0xFF ∷ 0xC0 ∷ 0x00 ∷ 0x00 ∷ 0x07 ∷ fifty_fives 8)))))
     ≡ (note_line 0 0 100 (note.Whole 5 7) ++ [])
     ++ ((note_line 1 0 100 (note.Broken 8 8 why.Unsegmented) ++ []) ++ (note_line 3 0 100 (note.Broken 10 10 why.Close) ++ []))
-unfolding pieces records rest_of items after text_of report_of line_of noted notes_of no_entries unclosed_piece layout job fifty_fives packet cut fault_of part number bits_of low_bits
+unfolding pieces records rest_of items after octets_of listed report_of line_of drop_line note_line short_line digits noted notes_of no_entries unclosed_piece layout job fifty_fives packet cut fault_of part number bits_of low_bits
 groups = refl
 
 short_rest : reports (pieces (text_of Extract) (job 24)
     ((0x02 ∷ 0xA0 ∷ 0x00 ∷ 0x00 ∷ 0x18 ∷ 0x00 ∷ cut 0 18 (packet 26 0))
     ++ ((0x02 ∷ 0xA2 ∷ 0x01 ∷ 0x00 ∷ 0x18 ∷ 0x00 ∷ cut 0 18 (packet 22 0)) ++ replicate 10 0)))
     ≡ short_line 2 10 ++ (drop_line 2 0 0 0 18 reason.Close ++ (drop_line 2 1 1 0 18 reason.Close ++ []))
-unfolding pieces records rest_of items after text_of report_of line_of noted notes_of no_entries unclosed_piece layout job fifty_fives packet cut fault_of part number bits_of low_bits
+unfolding pieces records rest_of items after octets_of listed report_of line_of drop_line note_line short_line digits noted notes_of no_entries unclosed_piece layout job fifty_fives packet cut fault_of part number bits_of low_bits
 short_rest = refl
 
 two_channels : outs (pieces (text_of Extract) (job 24)
@@ -84,5 +89,35 @@ two_channels : outs (pieces (text_of Extract) (job 24)
     ++ ((0x02 ∷ 0xA2 ∷ 0x02 ∷ 0x01 ∷ 0x18 ∷ 0x04 ∷ (cut 18 22 (packet 22 0) ++ packet 14 1))
     ++ (0x02 ∷ 0xA0 ∷ 0x03 ∷ 0x01 ∷ 0x18 ∷ 0x08 ∷ (cut 18 26 (packet 26 0) ++ packet 10 1))))))
     ≡ packet 22 0 ++ (packet 14 1 ++ (packet 26 0 ++ packet 10 1))
-unfolding pieces records rest_of items after text_of noted no_entries layout job fifty_fives packet cut fault_of part number bits_of low_bits
+unfolding pieces records rest_of items after octets_of listed noted no_entries layout job fifty_fives packet cut fault_of part number bits_of low_bits
 two_channels = refl
+
+-- ---- rows of fields
+
+five_fields : List Field
+five_fields =
+    record { name = codes "VERSION"; data_type = Uint; begin = 48; length = 8 }
+    ∷ record { name = codes "LEVEL"; data_type = Int; begin = 56; length = 12 }
+    ∷ record { name = codes "PAD"; data_type = Fill; begin = 68; length = 4 }
+    ∷ record { name = codes "LABEL"; data_type = Str; begin = 72; length = 24 }
+    ∷ record { name = codes "RATE"; data_type = Float; begin = 96; length = 32 } ∷ []
+
+one_packet : List ℕ
+one_packet =
+    0x02 ∷ 0xA0 ∷ 0x00 ∷ 0x00 ∷ 0x18 ∷ 0x00
+    ∷ 0x00 ∷ 0x64 ∷ 0xC0 ∷ 0x00 ∷ 0x00 ∷ 0x09 ∷ 0x07 ∷ 0xFF ∷ 0xF0 ∷ 0x61 ∷ 0x2C ∷ 0x62 ∷ 0x3F ∷ 0x80 ∷ 0x00 ∷ 0x00 ∷ []
+
+head_and_row : outs (rows_head five_fields true ++ pieces (rows_text five_fields 100) (job 22) one_packet)
+    ≡ head_of five_fields ++ (row_of five_fields (record { seen = 0; channel = 0; application = 100; count = 0 }) (drop 6 one_packet) ++ [])
+unfolding pieces records rest_of items after tabled noted no_entries layout job five_fields one_packet fault_of part number bits_of low_bits
+head_and_row = refl
+
+other_application : outs (rows_head five_fields true ++ pieces (rows_text five_fields 101) (job 22) one_packet)
+    ≡ head_of five_fields ++ []
+unfolding pieces records rest_of items after tabled noted no_entries layout job five_fields one_packet fault_of part number bits_of low_bits
+other_application = refl
+
+one_bit_short : reports (pieces (rows_text (record { name = codes "EXTRA"; data_type = Uint; begin = 128; length = 1 } ∷ five_fields) 100) (job 22) one_packet)
+    ≡ short_packet_line 0 0 0 0 129 128
+unfolding pieces records rest_of items after too_short report_of line_of short_packet_line noted notes_of no_entries unclosed_piece layout job five_fields one_packet fault_of part number bits_of low_bits digits
+one_bit_short = refl

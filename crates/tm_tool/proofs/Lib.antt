@@ -12,5 +12,8 @@ pub mod Sinks
 pub mod OpenGroups
 pub mod RunEnds
 pub mod RunPieces
+pub mod HeadedRuns
+pub mod HeadLemmas
+pub mod RowLemmas
 pub mod Examples
 pub mod ShelfLemmas

@@ -6,7 +6,7 @@ use Rattle.tm_packet.specs.declared.notes.Note.{Note}
 use Rattle.tm_packet.specs.declared.notes.Note.TheVariants.{Gap, Broken, Whole, Stray}
 use Rattle.tm_reassembly.specs.declared.items.Reason.{Reason}
 use Rattle.tm_tool.proofs.ListingLemmas.{concat-append, concat-one}
-use Rattle.tm_tool.specs.Lines.{bad_line, drop_line, gap_line, note_line, short_line, vca_line}
+use Rattle.tm_tool.specs.Lines.{bad_line, drop_line, gap_line, note_line, short_line, short_packet_line, vca_line}
 
 pub some_bad : (seen : ℕ) (fault : FrameFault) → bad_line seen fault ≢ []
 unfolding bad_line
@@ -27,6 +27,10 @@ some_drop seen channel first place octets why e = cc
 pub some_short : (seen octets : ℕ) → short_line seen octets ≢ []
 unfolding short_line
 some_short seen octets e = cc
+
+pub some_short_packet : (seen channel first place needed found : ℕ) → short_packet_line seen channel first place needed found ≢ []
+unfolding short_packet_line
+some_short_packet seen channel first place needed found e = cc
 
 pub some_note : (seen channel application : ℕ) (note : Note) → note_line seen channel application note ≢ []
 unfolding note_line

@@ -40,9 +40,9 @@ pub notes_one : (entries : Entries) (p : Sent) (notes : List Note) → sequence.
 unfolding notes_of
 notes_one entries p notes is = sym (ap (flat_map (λ (ns : List Note). ns)) is ∙ append-nil notes)
 
-front_some : (xs ys : List ℕ) → xs ≢ [] → xs ++ ys ≢ []
-front_some [] ys some e = some refl
-front_some (x ∷ xs) ys some e = cc
+pub some_front : (xs ys : List ℕ) → xs ≢ [] → xs ++ ys ≢ []
+some_front [] ys some e = some refl
+some_front (x ∷ xs) ys some e = cc
 
 -- where there is a note there is a line
 pub some_notes : (seen channel application : ℕ) (notes : List Note) (i : ℕ) (note : Note) → slice_get notes i ≡ Some note
@@ -52,23 +52,27 @@ some_notes seen channel application [] i note is = absurd (none i is)
     none : (j : ℕ) → ◌≡◌ {A = Option Note} (slice_get [] j) (Some note) → ⊥
     none zero e = cc
     none (suc j) e = cc
-some_notes seen channel application (n ∷ ns) i note is = front_some _ _ (some_note seen channel application n)
+some_notes seen channel application (n ∷ ns) i note is = some_front _ _ (some_note seen channel application n)
 
 -- the line of an item is what it gives the report
-pub some_report : (entries : Entries) (x : Item) → HasLine x → line_of x ≢ [] → report_of entries x ≢ []
+line_alone : (entries : Entries) (x : Item) → HasLine x → line_of x ≡ report_of entries x
 unfolding report_of
-some_report entries (Bad seen fault) has some = some
-some_report entries (Gap seen channel expected found missing) has some = some
-some_report entries (Vca seen channel) has some = some
-some_report entries (Dropped seen channel first place octets reason) has some = some
-some_report entries (Packet seen channel first place octets) has some = absurd has
-some_report entries (Short seen octets) has some = some
+line_alone entries (Bad seen fault) has = refl
+line_alone entries (Gap seen channel expected found missing) has = refl
+line_alone entries (Vca seen channel) has = refl
+line_alone entries (Dropped seen channel first place octets reason) has = refl
+line_alone entries (Packet seen channel first place octets) has = absurd has
+line_alone entries (Short seen octets) has = refl
 
-pub line_report : (entries : Entries) (x : Item) → HasLine x → line_of x ≡ report_of entries x
-unfolding report_of
-line_report entries (Bad seen fault) has = refl
-line_report entries (Gap seen channel expected found missing) has = refl
-line_report entries (Vca seen channel) has = refl
-line_report entries (Dropped seen channel first place octets reason) has = refl
-line_report entries (Packet seen channel first place octets) has = absurd has
-line_report entries (Short seen octets) has = refl
+-- and where nothing more is reported it is all
+pub line_report : (entries : Entries) (x : Item) (more : List ℕ) → HasLine x → more ≡ [] → line_of x ≡ report_of entries x ++ more
+line_report entries x more has none = line_alone entries x has ∙ sym (ap (λ (l : List ℕ). report_of entries x ++ l) none ∙ append-nil (report_of entries x))
+
+-- a line in front makes a report
+pub some_line : (entries : Entries) (x : Item) (more : List ℕ) → HasLine x → more ≡ [] → line_of x ≢ [] → report_of entries x ++ more ≢ []
+some_line entries x more has none some e = some (line_report entries x more has none ∙ e)
+
+-- and so does what is said behind notes
+pub some_back : (xs ys : List ℕ) → ys ≢ [] → xs ++ ys ≢ []
+some_back [] ys some e = some e
+some_back (x ∷ xs) ys some e = cc

@@ -71,7 +71,7 @@ module _ {A K : Type 0} (grows : K → K → List A → Type 0) (grows-nil : (k 
   caused_after old mid new NoMemory s c = (c.0 ∙ s.0, c.1 ∙ s.1)
 
   module _ (rows : Bool) (old mid new : View K) (ps qs : List (Piece A)) (a : Took grows old mid ps) where
-    wants_after : WantsMemory grows rows mid new qs → WantsMemory grows rows old new (ps ++ qs)
+    pub wants_after : WantsMemory grows rows mid new qs → WantsMemory grows rows old new (ps ++ qs)
     wants_after w = record {
       done = ps ++ w.done;
       next = w.next;

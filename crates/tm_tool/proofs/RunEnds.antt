@@ -6,7 +6,7 @@ use Rattle.tm_reassembly.specs.Items.{closing}
 use Rattle.tm_tool.specs.declared.fault.RunFault.{RunFault}
 use Rattle.tm_tool.specs.declared.fault.RunFault.TheVariants.{Read, Write, Report, TooMany, NoMemory}
 use Rattle.tm_tool.specs.Outputs.{Piece, View, Took, Stopped}
-use Rattle.tm_tool.specs.Pieces.{Entries, Work, noted_all, pieces_of, unclosed_pieces, worked, record_pieces, closing_pieces}
+use Rattle.tm_tool.specs.Pieces.{Entries, Texts, Work, noted_all, pieces_of, unclosed_pieces, worked, record_pieces, closing_pieces}
 use Rattle.tm_tool.specs.Runs.{IsRun, StopsAtEnd, IsStoppedAt}
 use Rattle.tm_tool.specs.Stepping.{HasStepped}
 use Rattle.tm_tool.proofs.PieceLemmas.{took_took, took_stopped, took_failed, stopped_more}
@@ -14,7 +14,7 @@ use Rattle.tm_tool.proofs.Running.{records-counted}
 
 module _ {A K : Type 0} (grows : K → K → List A → Type 0) (grows-nil : (k : K) → grows k k [])
     (grows-trans : (j k l : K) (xs ys : List A) → grows j k xs → grows k l ys → grows j l (xs ++ ys))
-    (rows : Bool) (text : Item → List A) (w : Work) (first next : Option (List ℕ)) (old mid : View K) (work : Work) (n : ℕ)
+    (rows : Bool) (text : Texts A) (w : Work) (first next : Option (List ℕ)) (old mid : View K) (work : Work) (n : ℕ)
     (stepped : HasStepped grows text w first next old mid work n) where
   closing_same : closing_pieces text work n ≡ closing_pieces text (worked w stepped.read) (length stepped.rest)
   closing_same =

@@ -7,7 +7,7 @@ use Rattle.tm_reassembly.specs.Item.{Item}
 use Rattle.tm_tool.specs.declared.fault.RunFault.{RunFault}
 use Rattle.tm_tool.specs.declared.fault.RunFault.TheVariants.{Read, Write, Report, TooMany, NoMemory}
 use Rattle.tm_tool.specs.Outputs.{Piece, View, Cut, AppendsCut, Took, WantsMemory, Stopped, outs, reports}
-use Rattle.tm_tool.specs.Pieces.{Work, worked, record_pieces, closing_pieces, pieces_after, pieces}
+use Rattle.tm_tool.specs.Pieces.{Texts, Work, worked, record_pieces, closing_pieces, pieces_after, pieces}
 use Rattle.tm_tool.specs.Records.{AreRecords, record_count, records, rest_of}
 use Rattle.tm_tool.specs.Runs.{HasRead, IsRun, StopsAtRecord, StopsAtEnd, IsStoppedAt}
 use Rattle.tm_tool.proofs.ListingLemmas.{AreRecords-append, concat-one}
@@ -33,7 +33,7 @@ told_all P octets (Some all) (Some left) c end h = subst P (sym (c ∙ ap (λ (l
 
 module _ {A K : Type 0} (grows : K → K → List A → Type 0) (grows-nil : (k : K) → grows k k [])
     (grows-trans : (j k l : K) (xs ys : List A) → grows j k xs → grows k l ys → grows j l (xs ++ ys))
-    (rows : Bool) (text : Item → List A) (w : Work) (valid : IsValid w) (some : 0 < record_length_of w.layout) where
+    (rows : Bool) (text : Texts A) (w : Work) (valid : IsValid w) (some : 0 < record_length_of w.layout) where
   -- the pieces of a recording that was read whole
   pieces_all : (read : List (List ℕ)) (rest : List ℕ) → AreRecords (record_length_of w.layout) read → length rest < record_length_of w.layout
       → pieces text w (concat read ++ rest) ≡ pieces_after text w read (length rest)

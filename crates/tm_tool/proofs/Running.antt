@@ -20,7 +20,7 @@ use Rattle.tm_reassembly.proofs.States.{empty-valid}
 use Rattle.tm_tool.specs.declared.fault.RunFault.{RunFault}
 use Rattle.tm_tool.specs.declared.fault.RunFault.TheVariants.{Read, Write, Report, TooMany, NoMemory}
 use Rattle.tm_tool.specs.Outputs.{Piece, View, Took, Stopped}
-use Rattle.tm_tool.specs.Pieces.{Entries, Work, noted, noted_all, piece_of, pieces_of, items_of, worked, record_pieces}
+use Rattle.tm_tool.specs.Pieces.{Entries, Texts, Work, noted, noted_all, piece_of, pieces_of, items_of, worked, record_pieces}
 use Rattle.tm_tool.specs.Runs.{HasRead, StopsAtRecord, IsStoppedAt}
 use Rattle.tm_tool.specs.Stepping.{HasTaken, HasStepped, StepStopped, work_of}
 use Rattle.tm_tool.proofs.ListingLemmas.{AreRecords-append, concat-one}
@@ -49,7 +49,7 @@ pub noted-append : (e : Entries) (xs ys : List Item) → noted_all e (xs ++ ys) 
 noted-append e [] ys = refl
 noted-append e (x ∷ xs) ys = noted-append (noted e x) xs ys
 
-pub pieces-append : {A : Type 0} (text : Item → List A) (e : Entries) (xs ys : List Item)
+pub pieces-append : {A : Type 0} (text : Texts A) (e : Entries) (xs ys : List Item)
     → pieces_of text e (xs ++ ys) ≡ pieces_of text e xs ++ pieces_of text (noted_all e xs) ys
 pieces-append text e [] ys = refl
 pieces-append {A} text e (x ∷ xs) ys = ap (λ (l : List (Piece A)). piece_of text e x ∷ l) (pieces-append text (noted e x) xs ys)
@@ -62,7 +62,7 @@ module _ (w : Work) (valid : IsValid w) where
   unfolding items after
   worked-none = ap (λ (s : State). record { layout = w.layout; channels = w.channels; state = s; entries = w.entries }) (after-nil (is_chosen w.channels) w.state valid.shape)
 
-  pub records-append : {A : Type 0} (text : Item → List A) (a b : List (List ℕ))
+  pub records-append : {A : Type 0} (text : Texts A) (a b : List (List ℕ))
       → record_pieces text w (a ++ b) ≡ record_pieces text w a ++ record_pieces text (worked w a) b
   records-append text a b =
       ap (pieces_of text w.entries) (items-join w.layout (is_chosen w.channels) w.state a b valid)
@@ -84,7 +84,7 @@ records-counted w rs = ap (λ (n : ℕ). w.state.records + n) (length-map rs (re
 
 module _ {A K : Type 0} (grows : K → K → List A → Type 0) (grows-nil : (k : K) → grows k k [])
     (grows-trans : (j k l : K) (xs ys : List A) → grows j k xs → grows k l ys → grows j l (xs ++ ys))
-    (text : Item → List A) (w : Work) (valid : IsValid w) where
+    (text : Texts A) (w : Work) (valid : IsValid w) where
   nothing : (v : View K) → Took grows v v (record_pieces text w [])
   unfolding items
   nothing v = took_none grows grows-nil grows-trans v

@@ -4,36 +4,36 @@ use Rattle.tm_reassembly.specs.Item.{Item}
 use Rattle.tm_reassembly.specs.Sinks.{TakesAll, RefusesOne}
 use Rattle.tm_tool.specs.declared.fault.RunFault.{RunFault}
 use Rattle.tm_tool.specs.Outputs.{View, Piece, Took, Stopped}
-use Rattle.tm_tool.specs.Pieces.{Entries, piece_of, noted, noted_all, pieces_of}
+use Rattle.tm_tool.specs.Pieces.{Entries, Texts, piece_of, noted, noted_all, pieces_of}
 use Rattle.tm_tool.specs.Sinking.{Takes, Refuses}
 use Rattle.tm_tool.proofs.PieceLemmas.{took_none, took_took, took_stopped, stopped_more}
 
 module _ {A K S J L M N : Type 0} (grows : K → K → List A → Type 0) (grows-nil : (k : K) → grows k k [])
     (grows-trans : (j k l : K) (xs ys : List A) → grows j k xs → grows k l ys → grows j l (xs ++ ys))
-    (text : Item → List A) (rows : Bool)
-    (tracker_name : S → J) (outlet_name : S → L) (out_name : S → M) (report_name : S → N) (entries : S → Entries) (seen : S → View K) where
+    (text : M → Texts A) (rows : Bool)
+    (tracker_name : S → J) (outlet_name : S → L) (out_fixed : S → M) (report_name : S → N) (entries : S → Entries) (seen : S → View K) where
   pub record TookAll (s : S) (xs : List Item) (t : S) : Type 0 where
     pub tracker : tracker_name t ≡ tracker_name s
     pub outlet : outlet_name t ≡ outlet_name s
-    pub out : out_name t ≡ out_name s
+    pub out : out_fixed t ≡ out_fixed s
     pub report : report_name t ≡ report_name s
     pub noted_is : entries t ≡ noted_all (entries s) xs
-    pub took : Took grows (seen s) (seen t) (pieces_of text (entries s) xs)
+    pub took : Took grows (seen s) (seen t) (pieces_of (text (out_fixed s)) (entries s) xs)
 
   pub record StoppedAmong (s : S) (xs : List Item) (fault : RunFault) (t : S) : Type 0 where
     pub tracker : tracker_name t ≡ tracker_name s
     pub outlet : outlet_name t ≡ outlet_name s
-    pub out : out_name t ≡ out_name s
+    pub out : out_fixed t ≡ out_fixed s
     pub report : report_name t ≡ report_name s
-    pub stopped : Stopped grows rows (seen s) (seen t) (pieces_of text (entries s) xs) fault
+    pub stopped : Stopped grows rows (seen s) (seen t) (pieces_of (text (out_fixed s)) (entries s) xs) fault
 
   took_first : (s : S) → TookAll s [] s
   took_first s = record { tracker = refl; outlet = refl; out = refl; report = refl; noted_is = refl; took = took_none grows grows-nil grows-trans (seen s) }
 
-  module _ (s mid t : S) (x : Item) (xs : List Item) (one : Takes grows text rows tracker_name outlet_name out_name report_name entries seen s x mid) where
-    more_pieces : pieces_of text (entries mid) xs ≡ pieces_of text (noted (entries s) x) xs
+  module _ (s mid t : S) (x : Item) (xs : List Item) (one : Takes grows text rows tracker_name outlet_name out_fixed report_name entries seen s x mid) where
+    more_pieces : pieces_of (text (out_fixed mid)) (entries mid) xs ≡ pieces_of (text (out_fixed s)) (noted (entries s) x) xs
     more_pieces =
-        ap (λ (e : Entries). pieces_of text e xs) one.noted_is
+        ap (λ (m : M). pieces_of (text m) (entries mid) xs) one.out ∙ ap (λ (e : Entries). pieces_of (text (out_fixed s)) e xs) one.noted_is
 
     took_more : TookAll mid xs t → TookAll s (x ∷ xs) t
     took_more more = record {
@@ -42,8 +42,8 @@ module _ {A K S J L M N : Type 0} (grows : K → K → List A → Type 0) (grows
       out = more.out ∙ one.out;
       report = more.report ∙ one.report;
       noted_is = more.noted_is ∙ ap (λ (e : Entries). noted_all e xs) one.noted_is;
-      took = took_took grows grows-nil grows-trans (seen s) (seen mid) (seen t) (piece_of text (entries s) x ∷ [])
-          (pieces_of text (noted (entries s) x) xs) one.took (subst (Took grows (seen mid) (seen t)) more_pieces more.took);
+      took = took_took grows grows-nil grows-trans (seen s) (seen mid) (seen t) (piece_of (text (out_fixed s)) (entries s) x ∷ [])
+          (pieces_of (text (out_fixed s)) (noted (entries s) x) xs) one.took (subst (Took grows (seen mid) (seen t)) more_pieces more.took);
     }
 
     stopped_later : (fault : RunFault) → StoppedAmong mid xs fault t → StoppedAmong s (x ∷ xs) fault t
@@ -52,17 +52,17 @@ module _ {A K S J L M N : Type 0} (grows : K → K → List A → Type 0) (grows
       outlet = more.outlet ∙ one.outlet;
       out = more.out ∙ one.out;
       report = more.report ∙ one.report;
-      stopped = took_stopped grows grows-nil grows-trans rows (seen s) (seen mid) (seen t) (piece_of text (entries s) x ∷ [])
-          (pieces_of text (noted (entries s) x) xs) one.took fault
+      stopped = took_stopped grows grows-nil grows-trans rows (seen s) (seen mid) (seen t) (piece_of (text (out_fixed s)) (entries s) x ∷ [])
+          (pieces_of (text (out_fixed s)) (noted (entries s) x) xs) one.took fault
           (subst (λ (ps : List (Piece A)). Stopped grows rows (seen mid) (seen t) ps fault) more_pieces more.stopped);
     }
 
-  pub took_all : (s : S) (xs : List Item) (t : S) → TakesAll (Takes grows text rows tracker_name outlet_name out_name report_name entries seen) s xs t → TookAll s xs t
+  pub took_all : (s : S) (xs : List Item) (t : S) → TakesAll (Takes grows text rows tracker_name outlet_name out_fixed report_name entries seen) s xs t → TookAll s xs t
   took_all s [] t h = subst (TookAll s []) (sym h) (took_first s)
   took_all s (x ∷ xs) t h = took_more s h.0 t x xs h.1 (took_all h.0 xs t h.2)
 
   pub stopped_among : (s : S) (xs : List Item) (fault : RunFault) (t : S)
-      → RefusesOne (Takes grows text rows tracker_name outlet_name out_name report_name entries seen) (Refuses grows text rows tracker_name outlet_name out_name report_name entries seen) s xs fault t
+      → RefusesOne (Takes grows text rows tracker_name outlet_name out_fixed report_name entries seen) (Refuses grows text rows tracker_name outlet_name out_fixed report_name entries seen) s xs fault t
       → StoppedAmong s xs fault t
   stopped_among s [] fault t h = absurd h
   stopped_among s (x ∷ xs) fault t (inl h) = record {
@@ -70,7 +70,7 @@ module _ {A K S J L M N : Type 0} (grows : K → K → List A → Type 0) (grows
     outlet = h.outlet;
     out = h.out;
     report = h.report;
-    stopped = stopped_more grows grows-nil grows-trans rows (seen s) (seen t) (piece_of text (entries s) x ∷ [])
-        (pieces_of text (noted (entries s) x) xs) fault h.stopped;
+    stopped = stopped_more grows grows-nil grows-trans rows (seen s) (seen t) (piece_of (text (out_fixed s)) (entries s) x ∷ [])
+        (pieces_of (text (out_fixed s)) (noted (entries s) x) xs) fault h.stopped;
   }
   stopped_among s (x ∷ xs) fault t (inr h) = stopped_later s h.0 t x xs h.1 fault (stopped_among h.0 xs fault t h.2)

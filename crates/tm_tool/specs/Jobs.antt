@@ -1,8 +1,37 @@
--- A job before any record.
+-- Jobs, and what is written before all else.
+use Rattle.std.specs.Prelude.{ℕ, Bool, true, if◌then◌else◌, List, [], ◌∷◌, ◌++◌}
+use Rattle.tm_fields.specs.declared.field.Field.{Field}
+use Rattle.tm_fields.specs.Rows.{head_of}
 use Rattle.tm_packet.specs.Merge.{no_entries}
 use Rattle.tm_reassembly.specs.Items.{empty}
-use Rattle.tm_tool.specs.Pieces.{Work}
+use Rattle.tm_tool.specs.declared.job.Command.{Command}
+use Rattle.tm_tool.specs.declared.job.Command.TheVariants.{Extract, Packets, Fields}
+use Rattle.tm_tool.specs.Outputs.{Piece}
+use Rattle.tm_tool.specs.Pieces.{Work, pieces, text_of}
 use Rattle.tm_tool.specs.Settings.{Choices}
 
-abbrev pub begun : Choices → Work
-begun settings = record { layout = settings.layout; channels = settings.channels; state = empty; entries = no_entries }
+-- how far a job has got, and whether it is fresh: no run has begun with it
+pub record JobState : Type 0 where
+  pub work : Work
+  pub fresh : Bool
+
+-- a job before any record
+abbrev pub begun : Choices → JobState
+begun settings = record {
+  work = record { layout = settings.layout; channels = settings.channels; state = empty; entries = no_entries };
+  fresh = true;
+}
+
+-- the head of the rows, for a job that is fresh
+abbrev pub rows_head : List Field → Bool → List (Piece ℕ)
+rows_head fields fresh = if fresh then record { out = head_of fields; report = [] } ∷ [] else []
+
+-- what is written before all else
+abbrev pub head_pieces : Command → Bool → List (Piece ℕ)
+head_pieces Extract fresh = []
+head_pieces Packets fresh = []
+head_pieces (Fields definition application) fresh = rows_head definition.now fresh
+
+-- all pieces of a recording
+abbrev pub all_pieces : Command → JobState → List ℕ → List (Piece ℕ)
+all_pieces command job recording = head_pieces command job.fresh ++ pieces (text_of command) job.work recording

@@ -7,6 +7,7 @@ pub mod Cuts
 pub mod Faults
 pub mod Listing
 pub mod Outputs
+pub mod FieldRows
 pub mod Pieces
 pub mod Jobs
 pub mod Runs

@@ -115,6 +115,17 @@ drop_line seen channel first place octets why =
     ∷ codes " reason=" ∷ reason.word_of why
     ∷ codes "\n" ∷ [])
 
+-- the line of a packet of too few bits for its fields
+unfoldable pub short_packet_line : (seen channel first place needed found : ℕ) → List ℕ
+short_packet_line seen channel first place needed found =
+    concat (codes "shortpacket record=" ∷ decimal seen
+    ∷ codes " channel=" ∷ decimal channel
+    ∷ codes " from=" ∷ decimal first
+    ∷ codes " at=" ∷ decimal place
+    ∷ codes " needed=" ∷ decimal needed
+    ∷ codes " found=" ∷ decimal found
+    ∷ codes "\n" ∷ [])
+
 -- why a group is broken
 abbrev pub why_word : Why → List ℕ
 why_word why.Gap = codes "gap"

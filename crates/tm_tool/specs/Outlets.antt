@@ -1,10 +1,12 @@
 -- Where packets go: what is known of it, and how it grows.
 use Rattle.std.specs.Prelude.{◌≡◌, refl, ℕ, Bool, true, List, [], ◌++◌}
+use Rattle.tm_fields.specs.declared.field.Field.{Field}
 use Rattle.tm_reassembly.specs.Item.{Item, Bad, Gap, Vca, Dropped, Packet, Short}
 use Rattle.tm_tool.specs.Devices.{raised}
 use Rattle.tm_tool.specs.declared.job.Command.{Command}
-use Rattle.tm_tool.specs.declared.job.Command.TheVariants.{Extract, Packets}
-use Rattle.tm_tool.specs.Pieces.{HasLine, text_of}
+use Rattle.tm_tool.specs.declared.job.Command.TheVariants.{Extract, Packets, Fields}
+use Rattle.tm_tool.specs.FieldRows.{tabled, too_short}
+use Rattle.tm_tool.specs.Pieces.{HasLine, Texts, listed, octets_of, rows_text, text_of}
 use Rattle.tm_tool.specs.declared.fault.RunFault.{RunFault}
 use Rattle.tm_tool.specs.declared.fault.RunFault.TheVariants.{Read, Write, Report, TooMany, NoMemory}
 
@@ -17,18 +19,50 @@ PutStopped grows rows old new failures_old failures_new text Report = ⊥
 PutStopped grows rows old new failures_old failures_new text TooMany = ⊥
 PutStopped grows rows old new failures_old failures_new text NoMemory = (rows ≡ true) × (failures_new ≡ failures_old) × grows old new []
 
--- of an item that has a line nothing belongs to a drain
-pub no_text : (command : Command) (x : Item) → HasLine x → text_of command x ≡ []
-unfolding text_of
-no_text Extract (Bad seen fault) has = refl
-no_text Extract (Gap seen channel expected found missing) has = refl
-no_text Extract (Vca seen channel) has = refl
-no_text Extract (Dropped seen channel first place octets reason) has = refl
-no_text Extract (Packet seen channel first place octets) has = absurd has
-no_text Extract (Short seen octets) has = refl
-no_text Packets (Bad seen fault) has = refl
-no_text Packets (Gap seen channel expected found missing) has = refl
-no_text Packets (Vca seen channel) has = refl
-no_text Packets (Dropped seen channel first place octets reason) has = refl
-no_text Packets (Packet seen channel first place octets) has = absurd has
-no_text Packets (Short seen octets) has = refl
+-- of an item that has a line nothing belongs to a drain, and nothing more to the report
+abbrev pub GivesNone : {A : Type 0} → Texts A → Item → Type 0
+GivesNone text x = (text.out x ≡ []) × (text.remark x ≡ [])
+
+octets_none : (x : Item) → HasLine x → octets_of x ≡ []
+unfolding octets_of
+octets_none (Bad seen fault) has = refl
+octets_none (Gap seen channel expected found missing) has = refl
+octets_none (Vca seen channel) has = refl
+octets_none (Dropped seen channel first place octets reason) has = refl
+octets_none (Packet seen channel first place octets) has = absurd has
+octets_none (Short seen octets) has = refl
+
+listed_none : (x : Item) → HasLine x → listed x ≡ []
+unfolding listed
+listed_none (Bad seen fault) has = refl
+listed_none (Gap seen channel expected found missing) has = refl
+listed_none (Vca seen channel) has = refl
+listed_none (Dropped seen channel first place octets reason) has = refl
+listed_none (Packet seen channel first place octets) has = absurd has
+listed_none (Short seen octets) has = refl
+
+tabled_none : (fields : List Field) (application : ℕ) (x : Item) → HasLine x → tabled fields application x ≡ []
+unfolding tabled
+tabled_none fields application (Bad seen fault) has = refl
+tabled_none fields application (Gap seen channel expected found missing) has = refl
+tabled_none fields application (Vca seen channel) has = refl
+tabled_none fields application (Dropped seen channel first place octets reason) has = refl
+tabled_none fields application (Packet seen channel first place octets) has = absurd has
+tabled_none fields application (Short seen octets) has = refl
+
+too_short_none : (fields : List Field) (application : ℕ) (x : Item) → HasLine x → too_short fields application x ≡ []
+unfolding too_short
+too_short_none fields application (Bad seen fault) has = refl
+too_short_none fields application (Gap seen channel expected found missing) has = refl
+too_short_none fields application (Vca seen channel) has = refl
+too_short_none fields application (Dropped seen channel first place octets reason) has = refl
+too_short_none fields application (Packet seen channel first place octets) has = absurd has
+too_short_none fields application (Short seen octets) has = refl
+
+pub no_row : (fields : List Field) (application : ℕ) (x : Item) → HasLine x → GivesNone (rows_text fields application) x
+no_row fields application x has = (tabled_none fields application x has, too_short_none fields application x has)
+
+pub no_text : (command : Command) (x : Item) → HasLine x → GivesNone (text_of command) x
+no_text Extract x has = (octets_none x has, refl)
+no_text Packets x has = (listed_none x has, refl)
+no_text (Fields definition application) x has = no_row definition.now application x has

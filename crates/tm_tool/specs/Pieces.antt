@@ -3,6 +3,7 @@ use Rattle.std.specs.Prelude.{⊤, ℕ, ◌/◌, ◌%◌, Bool, true, false, Lis
 use Rattle.std.specs.List.{flat_map}
 use Rattle.tm_frame.specs.declared.layout.LayoutParts.{LayoutParts}
 use Rattle.tm_frame.specs.Layout.{record_length_of}
+use Rattle.tm_fields.specs.declared.field.Field.{Field}
 use Rattle.tm_packet.specs.declared.notes.Note.{Note}
 use Rattle.tm_packet.specs.declared.tracker.Last.{Last}
 use Rattle.tm_packet.specs.declared.tracker.Unclosed.{Unclosed}
@@ -15,7 +16,8 @@ use Rattle.tm_reassembly.specs.Items.{closing}
 use Rattle.tm_reassembly.specs.Recording.{items, after}
 use Rattle.tm_reassembly.specs.State.{State}
 use Rattle.tm_tool.specs.declared.job.Command.{Command}
-use Rattle.tm_tool.specs.declared.job.Command.TheVariants.{Extract, Packets}
+use Rattle.tm_tool.specs.declared.job.Command.TheVariants.{Extract, Packets, Fields}
+use Rattle.tm_tool.specs.FieldRows.{tabled, too_short}
 use Rattle.tm_tool.specs.Lines.{bad_line, drop_line, gap_line, note_line, note_lines, packet_line, short_line, vca_line}
 use Rattle.tm_tool.specs.Outputs.{Piece}
 use Rattle.tm_tool.specs.Records.{records, rest_of}
@@ -61,22 +63,46 @@ report_of entries (Packet seen channel first place octets) =
     note_lines seen channel (header_of octets).application (notes_of entries (sent channel octets))
 report_of entries x = line_of x
 
--- what of an item belongs to `out`: its octets, or its line
-unfoldable pub text_of : Command → Item → List ℕ
-text_of Extract (Packet seen channel first place octets) = octets
-text_of Packets (Packet seen channel first place octets) = packet_line seen channel first place (header_of octets) (length octets)
-text_of command _ = []
+-- what is given of an item: to `out`, and to the report behind the item's line or notes
+pub record Texts (A : Type 0) : Type 0 where
+  pub out : Item → List A
+  pub remark : Item → List ℕ
+
+-- the octets of a packet
+unfoldable pub octets_of : Item → List ℕ
+octets_of (Packet seen channel first place octets) = octets
+octets_of _ = []
+
+-- the line of a packet
+unfoldable pub listed : Item → List ℕ
+listed (Packet seen channel first place octets) = packet_line seen channel first place (header_of octets) (length octets)
+listed _ = []
+
+-- nothing more for the report
+abbrev pub no_remark : Item → List ℕ
+no_remark _ = []
+
+-- the row of a packet, and the line of one that is too short
+abbrev pub rows_text : List Field → ℕ → Texts ℕ
+rows_text fields application = record { out = tabled fields application; remark = too_short fields application }
+
+-- what a command gives of an item
+abbrev pub text_of : Command → Texts ℕ
+text_of Extract = record { out = octets_of; remark = no_remark }
+text_of Packets = record { out = listed; remark = no_remark }
+text_of (Fields definition application) = rows_text definition.now application
 
 -- what belongs to `out` is made in memory: lines are, a packet's own octets are not
 abbrev pub makes_rows : Command → Bool
 makes_rows Extract = false
 makes_rows Packets = true
+makes_rows (Fields definition application) = true
 
--- ---- of items, by what of each belongs to `out`
+-- ---- of items, by what is given of each
 
-module _ {A : Type 0} (text : Item → List A) where
+module _ {A : Type 0} (text : Texts A) where
   abbrev pub piece_of : Entries → Item → Piece A
-  piece_of entries x = record { out = text x; report = report_of entries x }
+  piece_of entries x = record { out = text.out x; report = report_of entries x ++ text.remark x }
 
   abbrev pub pieces_of : Entries → List Item → List (Piece A)
   pieces_of entries [] = []
@@ -115,7 +141,7 @@ worked w rs = record {
   entries = noted_all w.entries (items_of w rs);
 }
 
-module _ {A : Type 0} (text : Item → List A) where
+module _ {A : Type 0} (text : Texts A) where
   -- the pieces of records
   abbrev pub record_pieces : Work → List (List ℕ) → List (Piece A)
   record_pieces w rs = pieces_of text w.entries (items_of w rs)

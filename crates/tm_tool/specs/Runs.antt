@@ -1,13 +1,12 @@
 -- What was read and written when a run ended. Of a source that doesn't tell its octets nothing is said of what was read.
-use Rattle.std.specs.Prelude.{◌≡◌, ◌⊎◌, ◌<◌, ◌+◌, ◌-◌, ◌^◌, ℕ, Bool, List, [], ◌∷◌, ◌++◌, length, Option}
+use Rattle.std.specs.Prelude.{◌≡◌, ◌≢◌, ◌⊎◌, ◌<◌, ◌+◌, ◌-◌, ◌^◌, ℕ, Bool, List, [], ◌∷◌, ◌++◌, length, Option}
 use Rattle.std.specs.List.{concat}
 use Rattle.std.specs.Io.KnownBytes.{Consumes, IsAtEnd}
 use Rattle.tm_frame.specs.Layout.{record_length_of}
-use Rattle.tm_reassembly.specs.Item.{Item}
 use Rattle.tm_tool.specs.declared.fault.RunFault.{RunFault}
 use Rattle.tm_tool.specs.declared.fault.RunFault.TheVariants.{Read, Write, Report, TooMany, NoMemory}
-use Rattle.tm_tool.specs.Outputs.{View, Took, Stopped}
-use Rattle.tm_tool.specs.Pieces.{Work, worked, record_pieces, closing_pieces, pieces_after}
+use Rattle.tm_tool.specs.Outputs.{Piece, View, Took, Stopped}
+use Rattle.tm_tool.specs.Pieces.{Texts, Work, worked, record_pieces, closing_pieces, pieces_after}
 use Rattle.tm_tool.specs.Records.{AreRecords}
 
 -- these records were read, and then these octets
@@ -22,7 +21,7 @@ pub record HasReadAll (size : ℕ) (left_old left_new : Option (List ℕ)) (read
   pub ended : IsAtEnd left_new
 
 -- records and a closed end are written one after the other, from where the job has got
-module _ {A K : Type 0} (grows : K → K → List A → Type 0) (rows : Bool) (text : Item → List A) (w : Work) where
+module _ {A K : Type 0} (grows : K → K → List A → Type 0) (rows : Bool) (text : Texts A) (w : Work) where
   -- all was read, and all pieces written, the closed end's too
   pub record IsRun (left_old left_new : Option (List ℕ)) (old new : View K) (count : ℕ) : Type 0 where
     pub read : List (List ℕ)
@@ -78,3 +77,27 @@ module _ {A K : Type 0} (grows : K → K → List A → Type 0) (rows : Bool) (t
   IsStoppedAt left_old left_new old new Report = StopsWriting left_old left_new old new Report
   IsStoppedAt left_old left_new old new TooMany = StopsAtTooMany left_old left_new old new
   IsStoppedAt left_old left_new old new NoMemory = StopsWriting left_old left_new old new NoMemory
+
+  -- ---- where something is written before all else
+
+  -- that was written, and then the run
+  pub record IsHeadedRun (head : List (Piece A)) (left_old left_new : Option (List ℕ)) (old new : View K) (count : ℕ) : Type 0 where
+    pub mid : View K
+    pub headed : Took grows old mid head
+    pub run : IsRun left_old left_new mid new count
+
+  -- writing stopped in it, and nothing was read
+  pub record StopsAtHead (head : List (Piece A)) (left_old left_new : Option (List ℕ)) (old new : View K) (fault : RunFault) : Type 0 where
+    pub some : head ≢ []
+    pub unread : left_new ≡ left_old
+    pub stopped : Stopped grows rows old new head fault
+
+  -- or it was written, and the run stopped
+  pub record StopsBehindHead (head : List (Piece A)) (left_old left_new : Option (List ℕ)) (old new : View K) (fault : RunFault) : Type 0 where
+    pub mid : View K
+    pub headed : Took grows old mid head
+    pub stopped : IsStoppedAt left_old left_new mid new fault
+
+  abbrev pub IsHeadedStop : List (Piece A) → Option (List ℕ) → Option (List ℕ) → View K → View K → RunFault → Type 0
+  IsHeadedStop head left_old left_new old new fault =
+      StopsAtHead head left_old left_new old new fault ⊎ StopsBehindHead head left_old left_new old new fault

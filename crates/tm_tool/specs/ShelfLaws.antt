@@ -2,8 +2,9 @@
 use Rattle.std.specs.Prelude.{◌≡◌, refl, ℕ, Bool, true, false, ◌==◌, List, [], ◌∷◌, ◌++◌, Option, None, Some, if◌then◌else◌}
 use Rattle.std.proofs.Common.{sym, ap, ◌∙◌, append_assoc, append-nil}
 use Rattle.tm_reassembly.specs.Item.{Item, Bad, Gap, Vca, Dropped, Packet, Short}
+use Rattle.tm_tool.specs.Outlets.{GivesNone}
 use Rattle.tm_tool.specs.Pieces.{HasLine}
-use Rattle.tm_tool.specs.Shelves.{Puts, Shelved, shelved, of_application, Shelves, shelf_text}
+use Rattle.tm_tool.specs.Shelves.{Puts, Shelved, shelved, of_application, Shelves, shelved_of, shelf_text}
 
 pub shelves_nil : (o : Option (ℕ → List ℕ)) → Shelves o o []
 shelves_nil None = tt
@@ -38,11 +39,14 @@ shelves_put (Some f) (Some g) application octets h = λ k.
     h k ∙ ap (λ (l : List ℕ). f k ++ l) (sym (of_shelved (application == k) k application octets refl))
 
 -- of an item that has a line nothing belongs to the places
-pub no_shelf : (x : Item) → HasLine x → shelf_text x ≡ []
-unfolding shelf_text
-no_shelf (Bad seen fault) has = refl
-no_shelf (Gap seen channel expected found missing) has = refl
-no_shelf (Vca seen channel) has = refl
-no_shelf (Dropped seen channel first place octets reason) has = refl
-no_shelf (Packet seen channel first place octets) has = absurd has
-no_shelf (Short seen octets) has = refl
+shelved_none : (x : Item) → HasLine x → shelved_of x ≡ []
+unfolding shelved_of
+shelved_none (Bad seen fault) has = refl
+shelved_none (Gap seen channel expected found missing) has = refl
+shelved_none (Vca seen channel) has = refl
+shelved_none (Dropped seen channel first place octets reason) has = refl
+shelved_none (Packet seen channel first place octets) has = absurd has
+shelved_none (Short seen octets) has = refl
+
+pub no_shelf : (x : Item) → HasLine x → GivesNone shelf_text x
+no_shelf x has = (shelved_none x has, refl)

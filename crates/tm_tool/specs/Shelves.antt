@@ -2,6 +2,7 @@
 use Rattle.std.specs.Prelude.{◌≡◌, ◌≢◌, ⊤, ℕ, ◌==◌, List, [], ◌∷◌, ◌++◌, map, Option, None, Some, if◌then◌else◌}
 use Rattle.tm_packet.specs.Header.{header_of}
 use Rattle.tm_reassembly.specs.Item.{Item, Packet}
+use Rattle.tm_tool.specs.Pieces.{Texts, no_remark}
 
 -- known places grow by octets of one application, and no other place changes
 abbrev pub Puts : Option (ℕ → List ℕ) → Option (ℕ → List ℕ) → ℕ → List ℕ → Type 0
@@ -33,6 +34,10 @@ Shelves (Some held) None xs = ⊥
 Shelves (Some held) (Some now) xs = (k : ℕ) → now k ≡ held k ++ of_application k xs
 
 -- what of an item belongs to the places: a packet's octets, in its application's
-unfoldable pub shelf_text : Item → List Shelved
-shelf_text (Packet seen channel first place octets) = shelved (header_of octets).application octets
-shelf_text _ = []
+unfoldable pub shelved_of : Item → List Shelved
+shelved_of (Packet seen channel first place octets) = shelved (header_of octets).application octets
+shelved_of _ = []
+
+-- what is given of an item
+abbrev pub shelf_text : Texts Shelved
+shelf_text = record { out = shelved_of; remark = no_remark }

@@ -3,12 +3,11 @@ use Rattle.std.specs.Prelude.{◌≡◌, ◌-◌, ◌^◌, ℕ, Bool, List, leng
 use Rattle.std.specs.List.{concat}
 use Rattle.std.specs.Io.KnownBytes.{Consumes}
 use Rattle.tm_frame.specs.Layout.{record_length_of}
-use Rattle.tm_reassembly.specs.Item.{Item}
 use Rattle.tm_reassembly.specs.Steps.{Progress}
 use Rattle.tm_tool.specs.declared.fault.RunFault.{RunFault}
 use Rattle.tm_tool.specs.declared.fault.RunFault.TheVariants.{Read, Write, Report, TooMany, NoMemory}
 use Rattle.tm_tool.specs.Outputs.{Piece, View, Took, Stopped}
-use Rattle.tm_tool.specs.Pieces.{Entries, Work, worked, record_pieces}
+use Rattle.tm_tool.specs.Pieces.{Texts, Entries, Work, worked, record_pieces}
 use Rattle.tm_tool.specs.Records.{AreRecords}
 use Rattle.tm_tool.specs.Runs.{HasReadAll}
 
@@ -30,7 +29,7 @@ module _ {A K : Type 0} (grows : K → K → List A → Type 0) where
       MatchResult r (λ _. Took grows old new pieces) (StepStopped rows records old new pieces)
 
   -- these records were read, nothing else, and taken
-  pub record HasTaken (text : Item → List A) (w : Work) (left_old left_new : Option (List ℕ)) (old new : View K) (now : Work) : Type 0 where
+  pub record HasTaken (text : Texts A) (w : Work) (left_old left_new : Option (List ℕ)) (old new : View K) (now : Work) : Type 0 where
     pub read : List (List ℕ)
     pub sized : AreRecords (record_length_of w.layout) read
     pub octets : Consumes left_old left_new (concat read)
@@ -38,7 +37,7 @@ module _ {A K : Type 0} (grows : K → K → List A → Type 0) where
     pub took : Took grows old new (record_pieces text w read)
 
   -- all records were read and taken, and so many octets are left
-  pub record HasStepped (text : Item → List A) (w : Work) (left_old left_new : Option (List ℕ)) (old new : View K) (now : Work) (octets : ℕ) : Type 0 where
+  pub record HasStepped (text : Texts A) (w : Work) (left_old left_new : Option (List ℕ)) (old new : View K) (now : Work) (octets : ℕ) : Type 0 where
     pub read : List (List ℕ)
     pub rest : List ℕ
     pub all : HasReadAll (record_length_of w.layout) left_old left_new read rest

@@ -5,31 +5,31 @@ ghost use Rattle.std.specs.Io.KnownBytes.{Appends, Keeps};
 ghost use Rattle.tm_frame.specs.Layout.{record_length_of};
 ghost use Rattle.tm_reassembly.specs.Channels.{is_chosen};
 ghost use Rattle.tm_reassembly.specs.Valid.{IsState};
-ghost use Rattle.tm_tool.specs.declared.job.Command.TheVariants.{Extract, Packets};
 ghost use Rattle.tm_tool.specs.Faults.{RunCounted};
-ghost use Rattle.tm_tool.specs.Jobs.{begun};
+ghost use Rattle.tm_tool.specs.Jobs.{all_pieces, begun, head_pieces};
 ghost use Rattle.tm_tool.specs.Outputs.{AppendsCut, Took, WantsMemory, view};
 ghost use Rattle.tm_tool.specs.Pieces.{makes_rows, pieces, text_of};
 ghost use Rattle.tm_tool.specs.Records.{record_count};
-ghost use Rattle.tm_tool.specs.Runs.{IsRun, IsStoppedAt};
+ghost use Rattle.tm_tool.specs.Runs.{IsHeadedRun, IsHeadedStop, IsRun, IsStoppedAt};
 ghost use Rattle.tm_tool.specs.Shelves.{Shelves, shelf_text};
-ghost use Rattle.tm_tool.specs.Stepping.{work_of};
 
-use crate::outlet::{PacketLines, PacketOctets, PacketShelf};
-use crate::recording::run_to_end;
+use crate::commands::{run_by, run_split};
 use crate::{Drain, NoMemory, RunFault, Settings, Shelf, Source};
 use std::alloc::Global;
 use std::marker::Model;
+use tm_fields::Definition;
 use tm_packet::Tracker;
 use tm_reassembly::Reassembly;
 
 /// What of the packets is written to the output.
-#[derive(Clone, Copy, Debug, PartialEq, Eq)]
-pub enum Command {
+#[derive(Clone, Copy)]
+pub enum Command<'a> {
     /// Their octets.
     Extract,
     /// A line for each.
     Packets,
+    /// Behind a head, a row for each packet of this application that has all bits of the definition's fields.
+    Fields(&'a Definition, u16),
 }
 
 /// Where a run ends.
@@ -52,6 +52,7 @@ pub struct Job {
     reassembly: Reassembly,
     tracker: Tracker,
     buffer: Vec<u8>,
+    fresh: bool,
 }
 
 impl Model for Job {
@@ -59,16 +60,12 @@ impl Model for Job {
     ghost use Rattle.tm_frame.specs.Layout.{record_length_of};
     ghost use Rattle.tm_reassembly.specs.Channels.{is_chosen};
     ghost use Rattle.tm_reassembly.specs.Valid.{IsState};
-    ghost use Rattle.tm_tool.specs.Pieces.{Work};
+    ghost use Rattle.tm_tool.specs.Jobs.{JobState};
+    ghost use Rattle.tm_tool.specs.Stepping.{work_of};
 
-    ghost Value = { Work };
+    ghost Value = { JobState };
 
-    ghost view = { λ j. record {
-      layout = j.reassembly.layout;
-      channels = j.reassembly.channels;
-      state = j.reassembly.state;
-      entries = j.tracker;
-    } };
+    ghost view = { λ j. record { work = work_of j.reassembly j.tracker; fresh = j.fresh } };
 
     ghost invariant = { λ j. (j.reassembly.failed ≡ false) × (length j.buffer.items ≡ record_length_of j.reassembly.layout) × (0 < length j.buffer.items)
         × IsState j.reassembly.layout (is_chosen j.reassembly.channels) j.reassembly.state };
@@ -97,6 +94,7 @@ impl Job {
                 reassembly,
                 tracker,
                 buffer,
+                fresh: true,
             }),
             Err(_) => Err(NoMemory),
         }
@@ -104,211 +102,9 @@ impl Job {
 
     /// The number of records that are done.
     pub fn records(&self) -> u32
-        ensures { result ≡ self.now.state.records }
+        ensures { result ≡ self.now.work.state.records }
     {
         self.reassembly.records()
-    }
-}
-
-// The packets' octets into a drain.
-fn run_extract<R: Source, W: Drain, V: Drain>(
-    alloc: Global,
-    reassembly: Reassembly,
-    tracker: Tracker,
-    buffer: &mut [u8],
-    recording: &mut R,
-    out: &mut W,
-    report: &mut V,
-) -> Result<u32, RunFault>
-    requires exact { length buffer.old ≡ record_length_of reassembly.layout }
-    requires some { 0 < length buffer.old }
-    requires going { reassembly.failed ≡ false }
-    requires valid { IsState reassembly.layout (is_chosen reassembly.channels) reassembly.state }
-    ensures run { IfOk result (IsRun Appends false (text_of Extract) (work_of reassembly tracker)
-        (R.left recording.old) (R.left recording.new)
-        (view (W.written out.old) (V.written report.old) (W.failures out.old) (V.failures report.old))
-        (view (W.written out.new) (V.written report.new) (W.failures out.new) (V.failures report.new))) }
-    ensures flushed_out { OnOk result (Keeps (W.flushed out.new) (W.written out.new)) }
-    ensures flushed_report { OnOk result (Keeps (V.flushed report.new) (V.written report.new)) }
-    ensures stopped { IfErr result (IsStoppedAt Appends false (text_of Extract) (work_of reassembly tracker)
-        (R.left recording.old) (R.left recording.new)
-        (view (W.written out.old) (V.written report.old) (W.failures out.old) (V.failures report.old))
-        (view (W.written out.new) (V.written report.new) (W.failures out.new) (V.failures report.new))) }
-    ensures counts { RunCounted (R.failures recording.old) (R.failures recording.new)
-        (view (W.written out.old) (V.written report.old) (W.failures out.old) (V.failures report.old))
-        (view (W.written out.new) (V.written report.new) (W.failures out.new) (V.failures report.new)) result }
-{
-    let mut outlet = PacketOctets { out };
-    match run_to_end(
-        alloc,
-        reassembly,
-        tracker,
-        buffer,
-        recording,
-        &mut outlet,
-        report,
-    ) {
-        Ok(records) => Ok(records),
-        Err(fault) => Err(fault),
-    }
-}
-
-// A line for each packet into a drain, made in this text.
-fn run_lines<R: Source, W: Drain, V: Drain>(
-    alloc: Global,
-    line: &mut String,
-    reassembly: Reassembly,
-    tracker: Tracker,
-    buffer: &mut [u8],
-    recording: &mut R,
-    out: &mut W,
-    report: &mut V,
-) -> Result<u32, RunFault>
-    requires exact { length buffer.old ≡ record_length_of reassembly.layout }
-    requires some { 0 < length buffer.old }
-    requires going { reassembly.failed ≡ false }
-    requires valid { IsState reassembly.layout (is_chosen reassembly.channels) reassembly.state }
-    ensures run { IfOk result (IsRun Appends true (text_of Packets) (work_of reassembly tracker)
-        (R.left recording.old) (R.left recording.new)
-        (view (W.written out.old) (V.written report.old) (W.failures out.old) (V.failures report.old))
-        (view (W.written out.new) (V.written report.new) (W.failures out.new) (V.failures report.new))) }
-    ensures flushed_out { OnOk result (Keeps (W.flushed out.new) (W.written out.new)) }
-    ensures flushed_report { OnOk result (Keeps (V.flushed report.new) (V.written report.new)) }
-    ensures stopped { IfErr result (IsStoppedAt Appends true (text_of Packets) (work_of reassembly tracker)
-        (R.left recording.old) (R.left recording.new)
-        (view (W.written out.old) (V.written report.old) (W.failures out.old) (V.failures report.old))
-        (view (W.written out.new) (V.written report.new) (W.failures out.new) (V.failures report.new))) }
-    ensures counts { RunCounted (R.failures recording.old) (R.failures recording.new)
-        (view (W.written out.old) (V.written report.old) (W.failures out.old) (V.failures report.old))
-        (view (W.written out.new) (V.written report.new) (W.failures out.new) (V.failures report.new)) result }
-{
-    let mut outlet = PacketLines { line, out };
-    match run_to_end(
-        alloc,
-        reassembly,
-        tracker,
-        buffer,
-        recording,
-        &mut outlet,
-        report,
-    ) {
-        Ok(records) => Ok(records),
-        Err(fault) => Err(fault),
-    }
-}
-
-// A line for each packet into a drain.
-fn run_packets<R: Source, W: Drain, V: Drain>(
-    alloc: Global,
-    reassembly: Reassembly,
-    tracker: Tracker,
-    buffer: &mut [u8],
-    recording: &mut R,
-    out: &mut W,
-    report: &mut V,
-) -> Result<u32, RunFault>
-    requires exact { length buffer.old ≡ record_length_of reassembly.layout }
-    requires some { 0 < length buffer.old }
-    requires going { reassembly.failed ≡ false }
-    requires valid { IsState reassembly.layout (is_chosen reassembly.channels) reassembly.state }
-    ensures run { IfOk result (IsRun Appends true (text_of Packets) (work_of reassembly tracker)
-        (R.left recording.old) (R.left recording.new)
-        (view (W.written out.old) (V.written report.old) (W.failures out.old) (V.failures report.old))
-        (view (W.written out.new) (V.written report.new) (W.failures out.new) (V.failures report.new))) }
-    ensures flushed_out { OnOk result (Keeps (W.flushed out.new) (W.written out.new)) }
-    ensures flushed_report { OnOk result (Keeps (V.flushed report.new) (V.written report.new)) }
-    ensures stopped { IfErr result (IsStoppedAt Appends true (text_of Packets) (work_of reassembly tracker)
-        (R.left recording.old) (R.left recording.new)
-        (view (W.written out.old) (V.written report.old) (W.failures out.old) (V.failures report.old))
-        (view (W.written out.new) (V.written report.new) (W.failures out.new) (V.failures report.new))) }
-    ensures counts { RunCounted (R.failures recording.old) (R.failures recording.new)
-        (view (W.written out.old) (V.written report.old) (W.failures out.old) (V.failures report.old))
-        (view (W.written out.new) (V.written report.new) (W.failures out.new) (V.failures report.new)) result }
-{
-    let mut line = String::new(alloc);
-    run_lines(
-        alloc, &mut line, reassembly, tracker, buffer, recording, out, report,
-    )
-}
-
-// What the command wants of the packets, into a drain.
-fn run_by<R: Source, W: Drain, V: Drain>(
-    alloc: Global,
-    command: Command,
-    reassembly: Reassembly,
-    tracker: Tracker,
-    buffer: &mut [u8],
-    recording: &mut R,
-    out: &mut W,
-    report: &mut V,
-) -> Result<u32, RunFault>
-    requires exact { length buffer.old ≡ record_length_of reassembly.layout }
-    requires some { 0 < length buffer.old }
-    requires going { reassembly.failed ≡ false }
-    requires valid { IsState reassembly.layout (is_chosen reassembly.channels) reassembly.state }
-    ensures run { IfOk result (IsRun Appends (makes_rows command) (text_of command) (work_of reassembly tracker)
-        (R.left recording.old) (R.left recording.new)
-        (view (W.written out.old) (V.written report.old) (W.failures out.old) (V.failures report.old))
-        (view (W.written out.new) (V.written report.new) (W.failures out.new) (V.failures report.new))) }
-    ensures flushed_out { OnOk result (Keeps (W.flushed out.new) (W.written out.new)) }
-    ensures flushed_report { OnOk result (Keeps (V.flushed report.new) (V.written report.new)) }
-    ensures stopped { IfErr result (IsStoppedAt Appends (makes_rows command) (text_of command) (work_of reassembly tracker)
-        (R.left recording.old) (R.left recording.new)
-        (view (W.written out.old) (V.written report.old) (W.failures out.old) (V.failures report.old))
-        (view (W.written out.new) (V.written report.new) (W.failures out.new) (V.failures report.new))) }
-    ensures counts { RunCounted (R.failures recording.old) (R.failures recording.new)
-        (view (W.written out.old) (V.written report.old) (W.failures out.old) (V.failures report.old))
-        (view (W.written out.new) (V.written report.new) (W.failures out.new) (V.failures report.new)) result }
-{
-    match command {
-        Command::Extract => {
-            run_extract(alloc, reassembly, tracker, buffer, recording, out, report)
-        }
-        Command::Packets => {
-            run_packets(alloc, reassembly, tracker, buffer, recording, out, report)
-        }
-    }
-}
-
-// The packets' octets into a shelf.
-fn run_split<R: Source, H: Shelf, V: Drain>(
-    alloc: Global,
-    reassembly: Reassembly,
-    tracker: Tracker,
-    buffer: &mut [u8],
-    recording: &mut R,
-    shelf: &mut H,
-    report: &mut V,
-) -> Result<u32, RunFault>
-    requires exact { length buffer.old ≡ record_length_of reassembly.layout }
-    requires some { 0 < length buffer.old }
-    requires going { reassembly.failed ≡ false }
-    requires valid { IsState reassembly.layout (is_chosen reassembly.channels) reassembly.state }
-    ensures run { IfOk result (IsRun Shelves false shelf_text (work_of reassembly tracker)
-        (R.left recording.old) (R.left recording.new)
-        (view (H.kept shelf.old) (V.written report.old) (H.refusals shelf.old) (V.failures report.old))
-        (view (H.kept shelf.new) (V.written report.new) (H.refusals shelf.new) (V.failures report.new))) }
-    ensures flushed_report { OnOk result (Keeps (V.flushed report.new) (V.written report.new)) }
-    ensures stopped { IfErr result (IsStoppedAt Shelves false shelf_text (work_of reassembly tracker)
-        (R.left recording.old) (R.left recording.new)
-        (view (H.kept shelf.old) (V.written report.old) (H.refusals shelf.old) (V.failures report.old))
-        (view (H.kept shelf.new) (V.written report.new) (H.refusals shelf.new) (V.failures report.new))) }
-    ensures counts { RunCounted (R.failures recording.old) (R.failures recording.new)
-        (view (H.kept shelf.old) (V.written report.old) (H.refusals shelf.old) (V.failures report.old))
-        (view (H.kept shelf.new) (V.written report.new) (H.refusals shelf.new) (V.failures report.new)) result }
-{
-    let mut outlet = PacketShelf { shelf };
-    match run_to_end(
-        alloc,
-        reassembly,
-        tracker,
-        buffer,
-        recording,
-        &mut outlet,
-        report,
-    ) {
-        Ok(records) => Ok(records),
-        Err(fault) => Err(fault),
     }
 }
 
@@ -323,20 +119,20 @@ fn run_split<R: Source, H: Shelf, V: Drain>(
 pub fn run<R: Source, W: Drain, V: Drain>(
     alloc: Global,
     job: Job,
-    command: Command,
+    command: Command<'_>,
     recording: &mut R,
     out: &mut W,
     report: &mut V,
     ending: Ending,
 ) -> Result<Done, RunFault>
     // With Ok all was read, and just the pieces of the recording were written, and passed on.
-    ensures all { IfOk result (λ done. IsRun Appends (makes_rows command) (text_of command) job (R.left recording.old) (R.left recording.new)
+    ensures all { IfOk result (λ done. IsHeadedRun Appends (makes_rows command.entry) (text_of command.entry) job.work (head_pieces command.entry job.fresh) (R.left recording.old) (R.left recording.new)
         (view (W.written out.old) (V.written report.old) (W.failures out.old) (V.failures report.old))
         (view (W.written out.new) (V.written report.new) (W.failures out.new) (V.failures report.new)) done.records) }
     ensures done { IfOk result (λ done. IfSome (R.left recording.old) (λ octets.
         Took Appends (view (W.written out.old) (V.written report.old) (W.failures out.old) (V.failures report.old))
-        (view (W.written out.new) (V.written report.new) (W.failures out.new) (V.failures report.new)) (pieces (text_of command) job octets)
-        × (done.records ≡ job.state.records + record_count (record_length_of job.layout) octets))) }
+        (view (W.written out.new) (V.written report.new) (W.failures out.new) (V.failures report.new)) (all_pieces command.entry job octets)
+        × (done.records ≡ job.work.state.records + record_count (record_length_of job.work.layout) octets))) }
     ensures flushed_out { OnOk result (Keeps (W.flushed out.new) (W.written out.new)) }
     ensures flushed_report { OnOk result (Keeps (V.flushed report.new) (V.written report.new)) }
 
@@ -348,15 +144,15 @@ pub fn run<R: Source, W: Drain, V: Drain>(
     // After a fault there is one place up to which these pieces were written. Without memory it is a piece's end; and a text was to be made.
     ensures cut { IfErr result (λ fault. IfSome (R.left recording.old) (λ octets.
         AppendsCut Appends (view (W.written out.old) (V.written report.old) (W.failures out.old) (V.failures report.old))
-        (view (W.written out.new) (V.written report.new) (W.failures out.new) (V.failures report.new)) (pieces (text_of command) job octets))) }
+        (view (W.written out.new) (V.written report.new) (W.failures out.new) (V.failures report.new)) (all_pieces command.entry job octets))) }
     ensures memory { IsErrOf result RunFault.NoMemory → IfSome (R.left recording.old) (λ octets.
-        WantsMemory Appends (makes_rows command) (view (W.written out.old) (V.written report.old) (W.failures out.old) (V.failures report.old))
-        (view (W.written out.new) (V.written report.new) (W.failures out.new) (V.failures report.new)) (pieces (text_of command) job octets)) }
+        WantsMemory Appends (makes_rows command.entry) (view (W.written out.old) (V.written report.old) (W.failures out.old) (V.failures report.old))
+        (view (W.written out.new) (V.written report.new) (W.failures out.new) (V.failures report.new)) (all_pieces command.entry job octets)) }
     ensures too_many { IsErrOf result RunFault.TooMany → IfSome (R.left recording.old) (λ octets.
-        2 ^ 32 - 1 < job.state.records + record_count (record_length_of job.layout) octets) }
+        2 ^ 32 - 1 < job.work.state.records + record_count (record_length_of job.work.layout) octets) }
 
     // What was read by then, and written: nothing past the record at a piece of which writing stopped.
-    ensures stopped { IfErr result (IsStoppedAt Appends (makes_rows command) (text_of command) job (R.left recording.old) (R.left recording.new)
+    ensures stopped { IfErr result (IsHeadedStop Appends (makes_rows command.entry) (text_of command.entry) job.work (head_pieces command.entry job.fresh) (R.left recording.old) (R.left recording.new)
         (view (W.written out.old) (V.written report.old) (W.failures out.old) (V.failures report.old))
         (view (W.written out.new) (V.written report.new) (W.failures out.new) (V.failures report.new))) }
 {
@@ -364,12 +160,14 @@ pub fn run<R: Source, W: Drain, V: Drain>(
         reassembly,
         tracker,
         mut buffer,
+        fresh,
     } = job;
     match ending {
         Ending::Close => {
             match run_by(
                 alloc,
                 command,
+                fresh,
                 reassembly,
                 tracker,
                 buffer.as_mut_slice(),
@@ -399,13 +197,13 @@ pub fn split<R: Source, H: Shelf, V: Drain>(
     ending: Ending,
 ) -> Result<Done, RunFault>
     // With Ok all was read, and just the pieces of the recording were written, and passed on.
-    ensures all { IfOk result (λ done. IsRun Shelves false shelf_text job (R.left recording.old) (R.left recording.new)
+    ensures all { IfOk result (λ done. IsRun Shelves false shelf_text job.work (R.left recording.old) (R.left recording.new)
         (view (H.kept shelf.old) (V.written report.old) (H.refusals shelf.old) (V.failures report.old))
         (view (H.kept shelf.new) (V.written report.new) (H.refusals shelf.new) (V.failures report.new)) done.records) }
     ensures done { IfOk result (λ done. IfSome (R.left recording.old) (λ octets.
         Took Shelves (view (H.kept shelf.old) (V.written report.old) (H.refusals shelf.old) (V.failures report.old))
-        (view (H.kept shelf.new) (V.written report.new) (H.refusals shelf.new) (V.failures report.new)) (pieces shelf_text job octets)
-        × (done.records ≡ job.state.records + record_count (record_length_of job.layout) octets))) }
+        (view (H.kept shelf.new) (V.written report.new) (H.refusals shelf.new) (V.failures report.new)) (pieces shelf_text job.work octets)
+        × (done.records ≡ job.work.state.records + record_count (record_length_of job.work.layout) octets))) }
     ensures flushed_report { OnOk result (Keeps (V.flushed report.new) (V.written report.new)) }
 
     // A device is blamed only where a call of it failed.
@@ -416,15 +214,15 @@ pub fn split<R: Source, H: Shelf, V: Drain>(
     // After a fault there is one place up to which these pieces were written. Without memory it is a piece's end; and a text was to be made.
     ensures cut { IfErr result (λ fault. IfSome (R.left recording.old) (λ octets.
         AppendsCut Shelves (view (H.kept shelf.old) (V.written report.old) (H.refusals shelf.old) (V.failures report.old))
-        (view (H.kept shelf.new) (V.written report.new) (H.refusals shelf.new) (V.failures report.new)) (pieces shelf_text job octets))) }
+        (view (H.kept shelf.new) (V.written report.new) (H.refusals shelf.new) (V.failures report.new)) (pieces shelf_text job.work octets))) }
     ensures memory { IsErrOf result RunFault.NoMemory → IfSome (R.left recording.old) (λ octets.
         WantsMemory Shelves false (view (H.kept shelf.old) (V.written report.old) (H.refusals shelf.old) (V.failures report.old))
-        (view (H.kept shelf.new) (V.written report.new) (H.refusals shelf.new) (V.failures report.new)) (pieces shelf_text job octets)) }
+        (view (H.kept shelf.new) (V.written report.new) (H.refusals shelf.new) (V.failures report.new)) (pieces shelf_text job.work octets)) }
     ensures too_many { IsErrOf result RunFault.TooMany → IfSome (R.left recording.old) (λ octets.
-        2 ^ 32 - 1 < job.state.records + record_count (record_length_of job.layout) octets) }
+        2 ^ 32 - 1 < job.work.state.records + record_count (record_length_of job.work.layout) octets) }
 
     // What was read by then, and written: nothing past the record at a piece of which writing stopped.
-    ensures stopped { IfErr result (IsStoppedAt Shelves false shelf_text job (R.left recording.old) (R.left recording.new)
+    ensures stopped { IfErr result (IsStoppedAt Shelves false shelf_text job.work (R.left recording.old) (R.left recording.new)
         (view (H.kept shelf.old) (V.written report.old) (H.refusals shelf.old) (V.failures report.old))
         (view (H.kept shelf.new) (V.written report.new) (H.refusals shelf.new) (V.failures report.new))) }
 {
@@ -432,6 +230,7 @@ pub fn split<R: Source, H: Shelf, V: Drain>(
         reassembly,
         tracker,
         mut buffer,
+        ..
     } = job;
     match ending {
         Ending::Close => {

@@ -1,6 +1,7 @@
 //! Settings, devices, and the runs over a recording.
 #![tactic(auto)]
 
+mod commands;
 mod device;
 mod fault;
 mod job;

@@ -2,7 +2,7 @@
 
 ghost use Rattle.std.specs.Prelude.{◌≡◌, ◌++◌, ◌∷◌, [], Some, OnOk, codes, string_bytes};
 ghost use Rattle.std.specs.List.{concat};
-ghost use Rattle.tm_tool.specs.Lines.{bad_line, bit_text, drop_line, flags_word, frame_line, gap_line, kind_word, note_line, packet_line, place_text, short_line, type_word, vca_line, why_word, yes_or_no};
+ghost use Rattle.tm_tool.specs.Lines.{bad_line, bit_text, drop_line, flags_word, frame_line, gap_line, kind_word, note_line, packet_line, place_text, short_line, short_packet_line, type_word, vca_line, why_word, yes_or_no};
 
 use itoa::{Buffer, Integer};
 use std::alloc::AllocError;
@@ -210,6 +210,25 @@ pub fn push_drop(
     write!(
         text,
         "drop record={seen} channel={channel} from={first} at={place} octets={octets} reason={word}\n"
+    )
+}
+
+/// The line of a packet of too few bits for its fields.
+#[tactic(auto, unfolding(crate::specs::Lines::short_packet_line))]
+pub fn push_short_packet(
+    text: &mut String,
+    seen: u32,
+    channel: u8,
+    first: u32,
+    place: u16,
+    needed: u64,
+    found: u64,
+) -> Result<(), AllocError>
+    ensures { OnOk result (string_bytes text.new ≡ string_bytes text.old ++ short_packet_line seen channel first place needed found) }
+{
+    write!(
+        text,
+        "shortpacket record={seen} channel={channel} from={first} at={place} needed={needed} found={found}\n"
     )
 }
 

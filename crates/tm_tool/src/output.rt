@@ -126,14 +126,20 @@ impl<O: Outlet, V: Drain> Output<'_, O, V> {
         requires packet { IsOnePacket octets.now }
         ensures same_tracker { self.new.tracker.ghost_name ≡ self.old.tracker.ghost_name }
         ensures same_outlet { self.new.outlet.ghost_name ≡ self.old.outlet.ghost_name }
-        ensures same_out { O.name self.new.outlet.now ≡ O.name self.old.outlet.now }
+        ensures same_out { O.fixed self.new.outlet.now ≡ O.fixed self.old.outlet.now }
         ensures same_report { self.new.report.ghost_name ≡ self.old.report.ghost_name }
         ensures noted { self.new.tracker.now ≡ noted self.old.tracker.now (value.Packet seen channel first place octets.now) }
         ensures written { Written O.grows O.rows (view (O.held self.old.outlet.now) (V.written self.old.report.now) (O.failures self.old.outlet.now) (V.failures self.old.report.now))
-            (view (O.held self.new.outlet.now) (V.written self.new.report.now) (O.failures self.new.outlet.now) (V.failures self.new.report.now)) (piece_of O.text self.old.tracker.now (value.Packet seen channel first place octets.now) ∷ []) result }
+            (view (O.held self.new.outlet.now) (V.written self.new.report.now) (O.failures self.new.outlet.now) (V.failures self.new.report.now)) (piece_of (O.text (O.fixed self.old.outlet.now)) self.old.tracker.now (value.Packet seen channel first place octets.now) ∷ []) result }
     {
         let header = header_in(octets);
         if let Err(_) = note_packet(self.tracker, self.notes, seen, channel, header) {
+            return Err(RunFault::NoMemory);
+        }
+        if let Err(_) = self
+            .outlet
+            .remark(self.notes, seen, channel, first, place, &header, octets)
+        {
             return Err(RunFault::NoMemory);
         }
         if let Err(fault) = self
@@ -154,11 +160,11 @@ impl<O: Outlet, V: Drain> Output<'_, O, V> {
         requires { HasLine (item_of item) }
         ensures same_tracker { self.new.tracker.ghost_name ≡ self.old.tracker.ghost_name }
         ensures same_outlet { self.new.outlet.ghost_name ≡ self.old.outlet.ghost_name }
-        ensures same_out { O.name self.new.outlet.now ≡ O.name self.old.outlet.now }
+        ensures same_out { O.fixed self.new.outlet.now ≡ O.fixed self.old.outlet.now }
         ensures same_report { self.new.report.ghost_name ≡ self.old.report.ghost_name }
         ensures noted { self.new.tracker.now ≡ noted self.old.tracker.now (item_of item.entry) }
         ensures written { Written O.grows O.rows (view (O.held self.old.outlet.now) (V.written self.old.report.now) (O.failures self.old.outlet.now) (V.failures self.old.report.now))
-            (view (O.held self.new.outlet.now) (V.written self.new.report.now) (O.failures self.new.outlet.now) (V.failures self.new.report.now)) (piece_of O.text self.old.tracker.now (item_of item.entry) ∷ []) result }
+            (view (O.held self.new.outlet.now) (V.written self.new.report.now) (O.failures self.new.outlet.now) (V.failures self.new.report.now)) (piece_of (O.text (O.fixed self.old.outlet.now)) self.old.tracker.now (item_of item.entry) ∷ []) result }
     {
         self.notes.clear();
         if let Err(_) = push_item(self.notes, item) {
@@ -176,7 +182,7 @@ impl<O: Outlet, V: Drain> Output<'_, O, V> {
         requires { unclosed.key < 16384 }
         ensures same_tracker { self.new.tracker.ghost_name ≡ self.old.tracker.ghost_name }
         ensures same_outlet { self.new.outlet.ghost_name ≡ self.old.outlet.ghost_name }
-        ensures same_out { O.name self.new.outlet.now ≡ O.name self.old.outlet.now }
+        ensures same_out { O.fixed self.new.outlet.now ≡ O.fixed self.old.outlet.now }
         ensures same_report { self.new.report.ghost_name ≡ self.old.report.ghost_name }
         ensures tracker { self.new.tracker.now ≡ self.old.tracker.now }
         ensures written { Written O.grows O.rows (view (O.held self.old.outlet.now) (V.written self.old.report.now) (O.failures self.old.outlet.now) (V.failures self.old.report.now))
@@ -198,7 +204,7 @@ impl<O: Outlet, V: Drain> Output<'_, O, V> {
     pub fn put_all_unclosed(&mut self, seen: u32) -> Result<(), RunFault>
         ensures same_tracker { self.new.tracker.ghost_name ≡ self.old.tracker.ghost_name }
         ensures same_outlet { self.new.outlet.ghost_name ≡ self.old.outlet.ghost_name }
-        ensures same_out { O.name self.new.outlet.now ≡ O.name self.old.outlet.now }
+        ensures same_out { O.fixed self.new.outlet.now ≡ O.fixed self.old.outlet.now }
         ensures same_report { self.new.report.ghost_name ≡ self.old.report.ghost_name }
         ensures written { Written O.grows O.rows (view (O.held self.old.outlet.now) (V.written self.old.report.now) (O.failures self.old.outlet.now) (V.failures self.old.report.now))
             (view (O.held self.new.outlet.now) (V.written self.new.report.now) (O.failures self.new.outlet.now) (V.failures self.new.report.now)) (unclosed_pieces seen (sequence.unclosed 0 self.old.tracker.now)) result }
@@ -217,7 +223,7 @@ impl<O: Outlet, V: Drain> Output<'_, O, V> {
     pub fn flush(&mut self) -> Result<(), RunFault>
         ensures same_tracker { self.new.tracker.ghost_name ≡ self.old.tracker.ghost_name }
         ensures same_outlet { self.new.outlet.ghost_name ≡ self.old.outlet.ghost_name }
-        ensures same_out { O.name self.new.outlet.now ≡ O.name self.old.outlet.now }
+        ensures same_out { O.fixed self.new.outlet.now ≡ O.fixed self.old.outlet.now }
         ensures same_report { self.new.report.ghost_name ≡ self.old.report.ghost_name }
         ensures flushed_out { OnOk result (O.passed self.new.outlet.now) }
         ensures flushed_report { OnOk result (Keeps (V.flushed self.new.report.now) (V.written self.new.report.now)) }
@@ -237,10 +243,10 @@ impl<O: Outlet, V: Drain> Output<'_, O, V> {
 impl<O: Outlet, V: Drain> Sink for Output<'_, O, V> {
     type Fault = RunFault;
 
-    ghost takes = { Takes O.grows O.text O.rows (λ s. s.tracker.ghost_name) (λ s. s.outlet.ghost_name) (λ s. O.name s.outlet.now) (λ s. s.report.ghost_name) (λ s. s.tracker.now)
+    ghost takes = { Takes O.grows O.text O.rows (λ s. s.tracker.ghost_name) (λ s. s.outlet.ghost_name) (λ s. O.fixed s.outlet.now) (λ s. s.report.ghost_name) (λ s. s.tracker.now)
         (λ s. (view (O.held s.outlet.now) (V.written s.report.now) (O.failures s.outlet.now) (V.failures s.report.now))) };
 
-    ghost refuses = { Refuses O.grows O.text O.rows (λ s. s.tracker.ghost_name) (λ s. s.outlet.ghost_name) (λ s. O.name s.outlet.now) (λ s. s.report.ghost_name) (λ s. s.tracker.now)
+    ghost refuses = { Refuses O.grows O.text O.rows (λ s. s.tracker.ghost_name) (λ s. s.outlet.ghost_name) (λ s. O.fixed s.outlet.now) (λ s. s.report.ghost_name) (λ s. s.tracker.now)
         (λ s. (view (O.held s.outlet.now) (V.written s.report.now) (O.failures s.outlet.now) (V.failures s.report.now))) };
 
     fn take(&mut self, item: Item<'_>) -> Result<(), RunFault> {

@@ -31,13 +31,13 @@ fn step_into<O: Outlet, V: Drain>(
     requires going { reassembly.old.failed ≡ false }
     ensures same_tracker { output.new.tracker.ghost_name ≡ output.old.tracker.ghost_name }
     ensures same_outlet { output.new.outlet.ghost_name ≡ output.old.outlet.ghost_name }
-    ensures same_out { O.name output.new.outlet.now ≡ O.name output.old.outlet.now }
+    ensures same_out { O.fixed output.new.outlet.now ≡ O.fixed output.old.outlet.now }
     ensures same_report { output.new.report.ghost_name ≡ output.old.report.ghost_name }
     ensures work { OnOk result (work_of reassembly.new output.new.tracker.now ≡ worked (work_of reassembly.old output.old.tracker.now) (octets.now ∷ [])) }
     ensures going_on { OnOk result (reassembly.new.failed ≡ false) }
     ensures few { OnOk result (reassembly.old.state.records < most_records) }
     ensures written { StepWritten O.grows O.rows reassembly.old.state.records (view (O.held output.old.outlet.now) (V.written output.old.report.now) (O.failures output.old.outlet.now) (V.failures output.old.report.now))
-        (view (O.held output.new.outlet.now) (V.written output.new.report.now) (O.failures output.new.outlet.now) (V.failures output.new.report.now)) (record_pieces O.text (work_of reassembly.old output.old.tracker.now) (octets.now ∷ [])) result }
+        (view (O.held output.new.outlet.now) (V.written output.new.report.now) (O.failures output.new.outlet.now) (V.failures output.new.report.now)) (record_pieces (O.text (O.fixed output.old.outlet.now)) (work_of reassembly.old output.old.tracker.now) (octets.now ∷ [])) result }
 {
     match reassembly.step(octets, output) {
         Ok(()) => Ok(()),
@@ -57,11 +57,11 @@ fn finish_into<O: Outlet, V: Drain>(
     requires going { reassembly.failed ≡ false }
     ensures same_tracker { output.new.tracker.ghost_name ≡ output.old.tracker.ghost_name }
     ensures same_outlet { output.new.outlet.ghost_name ≡ output.old.outlet.ghost_name }
-    ensures same_out { O.name output.new.outlet.now ≡ O.name output.old.outlet.now }
+    ensures same_out { O.fixed output.new.outlet.now ≡ O.fixed output.old.outlet.now }
     ensures same_report { output.new.report.ghost_name ≡ output.old.report.ghost_name }
     ensures noted { OnOk result (output.new.tracker.now ≡ noted_all output.old.tracker.now (closing reassembly.state rest)) }
     ensures written { Written O.grows O.rows (view (O.held output.old.outlet.now) (V.written output.old.report.now) (O.failures output.old.outlet.now) (V.failures output.old.report.now))
-        (view (O.held output.new.outlet.now) (V.written output.new.report.now) (O.failures output.new.outlet.now) (V.failures output.new.report.now)) (pieces_of O.text output.old.tracker.now (closing reassembly.state rest)) result }
+        (view (O.held output.new.outlet.now) (V.written output.new.report.now) (O.failures output.new.outlet.now) (V.failures output.new.report.now)) (pieces_of (O.text (O.fixed output.old.outlet.now)) output.old.tracker.now (closing reassembly.state rest)) result }
 {
     match reassembly.finish(rest, output) {
         Ok(()) => Ok(()),
@@ -84,13 +84,13 @@ fn step_records<R: Source, O: Outlet, V: Drain>(
     requires valid { IsState reassembly.old.layout (is_chosen reassembly.old.channels) reassembly.old.state }
     ensures same_tracker { output.new.tracker.ghost_name ≡ output.old.tracker.ghost_name }
     ensures same_outlet { output.new.outlet.ghost_name ≡ output.old.outlet.ghost_name }
-    ensures same_out { O.name output.new.outlet.now ≡ O.name output.old.outlet.now }
+    ensures same_out { O.fixed output.new.outlet.now ≡ O.fixed output.old.outlet.now }
     ensures same_report { output.new.report.ghost_name ≡ output.old.report.ghost_name }
     ensures going_on { OnOk result (reassembly.new.failed ≡ false) }
-    ensures stepped { IfOk result (HasStepped O.grows O.text (work_of reassembly.old output.old.tracker.now) (R.left recording.old) (R.left recording.new)
+    ensures stepped { IfOk result (HasStepped O.grows (O.text (O.fixed output.old.outlet.now)) (work_of reassembly.old output.old.tracker.now) (R.left recording.old) (R.left recording.new)
         (view (O.held output.old.outlet.now) (V.written output.old.report.now) (O.failures output.old.outlet.now) (V.failures output.old.report.now))
         (view (O.held output.new.outlet.now) (V.written output.new.report.now) (O.failures output.new.outlet.now) (V.failures output.new.report.now)) (work_of reassembly.new output.new.tracker.now)) }
-    ensures stopped { IfErr result (IsStoppedAt O.grows O.rows O.text (work_of reassembly.old output.old.tracker.now)
+    ensures stopped { IfErr result (IsStoppedAt O.grows O.rows (O.text (O.fixed output.old.outlet.now)) (work_of reassembly.old output.old.tracker.now)
         (R.left recording.old) (R.left recording.new)
         (view (O.held output.old.outlet.now) (V.written output.old.report.now) (O.failures output.old.outlet.now) (V.failures output.old.report.now))
         (view (O.held output.new.outlet.now) (V.written output.new.report.now) (O.failures output.new.outlet.now) (V.failures output.new.report.now))) }
@@ -124,15 +124,15 @@ fn take_all<R: Source, O: Outlet, V: Drain>(
     requires valid { IsState reassembly.layout (is_chosen reassembly.channels) reassembly.state }
     ensures same_tracker { output.new.tracker.ghost_name ≡ output.old.tracker.ghost_name }
     ensures same_outlet { output.new.outlet.ghost_name ≡ output.old.outlet.ghost_name }
-    ensures same_out { O.name output.new.outlet.now ≡ O.name output.old.outlet.now }
+    ensures same_out { O.fixed output.new.outlet.now ≡ O.fixed output.old.outlet.now }
     ensures same_report { output.new.report.ghost_name ≡ output.old.report.ghost_name }
-    ensures run { IfOk result (IsRun O.grows O.rows O.text (work_of reassembly output.old.tracker.now)
+    ensures run { IfOk result (IsRun O.grows O.rows (O.text (O.fixed output.old.outlet.now)) (work_of reassembly output.old.tracker.now)
         (R.left recording.old) (R.left recording.new)
         (view (O.held output.old.outlet.now) (V.written output.old.report.now) (O.failures output.old.outlet.now) (V.failures output.old.report.now))
         (view (O.held output.new.outlet.now) (V.written output.new.report.now) (O.failures output.new.outlet.now) (V.failures output.new.report.now))) }
     ensures flushed_out { OnOk result (O.passed output.new.outlet.now) }
     ensures flushed_report { OnOk result (Keeps (V.flushed output.new.report.now) (V.written output.new.report.now)) }
-    ensures stopped { IfErr result (IsStoppedAt O.grows O.rows O.text (work_of reassembly output.old.tracker.now)
+    ensures stopped { IfErr result (IsStoppedAt O.grows O.rows (O.text (O.fixed output.old.outlet.now)) (work_of reassembly output.old.tracker.now)
         (R.left recording.old) (R.left recording.new)
         (view (O.held output.old.outlet.now) (V.written output.old.report.now) (O.failures output.old.outlet.now) (V.failures output.old.report.now))
         (view (O.held output.new.outlet.now) (V.written output.new.report.now) (O.failures output.new.outlet.now) (V.failures output.new.report.now))) }
@@ -171,18 +171,18 @@ fn take_all_into<R: Source, O: Outlet, V: Drain>(
     requires some { 0 < length buffer.old }
     requires going { reassembly.failed ≡ false }
     requires valid { IsState reassembly.layout (is_chosen reassembly.channels) reassembly.state }
-    ensures run { IfOk result (IsRun O.grows O.rows O.text (work_of reassembly tracker.old)
+    ensures run { IfOk result (IsRun O.grows O.rows (O.text (O.fixed outlet.old)) (work_of reassembly tracker.old)
         (R.left recording.old) (R.left recording.new)
         (view (O.held outlet.old) (V.written report.old) (O.failures outlet.old) (V.failures report.old))
         (view (O.held outlet.new) (V.written report.new) (O.failures outlet.new) (V.failures report.new))) }
-    ensures stopped { IfErr result (IsStoppedAt O.grows O.rows O.text (work_of reassembly tracker.old)
+    ensures stopped { IfErr result (IsStoppedAt O.grows O.rows (O.text (O.fixed outlet.old)) (work_of reassembly tracker.old)
         (R.left recording.old) (R.left recording.new)
         (view (O.held outlet.old) (V.written report.old) (O.failures outlet.old) (V.failures report.old))
         (view (O.held outlet.new) (V.written report.new) (O.failures outlet.new) (V.failures report.new))) }
     ensures counts { RunCounted (R.failures recording.old) (R.failures recording.new)
         (view (O.held outlet.old) (V.written report.old) (O.failures outlet.old) (V.failures report.old))
         (view (O.held outlet.new) (V.written report.new) (O.failures outlet.new) (V.failures report.new)) result }
-    ensures same_out { O.name outlet.new ≡ O.name outlet.old }
+    ensures same_out { O.fixed outlet.new ≡ O.fixed outlet.old }
     ensures flushed_out { OnOk result (O.passed outlet.new) }
     ensures flushed_report { OnOk result (Keeps (V.flushed report.new) (V.written report.new)) }
 {
@@ -213,18 +213,18 @@ pub fn run_to_end<R: Source, O: Outlet, V: Drain>(
     requires some { 0 < length buffer.old }
     requires going { reassembly.failed ≡ false }
     requires valid { IsState reassembly.layout (is_chosen reassembly.channels) reassembly.state }
-    ensures run { IfOk result (IsRun O.grows O.rows O.text (work_of reassembly tracker)
+    ensures run { IfOk result (IsRun O.grows O.rows (O.text (O.fixed outlet.old)) (work_of reassembly tracker)
         (R.left recording.old) (R.left recording.new)
         (view (O.held outlet.old) (V.written report.old) (O.failures outlet.old) (V.failures report.old))
         (view (O.held outlet.new) (V.written report.new) (O.failures outlet.new) (V.failures report.new))) }
-    ensures stopped { IfErr result (IsStoppedAt O.grows O.rows O.text (work_of reassembly tracker)
+    ensures stopped { IfErr result (IsStoppedAt O.grows O.rows (O.text (O.fixed outlet.old)) (work_of reassembly tracker)
         (R.left recording.old) (R.left recording.new)
         (view (O.held outlet.old) (V.written report.old) (O.failures outlet.old) (V.failures report.old))
         (view (O.held outlet.new) (V.written report.new) (O.failures outlet.new) (V.failures report.new))) }
     ensures counts { RunCounted (R.failures recording.old) (R.failures recording.new)
         (view (O.held outlet.old) (V.written report.old) (O.failures outlet.old) (V.failures report.old))
         (view (O.held outlet.new) (V.written report.new) (O.failures outlet.new) (V.failures report.new)) result }
-    ensures same_out { O.name outlet.new ≡ O.name outlet.old }
+    ensures same_out { O.fixed outlet.new ≡ O.fixed outlet.old }
     ensures flushed_out { OnOk result (O.passed outlet.new) }
     ensures flushed_report { OnOk result (Keeps (V.flushed report.new) (V.written report.new)) }
 {

@@ -1,9 +1,9 @@
 -- Worked examples: what the definitions say of known words.
 use Rattle.std.proofs.Common.{◌≡◌, true, List, [], ◌∷◌, Some, None, refl, codes}
 use Rattle.clap.specs.Words.{Text}
-use Rattle.clap.specs.declared.error.kind.ErrorKind.TheVariants.{MissingRequiredArgument, UnknownArgument}
+use Rattle.clap.specs.declared.error.kind.ErrorKind.TheVariants.{MissingRequiredArgument, UnknownArgument, ValueValidation}
 use Rattle.clap.proofs.OnLiterals.{clap_on_literals}
-use Rattle.tmx.specs.declared.request.Action.TheVariants.{Frames, Packets, Extract, Split}
+use Rattle.tmx.specs.declared.request.Action.TheVariants.{Frames, Packets, Extract, Split, Fields}
 use Rattle.tmx.specs.CommandLine.{faults_of, is_taken, matches_of, plan_of}
 
 words : List Text
@@ -13,17 +13,17 @@ words_taken : is_taken words ≡ true
 unfolding clap_on_literals is_taken words
 words_taken = refl
 
-words_planned : plan_of words ≡ Some (record { action = Frames; recording = Some (codes "r"); settings = Some (codes "s"); report = None; dir = None })
+words_planned : plan_of words ≡ Some (record { action = Frames; recording = Some (codes "r"); settings = Some (codes "s"); report = None; dir = None; definition = None; apid = None })
 unfolding clap_on_literals matches_of words
 words_planned = refl
 
 packets_planned : plan_of (codes "packets" ∷ codes "r" ∷ codes "--settings" ∷ codes "s" ∷ [])
-    ≡ Some (record { action = Packets; recording = Some (codes "r"); settings = Some (codes "s"); report = None; dir = None })
+    ≡ Some (record { action = Packets; recording = Some (codes "r"); settings = Some (codes "s"); report = None; dir = None; definition = None; apid = None })
 unfolding clap_on_literals matches_of
 packets_planned = refl
 
 report_planned : plan_of (codes "extract" ∷ codes "--settings" ∷ codes "s" ∷ codes "--report" ∷ codes "x" ∷ [])
-    ≡ Some (record { action = Extract; recording = None; settings = Some (codes "s"); report = Some (codes "x"); dir = None })
+    ≡ Some (record { action = Extract; recording = None; settings = Some (codes "s"); report = Some (codes "x"); dir = None; definition = None; apid = None })
 unfolding clap_on_literals matches_of
 report_planned = refl
 
@@ -44,10 +44,23 @@ unfolding clap_on_literals faults_of
 report_alone = refl
 
 split_planned : plan_of (codes "split" ∷ codes "--settings" ∷ codes "s" ∷ codes "--dir" ∷ codes "d" ∷ [])
-    ≡ Some (record { action = Split; recording = None; settings = Some (codes "s"); report = None; dir = Some (codes "d") })
+    ≡ Some (record { action = Split; recording = None; settings = Some (codes "s"); report = None; dir = Some (codes "d"); definition = None; apid = None })
 unfolding clap_on_literals matches_of
 split_planned = refl
 
 folder_missing : faults_of (codes "split" ∷ codes "--settings" ∷ codes "s" ∷ []) ≡ MissingRequiredArgument ∷ []
 unfolding clap_on_literals faults_of
 folder_missing = refl
+
+fields_planned : plan_of (codes "fields" ∷ codes "--settings" ∷ codes "s" ∷ codes "--definition" ∷ codes "d" ∷ codes "--apid" ∷ codes "200" ∷ [])
+    ≡ Some (record { action = Fields; recording = None; settings = Some (codes "s"); report = None; dir = None; definition = Some (codes "d"); apid = Some 200 })
+unfolding clap_on_literals matches_of
+fields_planned = refl
+
+apid_beyond : faults_of (codes "fields" ∷ codes "--settings" ∷ codes "s" ∷ codes "--definition" ∷ codes "d" ∷ codes "--apid" ∷ codes "2048" ∷ []) ≡ ValueValidation ∷ []
+unfolding clap_on_literals faults_of
+apid_beyond = refl
+
+definition_missing : faults_of (codes "fields" ∷ codes "--settings" ∷ codes "s" ∷ codes "--apid" ∷ codes "200" ∷ []) ≡ MissingRequiredArgument ∷ []
+unfolding clap_on_literals faults_of
+definition_missing = refl

@@ -1,3 +1,4 @@
+pub mod Getters
 pub mod Filled
 pub mod Required
 pub mod FileLemmas

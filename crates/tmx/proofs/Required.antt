@@ -1,30 +1,24 @@
 -- Words that give no error have a plan, with what its action needs.
-use Rattle.std.proofs.Common.{◌≡◌, ◌∙◌, ◌||◌, Bool, sym, List, [], ◌∷◌, true, false, not, refl, Option, Some, None, is_some, option_map, Result, Ok, Err, IfOk, codes, inl, inr, ap, subst, ℕ, Bor}
+use Rattle.std.proofs.Common.{◌≡◌, ◌∙◌, ◌||◌, ◌&&◌, Bool, sym, List, [], ◌∷◌, true, false, not, refl, Option, Some, None, is_some, option_map, option_and_then, Result, Ok, Err, IfOk, codes, inl, inr, ap, subst, ℕ, drop, slice_index_or}
 use Rattle.std.specs.Prelude.{⊤, if◌then◌else◌, find, IfSome}
 use Rattle.std.specs.List.{AllByRecursion, list_all}
 use Rattle.std.specs.Option.{option_map_or}
-use Rattle.std.proofs.lemmas.Bool.{cases_Bool, false≢true}
+use Rattle.std.proofs.lemmas.Bool.{and_parts, cases_Bool, false≢true}
 use Rattle.std.proofs.lemmas.Option.{same_Some}
 use Rattle.clap.specs.Kinds.{Kinds, FailsBy}
 use Rattle.clap.specs.declared.error.Error.{Error}
 use Rattle.clap.specs.declared.error.kind.ErrorKind.TheVariants.{MissingRequiredArgument, MissingSubcommand}
-use Rattle.clap.specs.declared.parser.matches.Found.{Found}
-use Rattle.clap.specs.Words.{first_value, is_simple, is_simple_and_free, rows_of}
-use Rattle.clap.specs.Walk.{Row, Text, answers_to, first_of, nothing_held, rows_after, walk}
+use Rattle.clap.specs.Words.{Rule, is_simple, is_simple_and_free}
+use Rattle.clap.specs.Walk.{Row, Text, answers_to, first_of, nothing_held, one_of, rows_after, walk}
 use Rattle.clap.specs.Simple.{App, Shape, built, entered, label_of, names_of, rows_at}
 use Rattle.clap.specs.Takes.{is_given}
 use Rattle.clap.specs.Faults.{check_fault, entered_fault, level_fault}
 use Rattle.clap.proofs.OnLiterals.{clap_on_literals}
-use Rattle.clap.proofs.WalkLemmas.{first_value-rows}
 use Rattle.tmx.specs.declared.request.Action.{Action}
-use Rattle.tmx.specs.declared.request.Action.TheVariants.{Frames, Packets, Extract, Split}
+use Rattle.tmx.specs.declared.request.Action.TheVariants.{Frames, Packets, Extract, Split, Fields}
 use Rattle.tmx.specs.declared.request.Plan.{Plan}
-use Rattle.tmx.specs.CommandLine.{tmx, action_named, faults_of, matches_of, plan_of, HasFolder, HasRequired}
-use Rattle.tmx.proofs.Filled.{is_sized, level-filled, given-first}
-
--- what a getter gives is the value in the row
-pub value_in_rows : (f : Found) (id : Text) (r : Option (Bor Text)) → option_map (λ s. s.now) r ≡ first_value f id → option_map (λ s. s.now) r ≡ first_of id (rows_of f)
-value_in_rows f id r h = h ∙ first_value-rows f id
+use Rattle.tmx.specs.CommandLine.{tmx, plan_with, action_named, decimal, faults_of, matches_of, plan_of, HasNeeds, HasRequired, IsApid}
+use Rattle.tmx.proofs.Filled.{Filled, IsRuled, is_apid, is_sized, level-filled, given-first, given-number}
 
 pub tmx_simple : is_simple tmx ≡ true
 unfolding clap_on_literals
@@ -46,65 +40,92 @@ tmx_built = built tmx
 abbrev HasValue : Text → List Row → Type 0
 HasValue id rows = is_some (first_of id rows) ≡ true
 
--- the matches are of a subcommand that names an action, and have its settings, and its folder where it splits
+-- what the action needs has its values
+abbrev GivenFor : Action → List Row → Type 0
+GivenFor Frames rows = ⊤
+GivenFor Packets rows = ⊤
+GivenFor Extract rows = ⊤
+GivenFor Split rows = HasValue (codes "dir") rows
+GivenFor Fields rows = HasValue (codes "definition") rows × IsApid (option_and_then (decimal 16) (one_of (codes "apid") rows))
+
+-- the matches are of a subcommand that names an action, and have its settings and what it needs
 abbrev Reaches : Option (Text × List Row) → Type 0
 Reaches found =
-    (name : Text) × (rows : List Row) × (found ≡ Some (name, rows)) × (is_some (action_named name) ≡ true) × HasValue (codes "settings") rows
-    × (action_named name ≡ Some Split → HasValue (codes "dir") rows)
+    (name : Text) × (rows : List Row) × (action : Action) × (found ≡ Some (name, rows)) × (action_named name ≡ Some action)
+    × HasValue (codes "settings") rows × GivenFor action rows
 
 -- ---- the subcommands
 
--- the subcommand names an action, and its last checks ask for its settings, and for its folder where it splits
+-- the subcommand names an action, and its last checks ask for its settings and for what it needs
 abbrev IsAsking : Shape → Type 0
-IsAsking s = (list_all is_sized s.rules ≡ true) × (is_some (action_named s.name) ≡ true)
-    × ((rows : List Row) → check_fault s rows false ≡ [] → is_given (codes "settings") rows ≡ true)
-    × ((rows : List Row) → action_named s.name ≡ Some Split → check_fault s rows false ≡ [] → is_given (codes "dir") rows ≡ true)
+IsAsking s = AllByRecursion IsRuled s.rules × (action : Action) × (action_named s.name ≡ Some action)
+    × ((rows : List Row) → Filled rows → check_fault s rows false ≡ [] → HasValue (codes "settings") rows × GivenFor action rows)
 
 none_missing : (b : Bool) → (if b then MissingRequiredArgument ∷ [] else []) ≡ [] → b ≡ false
 none_missing true e = cc
 none_missing false e = refl
 
-given : (b : Bool) → (not b || false) ≡ false → b ≡ true
-given true e = refl
-given false e = cc
-
-asked : (rows : List Row) → (if not (is_given (codes "settings") rows) || false then MissingRequiredArgument ∷ [] else []) ≡ []
-    → is_given (codes "settings") rows ≡ true
-asked rows e = given (is_given (codes "settings") rows) (none_missing (not (is_given (codes "settings") rows) || false) e)
-
-abbrev IsOther : Action → Type 0
-IsOther Frames = ⊤
-IsOther Packets = ⊤
-IsOther Extract = ⊤
-IsOther Split = ⊥
-
--- where two are asked for
-both : (a b : Bool) → (not a || (not b || false)) ≡ false → (a ≡ true) × (b ≡ true)
-both true true e = (refl, refl)
-both true false e = cc
+-- the first that is asked for is there, and the others are
+both : (a b : Bool) → (not a || b) ≡ false → (a ≡ true) × (b ≡ false)
+both true b e = (refl, e)
 both false b e = cc
 
-both_asked : (rows : List Row) → (if not (is_given (codes "settings") rows) || (not (is_given (codes "dir") rows) || false) then MissingRequiredArgument ∷ [] else []) ≡ []
-    → (is_given (codes "settings") rows ≡ true) × (is_given (codes "dir") rows ≡ true)
-both_asked rows e =
-    both (is_given (codes "settings") rows) (is_given (codes "dir") rows)
-    (none_missing (not (is_given (codes "settings") rows) || (not (is_given (codes "dir") rows) || false)) e)
+abbrev is_missing : Text → List Row → Bool
+is_missing id rows = not (is_given id rows)
 
--- another action is not that of splitting
-other : {P : Type 0} (action : Action) → IsOther action → ◌≡◌ {A = Option Action} (Some action) (Some Split) → P
-other Frames is e = cc
-other Packets is e = cc
-other Extract is e = cc
-other Split is e = absurd is
+abbrev Asks : Bool → Type 0
+Asks missing = (if missing then MissingRequiredArgument ∷ [] else []) ≡ []
+
+settings_given : (rows : List Row) → Filled rows → Asks (is_missing (codes "settings") rows || false) → HasValue (codes "settings") rows
+settings_given rows f e = given-first (codes "settings") rows f (both (is_given (codes "settings") rows) false (none_missing _ e)).0
+
+split_given : (rows : List Row) → Filled rows → Asks (is_missing (codes "settings") rows || (is_missing (codes "dir") rows || false))
+    → HasValue (codes "settings") rows × HasValue (codes "dir") rows
+split_given rows f e =
+    let one = both (is_given (codes "settings") rows) (is_missing (codes "dir") rows || false) (none_missing _ e) in
+    let two = both (is_given (codes "dir") rows) false one.1 in
+    (given-first (codes "settings") rows f one.0, given-first (codes "dir") rows f two.0)
+
+fields_given : (rows : List Row) → Filled rows
+    → Asks (is_missing (codes "settings") rows || (is_missing (codes "definition") rows || (is_missing (codes "apid") rows || false)))
+    → HasValue (codes "settings") rows × GivenFor Fields rows
+fields_given rows f e =
+    let one = both (is_given (codes "settings") rows) (is_missing (codes "definition") rows || (is_missing (codes "apid") rows || false)) (none_missing _ e) in
+    let two = both (is_given (codes "definition") rows) (is_missing (codes "apid") rows || false) one.1 in
+    let three = both (is_given (codes "apid") rows) false two.1 in
+    (given-first (codes "settings") rows f one.0, (given-first (codes "definition") rows f two.0, given-number rows f three.0))
+
+-- arguments of other names
+abbrev is_plain : Rule → Bool
+is_plain a = is_sized a && not (is_apid a.id)
+
+not_apid : (b : Bool) → not b ≡ true → b ≡ false
+not_apid true e = cc
+not_apid false e = refl
+
+plain : (c : List Rule) → list_all is_plain c ≡ true → AllByRecursion IsRuled c
+plain [] e = tt
+plain (a ∷ c) e =
+    let parts = and_parts (is_plain a) (list_all is_plain c) e in
+    let own = and_parts (is_sized a) (not (is_apid a.id)) parts.0 in
+    ((own.0, λ is. absurd (false≢true (sym (not_apid (is_apid a.id) own.1) ∙ is))), plain c parts.1)
+
+-- the rules of the subcommand of this place
+abbrev rules_at : ℕ → List Rule
+rules_at i = (slice_index_or tmx_built.subs i tmx_built.top).rules
+
+-- the rules of reading fields: two, that of the application, and more
+fields_ruled : AllByRecursion IsRuled (rules_at 4)
+fields_ruled = ((refl, λ is. absurd (false≢true is)), ((refl, λ is. absurd (false≢true is)), ((refl, λ is. (refl, refl, refl)), plain (drop 3 (rules_at 4)) refl)))
 
 subcommands_ask : AllByRecursion IsAsking tmx_built.subs
 subcommands_ask = (
-  (refl, refl, asked, λ rows e. other Frames tt e),
+  (plain (rules_at 0) refl, Frames, refl, λ rows f e. (settings_given rows f e, tt)),
   (
-    (refl, refl, asked, λ rows e. other Packets tt e),
+    (plain (rules_at 1) refl, Packets, refl, λ rows f e. (settings_given rows f e, tt)),
     (
-      (refl, refl, asked, λ rows e. other Extract tt e),
-      ((refl, refl, λ rows e. (both_asked rows e).0, λ rows named e. (both_asked rows e).1), tt),
+      (plain (rules_at 2) refl, Extract, refl, λ rows f e. (settings_given rows f e, tt)),
+      ((plain (rules_at 3) refl, Split, refl, λ rows f e. split_given rows f e), ((fields_ruled, Fields, refl, λ rows f e. fields_given rows f e), tt)),
     ),
   ),
 )
@@ -120,16 +141,14 @@ find_asking p (s ∷ ss) h =
 -- ---- the matches
 
 reach : (s : Shape) (words : List Text) → IsAsking s → level_fault s [] nothing_held words false [] ≡ [] → Reaches (Some (rows_at s words))
-reach s words (sized, named, asks, folder) e =
-    let leaf = level-filled s [] words false [] sized e in
-    let rows : List Row = rows_after s.rules [] words in (
-      s.name,
-      rows,
-      refl,
-      named,
-      given-first (codes "settings") rows leaf.0 (asks rows leaf.1),
-      λ is. given-first (codes "dir") rows leaf.0 (folder rows is leaf.1),
-    )
+reach s words (ruled, action, named, asks) e =
+    let leaf = level-filled s [] words false [] ruled e in
+    let rows : List Row = rows_after s.rules [] words in
+    let there = asks rows leaf.0 leaf.1 in
+    (s.name, rows, action, refl, named, there.0, there.1)
+
+top_ruled : AllByRecursion IsRuled tmx_built.top.rules
+top_ruled = plain tmx_built.top.rules refl
 
 wants_subcommand : (rows : List Row) (has : Bool) → check_fault tmx_built.top rows has ≡ [] → has ≡ true
 wants_subcommand rows true e = refl
@@ -150,30 +169,26 @@ pub reaches : (words : List Text) → faults_of words ≡ [] → Reaches (matche
 unfolding faults_of matches_of
 reaches words h =
     let stop : Option (Text × List Text) = (walk tmx_built.top.rules (names_of tmx_built) nothing_held words).stopped in
-    let top = level-filled tmx_built.top (names_of tmx_built) words (is_some (entered tmx_built stop)) (entered_fault tmx_built stop) refl h in
+    let top = level-filled tmx_built.top (names_of tmx_built) words (is_some (entered tmx_built stop)) (entered_fault tmx_built stop) top_ruled h in
     enter stop top.2 (wants_subcommand (rows_after tmx_built.top.rules (names_of tmx_built) words) _ top.1)
 
 -- ---- the plan
 
-planned : (f : Action → Plan) (o : Option Action) (plan : Plan) → ((action : Action) → o ≡ Some action → HasRequired (f action)) → option_map f o ≡ Some plan
-    → HasRequired plan
-planned f None plan h e = cc
-planned f (Some action) plan h e = subst HasRequired (same_Some _ _ e) (h action refl)
+needs_there : (action : Action) (rows : List Row) → GivenFor action rows → HasNeeds action (plan_with rows action)
+needs_there Frames rows given = tt
+needs_there Packets rows given = tt
+needs_there Extract rows given = tt
+needs_there Split rows given = given
+needs_there Fields rows given = given
 
-has_folder : (action : Action) (dir : Option (List ℕ)) → (action ≡ Split → is_some dir ≡ true) → HasFolder action dir
-has_folder Frames dir h = tt
-has_folder Packets dir h = tt
-has_folder Extract dir h = tt
-has_folder Split dir h = h refl
+pub required_by : (words : List Text) (plan : Plan) → Reaches (matches_of words) → plan_of words ≡ Some plan → HasRequired plan
+required_by words plan (name, rows, action, is, named, settings, given) e =
+    let known : Some (plan_with rows action) ≡ Some plan = rw (is, named) at e in
+    subst HasRequired (same_Some _ _ known) (settings, needs_there action rows given)
 
 planless : (f : Action → Plan) (o : Option Action) → is_some o ≡ true → option_map f o ≡ None → ⊥
 planless f None named e = false≢true named
 planless f (Some action) named e = cc
 
-pub required_by : (words : List Text) (plan : Plan) → Reaches (matches_of words) → plan_of words ≡ Some plan → HasRequired plan
-required_by words plan (name, rows, is, named, settings, folder) e =
-    planned _ (action_named name) plan
-    (λ action named_is. (settings, has_folder action (first_of (codes "dir") rows) (λ split. folder (named_is ∙ ap Some split)))) (rw is at e)
-
 pub some_plan : (words : List Text) → Reaches (matches_of words) → plan_of words ≡ None → ⊥
-some_plan words (name, rows, is, named, settings, folder) e = planless _ (action_named name) named (rw is at e)
+some_plan words (name, rows, action, is, named, settings, given) e = planless _ (action_named name) (ap is_some named) (rw is at e)

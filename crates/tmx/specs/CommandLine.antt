@@ -1,13 +1,18 @@
 -- The command line: the command as `clap` reads it, and the plan that its matches of the words make.
-use Rattle.std.specs.Prelude.{⊤, ℕ, Bool, List, Option, Some, None, true, codes, if◌then◌else◌, option_map, option_and_then, IsSome}
+use Rattle.std.specs.Prelude.{⊤, ◌≡◌, ◌≤◌, ◌&&◌, ◌^◌, ℕ, Bool, List, Option, Some, None, pos, true, codes, length, nat_lt, if◌then◌else◌, option_map, option_and_then, IsSome}
+use Rattle.std.specs.Char.{digit_value}
+use Rattle.std.specs.List.{list_all}
 use Rattle.std.specs.Str.{bytes_eq}
-use Rattle.clap.specs.Walk.{Row, Rule, Text, first_of}
+use Rattle.std.specs.Str.Parse.{digits_value, without_leading_plus}
+use Rattle.clap.specs.Walk.{Row, Rule, Text, first_of, one_of}
 use Rattle.clap.specs.Simple.{App, new_app, new_rule, on_top, with_rule, with_subcommand, subcommand_of}
 use Rattle.clap.specs.Takes.{takes}
 use Rattle.clap.specs.Faults.{fault_of}
 use Rattle.clap.specs.Kinds.{Kinds}
+use Rattle.clap.specs.declared.builder.ValueParser.{ValueParser}
+use Rattle.clap.specs.declared.builder.ValueParser.TheVariants as parser
 use Rattle.tmx.specs.declared.request.Action.{Action}
-use Rattle.tmx.specs.declared.request.Action.TheVariants.{Frames, Packets, Extract, Split}
+use Rattle.tmx.specs.declared.request.Action.TheVariants.{Frames, Packets, Extract, Split, Fields}
 use Rattle.tmx.specs.declared.request.Plan.{Plan}
 
 -- ---- the command
@@ -36,6 +41,22 @@ reported_app name = with_rule (with_rule (with_rule (new_app name) (required_rul
 abbrev pub split_app : App
 split_app = with_rule (with_rule (with_rule (with_rule (new_app (codes "split")) (required_rule (codes "settings"))) (required_rule (codes "dir"))) (option_rule (codes "report"))) recording_rule
 
+-- the numbers of applications
+abbrev pub apids : ValueParser
+apids = parser.Signed (pos 0) (pos 2047)
+
+-- `--apid N`, with N from 0 to 2047
+abbrev pub apid_rule : Rule
+apid_rule = record (required_rule (codes "apid")) { parser = Some apids }
+
+-- `fields --settings FILE --definition FILE --apid N`
+abbrev pub fields_start : App
+fields_start = with_rule (with_rule (with_rule (new_app (codes "fields")) (required_rule (codes "settings"))) (required_rule (codes "definition"))) apid_rule
+
+-- `fields --settings FILE --definition FILE --apid N [--report FILE] [RECORDING]`
+abbrev pub fields_app : App
+fields_app = with_rule (with_rule fields_start (option_rule (codes "report"))) recording_rule
+
 -- without a subcommand, of the words after the program's name
 abbrev pub bare : App
 bare = on_top (λ s. record s { no_binary_name = true; disable_help_subcommand = true; subcommand_required = true }) (new_app (codes "tmx"))
@@ -46,7 +67,7 @@ of_lines = with_subcommand (with_subcommand bare frames_app.top) (reported_app (
 
 -- the whole command, one of whose subcommands has to be there
 abbrev pub tmx : App
-tmx = with_subcommand (with_subcommand of_lines (reported_app (codes "extract")).top) split_app.top
+tmx = with_subcommand (with_subcommand (with_subcommand of_lines (reported_app (codes "extract")).top) split_app.top) fields_app.top
 
 -- ---- what `clap` makes of the words
 
@@ -69,29 +90,48 @@ action_named word =
     if bytes_eq word (codes "frames") then Some Frames
     else (if bytes_eq word (codes "packets") then Some Packets
     else (if bytes_eq word (codes "extract") then Some Extract
-    else (if bytes_eq word (codes "split") then Some Split else None)))
+    else (if bytes_eq word (codes "split") then Some Split
+    else (if bytes_eq word (codes "fields") then Some Fields else None))))
+
+-- the number that a text spells in decimal, where it is one of so many bits
+abbrev pub decimal : ℕ → Text → Option ℕ
+decimal bits text =
+    let digits = without_leading_plus text in
+    if (nat_lt 0 (length digits) && list_all (λ d. nat_lt (digit_value d) 10) digits) && nat_lt (digits_value 10 digits) (2 ^ bits)
+    then Some (digits_value 10 digits) else None
+
+-- the plan of an action and the matches of its subcommand
+abbrev pub plan_with : List Row → Action → Plan
+plan_with rows action = record {
+  action = action;
+  recording = first_of (codes "recording") rows;
+  settings = first_of (codes "settings") rows;
+  report = first_of (codes "report") rows;
+  dir = first_of (codes "dir") rows;
+  definition = first_of (codes "definition") rows;
+  apid = option_and_then (decimal 16) (one_of (codes "apid") rows);
+}
 
 -- the plan of a subcommand and its matches
 abbrev pub plan_in : Text × List Row → Option Plan
-plan_in p = option_map (λ action. record {
-  action = action;
-  recording = first_of (codes "recording") p.1;
-  settings = first_of (codes "settings") p.1;
-  report = first_of (codes "report") p.1;
-  dir = first_of (codes "dir") p.1;
-}) (action_named p.0)
+plan_in p = option_map (plan_with p.1) (action_named p.0)
 
 -- the plan of the words
 abbrev pub plan_of : List Text → Option Plan
 plan_of words = option_and_then plan_in (matches_of words)
 
--- splitting needs a folder
-abbrev pub HasFolder : Action → Option (List ℕ) → Type 0
-HasFolder Frames dir = ⊤
-HasFolder Packets dir = ⊤
-HasFolder Extract dir = ⊤
-HasFolder Split dir = IsSome dir
+-- an application's number is there
+abbrev pub IsApid : Option ℕ → Type 0
+IsApid apid = (n : ℕ) × (apid ≡ Some n) × (n ≤ 2047)
+
+-- splitting needs a folder, and reading fields a definition and an application
+abbrev pub HasNeeds : Action → Plan → Type 0
+HasNeeds Frames p = ⊤
+HasNeeds Packets p = ⊤
+HasNeeds Extract p = ⊤
+HasNeeds Split p = IsSome p.dir
+HasNeeds Fields p = IsSome p.definition × IsApid p.apid
 
 -- what its action needs is there
 abbrev pub HasRequired : Plan → Type 0
-HasRequired p = IsSome p.settings × HasFolder p.action p.dir
+HasRequired p = IsSome p.settings × HasNeeds p.action p

@@ -1,7 +1,11 @@
 -- The lines of faults, and the statuses with which they end the program.
-use Rattle.std.specs.Prelude.{◌&&◌, ◌++◌, ℕ, Bool, not, List, [], ◌∷◌, ◌==◌, nat_le, codes, if◌then◌else◌}
-use Rattle.std.specs.List.{flat_map}
-use Rattle.hex.specs.Hex.{encode_lower}
+use Rattle.std.specs.Prelude.{◌++◌, ℕ, List, codes}
+use Rattle.std.specs.Fmt.{decimal}
+use Rattle.tm_fields.specs.Columns.{word_of}
+use Rattle.tm_fields.specs.Escape.{escaped}
+use Rattle.tm_fields.specs.declared.faults.Column.{Column}
+use Rattle.tm_fields.specs.declared.faults.DefinitionFault.{DefinitionFault}
+use Rattle.tm_fields.specs.declared.faults.DefinitionFault.TheVariants as definition
 use Rattle.tm_tool.specs.Keys.{name_of}
 use Rattle.tm_tool.specs.declared.key.Key.{Key}
 use Rattle.tm_tool.specs.declared.fault.SettingsFault.{SettingsFault}
@@ -12,18 +16,6 @@ use Rattle.tmx.specs.declared.request.UsageFault.{UsageFault}
 use Rattle.tmx.specs.declared.request.UsageFault.TheVariants as usage
 use Rattle.tmx.specs.declared.fault.ToolFault.{ToolFault}
 use Rattle.tmx.specs.declared.fault.ToolFault.TheVariants as tool
-
--- the octet stands for itself: a visible character or a space, but no backslash
-abbrev pub is_plain : ℕ → Bool
-is_plain octet = (nat_le 32 octet && nat_le octet 126) && not (octet == 92)
-
--- an octet as it is printed
-abbrev pub octet_text : ℕ → List ℕ
-octet_text octet = if is_plain octet then octet ∷ [] else codes "\\x" ++ encode_lower (octet ∷ [])
-
--- octets as they are printed
-abbrev pub escaped : List ℕ → List ℕ
-escaped octets = flat_map octet_text octets
 
 abbrev pub escaped_line : List ℕ → List ℕ → List ℕ → List ℕ
 escaped_line before octets after = before ++ escaped octets ++ after
@@ -48,6 +40,23 @@ settings_text (settings.Kind key) = key_line (codes "kind") key
 settings_text (settings.Range key) = key_line (codes "range") key
 settings_text settings.NoMemory = out_of_memory
 
+abbrev pub column_line : Column → List ℕ
+column_line column = codes "tmx: definition: column " ++ (word_of column ++ codes "\n")
+
+abbrev pub row_line : List ℕ → ℕ → List ℕ
+row_line what row = codes "tmx: definition: " ++ (what ++ (codes " row " ++ (decimal row ++ codes "\n")))
+
+abbrev pub definition_text : DefinitionFault → List ℕ
+definition_text definition.Csv = codes "tmx: definition: csv\n"
+definition_text (definition.Column column) = column_line column
+definition_text (definition.Kind row) = row_line (codes "kind") row
+definition_text (definition.Array row) = row_line (codes "array") row
+definition_text (definition.Bits row) = row_line (codes "bits") row
+definition_text (definition.Offset row) = row_line (codes "offset") row
+definition_text (definition.Name row) = row_line (codes "name") row
+definition_text definition.TooMany = codes "tmx: definition: too many\n"
+definition_text definition.NoMemory = out_of_memory
+
 abbrev pub run_text : RunFault → List ℕ
 run_text run.Read = codes "tmx: read failed\n"
 run_text run.Write = codes "tmx: write failed\n"
@@ -59,6 +68,7 @@ run_text run.NoMemory = out_of_memory
 abbrev pub line_of : ToolFault → List ℕ
 line_of (tool.Usage fault) = usage_text fault
 line_of (tool.Settings fault) = settings_text fault
+line_of (tool.Definition fault) = definition_text fault
 line_of (tool.File name) = escaped_line (codes "tmx: ") name (codes ": failed\n")
 line_of (tool.TooLong name) = escaped_line (codes "tmx: ") name (codes ": too long\n")
 line_of (tool.Run fault) = run_text fault
@@ -70,6 +80,8 @@ status_of (tool.Usage (usage.Help text)) = 0
 status_of (tool.Usage usage.NoMemory) = 3
 status_of (tool.Settings settings.NoMemory) = 3
 status_of (tool.Settings _) = 2
+status_of (tool.Definition definition.NoMemory) = 3
+status_of (tool.Definition _) = 2
 status_of (tool.File name) = 1
 status_of (tool.TooLong name) = 2
 status_of (tool.Run run.Read) = 1

@@ -3,7 +3,7 @@
 ghost use Rattle.std.specs.Prelude.{◌≡◌, IfOk, codes, false};
 ghost use Rattle.clap.specs.Words.{app_of, rule_of};
 ghost use Rattle.clap.specs.declared.builder.command.Command.TheViews.{out-Command as fields_of};
-ghost use Rattle.tmx.specs.CommandLine.{bare, frames_app, option_rule, recording_rule, reported_app, required_rule, of_lines, split_app, tmx};
+ghost use Rattle.tmx.specs.CommandLine.{apid_rule, bare, fields_app, fields_start, frames_app, option_rule, recording_rule, reported_app, required_rule, of_lines, split_app, tmx};
 
 use clap::{Arg, Command};
 use std::alloc::{AllocError, Global};
@@ -124,6 +124,46 @@ fn split_command<'a>(alloc: Global) -> Result<Command<'a>, AllocError>
         .arg(recording_word(alloc))
 }
 
+// `--definition FILE`.
+fn definition_option<'a>(alloc: Global) -> Arg<'a>
+    ensures rule { rule_of result ≡ required_rule (codes "definition") }
+    ensures local { result.global ≡ false }
+{
+    required(alloc, "definition", "FILE").help("The definition of the fields: a CSV file")
+}
+
+// `--apid N`.
+fn apid_option<'a>(alloc: Global) -> Arg<'a>
+    ensures rule { rule_of result ≡ apid_rule }
+    ensures local { result.global ≡ false }
+{
+    required(alloc, "apid", "N")
+        .help("The application whose packets are read: a number from 0 to 2047")
+        .value_parser(clap::value_parser!(u16).range(..2048))
+}
+
+// `tmx fields`, with the options that it has to have.
+fn fields_begun<'a>(alloc: Global) -> Result<Command<'a>, AllocError>
+    ensures app { IfOk result (λ c. app_of c ≡ fields_start) }
+    ensures local { IfOk result (λ c. (fields_of c).has_globals ≡ false) }
+{
+    Command::new(alloc, "fields")
+        .about("Reads the fields of an application's packets: a row of CSV for each packet")
+        .arg(settings_option(alloc))?
+        .arg(definition_option(alloc))?
+        .arg(apid_option(alloc))
+}
+
+// `tmx fields`.
+fn fields_command<'a>(alloc: Global) -> Result<Command<'a>, AllocError>
+    ensures app { IfOk result (λ c. app_of c ≡ fields_app) }
+    ensures local { IfOk result (λ c. (fields_of c).has_globals ≡ false) }
+{
+    fields_begun(alloc)?
+        .arg(report_option(alloc))?
+        .arg(recording_word(alloc))
+}
+
 // `tmx`, without its subcommands.
 fn bare_command<'a>(alloc: Global) -> Result<Command<'a>, AllocError>
     ensures app { IfOk result (λ c. app_of c ≡ bare) }
@@ -154,5 +194,6 @@ pub fn tmx_command<'a>(alloc: Global) -> Result<Command<'a>, AllocError>
 {
     lines_command(alloc)?
         .subcommand(extract_command(alloc)?)?
-        .subcommand(split_command(alloc)?)
+        .subcommand(split_command(alloc)?)?
+        .subcommand(fields_command(alloc)?)
 }

@@ -2,6 +2,7 @@
 
 use crate::request::UsageFault;
 use std::alloc::{AllocError, AllocFailed};
+use tm_fields::DefinitionFault;
 use tm_tool::{Octets, RunFault, SettingsFault};
 
 /// Memory ran out.
@@ -27,6 +28,8 @@ pub enum ToolFault {
     Usage(UsageFault),
     /// The settings' file is no settings.
     Settings(SettingsFault),
+    /// The definition's file is no definition.
+    Definition(DefinitionFault),
     /// The file of this name can't be opened, made or read.
     File(Octets),
     /// The file of this name is over 1,048,576 octets.

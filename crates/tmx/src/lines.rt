@@ -1,12 +1,12 @@
 //! The line and the status of a fault.
 
 ghost use Rattle.std.specs.Prelude.{◌≡◌, IfOk};
-ghost use Rattle.tmx.specs.FaultLines.{escaped_line, key_line, line_of, run_text, settings_text, status_of, usage_text};
+ghost use Rattle.tmx.specs.FaultLines.{column_line, definition_text, escaped_line, key_line, line_of, row_line, run_text, settings_text, status_of, usage_text};
 
-use crate::escape::push_escaped;
 use crate::fault::{NoMemory, ToolFault};
 use crate::request::UsageFault;
 use std::alloc::Global;
+use tm_fields::{Column, DefinitionFault, push_escaped};
 use tm_tool::{Key, RunFault, SettingsFault};
 
 // A copy of a text.
@@ -58,6 +58,35 @@ fn settings_line(alloc: Global, fault: &SettingsFault) -> Result<Vec<u8>, NoMemo
     }
 }
 
+fn line_with_column(alloc: Global, column: Column) -> Result<Vec<u8>, NoMemory>
+    ensures { IfOk result (λ v. v.items ≡ column_line column) }
+{
+    let word = column.word();
+    Ok(format!(in alloc; "tmx: definition: column {word}\n")?.into_bytes())
+}
+
+fn line_with_row(alloc: Global, what: &str, row: u32) -> Result<Vec<u8>, NoMemory>
+    ensures { IfOk result (λ v. v.items ≡ row_line what.now row) }
+{
+    Ok(format!(in alloc; "tmx: definition: {what} row {row}\n")?.into_bytes())
+}
+
+fn definition_line(alloc: Global, fault: DefinitionFault) -> Result<Vec<u8>, NoMemory>
+    ensures { IfOk result (λ v. v.items ≡ definition_text fault) }
+{
+    match fault {
+        DefinitionFault::Csv => copied(alloc, "tmx: definition: csv\n"),
+        DefinitionFault::Column(column) => line_with_column(alloc, column),
+        DefinitionFault::Kind { row } => line_with_row(alloc, "kind", row),
+        DefinitionFault::Array { row } => line_with_row(alloc, "array", row),
+        DefinitionFault::Bits { row } => line_with_row(alloc, "bits", row),
+        DefinitionFault::Offset { row } => line_with_row(alloc, "offset", row),
+        DefinitionFault::Name { row } => line_with_row(alloc, "name", row),
+        DefinitionFault::TooMany => copied(alloc, "tmx: definition: too many\n"),
+        DefinitionFault::NoMemory => copied(alloc, "tmx: out of memory\n"),
+    }
+}
+
 fn run_line(fault: RunFault) -> &'static str
     ensures { result.now ≡ run_text fault }
 {
@@ -77,6 +106,7 @@ pub fn fault_line(alloc: Global, fault: &ToolFault) -> Result<Vec<u8>, NoMemory>
     match fault {
         ToolFault::Usage(fault) => usage_line(alloc, fault),
         ToolFault::Settings(fault) => settings_line(alloc, fault),
+        ToolFault::Definition(fault) => definition_line(alloc, *fault),
         ToolFault::File(name) => line_around(alloc, "tmx: ", name.as_slice(), ": failed\n"),
         ToolFault::TooLong(name) => line_around(alloc, "tmx: ", name.as_slice(), ": too long\n"),
         ToolFault::Run(fault) => copied(alloc, run_line(*fault)),
@@ -92,11 +122,14 @@ pub fn status(fault: &ToolFault) -> u8
         ToolFault::Usage(UsageFault::Help(_)) => 0,
         ToolFault::Usage(UsageFault::NoMemory)
         | ToolFault::Settings(SettingsFault::NoMemory)
+        | ToolFault::Definition(DefinitionFault::NoMemory)
         | ToolFault::Run(RunFault::NoMemory) => 3,
         ToolFault::File(_)
         | ToolFault::Run(RunFault::Read | RunFault::Write | RunFault::Report | RunFault::TooMany) =>
             1,
-        ToolFault::Usage(UsageFault::Usage(_)) | ToolFault::Settings(_) | ToolFault::TooLong(_) =>
-            2,
+        ToolFault::Usage(UsageFault::Usage(_))
+        | ToolFault::Definition(_)
+        | ToolFault::Settings(_)
+        | ToolFault::TooLong(_) => 2,
     }
 }

@@ -2,7 +2,6 @@
 #![tactic(auto)]
 
 mod command;
-mod escape;
 mod fault;
 mod files;
 mod lines;

@@ -13,6 +13,8 @@ pub enum Action {
     Extract,
     /// Give the packets' octets, to a file for each application.
     Split,
+    /// Read the fields of an application's packets.
+    Fields,
 }
 
 /// What the words ask for. Texts are the octets of their UTF-8.
@@ -27,6 +29,10 @@ pub struct Plan {
     pub report: Option<Octets>,
     /// The folder for the files of applications, which splitting needs.
     pub dir: Option<Octets>,
+    /// The definition's file, which reading fields needs.
+    pub definition: Option<Octets>,
+    /// The application whose packets' fields are read, which reading fields needs.
+    pub apid: Option<u16>,
 }
 
 /// Why the words are no plan.

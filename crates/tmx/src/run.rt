@@ -1,4 +1,6 @@
-//! The order of steps: command line, settings, recording, report, run.
+//! The order of steps: command line, settings, definition, recording, report, run.
+
+ghost use Rattle.std.specs.Prelude.{IsSome};
 
 use crate::fault::ToolFault;
 use crate::files::{create, file_fault, open, read_file};
@@ -10,6 +12,7 @@ use std::alloc::Global;
 use std::env;
 use std::io::{self, BufReader, BufWriter, ErrorKind, Read, Write};
 use std::rt::{Env, Files};
+use tm_fields::Definition;
 use tm_tool::{
     Command, Ending, Job, Octets, Reading, RunFault, Settings, Writing, list_frames,
     run as run_job, split,
@@ -81,7 +84,7 @@ fn list<R: Print + AllocGlobal, S: Read + Drop>(
 fn give_packets<R: Print + AllocGlobal, S: Read + Drop, V: Write + Drop>(
     rt: &R,
     settings: &Settings,
-    command: Command,
+    command: Command<'_>,
     recording: S,
     report: V,
 ) -> Result<(), ToolFault> {
@@ -144,7 +147,9 @@ fn split_packets<R: Files + AllocGlobal, S: Read + Drop, V: Write + Drop>(
 // A file of this name is read, and so must not be emptied for the report.
 fn is_read(plan: &Plan, name: &Octets) -> bool {
     let is_it = |file: &Octets| file.as_slice() == name.as_slice();
-    plan.recording.as_ref().is_some_and(is_it) || plan.settings.as_ref().is_some_and(is_it)
+    plan.recording.as_ref().is_some_and(is_it)
+        || plan.settings.as_ref().is_some_and(is_it)
+        || plan.definition.as_ref().is_some_and(is_it)
 }
 
 // Where the plan wants the report.
@@ -160,11 +165,47 @@ fn report_by<R: Files + AllocGlobal, E: Write + Drop>(
     }
 }
 
+// The settings in the plan's file.
+fn settings_by<R: Files + AllocGlobal>(rt: &R, plan: &Plan) -> Result<Settings, ToolFault>
+    requires { IsSome plan.now.settings }
+{
+    let Some(name) = &plan.settings else {
+        unreachable!();
+    };
+    let octets = read_file(rt, name)?;
+    Settings::read(rt.alloc(), octets.as_slice()).map_err(ToolFault::Settings)
+}
+
+// The definition in the plan's file, where it has one.
+fn definition_by<R: Files + AllocGlobal>(
+    rt: &R,
+    plan: &Plan,
+) -> Result<Option<Definition>, ToolFault> {
+    match &plan.definition {
+        Some(name) => {
+            let octets = read_file(rt, name)?;
+            let definition = Definition::read(rt.alloc(), octets.as_slice());
+            Ok(Some(definition.map_err(ToolFault::Definition)?))
+        }
+        None => Ok(None),
+    }
+}
+
+// What the plan wants of the packets on standard output.
+fn command_by<'a>(plan: &Plan, definition: Option<&'a Definition>) -> Command<'a> {
+    match (plan.action, definition, plan.apid) {
+        (Action::Packets, _, _) => Command::Packets,
+        (Action::Fields, Some(definition), Some(apid)) => Command::Fields(definition, apid),
+        _ => Command::Extract,
+    }
+}
+
 // Does what the plan asks for with the recording.
 fn run_on<R: Files + Print + AllocGlobal, S: Read + Drop, E: Write + Drop>(
     rt: &R,
     plan: &Plan,
     settings: &Settings,
+    definition: Option<&Definition>,
     recording: S,
     errors: E,
 ) -> Result<(), ToolFault> {
@@ -174,8 +215,10 @@ fn run_on<R: Files + Print + AllocGlobal, S: Read + Drop, E: Write + Drop>(
     let report = report_by(rt, plan, errors)?;
     match (plan.action, &plan.dir) {
         (Action::Split, Some(dir)) => split_packets(rt, settings, dir, recording, report),
-        (Action::Packets, _) => give_packets(rt, settings, Command::Packets, recording, report),
-        _ => give_packets(rt, settings, Command::Extract, recording, report),
+        _ => {
+            let command = command_by(plan, definition);
+            give_packets(rt, settings, command, recording, report)
+        }
     }
 }
 
@@ -185,13 +228,24 @@ pub fn run<R: Files + Env + Input + Print + AllocGlobal, E: Write + Drop>(
     errors: E,
 ) -> Result<(), ToolFault> {
     let plan = plan(rt.alloc(), words(rt)?).map_err(ToolFault::Usage)?;
-    let Some(name) = &plan.settings else {
-        unreachable!();
-    };
-    let octets = read_file(rt, name)?;
-    let settings = Settings::read(rt.alloc(), octets.as_slice()).map_err(ToolFault::Settings)?;
+    let settings = settings_by(rt, &plan)?;
+    let definition = definition_by(rt, &plan)?;
     match &plan.recording {
-        Some(name) => run_on(rt, &plan, &settings, open(rt, name)?, errors),
-        None => run_on(rt, &plan, &settings, rt.reader(), errors),
+        Some(name) => run_on(
+            rt,
+            &plan,
+            &settings,
+            definition.as_ref(),
+            open(rt, name)?,
+            errors,
+        ),
+        None => run_on(
+            rt,
+            &plan,
+            &settings,
+            definition.as_ref(),
+            rt.reader(),
+            errors,
+        ),
     }
 }

@@ -8,6 +8,7 @@ use crate::shelf::FileShelf;
 use crate::words::plan;
 use std::alloc::{AllocError, Global};
 use std::test::Fail;
+use tm_fields::{Column, DefinitionFault};
 use tm_tool::{Key, Octets, RunFault, SettingsFault, Shelf};
 
 fn owned(alloc: Global, words: &[&str]) -> Result<Vec<String>, AllocError> {
@@ -69,6 +70,43 @@ fn words_of_split(rt: HostRuntime) -> Result<(), Fail> {
 }
 
 #[test]
+fn words_of_fields(rt: HostRuntime) -> Result<(), Fail> {
+    let words = [
+        "fields",
+        "--settings",
+        "s",
+        "--definition",
+        "d",
+        "--apid",
+        "2047",
+        "x",
+    ];
+    let Ok(plan) = planned(rt.alloc(), &words)? else {
+        return Ok(assert!(rt; false));
+    };
+    assert_eq!(rt; plan.action, Action::Fields);
+    let definition = plan.definition.as_ref().ok_or("definition")?;
+    assert_eq!(rt; definition.as_slice(), b"d".as_slice());
+    assert_eq!(rt; plan.apid, Some(2047));
+    Ok(())
+}
+
+#[test]
+fn words_that_are_no_fields(rt: HostRuntime) -> Result<(), Fail> {
+    let words = ["fields", "--settings", "s", "--definition", "d", "--apid"];
+    for number in ["2048", "-1", "x"] {
+        let mut all = owned(rt.alloc(), &words)?;
+        all.push(String::from_str(rt.alloc(), number)?)?;
+        let found = plan(rt.alloc(), all);
+        assert!(rt; matches!(&found, Err(UsageFault::Usage(_))));
+    }
+    let words = ["fields", "--settings", "s", "--apid", "200"];
+    let found = planned(rt.alloc(), &words)?;
+    assert!(rt; matches!(&found, Err(UsageFault::Usage(_))));
+    Ok(())
+}
+
+#[test]
 fn texts_of_usage_and_help(rt: HostRuntime) -> Result<(), Fail> {
     let alloc = rt.alloc();
     let Err(UsageFault::Usage(text)) = planned(alloc, &["frames", "--settings", "s", "a", "b"])?
@@ -89,7 +127,7 @@ fn texts_of_usage_and_help(rt: HostRuntime) -> Result<(), Fail> {
         return Ok(assert!(rt; false));
     };
     let wanted =
-        "Reads recordings of TM transfer frames (CCSDS 132.0-B-3)\n\nUsage: tmx <COMMAND>\n\nCommands:\n  frames   Lists the frames: one line for each record of the recording\n  packets  Lists the packets of the chosen channels: one line for each\n  extract  Extracts the packets of the chosen channels: their octets, with nothing between them\n  split    Extracts the packets of the chosen channels to a file for each application\n\nOptions:\n  -h, --help  Print help\n";
+        "Reads recordings of TM transfer frames (CCSDS 132.0-B-3)\n\nUsage: tmx <COMMAND>\n\nCommands:\n  frames   Lists the frames: one line for each record of the recording\n  packets  Lists the packets of the chosen channels: one line for each\n  extract  Extracts the packets of the chosen channels: their octets, with nothing between them\n  split    Extracts the packets of the chosen channels to a file for each application\n  fields   Reads the fields of an application's packets: a row of CSV for each packet\n\nOptions:\n  -h, --help  Print help\n";
     assert_eq!(rt; text.as_slice(), wanted.as_bytes());
     let Err(UsageFault::Help(text)) = planned(alloc, &["frames", "--help"])? else {
         return Ok(assert!(rt; false));
@@ -166,6 +204,37 @@ fn lines_and_statuses(rt: HostRuntime) -> Result<(), Fail> {
         assert_eq!(rt; found.as_slice(), line.as_bytes());
         assert_eq!(rt; status(fault), *code);
     }
+    Ok(())
+}
+
+#[test]
+fn lines_of_definitions(rt: HostRuntime) -> Result<(), Fail> {
+    let table = [
+        (DefinitionFault::Csv, "csv"),
+        (
+            DefinitionFault::Column(Column::DataType),
+            "column data_type",
+        ),
+        (DefinitionFault::Kind { row: 1 }, "kind row 1"),
+        (DefinitionFault::Array { row: 20 }, "array row 20"),
+        (DefinitionFault::Bits { row: 1000 }, "bits row 1000"),
+        (DefinitionFault::Offset { row: 3 }, "offset row 3"),
+        (DefinitionFault::Name { row: 4 }, "name row 4"),
+        (DefinitionFault::TooMany, "too many"),
+    ];
+    for (fault, words) in table {
+        let fault = ToolFault::Definition(fault);
+        let Ok(found) = fault_line(rt.alloc(), &fault) else {
+            return Ok(assert!(rt; false));
+        };
+        let line = format!(in rt.alloc(); "tmx: definition: {words}\n")?;
+        assert_eq!(rt; found.as_slice(), line.as_bytes());
+        assert_eq!(rt; status(&fault), 2);
+    }
+    assert_eq!(rt;
+        status(&ToolFault::Definition(DefinitionFault::NoMemory)),
+        3
+    );
     Ok(())
 }
 

@@ -1,8 +1,8 @@
 //! The plan of the words.
 
 ghost use Rattle.std.specs.Prelude.{◌≡◌, true, Some, [], map, IfOk, IfErr, option_and_then, string_bytes};
-ghost use Rattle.clap.specs.Words.{first_of, found_of, kind_of, rows_of, subcommand_rows_of};
-ghost use Rattle.tmx.specs.CommandLine.{HasRequired, action_named, faults_of, is_taken, matches_of, plan_in, plan_of};
+ghost use Rattle.clap.specs.Words.{first_of, found_of, kind_of, one_of, rows_of, subcommand_rows_of};
+ghost use Rattle.tmx.specs.CommandLine.{HasRequired, action_named, decimal, faults_of, is_taken, matches_of, plan_in, plan_of};
 
 use crate::command::tmx_command;
 use crate::request::{Action, Plan, UsageFault};
@@ -28,6 +28,13 @@ fn value_of(alloc: Global, matches: &ArgMatches<'_>, id: &str) -> Result<Option<
     }
 }
 
+// The number that the value of an argument spells.
+fn number_of(matches: &ArgMatches<'_>, id: &str) -> Option<u16>
+    ensures { result ≡ option_and_then (decimal 16) (one_of id.now (rows_of (found_of matches.now))) }
+{
+    matches.get_one::<u16>(id)
+}
+
 // The action of this name.
 fn action_by_name(name: &str) -> Option<Action>
     ensures { result ≡ action_named name.now }
@@ -37,6 +44,7 @@ fn action_by_name(name: &str) -> Option<Action>
         "packets" => Some(Action::Packets),
         "extract" => Some(Action::Extract),
         "split" => Some(Action::Split),
+        "fields" => Some(Action::Fields),
         _ => None,
     }
 }
@@ -56,12 +64,16 @@ fn plan_within(
     let settings = value_of(alloc, matches, "settings")?;
     let report = value_of(alloc, matches, "report")?;
     let dir = value_of(alloc, matches, "dir")?;
+    let definition = value_of(alloc, matches, "definition")?;
+    let apid = number_of(matches, "apid");
     Ok(Some(Plan {
         action,
         recording,
         settings,
         report,
         dir,
+        definition,
+        apid,
     }))
 }
 
@@ -104,8 +116,9 @@ fn matches_by<'a>(alloc: Global, words: &'a [String]) -> Result<ArgMatches<'a>, 
 }
 
 /// What the words after the program's name ask for: `frames --settings FILE [RECORDING]`, or `packets` or
-/// `extract` with `--settings FILE [--report FILE] [RECORDING]`, or `split` with `--dir DIR` as well. Other words are `Usage`, `--help` is
-/// `Help`, each with a text to print.
+/// `extract` with `--settings FILE [--report FILE] [RECORDING]`, or `split` with `--dir DIR` as well, or `fields` with
+/// `--definition FILE --apid N` as well, N from 0 to 2047. Other words are `Usage`, `--help` is `Help`, each with a text
+/// to print.
 pub fn plan(alloc: Global, words: Vec<String>) -> Result<Plan, UsageFault>
     // A plan is what `clap`'s matches of the words say, with what its action needs, and comes only for words in
     // which `clap` finds nothing wrong.

@@ -5,8 +5,8 @@ use Rattle.tm_tool.proofs.recording.take_all.Goals as goal
 
 pub returns-in-Err-finish_into-clause-stopped : goal.returns-in-Err-finish_into-clause-stopped
 returns-in-Err-finish_into-clause-stopped g c =
-    let stopped = c.in-Err-finish_into.ensures.written in
-    stopped_items g.O.Outlet.grows g.met.O.Outlet.grows_nil g.met.O.Outlet.grows_trans g.O.Outlet.rows g.O.Outlet.text (work_of c.args.reassembly c.args.output.now.tracker.now) (g.R.Source.left c.args.recording.now) (g.R.Source.left c.step_records.new.recording)
+    let stopped = rw c.in-Ok.ensures.same_out at c.in-Err-finish_into.ensures.written in
+    stopped_items g.O.Outlet.grows g.met.O.Outlet.grows_nil g.met.O.Outlet.grows_trans g.O.Outlet.rows (g.O.Outlet.text (g.O.Outlet.fixed c.args.output.now.outlet.now)) (work_of c.args.reassembly c.args.output.now.tracker.now) (g.R.Source.left c.args.recording.now) (g.R.Source.left c.step_records.new.recording)
     (view (g.O.Outlet.held c.args.output.now.outlet.now) (g.V.Drain.written c.args.output.now.report.now) (g.O.Outlet.failures c.args.output.now.outlet.now) (g.V.Drain.failures c.args.output.now.report.now))
     (view (g.O.Outlet.held c.step_records.new.output.outlet.now) (g.V.Drain.written c.step_records.new.output.report.now) (g.O.Outlet.failures c.step_records.new.output.outlet.now) (g.V.Drain.failures c.step_records.new.output.report.now))
     (work_of c.step_records.new.reassembly c.step_records.new.output.tracker.now) c.in-Ok.rest c.in-Ok.ensures.stepped
@@ -15,9 +15,9 @@ returns-in-Err-finish_into-clause-stopped g c =
 
 pub returns-in-Err-put_all_unclosed-clause-stopped : goal.returns-in-Err-put_all_unclosed-clause-stopped
 returns-in-Err-put_all_unclosed-clause-stopped g c =
-    let items = c.in_default.ensures.written in
+    let items = rw c.in-Ok.ensures.same_out at c.in_default.ensures.written in
     let stopped = c.in-Err-put_all_unclosed.ensures.written in
-    stopped_groups g.O.Outlet.grows g.met.O.Outlet.grows_nil g.met.O.Outlet.grows_trans g.O.Outlet.rows g.O.Outlet.text (work_of c.args.reassembly c.args.output.now.tracker.now) (g.R.Source.left c.args.recording.now) (g.R.Source.left c.step_records.new.recording)
+    stopped_groups g.O.Outlet.grows g.met.O.Outlet.grows_nil g.met.O.Outlet.grows_trans g.O.Outlet.rows (g.O.Outlet.text (g.O.Outlet.fixed c.args.output.now.outlet.now)) (work_of c.args.reassembly c.args.output.now.tracker.now) (g.R.Source.left c.args.recording.now) (g.R.Source.left c.step_records.new.recording)
     (view (g.O.Outlet.held c.args.output.now.outlet.now) (g.V.Drain.written c.args.output.now.report.now) (g.O.Outlet.failures c.args.output.now.outlet.now) (g.V.Drain.failures c.args.output.now.report.now))
     (view (g.O.Outlet.held c.step_records.new.output.outlet.now) (g.V.Drain.written c.step_records.new.output.report.now) (g.O.Outlet.failures c.step_records.new.output.outlet.now) (g.V.Drain.failures c.step_records.new.output.report.now))
     (work_of c.step_records.new.reassembly c.step_records.new.output.tracker.now) c.in-Ok.rest c.in-Ok.ensures.stepped
@@ -28,9 +28,9 @@ returns-in-Err-put_all_unclosed-clause-stopped g c =
 
 pub returns-in-Err-flush-clause-stopped : goal.returns-in-Err-flush-clause-stopped
 returns-in-Err-flush-clause-stopped g c =
-    let items = c.in_default.ensures.written in
+    let items = rw c.in-Ok.ensures.same_out at c.in_default.ensures.written in
     let stopped = c.in-Err-flush.ensures.written in
-    stopped_flush g.O.Outlet.grows g.met.O.Outlet.grows_nil g.met.O.Outlet.grows_trans g.O.Outlet.rows g.O.Outlet.text (work_of c.args.reassembly c.args.output.now.tracker.now) (g.R.Source.left c.args.recording.now) (g.R.Source.left c.step_records.new.recording)
+    stopped_flush g.O.Outlet.grows g.met.O.Outlet.grows_nil g.met.O.Outlet.grows_trans g.O.Outlet.rows (g.O.Outlet.text (g.O.Outlet.fixed c.args.output.now.outlet.now)) (work_of c.args.reassembly c.args.output.now.tracker.now) (g.R.Source.left c.args.recording.now) (g.R.Source.left c.step_records.new.recording)
     (view (g.O.Outlet.held c.args.output.now.outlet.now) (g.V.Drain.written c.args.output.now.report.now) (g.O.Outlet.failures c.args.output.now.outlet.now) (g.V.Drain.failures c.args.output.now.report.now))
     (view (g.O.Outlet.held c.step_records.new.output.outlet.now) (g.V.Drain.written c.step_records.new.output.report.now) (g.O.Outlet.failures c.step_records.new.output.outlet.now) (g.V.Drain.failures c.step_records.new.output.report.now))
     (work_of c.step_records.new.reassembly c.step_records.new.output.tracker.now) c.in-Ok.rest c.in-Ok.ensures.stepped
@@ -42,8 +42,8 @@ returns-in-Err-flush-clause-stopped g c =
 
 pub returns-clause-run : goal.returns-clause-run
 returns-clause-run g c =
-    let items = c.in_default.ensures.written in
-    has_run g.O.Outlet.grows g.met.O.Outlet.grows_nil g.met.O.Outlet.grows_trans g.O.Outlet.rows g.O.Outlet.text (work_of c.args.reassembly c.args.output.now.tracker.now) (g.R.Source.left c.args.recording.now) (g.R.Source.left c.step_records.new.recording)
+    let items = rw c.in-Ok.ensures.same_out at c.in_default.ensures.written in
+    has_run g.O.Outlet.grows g.met.O.Outlet.grows_nil g.met.O.Outlet.grows_trans g.O.Outlet.rows (g.O.Outlet.text (g.O.Outlet.fixed c.args.output.now.outlet.now)) (work_of c.args.reassembly c.args.output.now.tracker.now) (g.R.Source.left c.args.recording.now) (g.R.Source.left c.step_records.new.recording)
     (view (g.O.Outlet.held c.args.output.now.outlet.now) (g.V.Drain.written c.args.output.now.report.now) (g.O.Outlet.failures c.args.output.now.outlet.now) (g.V.Drain.failures c.args.output.now.report.now))
     (view (g.O.Outlet.held c.step_records.new.output.outlet.now) (g.V.Drain.written c.step_records.new.output.report.now) (g.O.Outlet.failures c.step_records.new.output.outlet.now) (g.V.Drain.failures c.step_records.new.output.report.now))
     (work_of c.step_records.new.reassembly c.step_records.new.output.tracker.now) c.in-Ok.rest c.in-Ok.ensures.stepped

@@ -1,11 +1,11 @@
 use Rattle.tm_packet.specs.Header.{Fields}
 use Rattle.std.proofs.Common.{false, ap, ◌∙◌, subst}
-use Rattle.tm_tool.specs.Shelves.{PutsFront, shelf_text}
+use Rattle.tm_tool.specs.Shelves.{PutsFront, shelved_of}
 use Rattle.tm_tool.proofs.ShelfLemmas.{shelf_stopped}
 use Rattle.tm_tool.proofs.outlet.PacketShelfOutlet.put.Goals as goal
 
 pub returns-in-Err-clause-stopped : goal.returns-in-Err-clause-stopped
-unfolding shelf_text
+unfolding shelved_of
 returns-in-Err-clause-stopped g c =
     let application = c.application.ensures.value ∙ ap (λ (h : Fields). h.application) c.requires in
     let front = subst (λ n. PutsFront (g.H.Shelf.kept c.args.self.now.shelf.now) (g.H.Shelf.kept c.put.new.self) n c.args.octets.now) application c.in-Err.ensures.front in

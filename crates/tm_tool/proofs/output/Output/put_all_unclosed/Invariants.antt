@@ -10,7 +10,7 @@ abbrev pub invariant-loop-unclosed : goal.invariant-loop-unclosed
 invariant-loop-unclosed g l = record {
   named : l.self.tracker.ghost_name ≡ l.initial.self.tracker.ghost_name;
   outlet : l.self.outlet.ghost_name ≡ l.initial.self.outlet.ghost_name;
-  out : g.O.Outlet.name l.self.outlet.now ≡ g.O.Outlet.name l.initial.self.outlet.now;
+  out : g.O.Outlet.fixed l.self.outlet.now ≡ g.O.Outlet.fixed l.initial.self.outlet.now;
   report : l.self.report.ghost_name ≡ l.initial.self.report.ghost_name;
   tracker : l.self.tracker.now ≡ l.initial.self.tracker.now;
   below : l.at ≤ 16384;

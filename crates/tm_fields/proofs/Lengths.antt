@@ -1,0 +1,48 @@
+-- What a reader that holds each record to the first one's length knows of the records.
+use Rattle.std.proofs.Common.{◌≡◌, ◌≢◌, ℕ, Bool, true, false, List, [], ◌∷◌, ◌++◌, length, refl, sym, ◌∙◌, None, Some, IfSome, arith}
+use Rattle.std.specs.Prelude.{Option, ◌==◌, ◌&&◌}
+use Rattle.std.specs.List.{list_all}
+use Rattle.std.proofs.lemmas.List.Folds.{list_all-append}
+use Rattle.std.proofs.lemmas.Bool.Decides.{nat_tests}
+use Rattle.tm_fields.specs.Table.{same_lengths}
+
+-- the length that the next record must have
+abbrev pub Expects : Option ℕ → List (List (List ℕ)) → Type 0
+Expects e [] = e ≡ None
+Expects e (first ∷ more) = (e ≡ Some (length first)) × (same_lengths (first ∷ more) ≡ true)
+
+test_true : (a n : ℕ) → a ≡ n → (a == n) ≡ true
+test_true a n e = grind (arith, nat_tests)
+
+test_false : (a n : ℕ) → a ≢ n → (a == n) ≡ false
+test_false a n e = grind (arith, nat_tests)
+
+all_more : (n : ℕ) (rows : List (List (List ℕ))) (f : List (List ℕ)) → list_all (λ row. length row == n) rows ≡ true → length f ≡ n → list_all (λ row. length row == n) (rows ++ (f ∷ [])) ≡ true
+all_more n rows f all e =
+    let last = test_true (length f) n e in
+    list_all-append (λ row. length row == n) rows (f ∷ []) ∙ rw (all, last) refl
+
+pub expects_more : (e new : Option ℕ) (rows : List (List (List ℕ))) (f : List (List ℕ)) → Expects e rows → IfSome e (λ x. new ≡ Some x) × (new ≡ Some (length f)) → Expects new (rows ++ (f ∷ []))
+expects_more e new [] f h k = (k.1, refl)
+expects_more e new (first ∷ more) f h k =
+    let expected : new ≡ Some (length first) = rw h.0 at k.0 in
+    let same : length f ≡ length first = cc (k.1, expected) in
+    (expected, all_more (length first) more f h.1 same)
+
+not_all : (n : ℕ) (rows more : List (List (List ℕ))) (f : List (List ℕ)) → length f ≢ n → list_all (λ row. length row == n) (rows ++ (f ∷ more)) ≡ false
+not_all n [] more f apart = let no = test_false (length f) n apart in rw no refl
+not_all n (r ∷ rows) more f apart = let rest = not_all n rows more f apart in rw rest (last (length r == n))
+  where
+    last : (b : Bool) → (b && false) ≡ false
+    last true = refl
+    last false = refl
+
+pub not_expected : (e : Option ℕ) (x : ℕ) (rows more : List (List (List ℕ))) (f : List (List ℕ)) → Expects e rows → e ≡ Some x → x ≢ length f → same_lengths (rows ++ (f ∷ more)) ≡ false
+not_expected e x [] more f h k apart = absurd (cc)
+not_expected e x (first ∷ rows) more f h k apart =
+    let same : x ≡ length first = cc in
+    not_all (length first) rows more f (λ q. apart (same ∙ sym q))
+
+pub expected_same : (e : Option ℕ) (rows : List (List (List ℕ))) → Expects e rows → same_lengths rows ≡ true
+expected_same e [] h = refl
+expected_same e (first ∷ more) h = h.1

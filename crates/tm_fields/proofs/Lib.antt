@@ -1,0 +1,12 @@
+pub mod Causes
+pub mod Digits
+pub mod Examples
+pub mod Fields
+pub mod Kept
+pub mod Lengths
+pub mod LineLemmas
+pub mod NumberLemmas
+pub mod Places
+pub mod Records
+pub mod RowLemmas
+pub mod Trim

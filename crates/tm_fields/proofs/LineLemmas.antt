@@ -1,0 +1,48 @@
+-- Lines, value by value.
+use Rattle.std.proofs.Common.{◌≡◌, ℕ, zero, suc, ◌-◌, ◌^◌, ◌≤◌, min, Bool, true, false, List, [], ◌∷◌, ◌++◌, length, refl, sym, ap, ◌∙◌, arith, None, Some}
+use Rattle.std.specs.Prelude.{Option}
+use Rattle.std.specs.Io.KnownBytes.{Appends}
+use Rattle.std.proofs.lemmas.Bool.{ne_eqb}
+use Rattle.csv.specs.Writing.{default_writer, end_text, field_text, is_blank, next_sep, row_body, row_text, tail_text}
+use Rattle.csv.proofs.WriteFacts.{row-more}
+
+-- what stands before the next value
+separator : (written count : ℕ) → written ≡ min count (2 ^ 64 - 1) → next_sep default_writer written ≡ next_sep default_writer count
+separator zero zero e = refl
+separator zero (suc count) e = absurd (omega (arith, e))
+separator (suc written) zero e = absurd (omega (arith, e))
+separator (suc written) (suc count) e = rw (ne_eqb (suc written) 0 (λ z. cc z), ne_eqb (suc count) 0 (λ z. cc z)) refl
+
+pub line_more : (old new : Option (List ℕ)) (values : List (List ℕ)) (value : List ℕ) (written : ℕ)
+    → old ≡ Some (row_body default_writer values) → written ≡ min (length values) (2 ^ 64 - 1)
+    → Appends old new (next_sep default_writer written ++ field_text default_writer value)
+    → new ≡ Some (row_body default_writer (values ++ value ∷ []))
+line_more old None values value written e n a = absurd (rw e at a)
+line_more old (Some y) values value written e n a =
+    let whole : y ≡ row_body default_writer values ++ (next_sep default_writer written ++ field_text default_writer value) = rw e at a in
+    let before : next_sep default_writer written ≡ next_sep default_writer (length values) = separator written (length values) n in
+    ap Some (whole ∙ ap (λ s. row_body default_writer values ++ (s ++ field_text default_writer value)) before ∙ sym (row-more default_writer values value))
+
+ended : (wrote : Bool) (written : ℕ) → 2 ≤ written → tail_text default_writer wrote written ≡ end_text default_writer.terminator
+ended wrote zero h = absurd (omega arith)
+ended wrote (suc zero) h = absurd (omega arith)
+ended true (suc (suc n)) h = refl
+ended false (suc (suc n)) h = rw (ne_eqb (suc (suc n)) 0 (λ z. cc z), ne_eqb (suc (suc n)) 1 (λ z. cc z)) refl
+
+row_is : (values : List (List ℕ)) → 2 ≤ length values → row_text default_writer values ≡ row_body default_writer values ++ end_text default_writer.terminator
+unfolding is_blank
+row_is [] h = absurd (omega arith)
+row_is (x ∷ []) h = absurd (omega arith)
+row_is (x ∷ y ∷ more) h = refl
+
+pub line_end : (old new : Option (List ℕ)) (values : List (List ℕ)) (wrote : Bool) (written : ℕ) → 2 ≤ length values
+    → old ≡ Some (row_body default_writer values) → written ≡ min (length values) (2 ^ 64 - 1)
+    → Appends old new (tail_text default_writer wrote written) → new ≡ Some (row_text default_writer values)
+line_end old None values wrote written h e n a = absurd (rw e at a)
+line_end old (Some y) values wrote written h e n a =
+    let whole : y ≡ row_body default_writer values ++ tail_text default_writer wrote written = rw e at a in
+    ap Some (whole ∙ ap (λ t. row_body default_writer values ++ t) (ended wrote written (omega arith)) ∙ sym (row_is values h))
+
+-- texts that are known to be the same
+pub text_of : (xs ys : List ℕ) → Some xs ≡ Some ys → xs ≡ ys
+text_of xs ys e = cc e

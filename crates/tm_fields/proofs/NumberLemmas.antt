@@ -1,0 +1,83 @@
+-- Numbers in octets that hold them, and octets of eight bits.
+use Rattle.std.proofs.Common.{◌≡◌, ℕ, zero, suc, ◌+◌, ◌-◌, ◌*◌, ◌/◌, ◌%◌, ◌^◌, ◌<◌, ◌≤◌, List, [], ◌∷◌, ◌++◌, length, get_or, take, drop, refl, sym, ap, ◌∙◌, arith, length-drop, append_assoc}
+use Rattle.std.specs.Prelude.{slice_range}
+use Rattle.std.proofs.Math.Nat.{pow-le-pow_right}
+use Rattle.std.proofs.Math.Seq.{drop-cons}
+use Rattle.std.proofs.lemmas.List.{take_more}
+use Rattle.tm_bits.specs.Bits.{AreOctets, bits_of, number, part}
+use Rattle.tm_bits.proofs.BitLemmas.{number-low_bits, number-append, length-bits_of, bits_of-append, bits_of-one}
+use Rattle.tm_bits.proofs.PartLemmas.{part-word, part-behind}
+use Rattle.tm_fields.specs.Numbers.{octets_at}
+
+number_of_one : (x : ℕ) → x < 256 → number (bits_of (x ∷ [])) ≡ x
+number_of_one x h = ap number (bits_of-one x) ∙ number-low_bits 8 x ∙ omega arith
+
+-- one octet more at the end
+pub number_more : (octets : List ℕ) (x : ℕ) → x < 256 → number (bits_of (octets ++ (x ∷ []))) ≡ 256 * number (bits_of octets) + x
+number_more octets x h =
+    let size : length (bits_of (x ∷ [])) ≡ 8 = length-bits_of (x ∷ []) in
+    ap number (bits_of-append octets (x ∷ []))
+    ∙ number-append (bits_of octets) (bits_of (x ∷ []))
+    ∙ rw (size, number_of_one x h) (omega arith)
+
+-- the octets up to one more place
+pub spelled_next : (octets : List ℕ) (all i x : ℕ) → i < length octets → x ≡ get_or octets i 0 → x < 256 → all ≡ number (bits_of (take i octets))
+    → 256 * all + x ≡ number (bits_of (take (i + 1) octets))
+spelled_next octets all i x inside is small e =
+    let more : take (i + 1) octets ≡ take i octets ++ (x ∷ []) = take_more octets i 0 inside ∙ ap (λ y. take i octets ++ (y ∷ [])) (sym is) in
+    rw (more, number_more (take i octets) x small, e) refl
+
+pub small_power : (i : ℕ) → i ≤ 8 → 256 ^ i ≤ 18446744073709551616
+small_power i h = pow-le-pow_right {n = 256} (omega arith) h
+
+-- bits that lie in the octets from `first` up to, not with, `last`, from the number that these spell
+pub part_between : (octets : List ℕ) (first last from to : ℕ) → last ≤ length octets → 8 * first ≤ from → from ≤ to → to ≤ 8 * last → first ≤ last
+    → part octets from to ≡ number (bits_of (slice_range octets first last)) / 2 ^ (8 * last - to) % 2 ^ (to - from)
+part_between octets first last from to inside low ordered high forward =
+    let start : from ≡ 8 * first + (from - 8 * first) = omega arith in
+    let stop : to ≡ 8 * first + (to - 8 * first) = omega arith in
+    let room : last - first ≤ length (drop first octets) = omega (arith, length-drop first octets) in
+    let behind : 8 * (last - first) - (to - 8 * first) ≡ 8 * last - to = omega arith in
+    let width : to - 8 * first - (from - 8 * first) ≡ to - from = omega arith in
+    ap (λ n. part octets n to) start
+    ∙ ap (part octets (8 * first + (from - 8 * first))) stop
+    ∙ part-behind first octets (from - 8 * first) (to - 8 * first) (omega arith) (omega arith)
+    ∙ part-word (last - first) (drop first octets) (from - 8 * first) (to - 8 * first) room (omega arith) (omega arith)
+    ∙ ap (λ n. number (bits_of (slice_range octets first last)) / 2 ^ n % 2 ^ (to - 8 * first - (from - 8 * first))) behind
+    ∙ ap (λ n. number (bits_of (slice_range octets first last)) / 2 ^ (8 * last - to) % 2 ^ n) width
+
+-- the eight bits of an octet
+part_octet : (octets : List ℕ) (i : ℕ) → AreOctets octets → i < length octets → part octets (8 * i) (8 * i + 8) ≡ get_or octets i 0
+part_octet octets i are h =
+    let x : ℕ = get_or octets i 0 in
+    let place : 8 * i ≡ 8 * i + 0 = omega arith in
+    ap (λ n. part octets n (8 * i + 8)) place
+    ∙ part-behind i octets 0 8 (omega arith) (omega arith)
+    ∙ ap (λ l. part l 0 8) (drop-cons octets i 0 h)
+    ∙ part-word 1 (x ∷ drop (suc i) octets) 0 8 (omega arith) (omega arith) (omega arith)
+    ∙ rw (number_of_one x (are.below i)) (let small : x < 256 = are.below i in omega arith)
+
+octets_behind : (octets : List ℕ) (first count : ℕ) → AreOctets octets → first + count ≤ length octets → octets_at octets (8 * first) count ≡ take count (drop first octets)
+octets_behind octets first zero are h = refl
+octets_behind octets first (suc count) are h =
+    let next : 8 * first + 8 ≡ 8 * suc first = omega arith in
+    let inside : first < length octets = omega arith in
+    rw (part_octet octets first are inside, next, octets_behind octets (suc first) count are (omega arith), drop-cons octets first 0 inside) refl
+
+-- octets from the first bit of an octet on are octets of the list
+pub octets_at_border : (octets : List ℕ) (at count : ℕ) → AreOctets octets → at % 8 ≡ 0 → at / 8 + count ≤ length octets
+    → slice_range octets (at / 8) (at / 8 + count) ≡ octets_at octets at count
+octets_at_border octets at count are border h =
+    let place : 8 * (at / 8) ≡ at = omega arith in
+    let size : at / 8 + count - at / 8 ≡ count = omega arith in
+    ap (λ n. take n (drop (at / 8) octets)) size
+    ∙ sym (octets_behind octets (at / 8) count are h)
+    ∙ ap (λ n. octets_at octets n count) place
+
+-- one octet more
+pub octets_more : (octets text new : List ℕ) (at count i x : ℕ) → i < count → new ≡ text ++ (x ∷ []) → x ≡ part octets (at + 8 * i) (at + 8 * i + 8)
+    → new ++ octets_at octets (at + 8 * (i + 1)) (count - (i + 1)) ≡ text ++ octets_at octets (at + 8 * i) (count - i)
+octets_more octets text new at count i x h e is =
+    let left : count - i ≡ suc (count - (i + 1)) = omega arith in
+    let place : at + 8 * (i + 1) ≡ at + 8 * i + 8 = omega arith in
+    rw (e, left, place, is) (append_assoc text (part octets (at + 8 * i) (at + 8 * i + 8) ∷ []) (octets_at octets (at + 8 * i + 8) (count - (i + 1))))

@@ -1,0 +1,8 @@
+pub mod Table
+pub mod Values
+pub mod Columns
+pub mod Reading
+pub mod Numbers
+pub mod Escape
+pub mod Line
+pub mod Rows

@@ -1,0 +1,166 @@
+//! A whole definition, and the head and rows that it gives.
+
+ghost use Rattle.std.specs.Prelude.{◌≡◌, ◌≢◌, ◌<◌, ◌≤◌, [], Ok, Err, true, length, List, IfOk, IfErr, map};
+ghost use Rattle.std.specs.List.{list_all};
+ghost use Rattle.csv.specs.Records.{fields_of};
+ghost use Rattle.tm_fields.specs.Numbers.{bits_in};
+ghost use Rattle.tm_fields.specs.Reading.{definition_of, fields_from, fields_in, is_sound};
+ghost use Rattle.tm_fields.specs.Rows.{bits_needed, head_of, row_from, row_of};
+ghost use Rattle.tm_fields.specs.declared.field.Field.{Field};
+
+use crate::columns::{Columns, find_columns};
+use crate::faults::{Column, DefinitionFault, NoMemory, RowFault};
+use crate::field::Field;
+use crate::lead::{Lead, put_lead, put_lead_names};
+use crate::line::{begin, end};
+use crate::reading::read_field;
+use crate::table::read_table;
+use crate::values::{put_name, put_value};
+use csv::ByteRecord;
+use std::alloc::{AllocError, Global};
+use std::marker::Model;
+
+/// The fields that packets are read by, at most 1000.
+#[derive(Drop)]
+pub struct Definition {
+    fields: Vec<Field>,
+}
+
+impl Model for Definition {
+    ghost Value = { List Field };
+
+    ghost view = { λ d. d.fields.items };
+
+    ghost invariant = { λ d. list_all is_sound d.fields.items ≡ true };
+}
+
+// The fields of the records under a heading.
+fn read_fields(
+    alloc: Global,
+    columns: &Columns,
+    records: &[ByteRecord],
+) -> Result<Definition, DefinitionFault>
+    requires { length records.now ≤ 1000 }
+    ensures ok { IfOk result (λ d. fields_from columns.now [] (map fields_of records.now) ≡ Ok d) }
+    ensures refused { IfErr result (λ f. f ≢ DefinitionFault.NoMemory → fields_from columns.now [] (map fields_of records.now) ≡ Err f) }
+{
+    let mut fields = Vec::new(alloc);
+    // The bit behind the last field: the first begins behind the packet's header.
+    let mut before = 48u32;
+    for values in records {
+        let field = read_field(alloc, columns, values, fields.as_slice(), before)?;
+        before = field.begin + field.length;
+        if fields.push(field).is_err() {
+            return Err(DefinitionFault::NoMemory);
+        }
+    }
+    Ok(Definition { fields })
+}
+
+// The definition of a table.
+fn read_records(alloc: Global, table: &[ByteRecord]) -> Result<Definition, DefinitionFault>
+    ensures ok { IfOk result (λ d. fields_in (map fields_of table.now) ≡ Ok d) }
+    ensures refused { IfErr result (λ f. f ≢ DefinitionFault.NoMemory → fields_in (map fields_of table.now) ≡ Err f) }
+{
+    let [headings, records @ ..] = table else {
+        return Err(DefinitionFault::Column(Column::Name));
+    };
+    let columns = find_columns(headings)?;
+    if records.len() > 1000 {
+        return Err(DefinitionFault::TooMany);
+    }
+    read_fields(alloc, &columns, records)
+}
+
+impl Definition {
+    /// Reads a definition: a text of comma-separated values whose first record has the headings `name`, `data_type`, `bit_length`
+    /// and perhaps `bit_offset`, each further record being a field. Spaces and tabs round a value are taken off, and other columns
+    /// are passed over. A field without an offset begins where the one before it ends, and the first behind the packet's header.
+    ///
+    /// # Errors
+    ///
+    /// The first of these: `Csv` where two records have different numbers of values; `Column` for the first column that has no
+    /// heading or more than one; `TooMany` where there are more than 1000 records after the heading; then record by record,
+    /// numbered from 1, the first of `Array` or `Kind`, `Bits`, `Offset` and `Name` that applies. `NoMemory` where memory runs out
+    /// before.
+    pub fn read(alloc: Global, text: &[u8]) -> Result<Definition, DefinitionFault>
+        ensures ok { IfOk result (λ d. definition_of text.now ≡ Ok d) }
+        ensures refused { IfErr result (λ f. f ≢ DefinitionFault.NoMemory → definition_of text.now ≡ Err f) }
+    {
+        let table = read_table(alloc, text)?;
+        read_records(alloc, table.as_slice())
+    }
+
+    /// How many bits a packet must have: the greatest end of a field of any type, 0 without fields.
+    pub fn bits_needed(&self) -> u32
+        ensures { result ≡ bits_needed self.now }
+    {
+        let mut needed = 0u32;
+        for field in &self.fields {
+            needed = needed.max(field.begin + field.length);
+        }
+        needed
+    }
+
+    /// The head of the rows, a line of comma-separated values: `tm_record`, `tm_channel`, `tm_apid`, `tm_count`, and the names of
+    /// all fields but those of type `fill`, in their order.
+    ///
+    /// # Errors
+    ///
+    /// `NoMemory` where memory runs out.
+    pub fn head(&self, alloc: Global) -> Result<Vec<u8>, NoMemory>
+        ensures { IfOk result (λ text. text.items ≡ head_of self.now) }
+    {
+        let mut line = begin(alloc);
+        put_lead_names(&mut line)?;
+        for field in &self.fields {
+            put_name(&mut line, field)?;
+        }
+        end(&mut line)?;
+        match line.into_inner() {
+            Ok(text) => Ok(text),
+            Err(_) => Err(NoMemory),
+        }
+    }
+
+    // The row of a packet that is long enough.
+    fn whole_row(&self, alloc: Global, lead: Lead, packet: &[u8]) -> Result<Vec<u8>, AllocError>
+        requires { bits_needed self.now ≤ bits_in packet.now }
+        ensures { IfOk result (λ text. text.items ≡ row_of self.now lead packet.now) }
+    {
+        let mut line = begin(alloc);
+        put_lead(&mut line, lead)?;
+        // Each value's text is made here.
+        let mut text = Vec::with_capacity(alloc, 64)?;
+        for field in &self.fields {
+            put_value(alloc, &mut line, &mut text, field, packet)?;
+        }
+        end(&mut line)?;
+        match line.into_inner() {
+            Ok(text) => Ok(text),
+            Err(_) => Err(AllocError),
+        }
+    }
+
+    /// The row of a packet, a line of comma-separated values: the lead's numbers, and the values of all fields but those of type
+    /// `fill`. Octets of the packet behind the last field are passed over.
+    ///
+    /// # Errors
+    ///
+    /// `ShortPacket` where the packet has fewer bits than are needed, whatever memory there is; else `NoMemory` where memory runs
+    /// out.
+    pub fn row(&self, alloc: Global, lead: Lead, packet: &[u8]) -> Result<Vec<u8>, RowFault>
+        ensures ok { IfOk result (λ text. row_from self.now lead packet.now ≡ Ok text.items) }
+        ensures refused { IfErr result (λ f. f ≢ RowFault.NoMemory → row_from self.now lead packet.now ≡ Err f) }
+        ensures short { bits_in packet.now < bits_needed self.now → result ≡ Err (RowFault.ShortPacket (bits_needed self.now) (bits_in packet.now)) }
+    {
+        let needed = self.bits_needed();
+        if packet.len() < needed.div_ceil(8) as usize {
+            return Err(RowFault::ShortPacket {
+                needed: u64::from(needed),
+                found: 8 * packet.len() as u64,
+            });
+        }
+        Ok(self.whole_row(alloc, lead, packet)?)
+    }
+}

@@ -1,0 +1,64 @@
+//! Octets as printed text.
+
+ghost use Rattle.std.specs.Prelude.{◌≡◌, ◌≤◌, ◌++◌, ◌∷◌, [], length, OnOk};
+ghost use Rattle.hex.specs.Hex.{encode_lower};
+ghost use Rattle.tm_fields.specs.Escape.{escaped, is_plain, octet_text};
+ghost use Rattle.tm_fields.specs.Rows.{raw};
+
+use std::alloc::AllocError;
+
+// The octet stands for itself.
+fn is_plain_octet(octet: u8) -> bool
+    ensures { result ≡ is_plain octet }
+{
+    0x20 <= octet && octet <= 0x7E && octet != b'\\'
+}
+
+// Writes the two digits of an octet at the end of a text.
+fn push_digits(text: &mut Vec<u8>, octet: u8) -> Result<(), AllocError>
+    ensures { OnOk result (text.new.items ≡ text.old.items ++ encode_lower (octet ∷ [])) }
+{
+    let mut digits = [0u8; 2];
+    let _ = hex::encode_to_slice([octet], &mut digits);
+    text.extend_from_slice(&digits)
+}
+
+// Writes an octet at the end of a text.
+fn push_octet(text: &mut Vec<u8>, octet: u8) -> Result<(), AllocError>
+    ensures { OnOk result (text.new.items ≡ text.old.items ++ octet_text octet) }
+{
+    if is_plain_octet(octet) {
+        text.push(octet)?;
+    } else {
+        text.extend_from_slice(b"\\x")?;
+        push_digits(text, octet)?;
+    }
+    Ok(())
+}
+
+/// Writes octets at the end of a text as they are printed: each from `20` to `7E` other than a backslash as itself, each other as
+/// `\x` and two lower-case hexadecimal digits.
+///
+/// # Errors
+///
+/// `AllocError` where memory runs out. A part of the text may then be written.
+pub fn push_escaped(text: &mut Vec<u8>, octets: &[u8]) -> Result<(), AllocError>
+    ensures { OnOk result (text.new.items ≡ text.old.items ++ escaped octets.now) }
+{
+    for octet in octets {
+        push_octet(text, *octet)?;
+    }
+    Ok(())
+}
+
+/// Writes at most eight octets at the end of a text as raw digits: `0x` and two lower-case hexadecimal digits for each.
+pub(crate) fn push_raw(text: &mut Vec<u8>, octets: &[u8]) -> Result<(), AllocError>
+    requires few { length octets.now ≤ 8 }
+    ensures { OnOk result (text.new.items ≡ text.old.items ++ raw octets.now) }
+{
+    let mut room = [0u8; 16];
+    let digits = &mut room[..2 * octets.len()];
+    let _ = hex::encode_to_slice(octets, digits);
+    text.extend_from_slice(b"0x")?;
+    text.extend_from_slice(digits)
+}

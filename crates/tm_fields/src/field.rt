@@ -1,0 +1,87 @@
+//! What a definition says of one field.
+
+ghost use Rattle.std.specs.Prelude.{◌≡◌, ℕ, List};
+
+use std::marker::Model;
+
+/// Octets that contracts see as a list.
+#[derive(Debug, Drop)]
+pub struct Octets {
+    octets: Vec<u8>,
+}
+
+impl Model for Octets {
+    ghost Value = { List ℕ };
+
+    ghost view = { λ o. o.octets.items };
+}
+
+impl Octets {
+    /// The octets of a vector, with no copy.
+    pub fn new(octets: Vec<u8>) -> Octets
+        ensures { result ≡ octets.items }
+    {
+        Octets { octets }
+    }
+
+    /// The octets, lent.
+    pub fn as_slice(&self) -> &[u8]
+        ensures { result.now ≡ self.now }
+    {
+        self.octets.as_slice()
+    }
+}
+
+/// How the bits of a field are read and printed. The most significant bit comes first.
+#[derive(Clone, Copy, Debug, PartialEq, Eq)]
+pub enum DataType {
+    /// A number of 1 to 64 bits.
+    Uint,
+    /// A number of 1 to 64 bits in two's complement.
+    Int,
+    /// 16, 32 or 64 bits, printed as raw digits.
+    Float,
+    /// Whole octets, printed as text.
+    Str,
+    /// Bits that are passed over: the field has no column.
+    Fill,
+}
+
+/// The end of the longest packet, one of 65,542 octets, in bits.
+pub(crate) const GREATEST_END: u32 = 524336;
+
+impl DataType {
+    ghost use Rattle.tm_fields.specs.Reading.{has_length, is_shown};
+
+    /// A field of the type may have this many bits.
+    pub(crate) fn may_have(self, bits: u32) -> bool
+        ensures { result ≡ has_length self bits }
+    {
+        match self {
+            DataType::Uint | DataType::Int => 1 <= bits && bits <= 64,
+            DataType::Float => bits == 16 || bits == 32 || bits == 64,
+            DataType::Str => 8 <= bits && bits <= GREATEST_END && bits % 8 == 0,
+            DataType::Fill => 1 <= bits && bits <= GREATEST_END,
+        }
+    }
+
+    /// A field of the type has a column.
+    pub(crate) fn has_column(self) -> bool
+        ensures { result ≡ is_shown self }
+    {
+        self != DataType::Fill
+    }
+}
+
+/// A field: its name, and which bits of a packet it has.
+#[derive(Debug, Drop)]
+pub struct Field {
+    /// The name, without the spaces and tabs round it.
+    pub name: Octets,
+    /// How its bits are read and printed.
+    pub data_type: DataType,
+    /// The first of its bits, counted from the first bit of the packet.
+    pub begin: u32,
+    /// How many bits it has.
+    pub length: u32,
+}

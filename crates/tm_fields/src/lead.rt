@@ -1,0 +1,56 @@
+//! What every head and every row begins with.
+
+ghost use Rattle.std.specs.Prelude.{◌++◌, ◌∷◌, [], ℕ, List, OnOk};
+ghost use Rattle.tm_fields.specs.Line.{HasValues};
+ghost use Rattle.tm_fields.specs.Rows.{lead_names, lead_texts};
+
+use crate::line::put;
+use csv::Writer;
+use itoa::{Buffer, Integer};
+use std::alloc::AllocError;
+use std::io::Write;
+
+/// What a row tells of its packet before the fields.
+#[derive(Clone, Copy, Debug, PartialEq, Eq)]
+pub struct Lead {
+    /// The number of the record in which the packet ended.
+    pub seen: u32,
+    /// The virtual channel.
+    pub channel: u8,
+    /// The application process identifier.
+    pub application: u16,
+    /// The sequence count.
+    pub count: u16,
+}
+
+// Writes a number as a further value.
+fn put_number<W: Write + Drop, I: Integer>(
+    line: &mut Writer<W>,
+    number: I,
+) -> Result<(), AllocError>
+    ensures { OnOk result ((values : List (List ℕ)) → HasValues W.contents line.old values → HasValues W.contents line.new (values ++ I.text number ∷ [])) }
+{
+    put(line, Buffer::new().format(number).as_bytes())
+}
+
+/// Writes the names that a head begins with.
+pub(crate) fn put_lead_names<W: Write + Drop>(line: &mut Writer<W>) -> Result<(), AllocError>
+    ensures { OnOk result (HasValues W.contents line.old [] → HasValues W.contents line.new lead_names) }
+{
+    put(line, b"tm_record")?;
+    put(line, b"tm_channel")?;
+    put(line, b"tm_apid")?;
+    put(line, b"tm_count")?;
+    Ok(())
+}
+
+/// Writes the numbers that a row begins with.
+pub(crate) fn put_lead<W: Write + Drop>(line: &mut Writer<W>, lead: Lead) -> Result<(), AllocError>
+    ensures { OnOk result (HasValues W.contents line.old [] → HasValues W.contents line.new (lead_texts lead)) }
+{
+    put_number(line, lead.seen)?;
+    put_number(line, lead.channel)?;
+    put_number(line, lead.application)?;
+    put_number(line, lead.count)?;
+    Ok(())
+}

@@ -1,0 +1,46 @@
+//! Numbers at places that count bits.
+
+ghost use Rattle.std.specs.Prelude.{◌≡◌, ◌<◌, ◌≤◌, ◌+◌, ◌*◌, ◌^◌, length};
+ghost use Rattle.tm_bits.specs.Bits.{bits_of, number, part};
+ghost use Rattle.tm_fields.specs.Numbers.{bits_in, number_of};
+
+// The number that at most nine octets spell.
+fn spelled(octets: &[u8]) -> u128
+    requires few { length octets.now ≤ 9 }
+    ensures value { result ≡ number (bits_of octets.now) }
+    ensures bound { result < 256 ^ length octets.now }
+{
+    let mut all = 0u128;
+    for octet in octets {
+        all = 256 * all + u128::from(*octet);
+    }
+    all
+}
+
+/// The number in at most 64 bits: the octets that hold them are put together, the bits behind are shifted away, and those in
+/// front are masked.
+pub(crate) fn number_from(octets: &[u8], at: u32, count: u32) -> u64
+    requires few { count ≤ 64 }
+    requires within { at + count ≤ bits_in octets.now }
+    ensures value { result ≡ part octets.now at (at + count) }
+    ensures bound { result < 2 ^ count }
+{
+    let end = u64::from(at) + u64::from(count);
+    let first = at as usize / 8;
+    let last = end.div_ceil(8) as usize;
+    let all = spelled(&octets[first..last]);
+    let behind = 8 * last as u64 - end;
+    ((all >> behind) % (1 << count)) as u64
+}
+
+/// The number in so many bits from the bit `offset` on, the most significant first: bit 0 is the most significant bit of the first
+/// octet. `None` exactly where `bits` is 0 or over 64, or the last of them would lie behind the octets.
+pub fn number_at(octets: &[u8], offset: u32, bits: u32) -> Option<u64>
+    ensures { result ≡ number_of octets.now offset bits }
+{
+    let end = u64::from(offset) + u64::from(bits);
+    if bits == 0 || bits > 64 || end.div_ceil(8) > octets.len() as u64 {
+        return None;
+    }
+    Some(number_from(octets, offset, bits))
+}

@@ -1,0 +1,133 @@
+//! One record of a definition.
+
+ghost use Rattle.std.specs.Prelude.{◌≡◌, ◌≢◌, ◌+◌, ◌<◌, ◌≤◌, Ok, Err, true, length, IfOk, IfErr};
+ghost use Rattle.csv.specs.Records.{fields_of};
+ghost use Rattle.tm_fields.specs.Reading.{begin_named, begin_of, field_of, greatest_end, has_length, is_refused_name, is_sound, is_taken, last_end, length_of, name_of, offset_text, type_of};
+
+use crate::columns::{Columns, value_at};
+use crate::faults::DefinitionFault;
+use crate::field::{DataType, Field, GREATEST_END, Octets};
+use crate::words::{data_type_named, is_array_text, is_text, number_in};
+use csv::ByteRecord;
+use std::alloc::{AllocError, Global};
+
+// The type in a row.
+fn read_type(row: u32, text: &[u8]) -> Result<DataType, DefinitionFault>
+    ensures { result ≡ type_of row text.now }
+{
+    match data_type_named(text) {
+        Some(data_type) => Ok(data_type),
+        None if is_array_text(text) => Err(DefinitionFault::Array { row }),
+        None => Err(DefinitionFault::Kind { row }),
+    }
+}
+
+// The length in a row, in bits.
+fn read_length(row: u32, data_type: DataType, text: &[u8]) -> Result<u32, DefinitionFault>
+    ensures value { result ≡ length_of row data_type text.now }
+    ensures sound { IfOk result (λ n. has_length data_type n ≡ true) }
+{
+    match number_in(text) {
+        Some(length) if data_type.may_have(length) => Ok(length),
+        _ => Err(DefinitionFault::Bits { row }),
+    }
+}
+
+// A row's value in the column of offsets, empty where there is no such column.
+fn offset_at<'a>(row: &'a ByteRecord, columns: &Columns) -> &'a [u8]
+    ensures { result.now ≡ offset_text columns.now.bit_offset (fields_of row.now) }
+{
+    match columns.bit_offset {
+        Some(at) => value_at(row, at),
+        None => &[],
+    }
+}
+
+// Where a field begins, if the one before it ends at `before`.
+fn named_begin(before: u32, text: &[u8]) -> Option<u32>
+    ensures { result ≡ begin_named before text.now }
+{
+    if text.is_empty() {
+        Some(before)
+    } else {
+        number_in(text)
+    }
+}
+
+// Where the field of a row begins.
+fn read_begin(row: u32, before: u32, length: u32, text: &[u8]) -> Result<u32, DefinitionFault>
+    ensures value { result ≡ begin_of row before length text.now }
+    ensures sound { IfOk result (λ begin. begin + length ≤ greatest_end) }
+{
+    match named_begin(before, text) {
+        Some(begin) if u64::from(begin) + u64::from(length) <= u64::from(GREATEST_END) => Ok(begin),
+        _ => Err(DefinitionFault::Offset { row }),
+    }
+}
+
+// The name is that of a field of these that has a column.
+fn is_name_taken(name: &[u8], fields: &[Field]) -> bool
+    ensures { result ≡ is_taken name.now fields.now }
+{
+    fields.iter().any(|field| field.data_type.has_column() && is_text(field.name.as_slice(), name))
+}
+
+// The name can't be that of a field of this type after these.
+fn refuses_name(data_type: DataType, name: &[u8], fields: &[Field]) -> bool
+    ensures { result ≡ is_refused_name data_type name.now fields.now }
+{
+    name.is_empty() || data_type.has_column() && is_name_taken(name, fields)
+}
+
+// The name in a row.
+fn read_name(
+    alloc: Global,
+    row: u32,
+    data_type: DataType,
+    name: &[u8],
+    fields: &[Field],
+) -> Result<Octets, DefinitionFault>
+    ensures ok { IfOk result (λ octets. name_of row data_type name.now fields.now ≡ Ok octets) }
+    ensures refused { IfErr result (λ f. f ≢ DefinitionFault.NoMemory → name_of row data_type name.now fields.now ≡ Err f) }
+{
+    if refuses_name(data_type, name, fields) {
+        return Err(DefinitionFault::Name { row });
+    }
+    match Vec::from_slice(alloc, name) {
+        Ok(octets) => Ok(Octets::new(octets)),
+        Err(_) => Err(DefinitionFault::NoMemory),
+    }
+}
+
+/// The field of a record that comes after these fields, of which the last ends at `before`.
+pub(crate) fn read_field(
+    alloc: Global,
+    columns: &Columns,
+    values: &ByteRecord,
+    fields: &[Field],
+    before: u32,
+) -> Result<Field, DefinitionFault>
+    requires few { length fields.now < 1000 }
+    requires before { before ≡ last_end 48 fields.now }
+    ensures ok { IfOk result (λ f. field_of columns.now fields.now (fields_of values.now) ≡ Ok f) }
+    ensures refused { IfErr result (λ f. f ≢ DefinitionFault.NoMemory → field_of columns.now fields.now (fields_of values.now) ≡ Err f) }
+    ensures sound { IfOk result (λ f. is_sound f ≡ true) }
+{
+    let row = fields.len() as u32 + 1;
+    let data_type = read_type(row, value_at(values, columns.data_type))?;
+    let length = read_length(row, data_type, value_at(values, columns.bit_length))?;
+    let begin = read_begin(row, before, length, offset_at(values, columns))?;
+    let name = read_name(
+        alloc,
+        row,
+        data_type,
+        value_at(values, columns.name),
+        fields,
+    )?;
+    Ok(Field {
+        name,
+        data_type,
+        begin,
+        length,
+    })
+}

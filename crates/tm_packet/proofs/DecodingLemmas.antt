@@ -93,7 +93,7 @@ abbrev last_in : Numbers → Last
 last_in r = record { count = r.count; first = first_of r.first }
 
 -- an entry says nothing of greater keys
-places-above : (n k : ℕ) (r : Numbers) (rs : List Numbers) → r.key < k → places n k (r ∷ rs) ≡ places n k rs
+pub places-above : (n k : ℕ) (r : Numbers) (rs : List Numbers) → r.key < k → places n k (r ∷ rs) ≡ places n k rs
 places-above zero k r rs h = refl
 places-above (suc n) k r rs h =
     ap (λ b. (if b then Some (last_in r) else place_of k rs) ∷ places n (k + 1) (r ∷ rs)) (differ r.key k (λ (e : r.key ≡ k). omega arith))

@@ -1,8 +1,11 @@
 pub mod Pairs
 pub mod Merging
 pub mod States
+pub mod AfterValid
 pub mod HeaderLemmas
 pub mod RoundTrip
 pub mod SpellingLemmas
+pub mod Spelled
+pub mod ReadValid
 pub mod DecodingLemmas
 pub mod Examples

@@ -1,7 +1,7 @@
 //! Laws of the definitions. These functions make no calls: their contracts are the laws.
 
 ghost use Rattle.std.specs.Prelude.{◌≡◌, ◌≤◌, ℕ, Option, Ok, List, [], ◌++◌, length, take};
-ghost use Rattle.tm_packet.specs.Spelling.{spelling, decoding_of};
+ghost use Rattle.tm_packet.specs.Spelling.{Decoded, spelling, decoding_of};
 ghost use Rattle.tm_bits.specs.Bits.{AreOctets, bits_of};
 ghost use Rattle.tm_packet.specs.Header.{version_of, header_of, header_bits};
 ghost use Rattle.tm_packet.specs.declared.tracker.Last.{Last};
@@ -26,9 +26,12 @@ pub fn round_trip()
 {}
 
 /// Spelling: what is spelled is read again as the same entries, whatever follows it, and no spelling is a proper prefix of another.
+/// Octets that are read as entries begin with their spelling, which is the octets that were read.
 pub fn spellings()
     ensures read_again { (s : List (Option Last)) (rest : List ℕ) → IsState s →
         decoding_of (spelling s ++ rest) ≡ Ok (record { entries = s; octets = length (spelling s) }) }
     ensures no_prefix { (s t : List (Option Last)) (rest : List ℕ) → IsState s → IsState t →
         spelling s ++ rest ≡ spelling t → (s ≡ t) × (rest ≡ []) }
+    ensures spelled_again { (octets : List ℕ) (d : Decoded) → AreOctets octets →
+        decoding_of octets ≡ Ok d → (d.octets ≤ length octets) × (take d.octets octets ≡ spelling d.entries) }
 {}

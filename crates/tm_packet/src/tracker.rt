@@ -71,6 +71,7 @@ impl Model for Tracker {
 impl Tracker {
     ghost use Rattle.tm_packet.specs.Merge.{no_entries};
     ghost use Rattle.tm_packet.specs.Merge as sequence;
+    ghost use Rattle.tm_packet.specs.Valid.{IsState};
     ghost use Rattle.tm_packet.specs.Spelling.{spelling, spelled, entries_from, decoding_of, fault_after, raws, state_of, has_values, first_of};
     ghost use Rattle.tm_packet.specs.declared.tracker.TrackerFault.TheVariants as fault;
 
@@ -150,6 +151,7 @@ impl Tracker {
     pub fn encode(&self, out: &mut Vec<u8>) -> Result<(), NoMemory>
         ensures appended { OnOk result (out.new.items ≡ out.old.items ++ spelling self.now) }
         ensures unchanged { OnErr result (out.new.items ≡ out.old.items) }
+        ensures valid { IsState self.now }
     {
         let count = self.count();
         match out.try_reserve(2 + 6 * count) {
@@ -218,6 +220,7 @@ impl Tracker {
     fn count(&self) -> usize
         ensures value { result ≡ length (entries_from 0 self.now) }
         ensures most { result ≤ 16384 }
+        ensures valid { IsState self.now }
     {
         let mut count = 0;
         for key in 0..PLACES {

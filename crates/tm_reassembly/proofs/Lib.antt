@@ -32,6 +32,7 @@ pub mod ChannelSets
 pub mod Blocks
 pub mod OneHeld
 pub mod Merged
+pub mod ItemChannels
 pub mod Decoding
 pub mod Spelling
 pub mod Spelled

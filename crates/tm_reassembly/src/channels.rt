@@ -1,6 +1,6 @@
 //! Sets of virtual channels.
 
-ghost use Rattle.std.specs.Prelude.{◌≡◌, ◌≤◌, Bool, List, if◌then◌else◌};
+ghost use Rattle.std.specs.Prelude.{◌≡◌, ◌≤◌, Bool, List, length, if◌then◌else◌};
 ghost use Rattle.tm_reassembly.specs.Channels.{is_chosen, all_channels, channels_of, mask_of};
 
 use std::marker::Model;
@@ -61,7 +61,8 @@ impl Channels {
 
     /// The set as a number: channel c has the bit of value `2^c`.
     pub fn mask(&self) -> u8
-        ensures { result ≡ mask_of self.now }
+        ensures value { result ≡ mask_of self.now }
+        ensures eight { length self.now ≡ 8 }
     {
         let [a, b, c, d, e, f, g, h] = self.chosen;
         bit(a, 1)

@@ -138,6 +138,20 @@ impl Reassembly {
         self.failed
     }
 
+    /// How a record is laid out.
+    pub fn layout(&self) -> Layout
+        ensures { result ≡ self.now.layout }
+    {
+        self.layout
+    }
+
+    /// The chosen channels.
+    pub fn channels(&self) -> Channels
+        ensures { result ≡ self.now.channels }
+    {
+        self.channels
+    }
+
     /// The number of records that are done: of steps that were not refused, those before a checkpoint included.
     pub fn records(&self) -> u32
         ensures { result ≡ self.now.state.records }

@@ -1,11 +1,11 @@
 //! Rows of fields, from recordings.
 
-use crate::runs::{Ran, new_job, octets_of};
+use crate::runs::{Ran, new_job, octets_of, records_of};
 use crate::{MemoryDrain, MemorySource};
 use std::alloc::Global;
 use std::test::Fail;
 use tm_fields::Definition;
-use tm_tool::{Command, Done, Ending, RunFault, run};
+use tm_tool::{Command, Ending, RunFault, run};
 
 const SETTINGS: &str = "spacecraft = 42\nframe_length = 22\nerror_control = false\n";
 
@@ -53,7 +53,7 @@ fn run_rows(
         Ending::Close,
     );
     Ok(Ran {
-        answer,
+        answer: records_of(answer),
         out: out.octets,
         report: report.octets,
     })
@@ -78,7 +78,7 @@ fn worked_rows_by_fields(rt: HostRuntime) -> Result<(), Fail> {
     ];
     for (definition, application, recording, records, rows, lines) in table {
         let ran = run_rows(alloc, definition, application, recording, 0, 0)?;
-        assert_eq!(rt; ran.answer, Ok(Done { records }));
+        assert_eq!(rt; ran.answer, Ok(records));
         assert_eq!(rt; ran.out.as_slice(), rows.as_bytes());
         assert_eq!(rt; ran.report.as_slice(), lines.as_bytes());
     }

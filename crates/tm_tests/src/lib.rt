@@ -6,6 +6,8 @@ mod memory;
 pub use memory::{MemoryDrain, MemoryShelf, MemorySource, Put};
 
 #[cfg(test)]
+mod checkpoints;
+#[cfg(test)]
 mod field_rows;
 #[cfg(test)]
 mod fields;
@@ -19,3 +21,5 @@ mod reassembly;
 mod runs;
 #[cfg(test)]
 mod settings;
+#[cfg(test)]
+mod stops;

@@ -5,24 +5,24 @@ use std::alloc::{AllocError, Global};
 use std::test::Fail;
 use tm_tool::{Command, Done, Ending, Job, RunFault, Settings, run, split};
 
-const BASE: &str = "spacecraft = 42\nframe_length = 24\nerror_control = false\n";
+pub const BASE: &str = "spacecraft = 42\nframe_length = 24\nerror_control = false\n";
 
-const WIDE: &str = "spacecraft = 42\nframe_length = 27\nerror_control = false\n";
+pub const WIDE: &str = "spacecraft = 42\nframe_length = 27\nerror_control = false\n";
 
-// A recording, and what is known of it. Octets are in hexadecimal.
+/// A recording, and what is known of it. Octets are in hexadecimal.
 #[derive(Clone, Copy)]
-struct Row {
-    name: &'static str,
-    settings: &'static str,
+pub struct Row {
+    pub name: &'static str,
+    pub settings: &'static str,
     // Each line is a record: its header, and the packets and parts of packets behind it.
-    recording: &'static str,
-    records: u32,
+    pub recording: &'static str,
+    pub records: u32,
     // What `extract` writes.
-    octets: &'static str,
+    pub octets: &'static str,
     // What `packets` writes.
-    lines: &'static str,
+    pub lines: &'static str,
     // What both write to the report.
-    report: &'static str,
+    pub report: &'static str,
 }
 
 const TWO_PACKETS: Row = Row {
@@ -47,7 +47,7 @@ const SKIPPED_OCTETS: Row = Row {
     report: "",
 };
 
-const TWO_CHANNELS: Row = Row {
+pub const TWO_CHANNELS: Row = Row {
     name: "two-channels",
     settings: BASE,
     recording: "02A000001800 0064C0000013555555555555555555555555 \
@@ -205,7 +205,7 @@ const VCA_FRAME: Row = Row {
         seqgap record=2 channel=0 apid=100 expected=1 found=2 missing=1\n",
 };
 
-const SHORT_REST: Row = Row {
+pub const SHORT_REST: Row = Row {
     name: "short-rest",
     settings: BASE,
     recording: "02A000001800 0064C0000013555555555555555555555555 \
@@ -241,7 +241,7 @@ const ERROR_CONTROL: Row = Row {
     report: "bad record=1 fault=crc\n",
 };
 
-const ROWS: [Row; 15] = [
+pub const ROWS: [Row; 15] = [
     TWO_PACKETS,
     SKIPPED_OCTETS,
     TWO_CHANNELS,
@@ -290,10 +290,19 @@ pub fn new_job(alloc: Global, settings: &str) -> Result<Job, Fail> {
     }
 }
 
+/// How many records are done.
+pub fn records_of(answer: Result<Done, RunFault>) -> Result<u32, RunFault> {
+    match answer {
+        Ok(done) => Ok(done.records),
+        Err(fault) => Err(fault),
+    }
+}
+
 /// What a run answered, and what it wrote.
 #[derive(Drop)]
 pub struct Ran {
-    pub answer: Result<Done, RunFault>,
+    /// How many records are done, or why the run ended before.
+    pub answer: Result<u32, RunFault>,
     pub out: Vec<u8>,
     pub report: Vec<u8>,
 }
@@ -319,7 +328,7 @@ fn run_all(
         Ending::Close,
     );
     Ok(Ran {
-        answer,
+        answer: records_of(answer),
         out: out.octets,
         report: report.octets,
     })
@@ -330,9 +339,7 @@ fn worked_rows(rt: HostRuntime) -> Result<(), Fail> {
     let alloc = rt.alloc();
     for row in ROWS {
         let name = row.name;
-        let answer = Ok(Done {
-            records: row.records,
-        });
+        let answer = Ok(row.records);
         let octets = octets_of(alloc, row.octets)?;
         let ran = run_all(alloc, row.settings, row.recording, Command::Extract)?;
         assert_eq!(rt; ran.answer, answer, "{name} by extract");
@@ -365,7 +372,7 @@ fn empty_recording(rt: HostRuntime) -> Result<(), Fail> {
     assert_eq!(rt; new_job(alloc, BASE)?.records(), 0);
     for command in [Command::Extract, Command::Packets] {
         let ran = run_all(alloc, BASE, "", command)?;
-        assert_eq!(rt; ran.answer, Ok(Done { records: 0 }));
+        assert_eq!(rt; ran.answer, Ok(0));
         assert!(rt; ran.out.is_empty());
         assert!(rt; ran.report.is_empty());
     }
@@ -395,7 +402,7 @@ fn reads_no_further(rt: HostRuntime) -> Result<(), Fail> {
         &mut report,
         Ending::Close,
     );
-    assert_eq!(rt; answer, Ok(Done { records: 4 }));
+    assert_eq!(rt; records_of(answer), Ok(4));
     assert_eq!(rt; out.octets.as_slice(), octets.as_slice());
     assert_eq!(rt; out.octets.capacity(), capacity);
     assert!(rt; report.octets.is_empty());
@@ -432,7 +439,7 @@ fn run_failing(alloc: Global, row: Row, device: Device, fails_at: u64) -> Result
         Ending::Close,
     );
     Ok(Ran {
-        answer,
+        answer: records_of(answer),
         out: out.octets,
         report: report.octets,
     })
@@ -494,8 +501,8 @@ fn each_call_failing(rt: HostRuntime) -> Result<(), Fail> {
         let mut refused = 0u64;
         for fails_at in 1..1000u64 {
             let ran = run_failing(alloc, row, device, fails_at)?;
-            if let Ok(done) = ran.answer {
-                assert_eq!(rt; done.records, row.records);
+            if let Ok(records) = ran.answer {
+                assert_eq!(rt; records, row.records);
                 assert_eq!(rt; ran.out.as_slice(), row.lines.as_bytes());
                 assert_eq!(rt; ran.report.as_slice(), row.report.as_bytes());
                 break;
@@ -526,7 +533,7 @@ fn split_all(
     settings: &str,
     recording: &str,
     refuses_at: u64,
-) -> Result<(Result<Done, RunFault>, MemoryShelf, Vec<u8>), Fail> {
+) -> Result<(Result<u32, RunFault>, MemoryShelf, Vec<u8>), Fail> {
     let job = new_job(alloc, settings)?;
     let mut source = MemorySource::new(octets_of(alloc, recording)?, 65_536, 0);
     let mut shelf = MemoryShelf::new(alloc, refuses_at);
@@ -539,7 +546,7 @@ fn split_all(
         &mut report,
         Ending::Close,
     );
-    Ok((answer, shelf, report.octets))
+    Ok((records_of(answer), shelf, report.octets))
 }
 
 // The octets that a shelf has of an application.

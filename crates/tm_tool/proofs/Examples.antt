@@ -18,6 +18,7 @@ use Rattle.tm_reassembly.specs.declared.items.Reason.TheVariants as reason
 use Rattle.tm_reassembly.specs.Channels.{all_channels}
 use Rattle.tm_reassembly.specs.Recording.{items, after}
 use Rattle.tm_tool.specs.declared.job.Command.TheVariants.{Extract, Packets}
+use Rattle.tm_tool.specs.declared.job.Ending.TheVariants.{Close}
 use Rattle.tm_tool.specs.FieldRows.{tabled, too_short}
 use Rattle.tm_tool.specs.Jobs.{begun, rows_head}
 use Rattle.tm_tool.specs.Lines.{drop_line, note_line, packet_line, short_line, short_packet_line}
@@ -54,19 +55,19 @@ header count data_length = record {
   data_length = data_length;
 }
 
-two_packets : outs (pieces (text_of Packets) (job 24) (0x02 ∷ 0xA0 ∷ 0x00 ∷ 0x00 ∷ 0x18 ∷ 0x00 ∷ (packet 7 0 ++ packet 11 1)))
+two_packets : outs (pieces (text_of Packets) Close (job 24) (0x02 ∷ 0xA0 ∷ 0x00 ∷ 0x00 ∷ 0x18 ∷ 0x00 ∷ (packet 7 0 ++ packet 11 1)))
     ≡ packet_line 0 0 0 0 (header 0 0) 7 ++ (packet_line 0 0 0 7 (header 1 4) 11 ++ [])
 unfolding pieces records rest_of items after octets_of listed noted no_entries header layout job fifty_fives packet cut fault_of part number bits_of low_bits
 two_packets = refl
 
-pointer_drop_and_sequence_gap : reports (pieces (text_of Extract) (job 24)
+pointer_drop_and_sequence_gap : reports (pieces (text_of Extract) Close (job 24)
     ((0x02 ∷ 0xA0 ∷ 0x00 ∷ 0x00 ∷ 0x18 ∷ 0x00 ∷ (packet 10 0 ++ cut 0 8 (packet 14 1)))
     ++ (0x02 ∷ 0xA0 ∷ 0x01 ∷ 0x01 ∷ 0x18 ∷ 0x08 ∷ (fifty_fives 8 ++ packet 10 2))))
     ≡ drop_line 1 0 0 10 8 reason.Pointer ++ (drop_line 1 0 1 0 8 reason.Pointer ++ ((note_line 1 0 100 (note.Gap 1 2 1) ++ []) ++ []))
 unfolding pieces records rest_of items after octets_of listed report_of line_of drop_line note_line short_line digits noted notes_of no_entries unclosed_piece layout job fifty_fives packet cut fault_of part number bits_of low_bits
 pointer_drop_and_sequence_gap = refl
 
-groups : reports (pieces (text_of Extract) (job 27)
+groups : reports (pieces (text_of Extract) Close (job 27)
     ((0x02 ∷ 0xA0 ∷ 0x00 ∷ 0x00 ∷ 0x18 ∷ 0x00
     ∷ (0x00 ∷ 0x64 ∷ 0x40 ∷ 0x05 ∷ 0x00 ∷ 0x00 ∷ 0x55 ∷ 0x00 ∷ 0x64 ∷ 0x00 ∷ 0x06 ∷ 0x00 ∷ 0x00 ∷ 0x55 ∷ 0x00 ∷ 0x64 ∷ 0x80 ∷ 0x07 ∷ 0x00 ∷ 0x00 ∷ 0x55 ∷ []))
     ++ ((0x02 ∷ 0xA0 ∷ 0x01 ∷ 0x01 ∷ 0x18 ∷ 0x00 ∷ (0x00 ∷ 0x64 ∷ 0x40 ∷ 0x08 ∷ 0x00 ∷ 0x00 ∷ 0x55 ∷ packet 14 9))
@@ -76,14 +77,14 @@ groups : reports (pieces (text_of Extract) (job 27)
 unfolding pieces records rest_of items after octets_of listed report_of line_of drop_line note_line short_line digits noted notes_of no_entries unclosed_piece layout job fifty_fives packet cut fault_of part number bits_of low_bits
 groups = refl
 
-short_rest : reports (pieces (text_of Extract) (job 24)
+short_rest : reports (pieces (text_of Extract) Close (job 24)
     ((0x02 ∷ 0xA0 ∷ 0x00 ∷ 0x00 ∷ 0x18 ∷ 0x00 ∷ cut 0 18 (packet 26 0))
     ++ ((0x02 ∷ 0xA2 ∷ 0x01 ∷ 0x00 ∷ 0x18 ∷ 0x00 ∷ cut 0 18 (packet 22 0)) ++ replicate 10 0)))
     ≡ short_line 2 10 ++ (drop_line 2 0 0 0 18 reason.Close ++ (drop_line 2 1 1 0 18 reason.Close ++ []))
 unfolding pieces records rest_of items after octets_of listed report_of line_of drop_line note_line short_line digits noted notes_of no_entries unclosed_piece layout job fifty_fives packet cut fault_of part number bits_of low_bits
 short_rest = refl
 
-two_channels : outs (pieces (text_of Extract) (job 24)
+two_channels : outs (pieces (text_of Extract) Close (job 24)
     ((0x02 ∷ 0xA0 ∷ 0x00 ∷ 0x00 ∷ 0x18 ∷ 0x00 ∷ cut 0 18 (packet 26 0))
     ++ ((0x02 ∷ 0xA2 ∷ 0x01 ∷ 0x00 ∷ 0x18 ∷ 0x00 ∷ cut 0 18 (packet 22 0))
     ++ ((0x02 ∷ 0xA2 ∷ 0x02 ∷ 0x01 ∷ 0x18 ∷ 0x04 ∷ (cut 18 22 (packet 22 0) ++ packet 14 1))
@@ -107,17 +108,17 @@ one_packet =
     0x02 ∷ 0xA0 ∷ 0x00 ∷ 0x00 ∷ 0x18 ∷ 0x00
     ∷ 0x00 ∷ 0x64 ∷ 0xC0 ∷ 0x00 ∷ 0x00 ∷ 0x09 ∷ 0x07 ∷ 0xFF ∷ 0xF0 ∷ 0x61 ∷ 0x2C ∷ 0x62 ∷ 0x3F ∷ 0x80 ∷ 0x00 ∷ 0x00 ∷ []
 
-head_and_row : outs (rows_head five_fields true ++ pieces (rows_text five_fields 100) (job 22) one_packet)
+head_and_row : outs (rows_head five_fields true ++ pieces (rows_text five_fields 100) Close (job 22) one_packet)
     ≡ head_of five_fields ++ (row_of five_fields (record { seen = 0; channel = 0; application = 100; count = 0 }) (drop 6 one_packet) ++ [])
 unfolding pieces records rest_of items after tabled noted no_entries layout job five_fields one_packet fault_of part number bits_of low_bits
 head_and_row = refl
 
-other_application : outs (rows_head five_fields true ++ pieces (rows_text five_fields 101) (job 22) one_packet)
+other_application : outs (rows_head five_fields true ++ pieces (rows_text five_fields 101) Close (job 22) one_packet)
     ≡ head_of five_fields ++ []
 unfolding pieces records rest_of items after tabled noted no_entries layout job five_fields one_packet fault_of part number bits_of low_bits
 other_application = refl
 
-one_bit_short : reports (pieces (rows_text (record { name = codes "EXTRA"; data_type = Uint; begin = 128; length = 1 } ∷ five_fields) 100) (job 22) one_packet)
+one_bit_short : reports (pieces (rows_text (record { name = codes "EXTRA"; data_type = Uint; begin = 128; length = 1 } ∷ five_fields) 100) Close (job 22) one_packet)
     ≡ short_packet_line 0 0 0 0 129 128
 unfolding pieces records rest_of items after too_short report_of line_of short_packet_line noted notes_of no_entries unclosed_piece layout job five_fields one_packet fault_of part number bits_of low_bits digits
 one_bit_short = refl

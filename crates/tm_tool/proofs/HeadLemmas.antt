@@ -5,6 +5,7 @@ use Rattle.std.proofs.KnownBytes.{Appends-nil}
 use Rattle.tm_fields.specs.declared.field.Field.{Field}
 use Rattle.tm_fields.specs.Rows.{head_of}
 use Rattle.tm_tool.specs.declared.fault.RunFault.{RunFault}
+use Rattle.tm_tool.specs.declared.job.Ending.{Ending}
 use Rattle.tm_tool.specs.Jobs.{rows_head}
 use Rattle.tm_tool.specs.Outlets.{PutStopped}
 use Rattle.tm_tool.specs.Outputs.{view}
@@ -14,11 +15,11 @@ use Rattle.tm_tool.proofs.PieceLemmas.{stopped_put}
 
 module _ (fields : List Field) (fresh : Bool) (old new report : Option (List ℕ)) (failures failures' report_failures : ℕ) where
   -- writing stopped in it, before anything was read
-  pub head_stop : (text : Texts ℕ) (w : Work) (left : Option (List ℕ)) (fault : RunFault) → fresh ≡ true
+  pub head_stop : (text : Texts ℕ) (ending : Ending) (w : Work) (left : Option (List ℕ)) (fault : RunFault) → fresh ≡ true
       → PutStopped Appends true old new failures failures' (head_of fields) fault
-      → IsHeadedStop Appends true text w (rows_head fields fresh) left left (view old report failures report_failures) (view new report failures' report_failures) fault
-  head_stop text w left fault due h =
-      subst (λ (b : Bool). IsHeadedStop Appends true text w (rows_head fields b) left left (view old report failures report_failures) (view new report failures' report_failures) fault)
+      → IsHeadedStop Appends true text ending w (rows_head fields fresh) left left (view old report failures report_failures) (view new report failures' report_failures) fault
+  head_stop text ending w left fault due h =
+      subst (λ (b : Bool). IsHeadedStop Appends true text ending w (rows_head fields b) left left (view old report failures report_failures) (view new report failures' report_failures) fault)
       (sym due) (inl (record {
         some = λ e. cc e;
         unread = refl;

@@ -6,6 +6,8 @@ pub mod CutLemmas
 pub mod ListingEnds
 pub mod LineLemmas
 pub mod Running
+pub mod Passing
+pub mod KeptLemmas
 pub mod PieceLemmas
 pub mod PacketLemmas
 pub mod Sinks
@@ -17,3 +19,11 @@ pub mod HeadLemmas
 pub mod RowLemmas
 pub mod Examples
 pub mod ShelfLemmas
+pub mod CheckpointLength
+pub mod ReadValid
+pub mod CheckpointLemmas
+pub mod NoPrefix
+pub mod Resumption
+pub mod StateFaults
+pub mod CheckpointExamples
+pub mod WorkValid

@@ -6,7 +6,7 @@ use Rattle.std.proofs.KnownBytes.{Appends-nil, Appends-kept}
 use Rattle.tm_frame.specs.declared.layout.LayoutParts.{LayoutParts}
 use Rattle.tm_frame.specs.Layout.{record_length_of}
 use Rattle.tm_tool.specs.declared.fault.RunFault.{RunFault}
-use Rattle.tm_tool.specs.declared.fault.RunFault.TheVariants.{Read, Write, Report, TooMany, NoMemory}
+use Rattle.tm_tool.specs.declared.fault.RunFault.TheVariants.{Read, Write, Report, ShortRecording, TooMany, NoMemory}
 use Rattle.tm_tool.specs.Cuts.{AppendsCut, AppendsWhole}
 use Rattle.tm_tool.specs.Lines.{short_line}
 use Rattle.tm_tool.specs.Records.{AreRecords, record_count, records, rest_of}
@@ -153,6 +153,7 @@ module _ (layout : LayoutParts) (some : 0 < record_length_of layout) where
     stopped_cut Read h = let (read, part, (sized, consumed), short, written) = h in whole_cut (whole_front read part sized consumed written)
     stopped_cut Write h = writing_cut h
     stopped_cut Report h = absurd h
+    stopped_cut ShortRecording h = absurd h
     stopped_cut TooMany h = let (read, one, (sized, consumed), exact, most, written) = h in whole_cut (whole_front read one sized consumed written)
     stopped_cut NoMemory h = whole_cut (stopped_whole h)
 

@@ -12,7 +12,7 @@ use Rattle.tm_frame.specs.Frame.{GoodFrame}
 use Rattle.tm_frame.specs.Layout.{record_length_of}
 use Rattle.tm_tool.specs.Lines.{bad_line, frame_line, short_line}
 use Rattle.tm_tool.specs.declared.fault.RunFault.{RunFault}
-use Rattle.tm_tool.specs.declared.fault.RunFault.TheVariants.{Read, Write, Report, TooMany, NoMemory}
+use Rattle.tm_tool.specs.declared.fault.RunFault.TheVariants.{Read, Write, Report, ShortRecording, TooMany, NoMemory}
 use Rattle.tm_tool.specs.Records.{AreRecords}
 use Rattle.tm_tool.specs.Listing.{reading_line, record_line, record_lines, rest_lines, lines_of, StopsIn, LineStopped, IsListed, IsStopped}
 
@@ -93,6 +93,7 @@ module _ (layout : LayoutParts) where
         let (front, rest, parts, grown) = h in
         (front, rest, parts, Appends-trans old now new (concat (record_lines layout 0 stands.0)) front stands.4 grown)
     stops_in text Report h = absurd h
+    stops_in text ShortRecording h = absurd h
     stops_in text TooMany h = absurd h
     stops_in text NoMemory h = (h.0, Appends-kept old now new (concat (record_lines layout 0 stands.0)) stands.4 h.1)
 
@@ -106,6 +107,7 @@ module _ (layout : LayoutParts) where
     stands_record exact Read h = absurd h
     stands_record exact Write h = inl (stands.0, octets, (stands.1, read_all), exact, stops_at (λ n. record_line layout n octets) Write h)
     stands_record exact Report h = absurd h
+    stands_record exact ShortRecording h = absurd h
     stands_record exact TooMany h = absurd h
     stands_record exact NoMemory h = inl (inl (stands.0, octets, (stands.1, read_all), exact, stops_at (λ n. record_line layout n octets) NoMemory h))
 
@@ -134,5 +136,6 @@ module _ (layout : LayoutParts) where
       stands_end_stopped Read h = absurd h
       stands_end_stopped Write h = inr (stands.0, octets, ((stands.1, read_all), short, end), stops_at (λ n. concat (rest_lines n (length octets))) Write h)
       stands_end_stopped Report h = absurd h
+      stands_end_stopped ShortRecording h = absurd h
       stands_end_stopped TooMany h = absurd h
       stands_end_stopped NoMemory h = inl (inr (stands.0, octets, ((stands.1, read_all), short, end), stops_at (λ n. concat (rest_lines n (length octets))) NoMemory h))

@@ -5,7 +5,7 @@ use Rattle.std.specs.Io.KnownBytes.{Appends, Keeps}
 use Rattle.std.proofs.KnownBytes.{Appends-nil, Appends-kept, Appends-trans}
 use Rattle.tm_tool.specs.Devices.{raised, AppendsFront}
 use Rattle.tm_tool.specs.declared.fault.RunFault.{RunFault}
-use Rattle.tm_tool.specs.declared.fault.RunFault.TheVariants.{Read, Write, Report, TooMany, NoMemory}
+use Rattle.tm_tool.specs.declared.fault.RunFault.TheVariants.{Read, Write, Report, ShortRecording, TooMany, NoMemory}
 use Rattle.tm_tool.specs.Outlets.{PutStopped}
 use Rattle.tm_tool.specs.Outputs.{Piece, View, outs, reports, Cut, SameCounts, Caused, TakesMemory, AppendsPieces, Took, WantsMemory, Stopped}
 
@@ -67,6 +67,7 @@ module _ {A K : Type 0} (grows : K → K → List A → Type 0) (grows-nil : (k 
   caused_after old mid new Read s c = c
   caused_after old mid new Write s c = (c.0 ∙ ap raised s.0, c.1 ∙ s.1)
   caused_after old mid new Report s c = (c.0 ∙ s.0, c.1 ∙ ap raised s.1)
+  caused_after old mid new ShortRecording s c = c
   caused_after old mid new TooMany s c = c
   caused_after old mid new NoMemory s c = (c.0 ∙ s.0, c.1 ∙ s.1)
 
@@ -144,6 +145,7 @@ abbrev IsDevice : RunFault → Type 0
 IsDevice Read = ⊤
 IsDevice Write = ⊤
 IsDevice Report = ⊤
+IsDevice ShortRecording = ⊤
 IsDevice TooMany = ⊤
 IsDevice NoMemory = ⊥
 
@@ -173,6 +175,7 @@ module _ {A K : Type 0} (grows : K → K → List A → Type 0) (old new : View 
         memory = not_memory Write tt;
       }
   stopped_put rows Report h kept report = absurd h
+  stopped_put rows ShortRecording h kept report = absurd h
   stopped_put rows TooMany h kept report = absurd h
   stopped_put rows NoMemory h kept report = record {
     cut = ([], [], inl (p.out, refl, refl), h.2, kept);

@@ -1,5 +1,5 @@
 -- The row of a packet.
-use Rattle.std.proofs.Common.{◌≡◌, ℕ, Bool, true, List, [], refl, sym, ap, subst, ◌∙◌, Ok}
+use Rattle.std.proofs.Common.{◌≡◌, ℕ, Bool, true, List, [], sym, ap, subst, ◌∙◌, Ok}
 use Rattle.std.specs.Prelude.{◌==◌, if◌then◌else◌}
 use Rattle.tm_fields.specs.declared.field.Field.{Field}
 use Rattle.tm_fields.specs.declared.lead.Lead.{Lead}

@@ -1,19 +1,24 @@
 -- How a run ended, in the words of the whole recording.
-use Rattle.std.proofs.Common.{◌≡◌, ◌⊎◌, ◌<◌, ◌+◌, ◌-◌, ◌^◌, ℕ, Bool, List, [], ◌∷◌, ◌++◌, length, refl, sym, ap, subst, ◌∙◌, append_assoc, append-nil, length-append, arith, inl, inr, Option, None, Some, IfSome, Result, Err}
+use Rattle.std.proofs.Common.{◌≡◌, ◌⊎◌, ◌<◌, ◌≤◌, ◌+◌, ◌-◌, ◌^◌, ℕ, zero, suc, Bool, List, [], ◌∷◌, ◌++◌, length, take, drop, refl, sym, ap, subst, ◌∙◌, append_assoc, append-nil, length-append, length-drop, take_all, arith, inl, inr, Option, None, Some, IfSome, Result, Err}
 use Rattle.std.specs.List.{concat}
 use Rattle.std.specs.Io.KnownBytes.{Consumes, IsAtEnd}
+use Rattle.std.proofs.lemmas.List.{drop-append-le, take-append-le}
+use Rattle.std.proofs.Math.Seq.{take-append-add}
 use Rattle.tm_frame.specs.Layout.{record_length_of}
-use Rattle.tm_reassembly.specs.Item.{Item}
+use Rattle.tm_reassembly.specs.Recording.{items}
 use Rattle.tm_tool.specs.declared.fault.RunFault.{RunFault}
-use Rattle.tm_tool.specs.declared.fault.RunFault.TheVariants.{Read, Write, Report, TooMany, NoMemory}
+use Rattle.tm_tool.specs.declared.fault.RunFault.TheVariants.{Read, Write, Report, ShortRecording, TooMany, NoMemory}
+use Rattle.tm_tool.specs.declared.job.Ending.{Ending}
+use Rattle.tm_tool.specs.declared.job.Ending.TheVariants.{Close, Keep, StopAfter}
 use Rattle.tm_tool.specs.Outputs.{Piece, View, Cut, AppendsCut, Took, WantsMemory, Stopped, outs, reports}
-use Rattle.tm_tool.specs.Pieces.{Texts, Work, worked, record_pieces, closing_pieces, pieces_after, pieces}
+use Rattle.tm_tool.specs.Pieces.{Texts, Work, chosen, further, worked, record_pieces, end_pieces, pieces_after, pieces}
 use Rattle.tm_tool.specs.Records.{AreRecords, record_count, records, rest_of}
-use Rattle.tm_tool.specs.Runs.{HasRead, IsRun, StopsAtRecord, StopsAtEnd, IsStoppedAt}
+use Rattle.tm_tool.specs.Runs.{HasRead, HasEnded, GoesOn, Suffices, IsRun, StopsAtRead, StopsAtRecord, StopsAtEnd, IsStoppedAt, behind, kept_of}
 use Rattle.tm_tool.proofs.ListingLemmas.{AreRecords-append, concat-one}
-use Rattle.tm_tool.proofs.PieceLemmas.{cut_all, cut_more, took_stopped, stopped_more}
+use Rattle.tm_tool.proofs.PieceLemmas.{cut_all, cut_more, cut_none, took_stopped, stopped_more}
 use Rattle.tm_tool.proofs.RecordLemmas.{records_front, rest_front, count_front, count_short, records_short, rest_short}
-use Rattle.tm_tool.proofs.Running.{IsValid, records-append}
+use Rattle.tm_tool.specs.Stepping.{Reached}
+use Rattle.tm_tool.proofs.Running.{IsValid, behind-more, behind-none, records-append, wanted_reached, more_reached}
 
 -- a refusal has one fault
 pub same_fault : {T : Type 0} {f h : RunFault} → ◌≡◌ {A = Result T RunFault} (Err f) (Err h) → f ≡ h
@@ -31,113 +36,245 @@ told_all P octets None new c end h = tt
 told_all P octets (Some all) None c end h = absurd c
 told_all P octets (Some all) (Some left) c end h = subst P (sym (c ∙ ap (λ (l : List ℕ). octets ++ l) end ∙ append-nil octets)) h
 
+-- ---- which records an ending takes
+
+module _ (w : Work) (read : List (List ℕ)) (passed : w.state.records ≤ length read) where
+  size : length (behind w read) ≡ length read - w.state.records
+  size = length-drop w.state.records read
+
+  -- all of them, where no more follow
+  chosen_all : (ending : Ending) → Reached ending w.state.records (length read) → chosen ending (behind w read) ≡ behind w read
+  chosen_all Close h = refl
+  chosen_all Keep h = refl
+  chosen_all (StopAfter n) h = take_all n (behind w read) (omega (arith, h, size, passed))
+
+  -- those that were read come first
+  chosen_front : (ending : Ending) (more : List (List ℕ)) → Reached ending w.state.records (length read)
+      → (others : List (List ℕ)) × (chosen ending (behind w read ++ more) ≡ behind w read ++ others)
+  chosen_front Close more h = (more, refl)
+  chosen_front Keep more h = (more, refl)
+  chosen_front (StopAfter n) more h =
+      let count : n ≡ length (behind w read) + (n - length (behind w read)) = omega (arith, h, size, passed) in (
+        take (n - length (behind w read)) more,
+        ap (λ (k : ℕ). take k (behind w read ++ more)) count ∙ take-append-add (behind w read) more (n - length (behind w read)),
+      )
+
+  -- and are all, where no more are wanted
+  chosen_enough : (ending : Ending) (more : List (List ℕ)) → Suffices ending w.state.records (length read) → chosen ending (behind w read ++ more) ≡ behind w read
+  chosen_enough Close more h = absurd h
+  chosen_enough Keep more h = absurd h
+  chosen_enough (StopAfter n) more h =
+      take-append-le n (behind w read) more (omega (arith, h, size, passed)) ∙ take_all n (behind w read) (omega (arith, h, size, passed))
+
+-- where no more are wanted the ending has no pieces
+end_none : {A : Type 0} (text : Texts A) (ending : Ending) (done count : ℕ) (w : Work) (rest : ℕ) → Suffices ending done count → end_pieces text ending w rest ≡ []
+end_none text Close done count w rest h = absurd h
+end_none text Keep done count w rest h = absurd h
+end_none text (StopAfter n) done count w rest h = refl
+
+-- what is left is nothing at the end of a recording
+told_left : (P : List ℕ → Type 0) (octets : List ℕ) (old new : Option (List ℕ)) → Consumes old new octets
+    → ((left : List ℕ) → (IsAtEnd new → left ≡ []) → P (octets ++ left)) → IfSome old P
+told_left P octets None new c h = tt
+told_left P octets (Some all) None c h = absurd c
+told_left P octets (Some all) (Some left) c h = subst P (sym c) (h left (λ end. end))
+
+pub always : {P : List ℕ → Type 0} (o : Option (List ℕ)) → ((x : List ℕ) → P x) → IfSome o P
+always None f = tt
+always (Some x) f = f x
+
+pub weaker : {P Q : List ℕ → Type 0} (o : Option (List ℕ)) → ((x : List ℕ) → P x → Q x) → IfSome o P → IfSome o Q
+weaker None f h = tt
+weaker (Some x) f h = f x h
+
+-- one number is at most the other, or greater
+nat_le_or_lt : (a b : ℕ) → (a ≤ b) ⊎ (b < a)
+nat_le_or_lt zero b = inl (omega arith)
+nat_le_or_lt (suc a) zero = inr (omega arith)
+nat_le_or_lt (suc a) (suc b) =
+    elim (nat_le_or_lt a b) [
+      | inl h ↦ inl (omega (arith, h))
+      | inr h ↦ inr (omega (arith, h))
+    ]
+
 module _ {A K : Type 0} (grows : K → K → List A → Type 0) (grows-nil : (k : K) → grows k k [])
     (grows-trans : (j k l : K) (xs ys : List A) → grows j k xs → grows k l ys → grows j l (xs ++ ys))
-    (rows : Bool) (text : Texts A) (w : Work) (valid : IsValid w) (some : 0 < record_length_of w.layout) where
-  -- the pieces of a recording that was read whole
-  pieces_all : (read : List (List ℕ)) (rest : List ℕ) → AreRecords (record_length_of w.layout) read → length rest < record_length_of w.layout
-      → pieces text w (concat read ++ rest) ≡ pieces_after text w read (length rest)
-  unfolding pieces
-  pieces_all read rest sized short =
+    (rows : Bool) (text : Texts A) (ending : Ending) (w : Work) (valid : IsValid w) (some : 0 < record_length_of w.layout) where
+  -- the records that follow those that are done
+  further_front : (read : List (List ℕ)) (more : List ℕ) → AreRecords (record_length_of w.layout) read → w.state.records ≤ length read
+      → further w (concat read ++ more) ≡ behind w read ++ records (record_length_of w.layout) more
+  further_front read more sized passed =
+      ap (drop w.state.records) (records_front (record_length_of w.layout) some read more sized)
+      ∙ drop-append-le w.state.records read (records (record_length_of w.layout) more) passed
+
+  -- the records that an ending takes
+  chosen_is : (read : List (List ℕ)) (rest : List ℕ) (left_old left_new : Option (List ℕ)) (left : List ℕ) → w.state.records ≤ length read
+      → HasEnded ending w left_old left_new read rest → (IsAtEnd left_new → left ≡ []) → AreRecords (record_length_of w.layout) read
+      → chosen ending (further w ((concat read ++ rest) ++ left)) ≡ behind w read
+  chosen_is read rest left_old left_new left passed (inl h) end sized =
       let n : ℕ = record_length_of w.layout in
-      let all : records n (concat read ++ rest) ≡ read =
-      records_front n some read rest sized ∙ ap (λ (l : List (List ℕ)). read ++ l) (records_short n rest short) ∙ append-nil read in
-      let left : rest_of n (concat read ++ rest) ≡ rest = rest_front n some read rest sized ∙ rest_short n rest short in
-      ap (λ (l : List (List ℕ)). pieces_after text w l (length (rest_of n (concat read ++ rest)))) all
-      ∙ ap (λ (l : List ℕ). pieces_after text w read (length l)) left
+      let all : (concat read ++ rest) ++ left ≡ concat read ++ rest = ap (λ (l : List ℕ). (concat read ++ rest) ++ l) (end h.0.ended) ∙ append-nil (concat read ++ rest) in
+      ap (λ (l : List ℕ). chosen ending (further w l)) all
+      ∙ ap (chosen ending) (further_front read rest sized passed ∙ ap (λ (l : List (List ℕ)). behind w read ++ l) (records_short n rest h.0.short) ∙ append-nil (behind w read))
+      ∙ chosen_all w read passed ending (wanted_reached ending w.state.records (length read) h.1)
+  chosen_is read rest left_old left_new left passed (inr h) end sized =
+      ap (λ (l : List ℕ). chosen ending (further w l)) (append_assoc (concat read) rest left)
+      ∙ ap (chosen ending) (further_front read (rest ++ left) sized passed)
+      ∙ chosen_enough w read passed ending (records (record_length_of w.layout) (rest ++ left)) h.2
+
+  -- and what the ending has
+  end_is : (read : List (List ℕ)) (rest : List ℕ) (left_old left_new : Option (List ℕ)) (left : List ℕ)
+      → HasEnded ending w left_old left_new read rest → (IsAtEnd left_new → left ≡ []) → AreRecords (record_length_of w.layout) read
+      → end_pieces text ending (worked w (behind w read)) (length (rest_of (record_length_of w.layout) ((concat read ++ rest) ++ left)))
+      ≡ end_pieces text ending (worked w (behind w read)) (length rest)
+  end_is read rest left_old left_new left (inl h) end sized =
+      let n : ℕ = record_length_of w.layout in
+      let all : (concat read ++ rest) ++ left ≡ concat read ++ rest = ap (λ (l : List ℕ). (concat read ++ rest) ++ l) (end h.0.ended) ∙ append-nil (concat read ++ rest) in
+      ap (λ (l : List ℕ). end_pieces text ending (worked w (behind w read)) (length l))
+      (ap (rest_of n) all ∙ rest_front n some read rest sized ∙ rest_short n rest h.0.short)
+  end_is read rest left_old left_new left (inr h) end sized =
+      end_none text ending w.state.records (length read) (worked w (behind w read)) (length (rest_of (record_length_of w.layout) ((concat read ++ rest) ++ left))) h.2
+      ∙ sym (end_none text ending w.state.records (length read) (worked w (behind w read)) (length rest) h.2)
+
+  -- the pieces of a recording of which an ending took these records
+  pieces_ended : (read : List (List ℕ)) (rest : List ℕ) (left_old left_new : Option (List ℕ)) (left : List ℕ) → w.state.records ≤ length read
+      → HasEnded ending w left_old left_new read rest → (IsAtEnd left_new → left ≡ []) → AreRecords (record_length_of w.layout) read
+      → pieces text ending w ((concat read ++ rest) ++ left) ≡ pieces_after text ending w (behind w read) (length rest)
+  unfolding pieces
+  pieces_ended read rest left_old left_new left passed h end sized =
+      ap (λ (l : List (List ℕ)). pieces_after text ending w l (length (rest_of (record_length_of w.layout) ((concat read ++ rest) ++ left))))
+      (chosen_is read rest left_old left_new left passed h end sized)
+      ∙ ap (λ (ps : List (Piece A)). record_pieces text w (behind w read) ++ ps) (end_is read rest left_old left_new left h end sized)
 
   -- the pieces of the records in front come first
-  pieces_front : (read : List (List ℕ)) (more : List ℕ) → AreRecords (record_length_of w.layout) read
-      → (others : List (Piece A)) × (pieces text w (concat read ++ more) ≡ record_pieces text w read ++ others)
+  pieces_front : (read : List (List ℕ)) (more : List ℕ) → AreRecords (record_length_of w.layout) read → w.state.records ≤ length read
+      → Reached ending w.state.records (length read)
+      → (others : List (Piece A)) × (pieces text ending w (concat read ++ more) ≡ record_pieces text w (behind w read) ++ others)
   unfolding pieces
-  pieces_front read more sized =
+  pieces_front read more sized passed reached =
       let n : ℕ = record_length_of w.layout in
-      let tail : List (List ℕ) = records n more in
       let rest : ℕ = length (rest_of n (concat read ++ more)) in
-      let here : List (Piece A) = record_pieces text w read in
-      let there : List (Piece A) = record_pieces text (worked w read) tail in
-      let end : List (Piece A) = closing_pieces text (worked w (read ++ tail)) rest in (
+      let done : List (List ℕ) = behind w read in
+      let (others, split) = chosen_front w read passed ending (records n more) reached in
+      let here : List (Piece A) = record_pieces text w done in
+      let there : List (Piece A) = record_pieces text (worked w done) others in
+      let end : List (Piece A) = end_pieces text ending (worked w (done ++ others)) rest in (
         there ++ end,
-        ap (λ (l : List (List ℕ)). pieces_after text w l rest) (records_front n some read more sized)
-            ∙ ap (λ (l : List (Piece A)). l ++ end) (records-append w valid text read tail)
+        ap (λ (l : List (List ℕ)). pieces_after text ending w l rest) (ap (chosen ending) (further_front read more sized passed) ∙ split)
+            ∙ ap (λ (l : List (Piece A)). l ++ end) (records-append w valid text done others)
             ∙ append_assoc here there end,
       )
 
   -- and then those of the record that follows them
   pieces_next : (read : List (List ℕ)) (one more : List ℕ) → AreRecords (record_length_of w.layout) read → length one ≡ record_length_of w.layout
-      → (others : List (Piece A)) × (pieces text w ((concat read ++ one) ++ more) ≡ (record_pieces text w read ++ record_pieces text (worked w read) (one ∷ [])) ++ others)
-  pieces_next read one more sized exact =
-      let (others, split) = pieces_front (read ++ one ∷ []) more (AreRecords-append (record_length_of w.layout) read (one ∷ []) sized (exact, tt)) in (
+      → w.state.records ≤ length read → GoesOn ending w.state.records (length read)
+      → (others : List (Piece A)) × (pieces text ending w ((concat read ++ one) ++ more) ≡ (record_pieces text w (behind w read) ++ record_pieces text (worked w (behind w read)) (one ∷ [])) ++ others)
+  pieces_next read one more sized exact passed wanted =
+      let count = length-append read (one ∷ []) in
+      let (others, split) =
+      pieces_front (read ++ one ∷ []) more (AreRecords-append (record_length_of w.layout) read (one ∷ []) sized (exact, tt)) (omega (arith, passed, count))
+      (more_reached ending w.state.records (length read) (length (read ++ one ∷ [])) wanted count) in (
         others,
-        ap (λ (l : List ℕ). pieces text w (l ++ more)) (sym (concat-one read one))
+        ap (λ (l : List ℕ). pieces text ending w (l ++ more)) (sym (concat-one read one))
             ∙ split
-            ∙ ap (λ (l : List (Piece A)). l ++ others) (records-append w valid text read (one ∷ [])),
+            ∙ ap (λ (rs : List (List ℕ)). record_pieces text w rs ++ others) (behind-more w read one passed)
+            ∙ ap (λ (l : List (Piece A)). l ++ others) (records-append w valid text (behind w read) (one ∷ [])),
       )
 
   -- where writing stopped among all pieces
   module _ (first next : Option (List ℕ)) (old new : View K) where
-    pub run_told : (count : ℕ) → IsRun grows rows text w first next old new count
-        → IfSome first (λ octets. Took grows old new (pieces text w octets) × (count ≡ w.state.records + record_count (record_length_of w.layout) octets))
-    run_told count h =
-        let n : ℕ = record_length_of w.layout in
-        let sized = h.all.octets.sized in
-        let number : count ≡ w.state.records + record_count (record_length_of w.layout) (concat h.read ++ h.rest) =
-        h.count_is ∙ ap (λ (k : ℕ). w.state.records + k)
-        (sym (count_front n some h.read h.rest sized ∙ ap (λ (k : ℕ). length h.read + k) (count_short n h.rest h.all.short) ∙ omega arith)) in
-        told_all _ (concat h.read ++ h.rest) first next h.all.octets.octets h.all.ended
-        (subst (Took grows old new) (sym (pieces_all h.read h.rest sized h.all.short)) h.took, number)
+    -- what is said of a recording that an ending has read
+    ended_told : (P : List ℕ → Type 0) (read : List (List ℕ)) (rest : List ℕ) → HasEnded ending w first next read rest
+        → ((left : List ℕ) → (IsAtEnd next → left ≡ []) → AreRecords (record_length_of w.layout) read → P ((concat read ++ rest) ++ left)) → IfSome first P
+    ended_told P read rest (inl h) f =
+        told_left P (concat read ++ rest) first next h.0.octets.octets (λ left end. f left end h.0.octets.sized)
+    ended_told P read rest (inr h) f =
+        told_left P (concat read ++ rest) first next (subst (λ (l : List ℕ). Consumes first next (concat read ++ l)) (sym h.1) h.0.octets)
+        (λ left end. f left end h.0.sized)
+
+    pub run_told : (count : ℕ) (kept : Option Work) → IsRun grows rows text ending w first next old new count kept
+        → IfSome first (λ octets. Took grows old new (pieces text ending w octets)
+        × (count ≡ w.state.records + length (chosen ending (further w octets)))
+        × (kept ≡ kept_of ending (worked w (chosen ending (further w octets)))))
+    run_told count kept h =
+        ended_told _ h.read h.rest h.ended (λ left end sized.
+        let is = chosen_is h.read h.rest first next left h.passed h.ended end sized in (
+          subst (Took grows old new) (sym (pieces_ended h.read h.rest first next left h.passed h.ended end sized)) h.took,
+          h.count_is ∙ omega (arith, ap (λ (rs : List (List ℕ)). length rs) is, size w h.read h.passed, h.passed),
+          h.kept_is ∙ ap (λ (rs : List (List ℕ)). kept_of ending (worked w rs)) (sym is),
+        ))
 
     -- all of the pieces of some records were written
-    whole_cut : (read : List (List ℕ)) (part : List ℕ) → HasRead (record_length_of w.layout) first next read part → Took grows old new (record_pieces text w read)
-        → IfSome first (λ octets. AppendsCut grows old new (pieces text w octets))
-    whole_cut read part has took =
+    whole_cut : (read : List (List ℕ)) (part : List ℕ) → HasRead (record_length_of w.layout) first next read part → w.state.records ≤ length read
+        → Reached ending w.state.records (length read) → Took grows old new (record_pieces text w (behind w read))
+        → IfSome first (λ octets. AppendsCut grows old new (pieces text ending w octets))
+    whole_cut read part has passed reached took =
         told _ (concat read ++ part) first next has.octets (λ left.
-        let (others, split) = pieces_front read (part ++ left) has.sized in
-        subst (AppendsCut grows old new) (sym (ap (pieces text w) (append_assoc (concat read) part left) ∙ split))
-        (outs (record_pieces text w read), reports (record_pieces text w read), cut_front (record_pieces text w read) others, took.whole.0, took.whole.1))
+        let (others, split) = pieces_front read (part ++ left) has.sized passed reached in
+        subst (AppendsCut grows old new) (sym (ap (pieces text ending w) (append_assoc (concat read) part left) ∙ split))
+        (outs (record_pieces text w (behind w read)), reports (record_pieces text w (behind w read)), cut_front (record_pieces text w (behind w read)) others, took.whole.0, took.whole.1))
       where
         cut_front : (ps others : List (Piece A)) → Cut (ps ++ others) (outs ps) (reports ps)
         cut_front ps others = cut_more ps others (outs ps) (reports ps) (cut_all ps)
 
+    -- nothing was written
+    none_cut : Took grows old new [] → IfSome first (λ octets. AppendsCut grows old new (pieces text ending w octets))
+    none_cut took = always first (λ octets. ([], [], cut_none (pieces text ending w octets), took.whole.0, took.whole.1))
+
+    none_took : (read : List (List ℕ)) → length read ≤ w.state.records → Took grows old new (record_pieces text w (behind w read)) → Took grows old new []
+    unfolding items
+    none_took read few took = subst (λ (rs : List (List ℕ)). Took grows old new (record_pieces text w rs)) (behind-none w read few) took
+
+    read_cut : StopsAtRead grows rows text ending w first next old new → IfSome first (λ octets. AppendsCut grows old new (pieces text ending w octets))
+    read_cut h = by_cases (nat_le_or_lt w.state.records (length h.read))
+      where
+        reached : ((length h.read < w.state.records) ⊎ GoesOn ending w.state.records (length h.read)) → w.state.records ≤ length h.read → Reached ending w.state.records (length h.read)
+        reached (inl few) passed = absurd (omega (arith, few, passed))
+        reached (inr wanted) passed = wanted_reached ending w.state.records (length h.read) wanted
+
+        by_cases : ((w.state.records ≤ length h.read) ⊎ (length h.read < w.state.records)) → IfSome first (λ octets. AppendsCut grows old new (pieces text ending w octets))
+        by_cases (inl passed) = whole_cut h.read h.part h.octets passed (reached h.wanted passed) h.took
+        by_cases (inr few) = none_cut (none_took h.read (omega (arith, few)) h.took)
+
     -- a stop at a record, and at the end
-    record_stopped : (fault : RunFault) → StopsAtRecord grows rows text w first next old new fault → IfSome first (λ octets. Stopped grows rows old new (pieces text w octets) fault)
+    record_stopped : (fault : RunFault) → StopsAtRecord grows rows text ending w first next old new fault → IfSome first (λ octets. Stopped grows rows old new (pieces text ending w octets) fault)
     record_stopped fault h =
         told _ (concat h.read ++ h.one) first next h.octets.octets (λ left.
-        let (others, split) = pieces_next h.read h.one left h.octets.sized h.exact in
-        let here : List (Piece A) = record_pieces text w h.read in
-        let there : List (Piece A) = record_pieces text (worked w h.read) (h.one ∷ []) in
+        let (others, split) = pieces_next h.read h.one left h.octets.sized h.exact h.passed h.wanted in
+        let here : List (Piece A) = record_pieces text w (behind w h.read) in
+        let there : List (Piece A) = record_pieces text (worked w (behind w h.read)) (h.one ∷ []) in
         subst (λ (ps : List (Piece A)). Stopped grows rows old new ps fault) (sym split)
         (stopped_more grows grows-nil grows-trans rows old new (here ++ there) others fault
         (took_stopped grows grows-nil grows-trans rows old h.mid new here there h.took fault h.stopped)))
 
-    end_stopped : (fault : RunFault) → StopsAtEnd grows rows text w first next old new fault → IfSome first (λ octets. Stopped grows rows old new (pieces text w octets) fault)
+    end_stopped : (fault : RunFault) → StopsAtEnd grows rows text ending w first next old new fault → IfSome first (λ octets. Stopped grows rows old new (pieces text ending w octets) fault)
     end_stopped fault h =
-        let sized = h.all.octets.sized in
-        told_all _ (concat h.read ++ h.rest) first next h.all.octets.octets h.all.ended
-        (subst (λ (ps : List (Piece A)). Stopped grows rows old new ps fault) (sym (pieces_all h.read h.rest sized h.all.short))
-        (took_stopped grows grows-nil grows-trans rows old h.mid new (record_pieces text w h.read) (closing_pieces text (worked w h.read) (length h.rest)) h.took fault h.stopped))
+        ended_told _ h.read h.rest h.ended (λ left end sized.
+        subst (λ (ps : List (Piece A)). Stopped grows rows old new ps fault) (sym (pieces_ended h.read h.rest first next left h.passed h.ended end sized))
+        (took_stopped grows grows-nil grows-trans rows old h.mid new (record_pieces text w (behind w h.read)) (end_pieces text ending (worked w (behind w h.read)) (length h.rest)) h.took fault h.stopped))
 
-    weaker : {P Q : List ℕ → Type 0} (o : Option (List ℕ)) → ((x : List ℕ) → P x → Q x) → IfSome o P → IfSome o Q
-    weaker None f h = tt
-    weaker (Some x) f h = f x h
-
-    stopped_at : (fault : RunFault) → (StopsAtRecord grows rows text w first next old new fault ⊎ StopsAtEnd grows rows text w first next old new fault)
-        → IfSome first (λ octets. Stopped grows rows old new (pieces text w octets) fault)
+    stopped_at : (fault : RunFault) → (StopsAtRecord grows rows text ending w first next old new fault ⊎ StopsAtEnd grows rows text ending w first next old new fault)
+        → IfSome first (λ octets. Stopped grows rows old new (pieces text ending w octets) fault)
     stopped_at fault (inl h) = record_stopped fault h
     stopped_at fault (inr h) = end_stopped fault h
 
-    pub run_cut : (fault : RunFault) → IsStoppedAt grows rows text w first next old new fault → IfSome first (λ octets. AppendsCut grows old new (pieces text w octets))
-    run_cut Read h = whole_cut h.read h.part h.octets h.took
+    pub run_cut : (fault : RunFault) → IsStoppedAt grows rows text ending w first next old new fault → IfSome first (λ octets. AppendsCut grows old new (pieces text ending w octets))
+    run_cut Read h = read_cut h
     run_cut Write h = weaker first (λ octets s. s.cut) (stopped_at Write h)
     run_cut Report h = weaker first (λ octets s. s.cut) (stopped_at Report h)
-    run_cut TooMany h = whole_cut h.read h.one h.octets h.took
+    run_cut ShortRecording h = none_cut h.took
+    run_cut TooMany h = by_cases (nat_le_or_lt w.state.records (length h.read))
+      where
+        by_cases : ((w.state.records ≤ length h.read) ⊎ (length h.read < w.state.records)) → IfSome first (λ octets. AppendsCut grows old new (pieces text ending w octets))
+        by_cases (inl passed) = whole_cut h.read h.one h.octets passed (wanted_reached ending w.state.records (length h.read) h.wanted) h.took
+        by_cases (inr few) = none_cut (none_took h.read (omega (arith, few)) h.took)
     run_cut NoMemory h = weaker first (λ octets s. s.cut) (stopped_at NoMemory h)
 
-    pub run_memory : IsStoppedAt grows rows text w first next old new NoMemory → IfSome first (λ octets. WantsMemory grows rows old new (pieces text w octets))
+    pub run_memory : IsStoppedAt grows rows text ending w first next old new NoMemory → IfSome first (λ octets. WantsMemory grows rows old new (pieces text ending w octets))
     run_memory h = weaker first (λ octets s. s.memory refl) (stopped_at NoMemory h)
 
     -- the recording has more records than can be counted
-    pub run_many : IsStoppedAt grows rows text w first next old new TooMany → IfSome first (λ octets. 2 ^ 32 - 1 < w.state.records + record_count (record_length_of w.layout) octets)
+    pub run_many : IsStoppedAt grows rows text ending w first next old new TooMany → IfSome first (λ octets. 2 ^ 32 - 1 < record_count (record_length_of w.layout) octets)
     run_many h =
         let n : ℕ = record_length_of w.layout in
         told _ (concat h.read ++ h.one) first next h.octets.octets (λ left.
@@ -146,3 +283,12 @@ module _ {A K : Type 0} (grows : K → K → List A → Type 0) (grows-nil : (k 
         ap (λ (l : List ℕ). record_count (record_length_of w.layout) (l ++ left)) (sym (concat-one h.read h.one))
         ∙ count_front n some longer left (AreRecords-append n h.read (h.one ∷ []) h.octets.sized (h.exact, tt)) in
         omega (arith, all, length-append h.read (h.one ∷ []), h.most))
+
+    -- the recording has fewer records than are done
+    pub run_short : IsStoppedAt grows rows text ending w first next old new ShortRecording → IfSome first (λ octets. record_count (record_length_of w.layout) octets < w.state.records)
+    run_short h =
+        let n : ℕ = record_length_of w.layout in
+        told_all _ (concat h.read ++ h.rest) first next h.all.octets.octets h.all.ended
+        (let all = count_front n some h.read h.rest h.all.octets.sized in
+        let none = count_short n h.rest h.all.short in
+        omega (arith, all, none, h.few))

@@ -1,9 +1,10 @@
 -- How a loop over records stands.
-use Rattle.std.proofs.Common.{◌≡◌, ◌<◌, ◌+◌, ℕ, Bool, List, [], ◌∷◌, ◌++◌, length, refl, sym, ap, subst, ◌∙◌, Option, inl}
-use Rattle.std.proofs.lemmas.List.{length-map}
+use Rattle.std.proofs.Common.{◌≡◌, ◌<◌, ◌≤◌, ◌+◌, ℕ, Bool, List, [], ◌∷◌, ◌++◌, length, refl, sym, ap, subst, ◌∙◌, Option, inl, inr, arith, append-nil, length-append, length-drop}
+use Rattle.std.proofs.lemmas.List.{drop-append-le, length-map}
+use Rattle.std.proofs.Math.ListN.{drop_of_length-le}
 use Rattle.std.specs.List.{concat}
 use Rattle.std.specs.Io.KnownBytes.{Consumes, IsAtEnd}
-use Rattle.std.proofs.KnownBytes.{Consumes-nil, Consumes-trans}
+use Rattle.std.proofs.KnownBytes.{Consumes-trans}
 use Rattle.tm_frame.specs.declared.layout.LayoutParts.{LayoutParts}
 use Rattle.tm_frame.specs.Fault.{reading_of}
 use Rattle.tm_frame.specs.Layout.{record_length_of}
@@ -12,17 +13,20 @@ use Rattle.tm_reassembly.specs.Item.{Item}
 use Rattle.tm_reassembly.specs.Items.{empty}
 use Rattle.tm_reassembly.specs.Recording.{items, after}
 use Rattle.tm_reassembly.specs.State.{State}
-use Rattle.tm_reassembly.specs.Steps.{Progress, stepped, step_items}
+use Rattle.tm_bits.specs.Bits.{AreOctets}
+use Rattle.tm_reassembly.specs.Steps.{Progress, most_records, stepped, step_items}
 use Rattle.tm_reassembly.specs.Valid.{IsState}
 use Rattle.tm_reassembly.proofs.OneStep.{after-nil}
 use Rattle.tm_reassembly.proofs.Raw.{items-join, states-join}
-use Rattle.tm_reassembly.proofs.States.{empty-valid}
+use Rattle.tm_reassembly.proofs.States.{empty-valid, record-valid}
 use Rattle.tm_tool.specs.declared.fault.RunFault.{RunFault}
-use Rattle.tm_tool.specs.declared.fault.RunFault.TheVariants.{Read, Write, Report, TooMany, NoMemory}
+use Rattle.tm_tool.specs.declared.fault.RunFault.TheVariants.{Read, Write, Report, ShortRecording, TooMany, NoMemory}
+use Rattle.tm_tool.specs.declared.job.Ending.{Ending}
+use Rattle.tm_tool.specs.declared.job.Ending.TheVariants.{Close, Keep, StopAfter}
 use Rattle.tm_tool.specs.Outputs.{Piece, View, Took, Stopped}
 use Rattle.tm_tool.specs.Pieces.{Entries, Texts, Work, noted, noted_all, piece_of, pieces_of, items_of, worked, record_pieces}
-use Rattle.tm_tool.specs.Runs.{HasRead, StopsAtRecord, IsStoppedAt}
-use Rattle.tm_tool.specs.Stepping.{HasTaken, HasStepped, StepStopped, work_of}
+use Rattle.tm_tool.specs.Runs.{HasRead, GoesOn, Suffices, StopsAtRecord, IsStoppedAt, behind}
+use Rattle.tm_tool.specs.Stepping.{Enough, HasTaken, HasStepped, HasPassed, PassingStopped, Reached, StepStopped, work_of}
 use Rattle.tm_tool.proofs.ListingLemmas.{AreRecords-append, concat-one}
 use Rattle.tm_tool.proofs.PieceLemmas.{took_none, took_took}
 
@@ -34,12 +38,20 @@ pub stepped_work : (p q : Progress) (e e' : Entries) (octets : List ℕ) → q �
     → e' ≡ noted_all e (step_items p octets) → work_of q e' ≡ worked (work_of p e) (octets ∷ [])
 stepped_work p q e e' octets left noted = ap (λ (x : Progress). work_of x e') left ∙ ap (λ (x : Entries). work_of (stepped p octets) x) noted
 
+-- and its state is a valid one
+pub stepped_valid : (p q : Progress) (octets : List ℕ) → IsState p.layout (is_chosen p.channels) p.state → AreOctets octets → p.state.records < most_records
+    → q ≡ stepped p octets → IsState q.layout (is_chosen q.channels) q.state
+stepped_valid p q octets valid are few left =
+    subst (λ (x : Progress). IsState x.layout (is_chosen x.channels) x.state) (sym left)
+    (record-valid p.layout (is_chosen p.channels) p.state octets valid are (omega (arith, few)))
+
 -- a fault of writing is a fault of stepping
 pub step_stopped : {A K : Type 0} (grows : K → K → List A → Type 0) (rows : Bool) (records : ℕ) (old new : View K) (ps : List (Piece A)) (fault : RunFault)
     → Stopped grows rows old new ps fault → StepStopped grows rows records old new ps fault
 step_stopped grows rows records old new ps Read s = absurd s.cause
 step_stopped grows rows records old new ps Write s = s
 step_stopped grows rows records old new ps Report s = s
+step_stopped grows rows records old new ps ShortRecording s = absurd s.cause
 step_stopped grows rows records old new ps TooMany s = absurd s.cause
 step_stopped grows rows records old new ps NoMemory s = s
 
@@ -80,23 +92,79 @@ pub records-counted : (w : Work) (rs : List (List ℕ)) → (worked w rs).state.
 unfolding after
 records-counted w rs = ap (λ (n : ℕ). w.state.records + n) (length-map rs (reading_of w.layout))
 
+-- ---- how many records are wanted
+
+pub wanted_reached : (ending : Ending) (done count : ℕ) → GoesOn ending done count → Reached ending done count
+wanted_reached Close done count h = tt
+wanted_reached Keep done count h = tt
+wanted_reached (StopAfter n) done count h = omega (arith, h)
+
+pub more_reached : (ending : Ending) (done count more : ℕ) → GoesOn ending done count → more ≡ count + 1 → Reached ending done more
+more_reached Close done count more h e = tt
+more_reached Keep done count more h e = tt
+more_reached (StopAfter n) done count more h e = omega (arith, h, e)
+
+pub first_reached : (ending : Ending) (done : ℕ) → Reached ending done done
+first_reached Close done = tt
+first_reached Keep done = tt
+first_reached (StopAfter n) done = omega arith
+
+pub just_enough : (ending : Ending) (done count : ℕ) → Reached ending done count → Enough ending done count → Suffices ending done count
+just_enough Close done count r h = absurd h
+just_enough Keep done count r h = absurd h
+just_enough (StopAfter n) done count r h = omega (arith, r, h)
+
 -- ---- the loop
+
+-- the records behind those that are done, of which there is one more
+pub behind-more : (w : Work) (read : List (List ℕ)) (one : List ℕ) → w.state.records ≤ length read → behind w (read ++ one ∷ []) ≡ behind w read ++ one ∷ []
+behind-more w read one passed = drop-append-le w.state.records read (one ∷ []) passed
+
+pub behind-none : (w : Work) (read : List (List ℕ)) → length read ≤ w.state.records → behind w read ≡ []
+behind-none w read few = drop_of_length-le read few
+
+-- so many records are done in all
+pub behind-counted : (w : Work) (read : List (List ℕ)) → w.state.records ≤ length read → (worked w (behind w read)).state.records ≡ length read
+behind-counted w read passed =
+    records-counted w (behind w read) ∙ omega (arith, length-drop w.state.records read)
 
 module _ {A K : Type 0} (grows : K → K → List A → Type 0) (grows-nil : (k : K) → grows k k [])
     (grows-trans : (j k l : K) (xs ys : List A) → grows j k xs → grows k l ys → grows j l (xs ++ ys))
-    (text : Texts A) (w : Work) (valid : IsValid w) where
-  nothing : (v : View K) → Took grows v v (record_pieces text w [])
+    (text : Texts A) (ending : Ending) (w : Work) (valid : IsValid w) where
+  pub nothing : (v : View K) → Took grows v v (record_pieces text w [])
   unfolding items
   nothing v = took_none grows grows-nil grows-trans v
 
-  pub taken_first : (left : Option (List ℕ)) (v : View K) → HasTaken grows text w left left v v w
-  taken_first left v = record {
-    read = [];
-    sized = tt;
-    octets = Consumes-nil left;
-    work = sym (worked-none w valid);
-    took = nothing v;
-  }
+  -- the records that are done were passed over
+  pub taken_first : (first left : Option (List ℕ)) (v : View K) → HasPassed (record_length_of w.layout) w.state.records first left → HasTaken grows text w first left v v w
+  taken_first first left v h =
+      let none : behind w h.read ≡ [] = behind-none w h.read (omega (arith, h.counted)) in record {
+        read = h.read;
+        sized = h.sized;
+        octets = h.octets;
+        passed = omega (arith, h.counted);
+        work = sym (ap (worked w) none ∙ worked-none w valid);
+        took = subst (λ (rs : List (List ℕ)). Took grows v v (record_pieces text w rs)) (sym none) (nothing v);
+      }
+
+  -- they could not be
+  pub passing_stopped : (rows : Bool) (first next : Option (List ℕ)) (v : View K) (fault : RunFault)
+      → PassingStopped (record_length_of w.layout) w.state.records first next fault → IsStoppedAt grows rows text ending w first next v v fault
+  passing_stopped rows first next v Read h =
+      let none : behind w h.read ≡ [] = behind-none w h.read (omega (arith, h.few)) in record {
+        read = h.read;
+        part = h.part;
+        octets = h.octets;
+        short = h.short;
+        wanted = inl h.few;
+        took = subst (λ (rs : List (List ℕ)). Took grows v v (record_pieces text w rs)) (sym none) (nothing v);
+      }
+  passing_stopped rows first next v Write h = absurd h
+  passing_stopped rows first next v Report h = absurd h
+  passing_stopped rows first next v ShortRecording h =
+      record { read = h.read; rest = h.rest; all = h.all; few = h.few; took = took_none grows grows-nil grows-trans v }
+  passing_stopped rows first next v TooMany h = absurd h
+  passing_stopped rows first next v NoMemory h = absurd h
 
   module _ (first left next : Option (List ℕ)) (old now new : View K) (work : Work) (octets : List ℕ)
       (taken : HasTaken grows text w first left old now work) (got : Consumes left next octets) where
@@ -106,57 +174,92 @@ module _ {A K : Type 0} (grows : K → K → List A → Type 0) (grows-nil : (k 
     -- a record was read and taken
     pub taken_more : (more : Work) → length octets ≡ record_length_of w.layout → Took grows now new (record_pieces text work (octets ∷ [])) → more ≡ worked work (octets ∷ [])
         → HasTaken grows text w first next old new more
-    taken_more more exact took left_is = record {
-      read = taken.read ++ octets ∷ [];
-      sized = AreRecords-append (record_length_of w.layout) taken.read (octets ∷ []) taken.sized (exact, tt);
-      octets = subst (Consumes first next) (sym (concat-one taken.read octets)) has_read.octets;
-      work = left_is ∙ ap (λ (x : Work). worked x (octets ∷ [])) taken.work ∙ sym (worked-append w valid taken.read (octets ∷ []));
-      took = subst (Took grows old new)
-          (ap (λ (x : Work). record_pieces text w taken.read ++ record_pieces text x (octets ∷ [])) taken.work ∙ sym (records-append w valid text taken.read (octets ∷ [])))
-          (took_took grows grows-nil grows-trans old now new (record_pieces text w taken.read) (record_pieces text work (octets ∷ [])) taken.took took);
-    }
+    taken_more more exact took left_is =
+        let done : List (List ℕ) = behind w taken.read in
+        let longer : behind w (taken.read ++ octets ∷ []) ≡ done ++ octets ∷ [] = behind-more w taken.read octets taken.passed in record {
+          read = taken.read ++ octets ∷ [];
+          sized = AreRecords-append (record_length_of w.layout) taken.read (octets ∷ []) taken.sized (exact, tt);
+          octets = subst (Consumes first next) (sym (concat-one taken.read octets)) has_read.octets;
+          passed = omega (arith, taken.passed, length-append taken.read (octets ∷ []));
+          work = left_is ∙ ap (λ (x : Work). worked x (octets ∷ [])) taken.work ∙ sym (worked-append w valid done (octets ∷ [])) ∙ ap (worked w) (sym longer);
+          took = subst (Took grows old new)
+              (ap (λ (x : Work). record_pieces text w done ++ record_pieces text x (octets ∷ [])) taken.work
+              ∙ sym (records-append w valid text done (octets ∷ [])) ∙ ap (record_pieces text w) (sym longer))
+              (took_took grows grows-nil grows-trans old now new (record_pieces text w done) (record_pieces text work (octets ∷ [])) taken.took took);
+        }
 
-    at_record : (rows : Bool) (fault : RunFault) → length octets ≡ record_length_of w.layout → Stopped grows rows now new (record_pieces text work (octets ∷ [])) fault
-        → StopsAtRecord grows rows text w first next old new fault
-    at_record rows fault exact h = record {
-      read = taken.read;
-      one = octets;
-      octets = has_read;
-      exact = exact;
-      mid = now;
-      took = taken.took;
-      stopped = subst (λ (x : Work). Stopped grows rows now new (record_pieces text x (octets ∷ [])) fault) taken.work h;
-    }
+    -- so many records are done
+    counted : work.state.records ≡ length taken.read
+    counted = ap (λ (x : Work). x.state.records) taken.work ∙ behind-counted w taken.read taken.passed
 
-    -- writing stopped in its pieces, or the record was one too many
-    pub taken_stopped : (rows : Bool) (fault : RunFault) → length octets ≡ record_length_of w.layout
-        → StepStopped grows rows work.state.records now new (record_pieces text work (octets ∷ [])) fault
-        → IsStoppedAt grows rows text w first next old new fault
-    taken_stopped rows Read exact h = absurd h
-    taken_stopped rows Write exact h = inl (at_record rows Write exact h)
-    taken_stopped rows Report exact h = inl (at_record rows Report exact h)
-    taken_stopped rows TooMany exact h = record {
-      read = taken.read;
-      one = octets;
-      octets = has_read;
-      exact = exact;
-      most = sym (ap (λ (x : Work). x.state.records) taken.work ∙ records-counted w taken.read) ∙ h.0;
-      took = subst (λ (v : View K). Took grows old v (record_pieces text w taken.read)) (sym h.1) taken.took;
-    }
-    taken_stopped rows NoMemory exact h = inl (at_record rows NoMemory exact h)
+    module _ (wanted : GoesOn ending w.state.records work.state.records) where
+      goes_on : GoesOn ending w.state.records (length taken.read)
+      goes_on = subst (GoesOn ending w.state.records) counted wanted
 
-    -- a read failed in a record
-    pub taken_read : (rows : Bool) → length octets < record_length_of w.layout → IsStoppedAt grows rows text w first next old now Read
-    taken_read rows short = record { read = taken.read; part = octets; octets = has_read; short = short; took = taken.took }
+      at_record : (rows : Bool) (fault : RunFault) → length octets ≡ record_length_of w.layout → Stopped grows rows now new (record_pieces text work (octets ∷ [])) fault
+          → StopsAtRecord grows rows text ending w first next old new fault
+      at_record rows fault exact h = record {
+        read = taken.read;
+        one = octets;
+        octets = has_read;
+        exact = exact;
+        passed = taken.passed;
+        wanted = goes_on;
+        mid = now;
+        took = taken.took;
+        stopped = subst (λ (x : Work). Stopped grows rows now new (record_pieces text x (octets ∷ [])) fault) taken.work h;
+      }
 
-    -- all was read, and so many octets are left
-    pub taken_all : (n : ℕ) → length octets ≡ n → length octets < record_length_of w.layout → IsAtEnd next
-        → HasStepped grows text w first next old now work n
-    taken_all n count short ended = record {
-      read = taken.read;
-      rest = octets;
-      all = record { octets = has_read; short = short; ended = ended };
-      left = count;
-      work = taken.work;
-      took = taken.took;
-    }
+      -- writing stopped in its pieces, or the record was one too many
+      pub taken_stopped : (rows : Bool) (fault : RunFault) → length octets ≡ record_length_of w.layout
+          → StepStopped grows rows work.state.records now new (record_pieces text work (octets ∷ [])) fault
+          → IsStoppedAt grows rows text ending w first next old new fault
+      taken_stopped rows Read exact h = absurd h
+      taken_stopped rows Write exact h = inl (at_record rows Write exact h)
+      taken_stopped rows Report exact h = inl (at_record rows Report exact h)
+      taken_stopped rows ShortRecording exact h = absurd h
+      taken_stopped rows TooMany exact h = record {
+        read = taken.read;
+        one = octets;
+        octets = has_read;
+        exact = exact;
+        most = sym counted ∙ h.0;
+        wanted = goes_on;
+        took = subst (λ (v : View K). Took grows old v (record_pieces text w (behind w taken.read))) (sym h.1) taken.took;
+      }
+      taken_stopped rows NoMemory exact h = inl (at_record rows NoMemory exact h)
+
+      -- a read failed in a record
+      pub taken_read : (rows : Bool) → length octets < record_length_of w.layout → IsStoppedAt grows rows text ending w first next old now Read
+      taken_read rows short =
+          record { read = taken.read; part = octets; octets = has_read; short = short; wanted = inr goes_on; took = taken.took }
+
+      -- all was read, and so many octets are left
+      pub taken_all : (n : ℕ) → length octets ≡ n → length octets < record_length_of w.layout → IsAtEnd next
+          → HasStepped grows text ending w first next old now work n
+      taken_all n count short ended = record {
+        read = taken.read;
+        rest = octets;
+        passed = taken.passed;
+        ended = inl (record { octets = has_read; short = short; ended = ended }, goes_on);
+        left = count;
+        work = taken.work;
+        took = taken.took;
+      }
+
+  -- no further record is wanted
+  pub taken_enough : (first left : Option (List ℕ)) (old now : View K) (work : Work) → HasTaken grows text w first left old now work
+      → Suffices ending w.state.records work.state.records → HasStepped grows text ending w first left old now work 0
+  taken_enough first left old now work taken enough = record {
+    read = taken.read;
+    rest = [];
+    passed = taken.passed;
+    ended = inr (
+      record { sized = taken.sized; octets = subst (Consumes first left) (sym (append-nil (concat taken.read))) taken.octets },
+      refl,
+      subst (Suffices ending w.state.records) (ap (λ (x : Work). x.state.records) taken.work ∙ behind-counted w taken.read taken.passed) enough,
+    );
+    left = refl;
+    work = taken.work;
+    took = taken.took;
+  }

@@ -2,7 +2,7 @@
 use Rattle.std.specs.Prelude.{◌≡◌, ℕ, Result, MatchResult}
 use Rattle.tm_tool.specs.Devices.{raised}
 use Rattle.tm_tool.specs.declared.fault.RunFault.{RunFault}
-use Rattle.tm_tool.specs.declared.fault.RunFault.TheVariants.{Read, Write, Report, TooMany, NoMemory}
+use Rattle.tm_tool.specs.declared.fault.RunFault.TheVariants.{Read, Write, Report, ShortRecording, TooMany, NoMemory}
 use Rattle.tm_tool.specs.Outputs.{View, SameCounts}
 use Rattle.tm_tool.specs.Outputs as outputs
 
@@ -11,6 +11,7 @@ abbrev pub Caused : ℕ → ℕ → ℕ → ℕ → RunFault → Type 0
 Caused source_old source_new out_old out_new Read = (source_new ≡ raised source_old) × (out_new ≡ out_old)
 Caused source_old source_new out_old out_new Write = (source_new ≡ source_old) × (out_new ≡ raised out_old)
 Caused source_old source_new out_old out_new Report = ⊥
+Caused source_old source_new out_old out_new ShortRecording = ⊥
 Caused source_old source_new out_old out_new TooMany = (source_new ≡ source_old) × (out_new ≡ out_old)
 Caused source_old source_new out_old out_new NoMemory = (source_new ≡ source_old) × (out_new ≡ out_old)
 
@@ -23,6 +24,7 @@ abbrev pub WriteCaused : ℕ → ℕ → RunFault → Type 0
 WriteCaused old new Read = ⊥
 WriteCaused old new Write = new ≡ raised old
 WriteCaused old new Report = ⊥
+WriteCaused old new ShortRecording = ⊥
 WriteCaused old new TooMany = ⊥
 WriteCaused old new NoMemory = new ≡ old
 
@@ -34,6 +36,7 @@ abbrev pub RunCaused : {K : Type 0} → ℕ → ℕ → View K → View K → Ru
 RunCaused source_old source_new old new Read = (source_new ≡ raised source_old) × SameCounts old new
 RunCaused source_old source_new old new Write = (source_new ≡ source_old) × outputs.Caused old new Write
 RunCaused source_old source_new old new Report = (source_new ≡ source_old) × outputs.Caused old new Report
+RunCaused source_old source_new old new ShortRecording = (source_new ≡ source_old) × SameCounts old new
 RunCaused source_old source_new old new TooMany = (source_new ≡ source_old) × SameCounts old new
 RunCaused source_old source_new old new NoMemory = (source_new ≡ source_old) × SameCounts old new
 

@@ -6,6 +6,7 @@ use Rattle.tm_packet.specs.Merge.{no_entries}
 use Rattle.tm_reassembly.specs.Items.{empty}
 use Rattle.tm_tool.specs.declared.job.Command.{Command}
 use Rattle.tm_tool.specs.declared.job.Command.TheVariants.{Extract, Packets, Fields}
+use Rattle.tm_tool.specs.declared.job.Ending.{Ending}
 use Rattle.tm_tool.specs.Outputs.{Piece}
 use Rattle.tm_tool.specs.Pieces.{Work, pieces, text_of}
 use Rattle.tm_tool.specs.Settings.{Choices}
@@ -32,6 +33,6 @@ head_pieces Extract fresh = []
 head_pieces Packets fresh = []
 head_pieces (Fields definition application) fresh = rows_head definition.now fresh
 
--- all pieces of a recording
-abbrev pub all_pieces : Command → JobState → List ℕ → List (Piece ℕ)
-all_pieces command job recording = head_pieces command job.fresh ++ pieces (text_of command) job.work recording
+-- all pieces of a recording, down to an ending
+abbrev pub all_pieces : Command → Ending → JobState → List ℕ → List (Piece ℕ)
+all_pieces command ending job recording = head_pieces command job.fresh ++ pieces (text_of command) ending job.work recording

@@ -12,7 +12,10 @@ pub mod Pieces
 pub mod Jobs
 pub mod Runs
 pub mod Stepping
+pub mod Keeping
 pub mod Sinking
 pub mod Outlets
 pub mod Shelves
 pub mod ShelfLaws
+pub mod Checkpoints
+pub mod Resuming

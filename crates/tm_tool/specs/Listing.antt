@@ -8,7 +8,7 @@ use Rattle.tm_frame.specs.Fault.{reading_of}
 use Rattle.tm_frame.specs.Frame.{GoodFrame}
 use Rattle.tm_frame.specs.Layout.{record_length_of}
 use Rattle.tm_tool.specs.declared.fault.RunFault.{RunFault}
-use Rattle.tm_tool.specs.declared.fault.RunFault.TheVariants.{Read, Write, Report, TooMany, NoMemory}
+use Rattle.tm_tool.specs.declared.fault.RunFault.TheVariants.{Read, Write, Report, ShortRecording, TooMany, NoMemory}
 use Rattle.tm_tool.specs.Devices.{AppendsFront}
 use Rattle.tm_tool.specs.Lines.{bad_line, frame_line, short_line}
 use Rattle.tm_tool.specs.Records.{AreRecords, records, rest_of}
@@ -83,6 +83,7 @@ module _ (layout : LayoutParts) (left_old left_new out_old out_new : Option (Lis
       × Appends out_old out_new (concat (record_lines layout 0 read))
   IsStopped Write = StopsWriting Write
   IsStopped Report = ⊥
+  IsStopped ShortRecording = ⊥
   IsStopped TooMany =
       (read : List (List ℕ)) × (one : List ℕ) × HasRead read one × (length one ≡ record_length_of layout)
       × (length read ≡ 2 ^ 32 - 1) × Appends out_old out_new (concat (record_lines layout 0 read))

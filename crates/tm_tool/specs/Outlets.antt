@@ -8,7 +8,7 @@ use Rattle.tm_tool.specs.declared.job.Command.TheVariants.{Extract, Packets, Fie
 use Rattle.tm_tool.specs.FieldRows.{tabled, too_short}
 use Rattle.tm_tool.specs.Pieces.{HasLine, Texts, listed, octets_of, rows_text, text_of}
 use Rattle.tm_tool.specs.declared.fault.RunFault.{RunFault}
-use Rattle.tm_tool.specs.declared.fault.RunFault.TheVariants.{Read, Write, Report, TooMany, NoMemory}
+use Rattle.tm_tool.specs.declared.fault.RunFault.TheVariants.{Read, Write, Report, ShortRecording, TooMany, NoMemory}
 
 -- writing stopped in what belongs there: a call of it failed after a front of that, or there was no memory to make it
 abbrev pub PutStopped : {A K : Type 0} → (K → K → List A → Type 0) → Bool → K → K → ℕ → ℕ → List A → RunFault → Type 0
@@ -16,6 +16,7 @@ PutStopped grows rows old new failures_old failures_new text Read = ⊥
 PutStopped {A} grows rows old new failures_old failures_new text Write =
     (failures_new ≡ raised failures_old) × ((front rest : List A) × (text ≡ front ++ rest) × grows old new front)
 PutStopped grows rows old new failures_old failures_new text Report = ⊥
+PutStopped grows rows old new failures_old failures_new text ShortRecording = ⊥
 PutStopped grows rows old new failures_old failures_new text TooMany = ⊥
 PutStopped grows rows old new failures_old failures_new text NoMemory = (rows ≡ true) × (failures_new ≡ failures_old) × grows old new []
 

@@ -4,7 +4,7 @@ use Rattle.std.specs.Prelude.{◌≡◌, ◌≢◌, ◌⊎◌, ℕ, Bool, true, 
 use Rattle.std.specs.Io.KnownBytes.{Appends}
 use Rattle.tm_tool.specs.Devices.{raised}
 use Rattle.tm_tool.specs.declared.fault.RunFault.{RunFault}
-use Rattle.tm_tool.specs.declared.fault.RunFault.TheVariants.{Read, Write, Report, TooMany, NoMemory}
+use Rattle.tm_tool.specs.declared.fault.RunFault.TheVariants.{Read, Write, Report, ShortRecording, TooMany, NoMemory}
 
 -- what belongs to `out`, and a text for the report
 pub record Piece (A : Type 0) : Type 0 where
@@ -48,6 +48,7 @@ abbrev pub Caused : {K : Type 0} → View K → View K → RunFault → Type 0
 Caused old new Read = ⊥
 Caused old new Write = (new.out_failures ≡ raised old.out_failures) × (new.report_failures ≡ old.report_failures)
 Caused old new Report = (new.out_failures ≡ old.out_failures) × (new.report_failures ≡ raised old.report_failures)
+Caused old new ShortRecording = ⊥
 Caused old new TooMany = ⊥
 Caused old new NoMemory = SameCounts old new
 

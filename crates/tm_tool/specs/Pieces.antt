@@ -1,5 +1,5 @@
 -- The pieces of a recording: for each item what belongs to `out`, and its lines for the report.
-use Rattle.std.specs.Prelude.{⊤, ℕ, ◌/◌, ◌%◌, Bool, true, false, List, [], ◌∷◌, ◌++◌, length, map, Option}
+use Rattle.std.specs.Prelude.{⊤, ℕ, ◌/◌, ◌%◌, Bool, true, false, List, [], ◌∷◌, ◌++◌, length, map, take, drop, Option}
 use Rattle.std.specs.List.{flat_map}
 use Rattle.tm_frame.specs.declared.layout.LayoutParts.{LayoutParts}
 use Rattle.tm_frame.specs.Layout.{record_length_of}
@@ -17,6 +17,8 @@ use Rattle.tm_reassembly.specs.Recording.{items, after}
 use Rattle.tm_reassembly.specs.State.{State}
 use Rattle.tm_tool.specs.declared.job.Command.{Command}
 use Rattle.tm_tool.specs.declared.job.Command.TheVariants.{Extract, Packets, Fields}
+use Rattle.tm_tool.specs.declared.job.Ending.{Ending}
+use Rattle.tm_tool.specs.declared.job.Ending.TheVariants.{Close, Keep, StopAfter}
 use Rattle.tm_tool.specs.FieldRows.{tabled, too_short}
 use Rattle.tm_tool.specs.Lines.{bad_line, drop_line, gap_line, note_line, note_lines, packet_line, short_line, vca_line}
 use Rattle.tm_tool.specs.Outputs.{Piece}
@@ -141,6 +143,18 @@ worked w rs = record {
   entries = noted_all w.entries (items_of w rs);
 }
 
+-- ---- endings
+
+-- of the records that follow those that are done an ending takes so many, or all
+abbrev pub chosen : {X : Type 0} → Ending → List X → List X
+chosen Close rs = rs
+chosen Keep rs = rs
+chosen (StopAfter n) rs = take n rs
+
+-- the records of a recording that follow those that are done
+abbrev pub further : Work → List ℕ → List (List ℕ)
+further w recording = drop w.state.records (records (record_length_of w.layout) recording)
+
 module _ {A : Type 0} (text : Texts A) where
   -- the pieces of records
   abbrev pub record_pieces : Work → List (List ℕ) → List (Piece A)
@@ -152,11 +166,17 @@ module _ {A : Type 0} (text : Texts A) where
       pieces_of text w.entries (closing w.state rest)
       ++ unclosed_pieces w.state.records (sequence.unclosed 0 (noted_all w.entries (closing w.state rest)))
 
-  -- the pieces of records and a rest of so many octets
-  abbrev pub pieces_after : Work → List (List ℕ) → ℕ → List (Piece A)
-  pieces_after w rs rest = record_pieces w rs ++ closing_pieces (worked w rs) rest
+  -- what follows the records at an ending: a closed end has its pieces, where a job is kept there is nothing
+  abbrev pub end_pieces : Ending → Work → ℕ → List (Piece A)
+  end_pieces Close w rest = closing_pieces w rest
+  end_pieces Keep w rest = []
+  end_pieces (StopAfter n) w rest = []
 
-  -- the pieces of a recording
-  unfoldable pub pieces : Work → List ℕ → List (Piece A)
-  pieces w recording =
-      pieces_after w (records (record_length_of w.layout) recording) (length (rest_of (record_length_of w.layout) recording))
+  -- the pieces of records and of the ending, where so many octets are left
+  abbrev pub pieces_after : Ending → Work → List (List ℕ) → ℕ → List (Piece A)
+  pieces_after ending w rs rest = record_pieces w rs ++ end_pieces ending (worked w rs) rest
+
+  -- the pieces of a recording, from where the job has got
+  unfoldable pub pieces : Ending → Work → List ℕ → List (Piece A)
+  pieces ending w recording =
+      pieces_after ending w (chosen ending (further w recording)) (length (rest_of (record_length_of w.layout) recording))

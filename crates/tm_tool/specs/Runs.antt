@@ -1,12 +1,14 @@
 -- What was read and written when a run ended. Of a source that doesn't tell its octets nothing is said of what was read.
-use Rattle.std.specs.Prelude.{◌≡◌, ◌≢◌, ◌⊎◌, ◌<◌, ◌+◌, ◌-◌, ◌^◌, ℕ, Bool, List, [], ◌∷◌, ◌++◌, length, Option}
+use Rattle.std.specs.Prelude.{⊤, ◌≡◌, ◌≢◌, ◌⊎◌, ◌<◌, ◌≤◌, ◌+◌, ◌-◌, ◌^◌, ℕ, Bool, List, [], ◌∷◌, ◌++◌, length, drop, Option, None, Some}
 use Rattle.std.specs.List.{concat}
 use Rattle.std.specs.Io.KnownBytes.{Consumes, IsAtEnd}
 use Rattle.tm_frame.specs.Layout.{record_length_of}
 use Rattle.tm_tool.specs.declared.fault.RunFault.{RunFault}
-use Rattle.tm_tool.specs.declared.fault.RunFault.TheVariants.{Read, Write, Report, TooMany, NoMemory}
+use Rattle.tm_tool.specs.declared.fault.RunFault.TheVariants.{Read, Write, Report, ShortRecording, TooMany, NoMemory}
+use Rattle.tm_tool.specs.declared.job.Ending.{Ending}
+use Rattle.tm_tool.specs.declared.job.Ending.TheVariants.{Close, Keep, StopAfter}
 use Rattle.tm_tool.specs.Outputs.{Piece, View, Took, Stopped}
-use Rattle.tm_tool.specs.Pieces.{Texts, Work, worked, record_pieces, closing_pieces, pieces_after}
+use Rattle.tm_tool.specs.Pieces.{Texts, Work, worked, record_pieces, end_pieces, pieces_after}
 use Rattle.tm_tool.specs.Records.{AreRecords}
 
 -- these records were read, and then these octets
@@ -20,15 +22,46 @@ pub record HasReadAll (size : ℕ) (left_old left_new : Option (List ℕ)) (read
   pub short : length rest < size
   pub ended : IsAtEnd left_new
 
--- records and a closed end are written one after the other, from where the job has got
-module _ {A K : Type 0} (grows : K → K → List A → Type 0) (rows : Bool) (text : Texts A) (w : Work) where
-  -- all was read, and all pieces written, the closed end's too
-  pub record IsRun (left_old left_new : Option (List ℕ)) (old new : View K) (count : ℕ) : Type 0 where
+-- Of a job of which so many records were done: after a count of records in all a further one is wanted.
+abbrev pub GoesOn : Ending → ℕ → ℕ → Type 0
+GoesOn Close done count = ⊤
+GoesOn Keep done count = ⊤
+GoesOn (StopAfter n) done count = count < done + n
+
+-- or none is
+abbrev pub Suffices : Ending → ℕ → ℕ → Type 0
+Suffices Close done count = ⊥
+Suffices Keep done count = ⊥
+Suffices (StopAfter n) done count = count ≡ done + n
+
+-- the job that is kept
+abbrev pub kept_of : Ending → Work → Option Work
+kept_of Close w = None
+kept_of Keep w = Some w
+kept_of (StopAfter n) w = Some w
+
+-- of the records that were read, those that follow the records that are done
+abbrev pub behind : Work → List (List ℕ) → List (List ℕ)
+behind w read = drop w.state.records read
+
+-- what an ending reads: all, down to less than a record; or just as many records as it wants
+abbrev pub HasEnded : Ending → Work → Option (List ℕ) → Option (List ℕ) → List (List ℕ) → List ℕ → Type 0
+HasEnded ending w left_old left_new read rest =
+    (HasReadAll (record_length_of w.layout) left_old left_new read rest × GoesOn ending w.state.records (length read))
+    ⊎ (HasRead (record_length_of w.layout) left_old left_new read [] × (rest ≡ []) × Suffices ending w.state.records (length read))
+
+-- Records and what the ending has are written one after the other, from where the job has got. The recording is read from its beginning:
+-- the records that are done come first, and nothing is written of them.
+module _ {A K : Type 0} (grows : K → K → List A → Type 0) (rows : Bool) (text : Texts A) (ending : Ending) (w : Work) where
+  -- it was read, and all pieces were written, the ending's too
+  pub record IsRun (left_old left_new : Option (List ℕ)) (old new : View K) (count : ℕ) (kept : Option Work) : Type 0 where
     pub read : List (List ℕ)
     pub rest : List ℕ
-    pub all : HasReadAll (record_length_of w.layout) left_old left_new read rest
-    pub count_is : count ≡ w.state.records + length read
-    pub took : Took grows old new (pieces_after text w read (length rest))
+    pub passed : w.state.records ≤ length read
+    pub ended : HasEnded ending w left_old left_new read rest
+    pub count_is : count ≡ length read
+    pub kept_is : kept ≡ kept_of ending (worked w (behind w read))
+    pub took : Took grows old new (pieces_after text ending w (behind w read) (length rest))
 
   -- a read failed in a record: the pieces of every whole record before it are written
   pub record StopsAtRead (left_old left_new : Option (List ℕ)) (old new : View K) : Type 0 where
@@ -36,7 +69,16 @@ module _ {A K : Type 0} (grows : K → K → List A → Type 0) (rows : Bool) (t
     pub part : List ℕ
     pub octets : HasRead (record_length_of w.layout) left_old left_new read part
     pub short : length part < record_length_of w.layout
-    pub took : Took grows old new (record_pieces text w read)
+    pub wanted : (length read < w.state.records) ⊎ GoesOn ending w.state.records (length read)
+    pub took : Took grows old new (record_pieces text w (behind w read))
+
+  -- the recording has fewer whole records than are done: nothing is written
+  pub record StopsShort (left_old left_new : Option (List ℕ)) (old new : View K) : Type 0 where
+    pub read : List (List ℕ)
+    pub rest : List ℕ
+    pub all : HasReadAll (record_length_of w.layout) left_old left_new read rest
+    pub few : length read < w.state.records
+    pub took : Took grows old new []
 
   -- a whole record followed the greatest number of records: the pieces of those before it are written
   pub record StopsAtTooMany (left_old left_new : Option (List ℕ)) (old new : View K) : Type 0 where
@@ -44,8 +86,9 @@ module _ {A K : Type 0} (grows : K → K → List A → Type 0) (rows : Bool) (t
     pub one : List ℕ
     pub octets : HasRead (record_length_of w.layout) left_old left_new read one
     pub exact : length one ≡ record_length_of w.layout
-    pub most : w.state.records + length read ≡ 2 ^ 32 - 1
-    pub took : Took grows old new (record_pieces text w read)
+    pub most : length read ≡ 2 ^ 32 - 1
+    pub wanted : GoesOn ending w.state.records (length read)
+    pub took : Took grows old new (record_pieces text w (behind w read))
 
   -- writing stopped at a piece of the record that was read last: nothing was read past it, and all pieces before it are written
   pub record StopsAtRecord (left_old left_new : Option (List ℕ)) (old new : View K) (fault : RunFault) : Type 0 where
@@ -53,18 +96,21 @@ module _ {A K : Type 0} (grows : K → K → List A → Type 0) (rows : Bool) (t
     pub one : List ℕ
     pub octets : HasRead (record_length_of w.layout) left_old left_new read one
     pub exact : length one ≡ record_length_of w.layout
+    pub passed : w.state.records ≤ length read
+    pub wanted : GoesOn ending w.state.records (length read)
     pub mid : View K
-    pub took : Took grows old mid (record_pieces text w read)
-    pub stopped : Stopped grows rows mid new (record_pieces text (worked w read) (one ∷ [])) fault
+    pub took : Took grows old mid (record_pieces text w (behind w read))
+    pub stopped : Stopped grows rows mid new (record_pieces text (worked w (behind w read)) (one ∷ [])) fault
 
-  -- all was read, and writing stopped at a piece of the closed end, or no piece was left and a flush failed
+  -- what the ending reads was read, and writing stopped at a piece of the ending, or no piece was left and a flush failed
   pub record StopsAtEnd (left_old left_new : Option (List ℕ)) (old new : View K) (fault : RunFault) : Type 0 where
     pub read : List (List ℕ)
     pub rest : List ℕ
-    pub all : HasReadAll (record_length_of w.layout) left_old left_new read rest
+    pub passed : w.state.records ≤ length read
+    pub ended : HasEnded ending w left_old left_new read rest
     pub mid : View K
-    pub took : Took grows old mid (record_pieces text w read)
-    pub stopped : Stopped grows rows mid new (closing_pieces text (worked w read) (length rest)) fault
+    pub took : Took grows old mid (record_pieces text w (behind w read))
+    pub stopped : Stopped grows rows mid new (end_pieces text ending (worked w (behind w read)) (length rest)) fault
 
   abbrev pub StopsWriting : Option (List ℕ) → Option (List ℕ) → View K → View K → RunFault → Type 0
   StopsWriting left_old left_new old new fault =
@@ -75,16 +121,17 @@ module _ {A K : Type 0} (grows : K → K → List A → Type 0) (rows : Bool) (t
   IsStoppedAt left_old left_new old new Read = StopsAtRead left_old left_new old new
   IsStoppedAt left_old left_new old new Write = StopsWriting left_old left_new old new Write
   IsStoppedAt left_old left_new old new Report = StopsWriting left_old left_new old new Report
+  IsStoppedAt left_old left_new old new ShortRecording = StopsShort left_old left_new old new
   IsStoppedAt left_old left_new old new TooMany = StopsAtTooMany left_old left_new old new
   IsStoppedAt left_old left_new old new NoMemory = StopsWriting left_old left_new old new NoMemory
 
   -- ---- where something is written before all else
 
   -- that was written, and then the run
-  pub record IsHeadedRun (head : List (Piece A)) (left_old left_new : Option (List ℕ)) (old new : View K) (count : ℕ) : Type 0 where
+  pub record IsHeadedRun (head : List (Piece A)) (left_old left_new : Option (List ℕ)) (old new : View K) (count : ℕ) (kept : Option Work) : Type 0 where
     pub mid : View K
     pub headed : Took grows old mid head
-    pub run : IsRun left_old left_new mid new count
+    pub run : IsRun left_old left_new mid new count kept
 
   -- writing stopped in it, and nothing was read
   pub record StopsAtHead (head : List (Piece A)) (left_old left_new : Option (List ℕ)) (old new : View K) (fault : RunFault) : Type 0 where

@@ -1,19 +1,46 @@
 -- Records between what was read and what is still to come: for private contracts.
-use Rattle.std.specs.Prelude.{◌≡◌, ◌-◌, ◌^◌, ℕ, Bool, List, length, Option, Result, MatchResult}
+use Rattle.std.specs.Prelude.{⊤, ◌≡◌, ◌<◌, ◌≤◌, ◌+◌, ◌-◌, ◌^◌, ℕ, Bool, List, length, Option, Result, MatchResult}
 use Rattle.std.specs.List.{concat}
 use Rattle.std.specs.Io.KnownBytes.{Consumes}
 use Rattle.tm_frame.specs.Layout.{record_length_of}
 use Rattle.tm_reassembly.specs.Steps.{Progress}
+use Rattle.tm_tool.specs.Devices.{raised}
 use Rattle.tm_tool.specs.declared.fault.RunFault.{RunFault}
-use Rattle.tm_tool.specs.declared.fault.RunFault.TheVariants.{Read, Write, Report, TooMany, NoMemory}
+use Rattle.tm_tool.specs.declared.fault.RunFault.TheVariants.{Read, Write, Report, ShortRecording, TooMany, NoMemory}
+use Rattle.tm_tool.specs.declared.job.Ending.{Ending}
+use Rattle.tm_tool.specs.declared.job.Ending.TheVariants.{Close, Keep, StopAfter}
 use Rattle.tm_tool.specs.Outputs.{Piece, View, Took, Stopped}
-use Rattle.tm_tool.specs.Pieces.{Texts, Entries, Work, worked, record_pieces}
+use Rattle.tm_tool.specs.Pieces.{Entries, Texts, Work, worked, record_pieces}
 use Rattle.tm_tool.specs.Records.{AreRecords}
-use Rattle.tm_tool.specs.Runs.{HasReadAll}
+use Rattle.tm_tool.specs.Runs.{HasRead, HasReadAll, HasEnded, behind}
 
 -- how far a reassembly has got, together with the sequence counts
 abbrev pub work_of : Progress → Entries → Work
 work_of p entries = record { layout = p.layout; channels = p.channels; state = p.state; entries = entries }
+
+-- no more records were read than are wanted
+abbrev pub Reached : Ending → ℕ → ℕ → Type 0
+Reached Close done count = ⊤
+Reached Keep done count = ⊤
+Reached (StopAfter n) done count = count ≤ done + n
+
+-- at least so many
+abbrev pub Enough : Ending → ℕ → ℕ → Type 0
+Enough Close done count = ⊥
+Enough Keep done count = ⊥
+Enough (StopAfter n) done count = done + n ≤ count
+
+-- passing over records failed: `Read` where the source's count rose
+abbrev pub PassCaused : ℕ → ℕ → RunFault → Type 0
+PassCaused old new Read = new ≡ raised old
+PassCaused old new Write = ⊥
+PassCaused old new Report = ⊥
+PassCaused old new ShortRecording = new ≡ old
+PassCaused old new TooMany = ⊥
+PassCaused old new NoMemory = ⊥
+
+abbrev pub PassCounted : {T : Type 0} → ℕ → ℕ → Result T RunFault → Type 0
+PassCounted old new r = MatchResult r (λ _. new ≡ old) (PassCaused old new)
 
 module _ {A K : Type 0} (grows : K → K → List A → Type 0) where
   -- a step stopped: while writing, or before a record that is one too many
@@ -21,6 +48,7 @@ module _ {A K : Type 0} (grows : K → K → List A → Type 0) where
   StepStopped rows records old new pieces Read = ⊥
   StepStopped rows records old new pieces Write = Stopped grows rows old new pieces Write
   StepStopped rows records old new pieces Report = Stopped grows rows old new pieces Report
+  StepStopped rows records old new pieces ShortRecording = ⊥
   StepStopped rows records old new pieces TooMany = (records ≡ 2 ^ 32 - 1) × (new ≡ old)
   StepStopped rows records old new pieces NoMemory = Stopped grows rows old new pieces NoMemory
 
@@ -28,19 +56,51 @@ module _ {A K : Type 0} (grows : K → K → List A → Type 0) where
   StepWritten rows records old new pieces r =
       MatchResult r (λ _. Took grows old new pieces) (StepStopped rows records old new pieces)
 
-  -- these records were read, nothing else, and taken
+  -- these records were read, nothing else, and those behind the ones that are done were taken
   pub record HasTaken (text : Texts A) (w : Work) (left_old left_new : Option (List ℕ)) (old new : View K) (now : Work) : Type 0 where
     pub read : List (List ℕ)
     pub sized : AreRecords (record_length_of w.layout) read
     pub octets : Consumes left_old left_new (concat read)
-    pub work : now ≡ worked w read
-    pub took : Took grows old new (record_pieces text w read)
+    pub passed : w.state.records ≤ length read
+    pub work : now ≡ worked w (behind w read)
+    pub took : Took grows old new (record_pieces text w (behind w read))
 
-  -- all records were read and taken, and so many octets are left
-  pub record HasStepped (text : Texts A) (w : Work) (left_old left_new : Option (List ℕ)) (old new : View K) (now : Work) (octets : ℕ) : Type 0 where
+  -- all that the ending reads was read and taken, and so many octets are left
+  pub record HasStepped (text : Texts A) (ending : Ending) (w : Work) (left_old left_new : Option (List ℕ)) (old new : View K) (now : Work) (octets : ℕ) : Type 0 where
     pub read : List (List ℕ)
     pub rest : List ℕ
-    pub all : HasReadAll (record_length_of w.layout) left_old left_new read rest
+    pub passed : w.state.records ≤ length read
+    pub ended : HasEnded ending w left_old left_new read rest
     pub left : length rest ≡ octets
-    pub work : now ≡ worked w read
-    pub took : Took grows old new (record_pieces text w read)
+    pub work : now ≡ worked w (behind w read)
+    pub took : Took grows old new (record_pieces text w (behind w read))
+
+-- the records that are done were read, and nothing else
+pub record HasPassed (size count : ℕ) (left_old left_new : Option (List ℕ)) : Type 0 where
+  pub read : List (List ℕ)
+  pub sized : AreRecords size read
+  pub counted : length read ≡ count
+  pub octets : Consumes left_old left_new (concat read)
+
+-- or they could not be read
+pub record PassingFails (size count : ℕ) (left_old left_new : Option (List ℕ)) : Type 0 where
+  pub read : List (List ℕ)
+  pub part : List ℕ
+  pub octets : HasRead size left_old left_new read part
+  pub short : length part < size
+  pub few : length read < count
+
+-- or there are fewer
+pub record PassingEnds (size count : ℕ) (left_old left_new : Option (List ℕ)) : Type 0 where
+  pub read : List (List ℕ)
+  pub rest : List ℕ
+  pub all : HasReadAll size left_old left_new read rest
+  pub few : length read < count
+
+abbrev pub PassingStopped : ℕ → ℕ → Option (List ℕ) → Option (List ℕ) → RunFault → Type 0
+PassingStopped size count left_old left_new Read = PassingFails size count left_old left_new
+PassingStopped size count left_old left_new Write = ⊥
+PassingStopped size count left_old left_new Report = ⊥
+PassingStopped size count left_old left_new ShortRecording = PassingEnds size count left_old left_new
+PassingStopped size count left_old left_new TooMany = ⊥
+PassingStopped size count left_old left_new NoMemory = ⊥

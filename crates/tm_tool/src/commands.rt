@@ -1,6 +1,6 @@
 //! What each command does with a recording.
 
-ghost use Rattle.std.specs.Prelude.{◌≡◌, ◌<◌, true, false, if◌then◌else◌, [], length, IfOk, IfErr, OnOk};
+ghost use Rattle.std.specs.Prelude.{◌≡◌, ◌<◌, true, false, if◌then◌else◌, [], length, IfOk, IfErr, IfSome, OnOk};
 ghost use Rattle.std.specs.Io.KnownBytes.{Appends, Keeps};
 ghost use Rattle.tm_fields.specs.Rows.{head_of};
 ghost use Rattle.tm_frame.specs.Layout.{record_length_of};
@@ -9,6 +9,7 @@ ghost use Rattle.tm_reassembly.specs.Valid.{IsState};
 ghost use Rattle.tm_tool.specs.declared.job.Command.TheVariants.{Extract, Packets};
 ghost use Rattle.tm_tool.specs.Faults.{RunCounted};
 ghost use Rattle.tm_tool.specs.Jobs.{head_pieces, rows_head};
+ghost use Rattle.tm_tool.specs.Keeping.{IsGoing, kept_work};
 ghost use Rattle.tm_tool.specs.Outlets.{PutStopped};
 ghost use Rattle.tm_tool.specs.Outputs.{view};
 ghost use Rattle.tm_tool.specs.Pieces.{makes_rows, rows_text, text_of};
@@ -17,9 +18,9 @@ ghost use Rattle.tm_tool.specs.Shelves.{Shelves, shelf_text};
 ghost use Rattle.tm_tool.specs.Stepping.{work_of};
 
 use crate::outlet::{PacketLines, PacketOctets, PacketRows, PacketShelf};
-use crate::recording::run_to_end;
+use crate::recording::{Ended, run_to_end};
 use crate::transfer::put_all;
-use crate::{Command, Drain, RunFault, Shelf, Source};
+use crate::{Command, Drain, Ending, RunFault, Shelf, Source};
 use std::alloc::Global;
 use tm_fields::Definition;
 use tm_packet::Tracker;
@@ -34,18 +35,20 @@ fn run_extract<R: Source, W: Drain, V: Drain>(
     recording: &mut R,
     out: &mut W,
     report: &mut V,
-) -> Result<u32, RunFault>
+    ending: Ending,
+) -> Result<Ended, RunFault>
     requires exact { length buffer.old ≡ record_length_of reassembly.layout }
     requires some { 0 < length buffer.old }
     requires going { reassembly.failed ≡ false }
     requires valid { IsState reassembly.layout (is_chosen reassembly.channels) reassembly.state }
-    ensures run { IfOk result (IsRun Appends false (text_of Extract) (work_of reassembly tracker)
+    ensures run { IfOk result (λ ended. IsRun Appends false (text_of Extract) ending (work_of reassembly tracker)
         (R.left recording.old) (R.left recording.new)
         (view (W.written out.old) (V.written report.old) (W.failures out.old) (V.failures report.old))
-        (view (W.written out.new) (V.written report.new) (W.failures out.new) (V.failures report.new))) }
+        (view (W.written out.new) (V.written report.new) (W.failures out.new) (V.failures report.new)) ended.records (kept_work ended.kept)) }
+    ensures going_on { IfOk result (λ ended. IfSome ended.kept (λ k. IsGoing k.reassembly)) }
     ensures flushed_out { OnOk result (Keeps (W.flushed out.new) (W.written out.new)) }
     ensures flushed_report { OnOk result (Keeps (V.flushed report.new) (V.written report.new)) }
-    ensures stopped { IfErr result (IsStoppedAt Appends false (text_of Extract) (work_of reassembly tracker)
+    ensures stopped { IfErr result (IsStoppedAt Appends false (text_of Extract) ending (work_of reassembly tracker)
         (R.left recording.old) (R.left recording.new)
         (view (W.written out.old) (V.written report.old) (W.failures out.old) (V.failures report.old))
         (view (W.written out.new) (V.written report.new) (W.failures out.new) (V.failures report.new))) }
@@ -62,8 +65,9 @@ fn run_extract<R: Source, W: Drain, V: Drain>(
         recording,
         &mut outlet,
         report,
+        ending,
     ) {
-        Ok(records) => Ok(records),
+        Ok(ended) => Ok(ended),
         Err(fault) => Err(fault),
     }
 }
@@ -78,18 +82,20 @@ fn run_lines<R: Source, W: Drain, V: Drain>(
     recording: &mut R,
     out: &mut W,
     report: &mut V,
-) -> Result<u32, RunFault>
+    ending: Ending,
+) -> Result<Ended, RunFault>
     requires exact { length buffer.old ≡ record_length_of reassembly.layout }
     requires some { 0 < length buffer.old }
     requires going { reassembly.failed ≡ false }
     requires valid { IsState reassembly.layout (is_chosen reassembly.channels) reassembly.state }
-    ensures run { IfOk result (IsRun Appends true (text_of Packets) (work_of reassembly tracker)
+    ensures run { IfOk result (λ ended. IsRun Appends true (text_of Packets) ending (work_of reassembly tracker)
         (R.left recording.old) (R.left recording.new)
         (view (W.written out.old) (V.written report.old) (W.failures out.old) (V.failures report.old))
-        (view (W.written out.new) (V.written report.new) (W.failures out.new) (V.failures report.new))) }
+        (view (W.written out.new) (V.written report.new) (W.failures out.new) (V.failures report.new)) ended.records (kept_work ended.kept)) }
+    ensures going_on { IfOk result (λ ended. IfSome ended.kept (λ k. IsGoing k.reassembly)) }
     ensures flushed_out { OnOk result (Keeps (W.flushed out.new) (W.written out.new)) }
     ensures flushed_report { OnOk result (Keeps (V.flushed report.new) (V.written report.new)) }
-    ensures stopped { IfErr result (IsStoppedAt Appends true (text_of Packets) (work_of reassembly tracker)
+    ensures stopped { IfErr result (IsStoppedAt Appends true (text_of Packets) ending (work_of reassembly tracker)
         (R.left recording.old) (R.left recording.new)
         (view (W.written out.old) (V.written report.old) (W.failures out.old) (V.failures report.old))
         (view (W.written out.new) (V.written report.new) (W.failures out.new) (V.failures report.new))) }
@@ -106,8 +112,9 @@ fn run_lines<R: Source, W: Drain, V: Drain>(
         recording,
         &mut outlet,
         report,
+        ending,
     ) {
-        Ok(records) => Ok(records),
+        Ok(ended) => Ok(ended),
         Err(fault) => Err(fault),
     }
 }
@@ -121,18 +128,20 @@ fn run_packets<R: Source, W: Drain, V: Drain>(
     recording: &mut R,
     out: &mut W,
     report: &mut V,
-) -> Result<u32, RunFault>
+    ending: Ending,
+) -> Result<Ended, RunFault>
     requires exact { length buffer.old ≡ record_length_of reassembly.layout }
     requires some { 0 < length buffer.old }
     requires going { reassembly.failed ≡ false }
     requires valid { IsState reassembly.layout (is_chosen reassembly.channels) reassembly.state }
-    ensures run { IfOk result (IsRun Appends true (text_of Packets) (work_of reassembly tracker)
+    ensures run { IfOk result (λ ended. IsRun Appends true (text_of Packets) ending (work_of reassembly tracker)
         (R.left recording.old) (R.left recording.new)
         (view (W.written out.old) (V.written report.old) (W.failures out.old) (V.failures report.old))
-        (view (W.written out.new) (V.written report.new) (W.failures out.new) (V.failures report.new))) }
+        (view (W.written out.new) (V.written report.new) (W.failures out.new) (V.failures report.new)) ended.records (kept_work ended.kept)) }
+    ensures going_on { IfOk result (λ ended. IfSome ended.kept (λ k. IsGoing k.reassembly)) }
     ensures flushed_out { OnOk result (Keeps (W.flushed out.new) (W.written out.new)) }
     ensures flushed_report { OnOk result (Keeps (V.flushed report.new) (V.written report.new)) }
-    ensures stopped { IfErr result (IsStoppedAt Appends true (text_of Packets) (work_of reassembly tracker)
+    ensures stopped { IfErr result (IsStoppedAt Appends true (text_of Packets) ending (work_of reassembly tracker)
         (R.left recording.old) (R.left recording.new)
         (view (W.written out.old) (V.written report.old) (W.failures out.old) (V.failures report.old))
         (view (W.written out.new) (V.written report.new) (W.failures out.new) (V.failures report.new))) }
@@ -142,7 +151,7 @@ fn run_packets<R: Source, W: Drain, V: Drain>(
 {
     let mut line = String::new(alloc);
     run_lines(
-        alloc, &mut line, reassembly, tracker, buffer, recording, out, report,
+        alloc, &mut line, reassembly, tracker, buffer, recording, out, report, ending,
     )
 }
 
@@ -157,18 +166,20 @@ fn run_rows<R: Source, W: Drain, V: Drain>(
     recording: &mut R,
     out: &mut W,
     report: &mut V,
-) -> Result<u32, RunFault>
+    ending: Ending,
+) -> Result<Ended, RunFault>
     requires exact { length buffer.old ≡ record_length_of reassembly.layout }
     requires some { 0 < length buffer.old }
     requires going { reassembly.failed ≡ false }
     requires valid { IsState reassembly.layout (is_chosen reassembly.channels) reassembly.state }
-    ensures run { IfOk result (IsRun Appends true (rows_text definition.now application) (work_of reassembly tracker)
+    ensures run { IfOk result (λ ended. IsRun Appends true (rows_text definition.now application) ending (work_of reassembly tracker)
         (R.left recording.old) (R.left recording.new)
         (view (W.written out.old) (V.written report.old) (W.failures out.old) (V.failures report.old))
-        (view (W.written out.new) (V.written report.new) (W.failures out.new) (V.failures report.new))) }
+        (view (W.written out.new) (V.written report.new) (W.failures out.new) (V.failures report.new)) ended.records (kept_work ended.kept)) }
+    ensures going_on { IfOk result (λ ended. IfSome ended.kept (λ k. IsGoing k.reassembly)) }
     ensures flushed_out { OnOk result (Keeps (W.flushed out.new) (W.written out.new)) }
     ensures flushed_report { OnOk result (Keeps (V.flushed report.new) (V.written report.new)) }
-    ensures stopped { IfErr result (IsStoppedAt Appends true (rows_text definition.now application) (work_of reassembly tracker)
+    ensures stopped { IfErr result (IsStoppedAt Appends true (rows_text definition.now application) ending (work_of reassembly tracker)
         (R.left recording.old) (R.left recording.new)
         (view (W.written out.old) (V.written report.old) (W.failures out.old) (V.failures report.old))
         (view (W.written out.new) (V.written report.new) (W.failures out.new) (V.failures report.new))) }
@@ -190,8 +201,9 @@ fn run_rows<R: Source, W: Drain, V: Drain>(
         recording,
         &mut outlet,
         report,
+        ending,
     ) {
-        Ok(records) => Ok(records),
+        Ok(ended) => Ok(ended),
         Err(fault) => Err(fault),
     }
 }
@@ -232,18 +244,20 @@ fn run_fields<R: Source, W: Drain, V: Drain>(
     recording: &mut R,
     out: &mut W,
     report: &mut V,
-) -> Result<u32, RunFault>
+    ending: Ending,
+) -> Result<Ended, RunFault>
     requires exact { length buffer.old ≡ record_length_of reassembly.layout }
     requires some { 0 < length buffer.old }
     requires going { reassembly.failed ≡ false }
     requires valid { IsState reassembly.layout (is_chosen reassembly.channels) reassembly.state }
-    ensures run { IfOk result (IsHeadedRun Appends true (rows_text definition.now application) (work_of reassembly tracker) (rows_head definition.now fresh)
+    ensures run { IfOk result (λ ended. IsHeadedRun Appends true (rows_text definition.now application) ending (work_of reassembly tracker) (rows_head definition.now fresh)
         (R.left recording.old) (R.left recording.new)
         (view (W.written out.old) (V.written report.old) (W.failures out.old) (V.failures report.old))
-        (view (W.written out.new) (V.written report.new) (W.failures out.new) (V.failures report.new))) }
+        (view (W.written out.new) (V.written report.new) (W.failures out.new) (V.failures report.new)) ended.records (kept_work ended.kept)) }
+    ensures going_on { IfOk result (λ ended. IfSome ended.kept (λ k. IsGoing k.reassembly)) }
     ensures flushed_out { OnOk result (Keeps (W.flushed out.new) (W.written out.new)) }
     ensures flushed_report { OnOk result (Keeps (V.flushed report.new) (V.written report.new)) }
-    ensures stopped { IfErr result (IsHeadedStop Appends true (rows_text definition.now application) (work_of reassembly tracker) (rows_head definition.now fresh)
+    ensures stopped { IfErr result (IsHeadedStop Appends true (rows_text definition.now application) ending (work_of reassembly tracker) (rows_head definition.now fresh)
         (R.left recording.old) (R.left recording.new)
         (view (W.written out.old) (V.written report.old) (W.failures out.old) (V.failures report.old))
         (view (W.written out.new) (V.written report.new) (W.failures out.new) (V.failures report.new))) }
@@ -264,6 +278,7 @@ fn run_fields<R: Source, W: Drain, V: Drain>(
         recording,
         out,
         report,
+        ending,
     )
 }
 
@@ -278,18 +293,20 @@ pub fn run_by<R: Source, W: Drain, V: Drain>(
     recording: &mut R,
     out: &mut W,
     report: &mut V,
-) -> Result<u32, RunFault>
+    ending: Ending,
+) -> Result<Ended, RunFault>
     requires exact { length buffer.old ≡ record_length_of reassembly.layout }
     requires some { 0 < length buffer.old }
     requires going { reassembly.failed ≡ false }
     requires valid { IsState reassembly.layout (is_chosen reassembly.channels) reassembly.state }
-    ensures run { IfOk result (IsHeadedRun Appends (makes_rows command.entry) (text_of command.entry) (work_of reassembly tracker) (head_pieces command.entry fresh)
+    ensures run { IfOk result (λ ended. IsHeadedRun Appends (makes_rows command.entry) (text_of command.entry) ending (work_of reassembly tracker) (head_pieces command.entry fresh)
         (R.left recording.old) (R.left recording.new)
         (view (W.written out.old) (V.written report.old) (W.failures out.old) (V.failures report.old))
-        (view (W.written out.new) (V.written report.new) (W.failures out.new) (V.failures report.new))) }
+        (view (W.written out.new) (V.written report.new) (W.failures out.new) (V.failures report.new)) ended.records (kept_work ended.kept)) }
+    ensures going_on { IfOk result (λ ended. IfSome ended.kept (λ k. IsGoing k.reassembly)) }
     ensures flushed_out { OnOk result (Keeps (W.flushed out.new) (W.written out.new)) }
     ensures flushed_report { OnOk result (Keeps (V.flushed report.new) (V.written report.new)) }
-    ensures stopped { IfErr result (IsHeadedStop Appends (makes_rows command.entry) (text_of command.entry) (work_of reassembly tracker) (head_pieces command.entry fresh)
+    ensures stopped { IfErr result (IsHeadedStop Appends (makes_rows command.entry) (text_of command.entry) ending (work_of reassembly tracker) (head_pieces command.entry fresh)
         (R.left recording.old) (R.left recording.new)
         (view (W.written out.old) (V.written report.old) (W.failures out.old) (V.failures report.old))
         (view (W.written out.new) (V.written report.new) (W.failures out.new) (V.failures report.new))) }
@@ -299,10 +316,14 @@ pub fn run_by<R: Source, W: Drain, V: Drain>(
 {
     match command {
         Command::Extract => {
-            run_extract(alloc, reassembly, tracker, buffer, recording, out, report)
+            run_extract(
+                alloc, reassembly, tracker, buffer, recording, out, report, ending,
+            )
         }
         Command::Packets => {
-            run_packets(alloc, reassembly, tracker, buffer, recording, out, report)
+            run_packets(
+                alloc, reassembly, tracker, buffer, recording, out, report, ending,
+            )
         }
         Command::Fields(definition, application) => run_fields(
             alloc,
@@ -315,6 +336,7 @@ pub fn run_by<R: Source, W: Drain, V: Drain>(
             recording,
             out,
             report,
+            ending,
         ),
     }
 }
@@ -328,17 +350,19 @@ pub fn run_split<R: Source, H: Shelf, V: Drain>(
     recording: &mut R,
     shelf: &mut H,
     report: &mut V,
-) -> Result<u32, RunFault>
+    ending: Ending,
+) -> Result<Ended, RunFault>
     requires exact { length buffer.old ≡ record_length_of reassembly.layout }
     requires some { 0 < length buffer.old }
     requires going { reassembly.failed ≡ false }
     requires valid { IsState reassembly.layout (is_chosen reassembly.channels) reassembly.state }
-    ensures run { IfOk result (IsRun Shelves false shelf_text (work_of reassembly tracker)
+    ensures run { IfOk result (λ ended. IsRun Shelves false shelf_text ending (work_of reassembly tracker)
         (R.left recording.old) (R.left recording.new)
         (view (H.kept shelf.old) (V.written report.old) (H.refusals shelf.old) (V.failures report.old))
-        (view (H.kept shelf.new) (V.written report.new) (H.refusals shelf.new) (V.failures report.new))) }
+        (view (H.kept shelf.new) (V.written report.new) (H.refusals shelf.new) (V.failures report.new)) ended.records (kept_work ended.kept)) }
+    ensures going_on { IfOk result (λ ended. IfSome ended.kept (λ k. IsGoing k.reassembly)) }
     ensures flushed_report { OnOk result (Keeps (V.flushed report.new) (V.written report.new)) }
-    ensures stopped { IfErr result (IsStoppedAt Shelves false shelf_text (work_of reassembly tracker)
+    ensures stopped { IfErr result (IsStoppedAt Shelves false shelf_text ending (work_of reassembly tracker)
         (R.left recording.old) (R.left recording.new)
         (view (H.kept shelf.old) (V.written report.old) (H.refusals shelf.old) (V.failures report.old))
         (view (H.kept shelf.new) (V.written report.new) (H.refusals shelf.new) (V.failures report.new))) }
@@ -355,8 +379,9 @@ pub fn run_split<R: Source, H: Shelf, V: Drain>(
         recording,
         &mut outlet,
         report,
+        ending,
     ) {
-        Ok(records) => Ok(records),
+        Ok(ended) => Ok(ended),
         Err(fault) => Err(fault),
     }
 }

@@ -35,6 +35,9 @@ pub enum RunFault {
     /// A write or a flush of the report failed.
     #[error("report failed")]
     Report,
+    /// The recording ended before the records that were done in it.
+    #[error("the recording is shorter than the checkpoint")]
+    ShortRecording,
     /// A whole record followed the greatest number of records, 2^32 - 1.
     #[error("too many records")]
     TooMany,
@@ -51,6 +54,35 @@ impl From<AllocError> for RunFault {
     fn from(_: AllocError) -> Self {
         RunFault::NoMemory
     }
+}
+
+/// Why octets are no checkpoint of a job with the settings.
+#[derive(Clone, Copy, Debug, Error, PartialEq, Eq)]
+pub enum CheckpointFault {
+    /// There are fewer than 33 octets.
+    #[error("short")]
+    Short,
+    /// They don't begin with the letters TMXC.
+    #[error("magic")]
+    Magic,
+    /// The fifth octet isn't 1.
+    #[error("version")]
+    Version,
+    /// The last two aren't the error control of those before.
+    #[error("check")]
+    Check,
+    /// They were written with other settings.
+    #[error("settings")]
+    Settings,
+    /// The state of the channels, or the sequence counts, can't be read.
+    #[error("state")]
+    State,
+    /// Octets are left over.
+    #[error("trailing")]
+    Trailing,
+    /// Memory ran out.
+    #[error("out of memory")]
+    NoMemory,
 }
 
 /// Memory was wanted and not found.

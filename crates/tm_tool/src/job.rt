@@ -1,6 +1,6 @@
 //! A job: the packets of a recording, and the report of what is lost.
 
-ghost use Rattle.std.specs.Prelude.{◌≡◌, ◌+◌, ◌-◌, ◌^◌, ◌<◌, true, false, length, IfOk, IfErr, IfSome, OnOk, IsErrOf};
+ghost use Rattle.std.specs.Prelude.{◌≡◌, ◌+◌, ◌-◌, ◌^◌, ◌<◌, true, false, length, option_map, IfOk, IfErr, IfSome, OnOk, IsErrOf};
 ghost use Rattle.std.specs.Io.KnownBytes.{Appends, Keeps};
 ghost use Rattle.tm_frame.specs.Layout.{record_length_of};
 ghost use Rattle.tm_reassembly.specs.Channels.{is_chosen};
@@ -8,12 +8,14 @@ ghost use Rattle.tm_reassembly.specs.Valid.{IsState};
 ghost use Rattle.tm_tool.specs.Faults.{RunCounted};
 ghost use Rattle.tm_tool.specs.Jobs.{all_pieces, begun, head_pieces};
 ghost use Rattle.tm_tool.specs.Outputs.{AppendsCut, Took, WantsMemory, view};
-ghost use Rattle.tm_tool.specs.Pieces.{makes_rows, pieces, text_of};
+ghost use Rattle.tm_tool.specs.Keeping.{IsGoing, kept_work};
+ghost use Rattle.tm_tool.specs.Pieces.{chosen, further, makes_rows, pieces, text_of, worked};
 ghost use Rattle.tm_tool.specs.Records.{record_count};
-ghost use Rattle.tm_tool.specs.Runs.{IsHeadedRun, IsHeadedStop, IsRun, IsStoppedAt};
+ghost use Rattle.tm_tool.specs.Runs.{IsHeadedRun, IsHeadedStop, IsRun, IsStoppedAt, kept_of};
 ghost use Rattle.tm_tool.specs.Shelves.{Shelves, shelf_text};
 
 use crate::commands::{run_by, run_split};
+use crate::recording::{Ended, Kept};
 use crate::{Drain, NoMemory, RunFault, Settings, Shelf, Source};
 use std::alloc::Global;
 use std::marker::Model;
@@ -35,24 +37,30 @@ pub enum Command<'a> {
 /// Where a run ends.
 #[derive(Clone, Copy, Debug, PartialEq, Eq)]
 pub enum Ending {
-    /// At the end of the recording, which is closed there.
+    /// At the end of the recording, which is closed there: what is held and what is open then is reported.
     Close,
+    /// At the end of the recording, of which more may come: a rest of less than a record is left to the job's next run.
+    Keep,
+    /// After so many further records, or at the end as `Keep` where there are fewer.
+    StopAfter(u32),
 }
 
 /// What a run did.
-#[derive(Clone, Copy, Debug, PartialEq, Eq)]
+#[derive(Drop)]
 pub struct Done {
-    /// The number of records that are done.
+    /// The number of records that are done in all.
     pub records: u32,
+    /// The job after them, unless the recording was closed.
+    pub kept: Option<Job>,
 }
 
 /// The packets of a recording, as far as it has been read.
 #[derive(Drop)]
 pub struct Job {
-    reassembly: Reassembly,
-    tracker: Tracker,
-    buffer: Vec<u8>,
-    fresh: bool,
+    pub(crate) reassembly: Reassembly,
+    pub(crate) tracker: Tracker,
+    pub(crate) buffer: Vec<u8>,
+    pub(crate) fresh: bool,
 }
 
 impl Model for Job {
@@ -108,13 +116,48 @@ impl Job {
     }
 }
 
-/// Reads the recording to its end, one record at a time, and gives what the job's settings choose: to `out` each whole packet, its octets
+// The job after a run, where it is kept, with its buffer.
+fn done_by(ended: Ended, buffer: Vec<u8>, fresh: bool) -> Done
+    requires going { IfSome ended.kept (λ k. IsGoing k.reassembly) }
+    requires exact { IfSome ended.kept (λ k. length buffer.items ≡ record_length_of k.reassembly.layout) }
+    requires some { 0 < length buffer.items }
+    ensures records { result.records ≡ ended.records }
+    ensures kept { option_map (λ j. j.work) result.kept ≡ kept_work ended.kept }
+    ensures fresh { IfSome result.kept (λ j. j.fresh ≡ fresh) }
+{
+    let Ended { records, kept } = ended;
+    match kept {
+        Some(
+            Kept {
+                reassembly,
+                tracker,
+            },
+        ) => Done {
+            records,
+            kept: Some(Job {
+                reassembly,
+                tracker,
+                buffer,
+                fresh,
+            }),
+        },
+        None => Done {
+            records,
+            kept: None,
+        },
+    }
+}
+
+/// Reads the recording from its beginning, one record at a time, passes over the records that are done, and gives of those behind them
+/// what the job's settings choose: to `out` each whole packet, its octets
 /// or its line; to the report each bad frame, gap, VCA frame and dropped part, and the notes of the packets' sequence counts. For each
-/// item what belongs to `out` is written first. At the end the recording is closed, and both outputs are flushed.
+/// item what belongs to `out` is written first. With `Close` the recording is closed at its end; with `Keep` and `StopAfter` the job after
+/// the records is kept. Both outputs are flushed.
 ///
 /// # Errors
 ///
-/// `Read`, `Write` or `Report` where a call of that device failed; `TooMany` where a whole record follows 2^32 - 1; `NoMemory` where a
+/// `Read`, `Write` or `Report` where a call of that device failed; `ShortRecording` where there are fewer whole records than are done;
+/// `TooMany` where a whole record follows 2^32 - 1; `NoMemory` where a
 /// line can't be made: with `Extract` only a line for the report. The job is given up.
 pub fn run<R: Source, W: Drain, V: Drain>(
     alloc: Global,
@@ -126,13 +169,15 @@ pub fn run<R: Source, W: Drain, V: Drain>(
     ending: Ending,
 ) -> Result<Done, RunFault>
     // With Ok all was read, and just the pieces of the recording were written, and passed on.
-    ensures all { IfOk result (λ done. IsHeadedRun Appends (makes_rows command.entry) (text_of command.entry) job.work (head_pieces command.entry job.fresh) (R.left recording.old) (R.left recording.new)
+    ensures all { IfOk result (λ done. IsHeadedRun Appends (makes_rows command.entry) (text_of command.entry) ending job.work (head_pieces command.entry job.fresh) (R.left recording.old) (R.left recording.new)
         (view (W.written out.old) (V.written report.old) (W.failures out.old) (V.failures report.old))
-        (view (W.written out.new) (V.written report.new) (W.failures out.new) (V.failures report.new)) done.records) }
+        (view (W.written out.new) (V.written report.new) (W.failures out.new) (V.failures report.new)) done.records (option_map (λ j. j.work) done.kept)) }
     ensures done { IfOk result (λ done. IfSome (R.left recording.old) (λ octets.
         Took Appends (view (W.written out.old) (V.written report.old) (W.failures out.old) (V.failures report.old))
-        (view (W.written out.new) (V.written report.new) (W.failures out.new) (V.failures report.new)) (all_pieces command.entry job octets)
-        × (done.records ≡ job.work.state.records + record_count (record_length_of job.work.layout) octets))) }
+        (view (W.written out.new) (V.written report.new) (W.failures out.new) (V.failures report.new)) (all_pieces command.entry ending job octets)
+        × (done.records ≡ job.work.state.records + length (chosen ending (further job.work octets)))
+        × (option_map (λ j. j.work) done.kept ≡ kept_of ending (worked job.work (chosen ending (further job.work octets)))))) }
+    ensures fresh { IfOk result (λ done. IfSome done.kept (λ j. j.fresh ≡ false)) }
     ensures flushed_out { OnOk result (Keeps (W.flushed out.new) (W.written out.new)) }
     ensures flushed_report { OnOk result (Keeps (V.flushed report.new) (V.written report.new)) }
 
@@ -144,15 +189,17 @@ pub fn run<R: Source, W: Drain, V: Drain>(
     // After a fault there is one place up to which these pieces were written. Without memory it is a piece's end; and a text was to be made.
     ensures cut { IfErr result (λ fault. IfSome (R.left recording.old) (λ octets.
         AppendsCut Appends (view (W.written out.old) (V.written report.old) (W.failures out.old) (V.failures report.old))
-        (view (W.written out.new) (V.written report.new) (W.failures out.new) (V.failures report.new)) (all_pieces command.entry job octets))) }
+        (view (W.written out.new) (V.written report.new) (W.failures out.new) (V.failures report.new)) (all_pieces command.entry ending job octets))) }
     ensures memory { IsErrOf result RunFault.NoMemory → IfSome (R.left recording.old) (λ octets.
         WantsMemory Appends (makes_rows command.entry) (view (W.written out.old) (V.written report.old) (W.failures out.old) (V.failures report.old))
-        (view (W.written out.new) (V.written report.new) (W.failures out.new) (V.failures report.new)) (all_pieces command.entry job octets)) }
+        (view (W.written out.new) (V.written report.new) (W.failures out.new) (V.failures report.new)) (all_pieces command.entry ending job octets)) }
     ensures too_many { IsErrOf result RunFault.TooMany → IfSome (R.left recording.old) (λ octets.
-        2 ^ 32 - 1 < job.work.state.records + record_count (record_length_of job.work.layout) octets) }
+        2 ^ 32 - 1 < record_count (record_length_of job.work.layout) octets) }
+    ensures short { IsErrOf result RunFault.ShortRecording → IfSome (R.left recording.old) (λ octets.
+        record_count (record_length_of job.work.layout) octets < job.work.state.records) }
 
     // What was read by then, and written: nothing past the record at a piece of which writing stopped.
-    ensures stopped { IfErr result (IsHeadedStop Appends (makes_rows command.entry) (text_of command.entry) job.work (head_pieces command.entry job.fresh) (R.left recording.old) (R.left recording.new)
+    ensures stopped { IfErr result (IsHeadedStop Appends (makes_rows command.entry) (text_of command.entry) ending job.work (head_pieces command.entry job.fresh) (R.left recording.old) (R.left recording.new)
         (view (W.written out.old) (V.written report.old) (W.failures out.old) (V.failures report.old))
         (view (W.written out.new) (V.written report.new) (W.failures out.new) (V.failures report.new))) }
 {
@@ -162,27 +209,24 @@ pub fn run<R: Source, W: Drain, V: Drain>(
         mut buffer,
         fresh,
     } = job;
-    match ending {
-        Ending::Close => {
-            match run_by(
-                alloc,
-                command,
-                fresh,
-                reassembly,
-                tracker,
-                buffer.as_mut_slice(),
-                recording,
-                out,
-                report,
-            ) {
-                Ok(records) => Ok(Done { records }),
-                Err(fault) => Err(fault),
-            }
-        }
+    match run_by(
+        alloc,
+        command,
+        fresh,
+        reassembly,
+        tracker,
+        buffer.as_mut_slice(),
+        recording,
+        out,
+        report,
+        ending,
+    ) {
+        Ok(ended) => Ok(done_by(ended, buffer, false)),
+        Err(fault) => Err(fault),
     }
 }
 
-/// Reads the recording to its end as `run` does, and puts the octets of each whole packet, idle packets included, behind those of its
+/// Reads the recording as `run` does, and puts the octets of each whole packet, idle packets included, behind those of its
 /// application, all channels together. The report is that of `run`, and is flushed at the end.
 ///
 /// # Errors
@@ -197,13 +241,15 @@ pub fn split<R: Source, H: Shelf, V: Drain>(
     ending: Ending,
 ) -> Result<Done, RunFault>
     // With Ok all was read, and just the pieces of the recording were written, and passed on.
-    ensures all { IfOk result (λ done. IsRun Shelves false shelf_text job.work (R.left recording.old) (R.left recording.new)
+    ensures all { IfOk result (λ done. IsRun Shelves false shelf_text ending job.work (R.left recording.old) (R.left recording.new)
         (view (H.kept shelf.old) (V.written report.old) (H.refusals shelf.old) (V.failures report.old))
-        (view (H.kept shelf.new) (V.written report.new) (H.refusals shelf.new) (V.failures report.new)) done.records) }
+        (view (H.kept shelf.new) (V.written report.new) (H.refusals shelf.new) (V.failures report.new)) done.records (option_map (λ j. j.work) done.kept)) }
     ensures done { IfOk result (λ done. IfSome (R.left recording.old) (λ octets.
         Took Shelves (view (H.kept shelf.old) (V.written report.old) (H.refusals shelf.old) (V.failures report.old))
-        (view (H.kept shelf.new) (V.written report.new) (H.refusals shelf.new) (V.failures report.new)) (pieces shelf_text job.work octets)
-        × (done.records ≡ job.work.state.records + record_count (record_length_of job.work.layout) octets))) }
+        (view (H.kept shelf.new) (V.written report.new) (H.refusals shelf.new) (V.failures report.new)) (pieces shelf_text ending job.work octets)
+        × (done.records ≡ job.work.state.records + length (chosen ending (further job.work octets)))
+        × (option_map (λ j. j.work) done.kept ≡ kept_of ending (worked job.work (chosen ending (further job.work octets)))))) }
+    ensures fresh { IfOk result (λ done. IfSome done.kept (λ j. j.fresh ≡ job.fresh)) }
     ensures flushed_report { OnOk result (Keeps (V.flushed report.new) (V.written report.new)) }
 
     // A device is blamed only where a call of it failed.
@@ -214,15 +260,17 @@ pub fn split<R: Source, H: Shelf, V: Drain>(
     // After a fault there is one place up to which these pieces were written. Without memory it is a piece's end; and a text was to be made.
     ensures cut { IfErr result (λ fault. IfSome (R.left recording.old) (λ octets.
         AppendsCut Shelves (view (H.kept shelf.old) (V.written report.old) (H.refusals shelf.old) (V.failures report.old))
-        (view (H.kept shelf.new) (V.written report.new) (H.refusals shelf.new) (V.failures report.new)) (pieces shelf_text job.work octets))) }
+        (view (H.kept shelf.new) (V.written report.new) (H.refusals shelf.new) (V.failures report.new)) (pieces shelf_text ending job.work octets))) }
     ensures memory { IsErrOf result RunFault.NoMemory → IfSome (R.left recording.old) (λ octets.
         WantsMemory Shelves false (view (H.kept shelf.old) (V.written report.old) (H.refusals shelf.old) (V.failures report.old))
-        (view (H.kept shelf.new) (V.written report.new) (H.refusals shelf.new) (V.failures report.new)) (pieces shelf_text job.work octets)) }
+        (view (H.kept shelf.new) (V.written report.new) (H.refusals shelf.new) (V.failures report.new)) (pieces shelf_text ending job.work octets)) }
     ensures too_many { IsErrOf result RunFault.TooMany → IfSome (R.left recording.old) (λ octets.
-        2 ^ 32 - 1 < job.work.state.records + record_count (record_length_of job.work.layout) octets) }
+        2 ^ 32 - 1 < record_count (record_length_of job.work.layout) octets) }
+    ensures short { IsErrOf result RunFault.ShortRecording → IfSome (R.left recording.old) (λ octets.
+        record_count (record_length_of job.work.layout) octets < job.work.state.records) }
 
     // What was read by then, and written: nothing past the record at a piece of which writing stopped.
-    ensures stopped { IfErr result (IsStoppedAt Shelves false shelf_text job.work (R.left recording.old) (R.left recording.new)
+    ensures stopped { IfErr result (IsStoppedAt Shelves false shelf_text ending job.work (R.left recording.old) (R.left recording.new)
         (view (H.kept shelf.old) (V.written report.old) (H.refusals shelf.old) (V.failures report.old))
         (view (H.kept shelf.new) (V.written report.new) (H.refusals shelf.new) (V.failures report.new))) }
 {
@@ -230,22 +278,19 @@ pub fn split<R: Source, H: Shelf, V: Drain>(
         reassembly,
         tracker,
         mut buffer,
-        ..
+        fresh,
     } = job;
-    match ending {
-        Ending::Close => {
-            match run_split(
-                alloc,
-                reassembly,
-                tracker,
-                buffer.as_mut_slice(),
-                recording,
-                shelf,
-                report,
-            ) {
-                Ok(records) => Ok(Done { records }),
-                Err(fault) => Err(fault),
-            }
-        }
+    match run_split(
+        alloc,
+        reassembly,
+        tracker,
+        buffer.as_mut_slice(),
+        recording,
+        shelf,
+        report,
+        ending,
+    ) {
+        Ok(ended) => Ok(done_by(ended, buffer, fresh)),
+        Err(fault) => Err(fault),
     }
 }

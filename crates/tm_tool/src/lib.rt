@@ -1,11 +1,13 @@
 //! Settings, devices, and the runs over a recording.
 #![tactic(auto)]
 
+mod checkpoint;
 mod commands;
 mod device;
 mod fault;
 mod job;
 mod key;
+pub mod laws;
 mod lines;
 mod listing;
 mod octets;
@@ -18,7 +20,7 @@ mod transfer;
 mod values;
 
 pub use device::{DeviceFailed, Drain, Shelf, Source};
-pub use fault::{NoMemory, RunFault, SettingsFault};
+pub use fault::{CheckpointFault, NoMemory, RunFault, SettingsFault};
 pub use job::{Command, Done, Ending, Job, run, split};
 pub use key::Key;
 pub use listing::list_frames;

@@ -225,6 +225,7 @@ impl<O: Outlet, V: Drain> Output<'_, O, V> {
         ensures same_outlet { self.new.outlet.ghost_name ≡ self.old.outlet.ghost_name }
         ensures same_out { O.fixed self.new.outlet.now ≡ O.fixed self.old.outlet.now }
         ensures same_report { self.new.report.ghost_name ≡ self.old.report.ghost_name }
+        ensures tracker { self.new.tracker.now ≡ self.old.tracker.now }
         ensures flushed_out { OnOk result (O.passed self.new.outlet.now) }
         ensures flushed_report { OnOk result (Keeps (V.flushed self.new.report.now) (V.written self.new.report.now)) }
         ensures written { Written O.grows O.rows (view (O.held self.old.outlet.now) (V.written self.old.report.now) (O.failures self.old.outlet.now) (V.failures self.old.report.now))

@@ -1,6 +1,6 @@
 //! A recording, record by record, into the outputs.
 
-ghost use Rattle.std.specs.Prelude.{◌≡◌, ◌<◌, ◌-◌, ◌^◌, ◌∷◌, [], false, length, IfOk, IfErr, OnOk};
+ghost use Rattle.std.specs.Prelude.{◌≡◌, ◌<◌, ◌-◌, ◌^◌, ◌∷◌, [], true, false, length, option_map, IfOk, IfErr, IfSome, OnOk};
 ghost use Rattle.std.specs.Io.KnownBytes.{Keeps};
 ghost use Rattle.tm_frame.specs.Layout.{record_length_of};
 ghost use Rattle.tm_reassembly.specs.Channels.{is_chosen};
@@ -9,14 +9,15 @@ ghost use Rattle.tm_reassembly.specs.Steps.{most_records};
 ghost use Rattle.tm_reassembly.specs.Valid.{IsState};
 ghost use Rattle.tm_tool.specs.Faults.{RunCounted};
 ghost use Rattle.tm_tool.specs.Outputs.{SameCounts, Written, view};
-ghost use Rattle.tm_tool.specs.Pieces.{noted_all, pieces_of, record_pieces, worked};
-ghost use Rattle.tm_tool.specs.Runs.{IsRun, IsStoppedAt};
-ghost use Rattle.tm_tool.specs.Stepping.{HasStepped, StepWritten, work_of};
+ghost use Rattle.tm_tool.specs.Pieces.{closing_pieces, end_pieces, noted_all, pieces_of, record_pieces, worked};
+ghost use Rattle.tm_tool.specs.Keeping.{IsGoing, kept_work};
+ghost use Rattle.tm_tool.specs.Runs.{GoesOn, IsRun, IsStoppedAt, kept_of};
+ghost use Rattle.tm_tool.specs.Stepping.{Enough, HasPassed, HasStepped, PassCounted, PassingStopped, StepWritten, work_of};
 
 use crate::outlet::Outlet;
 use crate::output::Output;
 use crate::transfer::fill;
-use crate::{Drain, RunFault, Source};
+use crate::{Drain, Ending, RunFault, Source};
 use std::alloc::Global;
 use tm_packet::Tracker;
 use tm_reassembly::{Reassembly, StepFault};
@@ -28,13 +29,13 @@ fn step_into<O: Outlet, V: Drain>(
     output: &mut Output<'_, O, V>,
 ) -> Result<(), RunFault>
     requires exact { length octets.now ≡ record_length_of reassembly.old.layout }
-    requires going { reassembly.old.failed ≡ false }
+    requires going { IsGoing reassembly.old }
     ensures same_tracker { output.new.tracker.ghost_name ≡ output.old.tracker.ghost_name }
     ensures same_outlet { output.new.outlet.ghost_name ≡ output.old.outlet.ghost_name }
     ensures same_out { O.fixed output.new.outlet.now ≡ O.fixed output.old.outlet.now }
     ensures same_report { output.new.report.ghost_name ≡ output.old.report.ghost_name }
     ensures work { OnOk result (work_of reassembly.new output.new.tracker.now ≡ worked (work_of reassembly.old output.old.tracker.now) (octets.now ∷ [])) }
-    ensures going_on { OnOk result (reassembly.new.failed ≡ false) }
+    ensures going_on { OnOk result (IsGoing reassembly.new) }
     ensures few { OnOk result (reassembly.old.state.records < most_records) }
     ensures written { StepWritten O.grows O.rows reassembly.old.state.records (view (O.held output.old.outlet.now) (V.written output.old.report.now) (O.failures output.old.outlet.now) (V.failures output.old.report.now))
         (view (O.held output.new.outlet.now) (V.written output.new.report.now) (O.failures output.new.outlet.now) (V.failures output.new.report.now)) (record_pieces (O.text (O.fixed output.old.outlet.now)) (work_of reassembly.old output.old.tracker.now) (octets.now ∷ [])) result }
@@ -71,12 +72,43 @@ fn finish_into<O: Outlet, V: Drain>(
     }
 }
 
-// Takes all records of the recording, one at a time through this buffer. Answers how many octets are left then.
+// Reads the records that are done, and passes over them.
+fn skip_records<R: Source>(count: u32, buffer: &mut [u8], recording: &mut R) -> Result<(), RunFault>
+    requires some { 0 < length buffer.old }
+    ensures passed { OnOk result (HasPassed (length buffer.old) count (R.left recording.old) (R.left recording.new)) }
+    ensures stopped { IfErr result (PassingStopped (length buffer.old) count (R.left recording.old) (R.left recording.new)) }
+    ensures counts { PassCounted (R.failures recording.old) (R.failures recording.new) result }
+{
+    for _passed in 0..count {
+        let Ok(octets) = fill(recording, buffer) else {
+            return Err(RunFault::Read);
+        };
+        if octets < buffer.len() {
+            return Err(RunFault::ShortRecording);
+        }
+    }
+    Ok(())
+}
+
+// The ending wants a further record, of which so many were done and so many are.
+fn wants_more(ending: Ending, done: u32, records: u32) -> bool
+    ensures wanted { result ≡ true → GoesOn ending done records }
+    ensures enough { result ≡ false → Enough ending done records }
+{
+    match ending {
+        Ending::Close | Ending::Keep => true,
+        Ending::StopAfter(more) => u64::from(records) < u64::from(done) + u64::from(more),
+    }
+}
+
+// Takes the records that the ending wants, one at a time through this buffer, behind those that are done. Answers how many octets are
+// left then, of a record that is no whole one.
 fn step_records<R: Source, O: Outlet, V: Drain>(
     reassembly: &mut Reassembly,
     buffer: &mut [u8],
     recording: &mut R,
     output: &mut Output<'_, O, V>,
+    ending: Ending,
 ) -> Result<usize, RunFault>
     requires exact { length buffer.old ≡ record_length_of reassembly.old.layout }
     requires some { 0 < length buffer.old }
@@ -86,11 +118,12 @@ fn step_records<R: Source, O: Outlet, V: Drain>(
     ensures same_outlet { output.new.outlet.ghost_name ≡ output.old.outlet.ghost_name }
     ensures same_out { O.fixed output.new.outlet.now ≡ O.fixed output.old.outlet.now }
     ensures same_report { output.new.report.ghost_name ≡ output.old.report.ghost_name }
-    ensures going_on { OnOk result (reassembly.new.failed ≡ false) }
-    ensures stepped { IfOk result (HasStepped O.grows (O.text (O.fixed output.old.outlet.now)) (work_of reassembly.old output.old.tracker.now) (R.left recording.old) (R.left recording.new)
+    ensures going_on { OnOk result (IsGoing reassembly.new) }
+    ensures short { IfOk result (λ octets. octets < record_length_of reassembly.old.layout) }
+    ensures stepped { IfOk result (HasStepped O.grows (O.text (O.fixed output.old.outlet.now)) ending (work_of reassembly.old output.old.tracker.now) (R.left recording.old) (R.left recording.new)
         (view (O.held output.old.outlet.now) (V.written output.old.report.now) (O.failures output.old.outlet.now) (V.failures output.old.report.now))
         (view (O.held output.new.outlet.now) (V.written output.new.report.now) (O.failures output.new.outlet.now) (V.failures output.new.report.now)) (work_of reassembly.new output.new.tracker.now)) }
-    ensures stopped { IfErr result (IsStoppedAt O.grows O.rows (O.text (O.fixed output.old.outlet.now)) (work_of reassembly.old output.old.tracker.now)
+    ensures stopped { IfErr result (IsStoppedAt O.grows O.rows (O.text (O.fixed output.old.outlet.now)) ending (work_of reassembly.old output.old.tracker.now)
         (R.left recording.old) (R.left recording.new)
         (view (O.held output.old.outlet.now) (V.written output.old.report.now) (O.failures output.old.outlet.now) (V.failures output.old.report.now))
         (view (O.held output.new.outlet.now) (V.written output.new.report.now) (O.failures output.new.outlet.now) (V.failures output.new.report.now))) }
@@ -98,7 +131,14 @@ fn step_records<R: Source, O: Outlet, V: Drain>(
         (view (O.held output.old.outlet.now) (V.written output.old.report.now) (O.failures output.old.outlet.now) (V.failures output.old.report.now))
         (view (O.held output.new.outlet.now) (V.written output.new.report.now) (O.failures output.new.outlet.now) (V.failures output.new.report.now)) result }
 {
+    let done = reassembly.records();
+    if let Err(fault) = skip_records(done, buffer, recording) {
+        return Err(fault);
+    }
     loop {
+        if !wants_more(ending, done, reassembly.records()) {
+            return Ok(0);
+        }
         let Ok(octets) = fill(recording, buffer) else {
             return Err(RunFault::Read);
         };
@@ -111,13 +151,75 @@ fn step_records<R: Source, O: Outlet, V: Drain>(
     }
 }
 
-// Takes all of the recording, closes it, and flushes. Answers the number of records.
+// Takes a closed end, of which so many octets are left, and writes the groups that are open then.
+fn close<O: Outlet, V: Drain>(
+    reassembly: Reassembly,
+    rest: usize,
+    output: &mut Output<'_, O, V>,
+) -> Result<(), RunFault>
+    requires rest { rest < record_length_of reassembly.layout }
+    requires going { reassembly.failed ≡ false }
+    ensures same_tracker { output.new.tracker.ghost_name ≡ output.old.tracker.ghost_name }
+    ensures same_outlet { output.new.outlet.ghost_name ≡ output.old.outlet.ghost_name }
+    ensures same_out { O.fixed output.new.outlet.now ≡ O.fixed output.old.outlet.now }
+    ensures same_report { output.new.report.ghost_name ≡ output.old.report.ghost_name }
+    ensures written { Written O.grows O.rows
+        (view (O.held output.old.outlet.now) (V.written output.old.report.now) (O.failures output.old.outlet.now) (V.failures output.old.report.now))
+        (view (O.held output.new.outlet.now) (V.written output.new.report.now) (O.failures output.new.outlet.now) (V.failures output.new.report.now)) (closing_pieces (O.text (O.fixed output.old.outlet.now)) (work_of reassembly output.old.tracker.now) rest) result }
+{
+    let records = reassembly.records();
+    if let Err(fault) = finish_into(reassembly, rest, output) {
+        return Err(fault);
+    }
+    match output.put_all_unclosed(records) {
+        Ok(()) => Ok(()),
+        Err(fault) => Err(fault),
+    }
+}
+
+// What the ending has behind the records, and the reassembly where a job is kept.
+fn end<O: Outlet, V: Drain>(
+    reassembly: Reassembly,
+    rest: usize,
+    output: &mut Output<'_, O, V>,
+    ending: Ending,
+) -> Result<Option<Reassembly>, RunFault>
+    requires rest { rest < record_length_of reassembly.layout }
+    requires going { IsGoing reassembly }
+    ensures same_tracker { output.new.tracker.ghost_name ≡ output.old.tracker.ghost_name }
+    ensures same_outlet { output.new.outlet.ghost_name ≡ output.old.outlet.ghost_name }
+    ensures same_out { O.fixed output.new.outlet.now ≡ O.fixed output.old.outlet.now }
+    ensures same_report { output.new.report.ghost_name ≡ output.old.report.ghost_name }
+    ensures going_on { IfOk result (λ kept. IfSome kept IsGoing) }
+    ensures kept { IfOk result (λ kept. option_map (λ k. work_of k output.new.tracker.now) kept ≡ kept_of ending (work_of reassembly output.old.tracker.now)) }
+    ensures written { Written O.grows O.rows
+        (view (O.held output.old.outlet.now) (V.written output.old.report.now) (O.failures output.old.outlet.now) (V.failures output.old.report.now))
+        (view (O.held output.new.outlet.now) (V.written output.new.report.now) (O.failures output.new.outlet.now) (V.failures output.new.report.now)) (end_pieces (O.text (O.fixed output.old.outlet.now)) ending (work_of reassembly output.old.tracker.now) rest) result }
+{
+    match ending {
+        Ending::Close => match close(reassembly, rest, output) {
+            Ok(()) => Ok(None),
+            Err(fault) => Err(fault),
+        },
+        Ending::Keep | Ending::StopAfter(_) => Ok(Some(reassembly)),
+    }
+}
+
+// How far a run has got: the number of records, and what is kept of the channels.
+#[derive(Drop)]
+struct Taken {
+    records: u32,
+    reassembly: Option<Reassembly>,
+}
+
+// Takes what the ending reads of the recording, ends it, and flushes.
 fn take_all<R: Source, O: Outlet, V: Drain>(
     mut reassembly: Reassembly,
     buffer: &mut [u8],
     recording: &mut R,
     output: &mut Output<'_, O, V>,
-) -> Result<u32, RunFault>
+    ending: Ending,
+) -> Result<Taken, RunFault>
     requires exact { length buffer.old ≡ record_length_of reassembly.layout }
     requires some { 0 < length buffer.old }
     requires going { reassembly.failed ≡ false }
@@ -126,13 +228,14 @@ fn take_all<R: Source, O: Outlet, V: Drain>(
     ensures same_outlet { output.new.outlet.ghost_name ≡ output.old.outlet.ghost_name }
     ensures same_out { O.fixed output.new.outlet.now ≡ O.fixed output.old.outlet.now }
     ensures same_report { output.new.report.ghost_name ≡ output.old.report.ghost_name }
-    ensures run { IfOk result (IsRun O.grows O.rows (O.text (O.fixed output.old.outlet.now)) (work_of reassembly output.old.tracker.now)
+    ensures run { IfOk result (λ taken. IsRun O.grows O.rows (O.text (O.fixed output.old.outlet.now)) ending (work_of reassembly output.old.tracker.now)
         (R.left recording.old) (R.left recording.new)
         (view (O.held output.old.outlet.now) (V.written output.old.report.now) (O.failures output.old.outlet.now) (V.failures output.old.report.now))
-        (view (O.held output.new.outlet.now) (V.written output.new.report.now) (O.failures output.new.outlet.now) (V.failures output.new.report.now))) }
+        (view (O.held output.new.outlet.now) (V.written output.new.report.now) (O.failures output.new.outlet.now) (V.failures output.new.report.now)) taken.records (option_map (λ k. work_of k output.new.tracker.now) taken.reassembly)) }
+    ensures going_on { IfOk result (λ taken. IfSome taken.reassembly IsGoing) }
     ensures flushed_out { OnOk result (O.passed output.new.outlet.now) }
     ensures flushed_report { OnOk result (Keeps (V.flushed output.new.report.now) (V.written output.new.report.now)) }
-    ensures stopped { IfErr result (IsStoppedAt O.grows O.rows (O.text (O.fixed output.old.outlet.now)) (work_of reassembly output.old.tracker.now)
+    ensures stopped { IfErr result (IsStoppedAt O.grows O.rows (O.text (O.fixed output.old.outlet.now)) ending (work_of reassembly output.old.tracker.now)
         (R.left recording.old) (R.left recording.new)
         (view (O.held output.old.outlet.now) (V.written output.old.report.now) (O.failures output.old.outlet.now) (V.failures output.old.report.now))
         (view (O.held output.new.outlet.now) (V.written output.new.report.now) (O.failures output.new.outlet.now) (V.failures output.new.report.now))) }
@@ -140,21 +243,22 @@ fn take_all<R: Source, O: Outlet, V: Drain>(
         (view (O.held output.old.outlet.now) (V.written output.old.report.now) (O.failures output.old.outlet.now) (V.failures output.old.report.now))
         (view (O.held output.new.outlet.now) (V.written output.new.report.now) (O.failures output.new.outlet.now) (V.failures output.new.report.now)) result }
 {
-    let rest = match step_records(&mut reassembly, buffer, recording, output) {
+    let rest = match step_records(&mut reassembly, buffer, recording, output, ending) {
         Ok(rest) => rest,
         Err(fault) => return Err(fault),
     };
     let records = reassembly.records();
-    if let Err(fault) = finish_into(reassembly, rest, output) {
-        return Err(fault);
-    }
-    if let Err(fault) = output.put_all_unclosed(records) {
-        return Err(fault);
-    }
+    let reassembly = match end(reassembly, rest, output, ending) {
+        Ok(reassembly) => reassembly,
+        Err(fault) => return Err(fault),
+    };
     if let Err(fault) = output.flush() {
         return Err(fault);
     }
-    Ok(records)
+    Ok(Taken {
+        records,
+        reassembly,
+    })
 }
 
 // The same, into an outlet and a report. Lines are made in this text.
@@ -166,16 +270,18 @@ fn take_all_into<R: Source, O: Outlet, V: Drain>(
     recording: &mut R,
     outlet: &mut O,
     report: &mut V,
-) -> Result<u32, RunFault>
+    ending: Ending,
+) -> Result<Taken, RunFault>
     requires exact { length buffer.old ≡ record_length_of reassembly.layout }
     requires some { 0 < length buffer.old }
     requires going { reassembly.failed ≡ false }
     requires valid { IsState reassembly.layout (is_chosen reassembly.channels) reassembly.state }
-    ensures run { IfOk result (IsRun O.grows O.rows (O.text (O.fixed outlet.old)) (work_of reassembly tracker.old)
+    ensures run { IfOk result (λ taken. IsRun O.grows O.rows (O.text (O.fixed outlet.old)) ending (work_of reassembly tracker.old)
         (R.left recording.old) (R.left recording.new)
         (view (O.held outlet.old) (V.written report.old) (O.failures outlet.old) (V.failures report.old))
-        (view (O.held outlet.new) (V.written report.new) (O.failures outlet.new) (V.failures report.new))) }
-    ensures stopped { IfErr result (IsStoppedAt O.grows O.rows (O.text (O.fixed outlet.old)) (work_of reassembly tracker.old)
+        (view (O.held outlet.new) (V.written report.new) (O.failures outlet.new) (V.failures report.new)) taken.records (option_map (λ k. work_of k tracker.new) taken.reassembly)) }
+    ensures going_on { IfOk result (λ taken. IfSome taken.reassembly IsGoing) }
+    ensures stopped { IfErr result (IsStoppedAt O.grows O.rows (O.text (O.fixed outlet.old)) ending (work_of reassembly tracker.old)
         (R.left recording.old) (R.left recording.new)
         (view (O.held outlet.old) (V.written report.old) (O.failures outlet.old) (V.failures report.old))
         (view (O.held outlet.new) (V.written report.new) (O.failures outlet.new) (V.failures report.new))) }
@@ -192,14 +298,54 @@ fn take_all_into<R: Source, O: Outlet, V: Drain>(
         outlet,
         report,
     };
-    match take_all(reassembly, buffer, recording, &mut output) {
-        Ok(records) => Ok(records),
+    match take_all(reassembly, buffer, recording, &mut output, ending) {
+        Ok(taken) => Ok(taken),
         Err(fault) => Err(fault),
     }
 }
 
-/// Takes all of the recording, from where the reassembly and the sequence counts have got, closes it, and flushes. Answers the number of
-/// records.
+/// What is kept of a run.
+#[derive(Drop)]
+pub struct Kept {
+    pub reassembly: Reassembly,
+    pub tracker: Tracker,
+}
+
+/// How a run ended.
+#[derive(Drop)]
+pub struct Ended {
+    /// The number of records that are done.
+    pub records: u32,
+    /// What is kept, unless the recording was closed.
+    pub kept: Option<Kept>,
+}
+
+// What is kept, together with the sequence counts.
+fn kept_by(taken: Taken, tracker: Tracker) -> Ended
+    ensures records { result.records ≡ taken.records }
+    ensures kept { kept_work result.kept ≡ option_map (λ k. work_of k tracker) taken.reassembly }
+    ensures going { IfSome taken.reassembly IsGoing → IfSome result.kept (λ k. IsGoing k.reassembly) }
+{
+    let Taken {
+        records,
+        reassembly,
+    } = taken;
+    match reassembly {
+        Some(reassembly) => Ended {
+            records,
+            kept: Some(Kept {
+                reassembly,
+                tracker,
+            }),
+        },
+        None => Ended {
+            records,
+            kept: None,
+        },
+    }
+}
+
+/// Takes what the ending reads of the recording, from where the reassembly and the sequence counts have got, ends it, and flushes.
 pub fn run_to_end<R: Source, O: Outlet, V: Drain>(
     alloc: Global,
     reassembly: Reassembly,
@@ -208,16 +354,18 @@ pub fn run_to_end<R: Source, O: Outlet, V: Drain>(
     recording: &mut R,
     outlet: &mut O,
     report: &mut V,
-) -> Result<u32, RunFault>
+    ending: Ending,
+) -> Result<Ended, RunFault>
     requires exact { length buffer.old ≡ record_length_of reassembly.layout }
     requires some { 0 < length buffer.old }
     requires going { reassembly.failed ≡ false }
     requires valid { IsState reassembly.layout (is_chosen reassembly.channels) reassembly.state }
-    ensures run { IfOk result (IsRun O.grows O.rows (O.text (O.fixed outlet.old)) (work_of reassembly tracker)
+    ensures run { IfOk result (λ ended. IsRun O.grows O.rows (O.text (O.fixed outlet.old)) ending (work_of reassembly tracker)
         (R.left recording.old) (R.left recording.new)
         (view (O.held outlet.old) (V.written report.old) (O.failures outlet.old) (V.failures report.old))
-        (view (O.held outlet.new) (V.written report.new) (O.failures outlet.new) (V.failures report.new))) }
-    ensures stopped { IfErr result (IsStoppedAt O.grows O.rows (O.text (O.fixed outlet.old)) (work_of reassembly tracker)
+        (view (O.held outlet.new) (V.written report.new) (O.failures outlet.new) (V.failures report.new)) ended.records (kept_work ended.kept)) }
+    ensures going_on { IfOk result (λ ended. IfSome ended.kept (λ k. IsGoing k.reassembly)) }
+    ensures stopped { IfErr result (IsStoppedAt O.grows O.rows (O.text (O.fixed outlet.old)) ending (work_of reassembly tracker)
         (R.left recording.old) (R.left recording.new)
         (view (O.held outlet.old) (V.written report.old) (O.failures outlet.old) (V.failures report.old))
         (view (O.held outlet.new) (V.written report.new) (O.failures outlet.new) (V.failures report.new))) }
@@ -229,7 +377,7 @@ pub fn run_to_end<R: Source, O: Outlet, V: Drain>(
     ensures flushed_report { OnOk result (Keeps (V.flushed report.new) (V.written report.new)) }
 {
     let mut notes = String::new(alloc);
-    take_all_into(
+    match take_all_into(
         reassembly,
         &mut tracker,
         &mut notes,
@@ -237,5 +385,9 @@ pub fn run_to_end<R: Source, O: Outlet, V: Drain>(
         recording,
         outlet,
         report,
-    )
+        ending,
+    ) {
+        Ok(taken) => Ok(kept_by(taken, tracker)),
+        Err(fault) => Err(fault),
+    }
 }

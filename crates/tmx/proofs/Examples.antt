@@ -1,10 +1,10 @@
 -- Worked examples: what the definitions say of known words.
-use Rattle.std.proofs.Common.{◌≡◌, true, List, [], ◌∷◌, Some, None, refl, codes}
+use Rattle.std.proofs.Common.{◌≡◌, true, List, [], ◌∷◌, Some, None, option_map, refl, codes}
 use Rattle.clap.specs.Words.{Text}
 use Rattle.clap.specs.declared.error.kind.ErrorKind.TheVariants.{MissingRequiredArgument, UnknownArgument, ValueValidation}
 use Rattle.clap.proofs.OnLiterals.{clap_on_literals}
 use Rattle.tmx.specs.declared.request.Action.TheVariants.{Frames, Packets, Extract, Split, Fields}
-use Rattle.tmx.specs.CommandLine.{faults_of, is_taken, matches_of, plan_of}
+use Rattle.tmx.specs.CommandLine.{faults_of, is_taken, lacks_checkpoint, matches_of, plan_of}
 
 words : List Text
 words = codes "frames" ∷ codes "--settings" ∷ codes "s" ∷ codes "r" ∷ []
@@ -13,17 +13,17 @@ words_taken : is_taken words ≡ true
 unfolding clap_on_literals is_taken words
 words_taken = refl
 
-words_planned : plan_of words ≡ Some (record { action = Frames; recording = Some (codes "r"); settings = Some (codes "s"); report = None; dir = None; definition = None; apid = None })
+words_planned : plan_of words ≡ Some (record { action = Frames; recording = Some (codes "r"); settings = Some (codes "s"); report = None; checkpoint = None; stop_after = None; resume = None; dir = None; definition = None; apid = None })
 unfolding clap_on_literals matches_of words
 words_planned = refl
 
 packets_planned : plan_of (codes "packets" ∷ codes "r" ∷ codes "--settings" ∷ codes "s" ∷ [])
-    ≡ Some (record { action = Packets; recording = Some (codes "r"); settings = Some (codes "s"); report = None; dir = None; definition = None; apid = None })
+    ≡ Some (record { action = Packets; recording = Some (codes "r"); settings = Some (codes "s"); report = None; checkpoint = None; stop_after = None; resume = None; dir = None; definition = None; apid = None })
 unfolding clap_on_literals matches_of
 packets_planned = refl
 
 report_planned : plan_of (codes "extract" ∷ codes "--settings" ∷ codes "s" ∷ codes "--report" ∷ codes "x" ∷ [])
-    ≡ Some (record { action = Extract; recording = None; settings = Some (codes "s"); report = Some (codes "x"); dir = None; definition = None; apid = None })
+    ≡ Some (record { action = Extract; recording = None; settings = Some (codes "s"); report = Some (codes "x"); checkpoint = None; stop_after = None; resume = None; dir = None; definition = None; apid = None })
 unfolding clap_on_literals matches_of
 report_planned = refl
 
@@ -44,7 +44,7 @@ unfolding clap_on_literals faults_of
 report_alone = refl
 
 split_planned : plan_of (codes "split" ∷ codes "--settings" ∷ codes "s" ∷ codes "--dir" ∷ codes "d" ∷ [])
-    ≡ Some (record { action = Split; recording = None; settings = Some (codes "s"); report = None; dir = Some (codes "d"); definition = None; apid = None })
+    ≡ Some (record { action = Split; recording = None; settings = Some (codes "s"); report = None; checkpoint = None; stop_after = None; resume = None; dir = Some (codes "d"); definition = None; apid = None })
 unfolding clap_on_literals matches_of
 split_planned = refl
 
@@ -53,7 +53,7 @@ unfolding clap_on_literals faults_of
 folder_missing = refl
 
 fields_planned : plan_of (codes "fields" ∷ codes "--settings" ∷ codes "s" ∷ codes "--definition" ∷ codes "d" ∷ codes "--apid" ∷ codes "200" ∷ [])
-    ≡ Some (record { action = Fields; recording = None; settings = Some (codes "s"); report = None; dir = None; definition = Some (codes "d"); apid = Some 200 })
+    ≡ Some (record { action = Fields; recording = None; settings = Some (codes "s"); report = None; checkpoint = None; stop_after = None; resume = None; dir = None; definition = Some (codes "d"); apid = Some 200 })
 unfolding clap_on_literals matches_of
 fields_planned = refl
 
@@ -64,3 +64,20 @@ apid_beyond = refl
 definition_missing : faults_of (codes "fields" ∷ codes "--settings" ∷ codes "s" ∷ codes "--apid" ∷ codes "200" ∷ []) ≡ MissingRequiredArgument ∷ []
 unfolding clap_on_literals faults_of
 definition_missing = refl
+
+stop_planned : plan_of (codes "extract" ∷ codes "--settings" ∷ codes "s" ∷ codes "--checkpoint" ∷ codes "c" ∷ codes "--stop-after" ∷ codes "3" ∷ codes "--resume" ∷ codes "b" ∷ [])
+    ≡ Some (record { action = Extract; recording = None; settings = Some (codes "s"); report = None; checkpoint = Some (codes "c"); stop_after = Some 3; resume = Some (codes "b"); dir = None; definition = None; apid = None })
+unfolding clap_on_literals matches_of
+stop_planned = refl
+
+stop_alone : option_map lacks_checkpoint (plan_of (codes "extract" ∷ codes "--settings" ∷ codes "s" ∷ codes "--stop-after" ∷ codes "3" ∷ [])) ≡ Some true
+unfolding clap_on_literals matches_of
+stop_alone = refl
+
+stop_at_none : faults_of (codes "extract" ∷ codes "--settings" ∷ codes "s" ∷ codes "--stop-after" ∷ codes "0" ∷ []) ≡ ValueValidation ∷ []
+unfolding clap_on_literals faults_of
+stop_at_none = refl
+
+stop_of_frames : faults_of (codes "frames" ∷ codes "--settings" ∷ codes "s" ∷ codes "--stop-after" ∷ codes "3" ∷ []) ≡ UnknownArgument ∷ []
+unfolding clap_on_literals faults_of
+stop_of_frames = refl

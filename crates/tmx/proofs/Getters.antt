@@ -17,7 +17,7 @@ use Rattle.clap.specs.declared.parser.matches.Found.{Found}
 use Rattle.clap.proofs.CallerReads.{signed_reads}
 use Rattle.clap.proofs.ValueTestLemmas.{accepts-Accepts}
 use Rattle.clap.proofs.WalkLemmas.{first_value-rows}
-use Rattle.tmx.specs.CommandLine.{IsApid, apids, decimal}
+use Rattle.tmx.specs.CommandLine.{IsBetween, numbers, decimal}
 
 pub value_in_rows : (f : Found) (id : Text) (r : Option (Bor Text)) → option_map (λ s. s.now) r ≡ first_value f id → option_map (λ s. s.now) r ≡ first_of id (rows_of f)
 value_in_rows f id r h = h ∙ first_value-rows f id
@@ -76,17 +76,18 @@ reads_decimal k text = go (is_decimal k (without_leading_plus text)) refl
     go true t = rw t (passes_numeral k (without_leading_plus text) t, refl)
     go false t = rw t (tt, λ h. false≢true (sym t ∙ numeral_passes k (without_leading_plus text) h))
 
--- the value passes the range of applications
-abbrev pub IsAccepted : Text → Type 0
-IsAccepted v = accepts false apids v ≡ true
+-- the value passes the range
+abbrev pub IsAccepted : ℕ → ℕ → Text → Type 0
+IsAccepted least most v = accepts false (numbers least most) v ≡ true
 
-accepted_number : (v : Text) → IsAccepted v → IsApid (decimal 16 (without_minus v))
-accepted_number v e =
-    let got = signed_reads (Unit {0}) (λ u x. ParsesUnsigned 16 10 u x) 16 0 2047 v (decimal 16 (without_minus v)) (reads_decimal 16 (without_minus v))
-    (λ u x g. g) (ltb-true 2047 (2 ^ 16) refl) (accepts-Accepts false apids v e) in
-    (got.0, got.1, got.3)
+accepted_number : (k least most : ℕ) (v : Text) → most < 2 ^ k → IsAccepted least most v → IsBetween least most (decimal k (without_minus v))
+accepted_number k least most v fits e =
+    let got = signed_reads (Unit {0}) (λ u x. ParsesUnsigned k 10 u x) k least most v (decimal k (without_minus v)) (reads_decimal k (without_minus v))
+    (λ u x g. g) fits (accepts-Accepts false (numbers least most) v e) in
+    (got.0, got.1, got.2, got.3)
 
 -- the first of values that passed
-pub first_number : (vs : List Text) → 0 < length vs → AllByRecursion IsAccepted vs → IsApid (option_and_then (decimal 16) (option_map (read_as WithoutMinus) (slice_get vs 0)))
-first_number [] h all = absurd (omega arith)
-first_number (v ∷ vs) h all = accepted_number v all.0
+pub first_number : (k least most : ℕ) (vs : List Text) → most < 2 ^ k → 0 < length vs → AllByRecursion (IsAccepted least most) vs
+    → IsBetween least most (option_and_then (decimal k) (option_map (read_as WithoutMinus) (slice_get vs 0)))
+first_number k least most [] fits h all = absurd (omega arith)
+first_number k least most (v ∷ vs) fits h all = accepted_number k least most v fits all.0

@@ -1,5 +1,5 @@
 -- The command line: the command as `clap` reads it, and the plan that its matches of the words make.
-use Rattle.std.specs.Prelude.{⊤, ◌≡◌, ◌≤◌, ◌&&◌, ◌^◌, ℕ, Bool, List, Option, Some, None, pos, true, codes, length, nat_lt, if◌then◌else◌, option_map, option_and_then, IsSome}
+use Rattle.std.specs.Prelude.{⊤, ◌≡◌, ◌≤◌, ◌&&◌, ◌^◌, ℕ, Bool, List, Option, Some, None, pos, true, not, codes, length, nat_lt, is_some, if◌then◌else◌, option_map, option_and_then, IfSome, IsSome}
 use Rattle.std.specs.Char.{digit_value}
 use Rattle.std.specs.List.{list_all}
 use Rattle.std.specs.Str.{bytes_eq}
@@ -33,29 +33,41 @@ recording_rule = record (new_rule (codes "recording")) { value_names = 1 }
 abbrev pub frames_app : App
 frames_app = with_rule (with_rule (new_app (codes "frames")) (required_rule (codes "settings"))) recording_rule
 
--- `NAME --settings FILE [--report FILE] [RECORDING]`
+-- the numbers from one to another
+abbrev pub numbers : ℕ → ℕ → ValueParser
+numbers least most = parser.Signed (pos least) (pos most)
+
+-- `--stop-after N`, with N from 1 to 4294967295
+abbrev pub stop_rule : Rule
+stop_rule = record (option_rule (codes "stop-after")) { parser = Some (numbers 1 4294967295) }
+
+-- with `[--checkpoint FILE] [--stop-after N] [--resume FILE]`
+abbrev pub kept_app : App → App
+kept_app a = with_rule (with_rule (with_rule a (option_rule (codes "checkpoint"))) stop_rule) (option_rule (codes "resume"))
+
+-- with `[--report FILE] [--checkpoint FILE] [--stop-after N] [--resume FILE] [RECORDING]`
+abbrev pub job_app : App → App
+job_app a = with_rule (kept_app (with_rule a (option_rule (codes "report")))) recording_rule
+
+-- `NAME --settings FILE`, with what a job takes
 abbrev pub reported_app : Text → App
-reported_app name = with_rule (with_rule (with_rule (new_app name) (required_rule (codes "settings"))) (option_rule (codes "report"))) recording_rule
+reported_app name = job_app (with_rule (new_app name) (required_rule (codes "settings")))
 
--- `split --settings FILE --dir DIR [--report FILE] [RECORDING]`
+-- `split --settings FILE --dir DIR`, with what a job takes
 abbrev pub split_app : App
-split_app = with_rule (with_rule (with_rule (with_rule (new_app (codes "split")) (required_rule (codes "settings"))) (required_rule (codes "dir"))) (option_rule (codes "report"))) recording_rule
-
--- the numbers of applications
-abbrev pub apids : ValueParser
-apids = parser.Signed (pos 0) (pos 2047)
+split_app = job_app (with_rule (with_rule (new_app (codes "split")) (required_rule (codes "settings"))) (required_rule (codes "dir")))
 
 -- `--apid N`, with N from 0 to 2047
 abbrev pub apid_rule : Rule
-apid_rule = record (required_rule (codes "apid")) { parser = Some apids }
+apid_rule = record (required_rule (codes "apid")) { parser = Some (numbers 0 2047) }
 
 -- `fields --settings FILE --definition FILE --apid N`
 abbrev pub fields_start : App
 fields_start = with_rule (with_rule (with_rule (new_app (codes "fields")) (required_rule (codes "settings"))) (required_rule (codes "definition"))) apid_rule
 
--- `fields --settings FILE --definition FILE --apid N [--report FILE] [RECORDING]`
+-- `fields --settings FILE --definition FILE --apid N`, with what a job takes
 abbrev pub fields_app : App
-fields_app = with_rule (with_rule fields_start (option_rule (codes "report"))) recording_rule
+fields_app = job_app fields_start
 
 -- without a subcommand, of the words after the program's name
 abbrev pub bare : App
@@ -107,6 +119,9 @@ plan_with rows action = record {
   recording = first_of (codes "recording") rows;
   settings = first_of (codes "settings") rows;
   report = first_of (codes "report") rows;
+  checkpoint = first_of (codes "checkpoint") rows;
+  stop_after = option_and_then (decimal 32) (one_of (codes "stop-after") rows);
+  resume = first_of (codes "resume") rows;
   dir = first_of (codes "dir") rows;
   definition = first_of (codes "definition") rows;
   apid = option_and_then (decimal 16) (one_of (codes "apid") rows);
@@ -120,9 +135,9 @@ plan_in p = option_map (plan_with p.1) (action_named p.0)
 abbrev pub plan_of : List Text → Option Plan
 plan_of words = option_and_then plan_in (matches_of words)
 
--- an application's number is there
-abbrev pub IsApid : Option ℕ → Type 0
-IsApid apid = (n : ℕ) × (apid ≡ Some n) × (n ≤ 2047)
+-- a number is there, from the least to the most
+abbrev pub IsBetween : ℕ → ℕ → Option ℕ → Type 0
+IsBetween least most o = (n : ℕ) × (o ≡ Some n) × (least ≤ n) × (n ≤ most)
 
 -- splitting needs a folder, and reading fields a definition and an application
 abbrev pub HasNeeds : Action → Plan → Type 0
@@ -130,8 +145,20 @@ HasNeeds Frames p = ⊤
 HasNeeds Packets p = ⊤
 HasNeeds Extract p = ⊤
 HasNeeds Split p = IsSome p.dir
-HasNeeds Fields p = IsSome p.definition × IsApid p.apid
+HasNeeds Fields p = IsSome p.definition × IsBetween 0 2047 p.apid
 
 -- what its action needs is there
 abbrev pub HasRequired : Plan → Type 0
 HasRequired p = IsSome p.settings × HasNeeds p.action p
+
+-- the text behind `--stop-after`
+abbrev pub stop_of : List Text → Option Text
+stop_of words = option_and_then (λ found. one_of (codes "stop-after") found.1) (matches_of words)
+
+-- where `--stop-after` is among the words, its number is there, in its range
+abbrev pub HasStop : List Text → Plan → Type 0
+HasStop words p = IfSome (stop_of words) (λ text. IsBetween 1 4294967295 p.stop_after)
+
+-- `--stop-after` stands without `--checkpoint`
+abbrev pub lacks_checkpoint : Plan → Bool
+lacks_checkpoint p = is_some p.stop_after && not (is_some p.checkpoint)

@@ -3,7 +3,7 @@
 ghost use Rattle.std.specs.Prelude.{◌≡◌, IfOk, codes, false};
 ghost use Rattle.clap.specs.Words.{app_of, rule_of};
 ghost use Rattle.clap.specs.declared.builder.command.Command.TheViews.{out-Command as fields_of};
-ghost use Rattle.tmx.specs.CommandLine.{apid_rule, bare, fields_app, fields_start, frames_app, option_rule, recording_rule, reported_app, required_rule, of_lines, split_app, tmx};
+ghost use Rattle.tmx.specs.CommandLine.{apid_rule, bare, fields_app, fields_start, frames_app, job_app, kept_app, option_rule, recording_rule, reported_app, required_rule, of_lines, split_app, stop_rule, tmx};
 
 use clap::{Arg, Command};
 use std::alloc::{AllocError, Global};
@@ -42,6 +42,34 @@ fn report_option<'a>(alloc: Global) -> Arg<'a>
     )
 }
 
+// `--checkpoint FILE`.
+fn checkpoint_option<'a>(alloc: Global) -> Arg<'a>
+    ensures rule { rule_of result ≡ option_rule (codes "checkpoint") }
+    ensures local { result.global ≡ false }
+{
+    option(alloc, "checkpoint", "FILE").help(
+        "The checkpoint, written after the run, from which another run can go on",
+    )
+}
+
+// `--stop-after N`.
+fn stop_option<'a>(alloc: Global) -> Arg<'a>
+    ensures rule { rule_of result ≡ stop_rule }
+    ensures local { result.global ≡ false }
+{
+    option(alloc, "stop-after", "N")
+        .help("Records to stop after, a number from 1 to 4294967295; needs --checkpoint")
+        .value_parser(clap::value_parser!(u32).range(1..))
+}
+
+// `--resume FILE`.
+fn resume_option<'a>(alloc: Global) -> Arg<'a>
+    ensures rule { rule_of result ≡ option_rule (codes "resume") }
+    ensures local { result.global ≡ false }
+{
+    option(alloc, "resume", "FILE").help("The checkpoint of an earlier run, to go on from there")
+}
+
 // RECORDING.
 fn recording_word<'a>(alloc: Global) -> Arg<'a>
     ensures rule { rule_of result ≡ recording_rule }
@@ -63,6 +91,27 @@ fn frames_command<'a>(alloc: Global) -> Result<Command<'a>, AllocError>
         .arg(recording_word(alloc))
 }
 
+// A subcommand with the options of a run that another run can go on from.
+fn kept_command<'a>(alloc: Global, begun: Command<'a>) -> Result<Command<'a>, AllocError>
+    requires { (fields_of begun).has_globals ≡ false }
+    ensures app { IfOk result (λ c. app_of c ≡ kept_app (app_of begun.entry)) }
+    ensures local { IfOk result (λ c. (fields_of c).has_globals ≡ false) }
+{
+    begun
+        .arg(checkpoint_option(alloc))?
+        .arg(stop_option(alloc))?
+        .arg(resume_option(alloc))
+}
+
+// A subcommand with all that a job takes besides its settings.
+fn job_command<'a>(alloc: Global, begun: Command<'a>) -> Result<Command<'a>, AllocError>
+    requires { (fields_of begun).has_globals ≡ false }
+    ensures app { IfOk result (λ c. app_of c ≡ job_app (app_of begun.entry)) }
+    ensures local { IfOk result (λ c. (fields_of c).has_globals ≡ false) }
+{
+    kept_command(alloc, begun.arg(report_option(alloc))?)?.arg(recording_word(alloc))
+}
+
 // A subcommand of this name that gives a report.
 fn reported_command<'a>(
     alloc: Global,
@@ -72,11 +121,10 @@ fn reported_command<'a>(
     ensures app { IfOk result (λ c. app_of c ≡ reported_app name.entry.now) }
     ensures local { IfOk result (λ c. (fields_of c).has_globals ≡ false) }
 {
-    Command::new(alloc, name)
+    let begun = Command::new(alloc, name)
         .about(about)
-        .arg(settings_option(alloc))?
-        .arg(report_option(alloc))?
-        .arg(recording_word(alloc))
+        .arg(settings_option(alloc))?;
+    job_command(alloc, begun)
 }
 
 // `tmx packets`.
@@ -116,12 +164,11 @@ fn split_command<'a>(alloc: Global) -> Result<Command<'a>, AllocError>
     ensures app { IfOk result (λ c. app_of c ≡ split_app) }
     ensures local { IfOk result (λ c. (fields_of c).has_globals ≡ false) }
 {
-    Command::new(alloc, "split")
+    let begun = Command::new(alloc, "split")
         .about("Extracts the packets of the chosen channels to a file for each application")
         .arg(settings_option(alloc))?
-        .arg(dir_option(alloc))?
-        .arg(report_option(alloc))?
-        .arg(recording_word(alloc))
+        .arg(dir_option(alloc))?;
+    job_command(alloc, begun)
 }
 
 // `--definition FILE`.
@@ -159,9 +206,7 @@ fn fields_command<'a>(alloc: Global) -> Result<Command<'a>, AllocError>
     ensures app { IfOk result (λ c. app_of c ≡ fields_app) }
     ensures local { IfOk result (λ c. (fields_of c).has_globals ≡ false) }
 {
-    fields_begun(alloc)?
-        .arg(report_option(alloc))?
-        .arg(recording_word(alloc))
+    job_command(alloc, fields_begun(alloc)?)
 }
 
 // `tmx`, without its subcommands.

@@ -3,7 +3,7 @@
 use crate::request::UsageFault;
 use std::alloc::{AllocError, AllocFailed};
 use tm_fields::DefinitionFault;
-use tm_tool::{Octets, RunFault, SettingsFault};
+use tm_tool::{CheckpointFault, Octets, RunFault, SettingsFault};
 
 /// Memory ran out.
 #[derive(Clone, Copy, Debug, PartialEq, Eq)]
@@ -30,7 +30,9 @@ pub enum ToolFault {
     Settings(SettingsFault),
     /// The definition's file is no definition.
     Definition(DefinitionFault),
-    /// The file of this name can't be opened, made or read.
+    /// The checkpoint's file is no checkpoint of a job with the settings.
+    Checkpoint(CheckpointFault),
+    /// The file of this name can't be opened, made, read or written.
     File(Octets),
     /// The file of this name is over 1,048,576 octets.
     TooLong(Octets),

@@ -5,8 +5,8 @@ ghost use Rattle.tmx.specs.Files.{IsFaultOf};
 
 use crate::fault::ToolFault;
 use std::alloc::Global;
-use std::fs::File;
-use std::io::{self, ErrorKind, Read};
+use std::fs::{self, File, OpenFile, OpenOptions};
+use std::io::{self, ErrorKind, Read, Write};
 use std::rt::Files;
 use tm_tool::{Octets, RunFault};
 
@@ -77,6 +77,57 @@ pub fn create<R: Files + AllocGlobal>(rt: &R, name: &Octets) -> Result<R::File, 
     match File::create(rt, path_of(rt.alloc(), name)?) {
         Ok(file) => Ok(file),
         Err(_) => Err(file_fault(rt.alloc(), name)),
+    }
+}
+
+/// Opens a file for writing behind what it has, made where it is not there. A fault names the file as it was given.
+pub fn append<R: Files + AllocGlobal>(rt: &R, name: &Octets) -> Result<R::File, ToolFault>
+    ensures { IfErr result (IsFaultOf name.now) }
+{
+    let path = path_of(rt.alloc(), name)?;
+    match OpenOptions::new().append(true).create(true).open(rt, path) {
+        Ok(file) => Ok(file),
+        Err(_) => Err(file_fault(rt.alloc(), name)),
+    }
+}
+
+// Writes octets to a file.
+fn write_new<R: Files>(rt: &R, path: &str, octets: &[u8]) -> io::Result<()> {
+    let mut file = File::create(rt, path)?;
+    file.write_all(octets)?;
+    file.flush()?;
+    file.sync_all()
+}
+
+// Writes octets to a file beside another, whose name it takes then. Where that fails the file beside is removed, and the other is as it was.
+fn write_beside<R: Files>(rt: &R, beside: &str, path: &str, octets: &[u8]) -> io::Result<()> {
+    let done = match write_new(rt, beside, octets) {
+        Ok(()) => fs::rename(rt, beside, path),
+        Err(error) => Err(error),
+    };
+    if done.is_err() {
+        let _ = fs::remove_file(rt, beside);
+    }
+    done
+}
+
+/// Puts octets in place of all that a file has, by way of a file `NAME.new` beside it: where this fails, the file is
+/// as it was. A fault names the file as it was given.
+pub fn replace<R: Files + AllocGlobal>(
+    rt: &R,
+    name: &Octets,
+    octets: &[u8],
+) -> Result<(), ToolFault>
+    ensures { IfErr result (IsFaultOf name.now) }
+{
+    let alloc = rt.alloc();
+    let path = path_of(alloc, name)?;
+    let Ok(beside) = format!(in alloc; "{path}.new") else {
+        return Err(ToolFault::Run(RunFault::NoMemory));
+    };
+    match write_beside(rt, beside.as_str(), path, octets) {
+        Ok(()) => Ok(()),
+        Err(_) => Err(file_fault(alloc, name)),
     }
 }
 

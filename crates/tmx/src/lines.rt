@@ -1,13 +1,13 @@
 //! The line and the status of a fault.
 
 ghost use Rattle.std.specs.Prelude.{◌≡◌, IfOk};
-ghost use Rattle.tmx.specs.FaultLines.{column_line, definition_text, escaped_line, key_line, line_of, row_line, run_text, settings_text, status_of, usage_text};
+ghost use Rattle.tmx.specs.FaultLines.{checkpoint_text, column_line, definition_text, escaped_line, key_line, line_of, row_line, run_text, settings_text, status_of, usage_text};
 
 use crate::fault::{NoMemory, ToolFault};
 use crate::request::UsageFault;
 use std::alloc::Global;
 use tm_fields::{Column, DefinitionFault, push_escaped};
-use tm_tool::{Key, RunFault, SettingsFault};
+use tm_tool::{CheckpointFault, Key, RunFault, SettingsFault};
 
 // A copy of a text.
 fn copied(alloc: Global, text: &str) -> Result<Vec<u8>, NoMemory>
@@ -31,6 +31,7 @@ fn usage_line(alloc: Global, fault: &UsageFault) -> Result<Vec<u8>, NoMemory>
 {
     match fault {
         UsageFault::Usage(text) => Ok(Vec::from_slice(alloc, text.as_slice())?),
+        UsageFault::StopAfter => copied(alloc, "tmx: --stop-after needs --checkpoint\n"),
         UsageFault::Help(text) => Ok(Vec::from_slice(alloc, text.as_slice())?),
         UsageFault::NoMemory => copied(alloc, "tmx: out of memory\n"),
     }
@@ -87,6 +88,21 @@ fn definition_line(alloc: Global, fault: DefinitionFault) -> Result<Vec<u8>, NoM
     }
 }
 
+fn checkpoint_line(fault: CheckpointFault) -> &'static str
+    ensures { result.now ≡ checkpoint_text fault }
+{
+    match fault {
+        CheckpointFault::Short => "tmx: checkpoint: short\n",
+        CheckpointFault::Magic => "tmx: checkpoint: magic\n",
+        CheckpointFault::Version => "tmx: checkpoint: version\n",
+        CheckpointFault::Check => "tmx: checkpoint: check\n",
+        CheckpointFault::Settings => "tmx: checkpoint: settings\n",
+        CheckpointFault::State => "tmx: checkpoint: state\n",
+        CheckpointFault::Trailing => "tmx: checkpoint: trailing\n",
+        CheckpointFault::NoMemory => "tmx: out of memory\n",
+    }
+}
+
 fn run_line(fault: RunFault) -> &'static str
     ensures { result.now ≡ run_text fault }
 {
@@ -94,6 +110,7 @@ fn run_line(fault: RunFault) -> &'static str
         RunFault::Read => "tmx: read failed\n",
         RunFault::Write => "tmx: write failed\n",
         RunFault::Report => "tmx: report failed\n",
+        RunFault::ShortRecording => "tmx: recording is shorter than the checkpoint\n",
         RunFault::TooMany => "tmx: too many records\n",
         RunFault::NoMemory => "tmx: out of memory\n",
     }
@@ -107,6 +124,7 @@ pub fn fault_line(alloc: Global, fault: &ToolFault) -> Result<Vec<u8>, NoMemory>
         ToolFault::Usage(fault) => usage_line(alloc, fault),
         ToolFault::Settings(fault) => settings_line(alloc, fault),
         ToolFault::Definition(fault) => definition_line(alloc, *fault),
+        ToolFault::Checkpoint(fault) => copied(alloc, checkpoint_line(*fault)),
         ToolFault::File(name) => line_around(alloc, "tmx: ", name.as_slice(), ": failed\n"),
         ToolFault::TooLong(name) => line_around(alloc, "tmx: ", name.as_slice(), ": too long\n"),
         ToolFault::Run(fault) => copied(alloc, run_line(*fault)),
@@ -114,7 +132,7 @@ pub fn fault_line(alloc: Global, fault: &ToolFault) -> Result<Vec<u8>, NoMemory>
 }
 
 /// The status with which a fault ends the program: 0 for help, 1 where a device failed or there are
-/// too many records, 2 for wrong words and files, 3 where memory ran out.
+/// too many records, 2 for wrong words and files and for a recording that is too short, 3 where memory ran out.
 pub fn status(fault: &ToolFault) -> u8
     ensures { result ≡ status_of fault.now }
 {
@@ -123,13 +141,16 @@ pub fn status(fault: &ToolFault) -> u8
         ToolFault::Usage(UsageFault::NoMemory)
         | ToolFault::Settings(SettingsFault::NoMemory)
         | ToolFault::Definition(DefinitionFault::NoMemory)
+        | ToolFault::Checkpoint(CheckpointFault::NoMemory)
         | ToolFault::Run(RunFault::NoMemory) => 3,
         ToolFault::File(_)
         | ToolFault::Run(RunFault::Read | RunFault::Write | RunFault::Report | RunFault::TooMany) =>
             1,
-        ToolFault::Usage(UsageFault::Usage(_))
+        ToolFault::Usage(UsageFault::Usage(_) | UsageFault::StopAfter)
         | ToolFault::Definition(_)
         | ToolFault::Settings(_)
-        | ToolFault::TooLong(_) => 2,
+        | ToolFault::Checkpoint(_)
+        | ToolFault::TooLong(_)
+        | ToolFault::Run(RunFault::ShortRecording) => 2,
     }
 }

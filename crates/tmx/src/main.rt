@@ -4,6 +4,7 @@
 mod command;
 mod fault;
 mod files;
+mod kept;
 mod lines;
 mod report;
 mod request;

@@ -27,6 +27,12 @@ pub struct Plan {
     pub settings: Option<Octets>,
     /// The report's file; standard error where it is absent.
     pub report: Option<Octets>,
+    /// The file for the checkpoint after the run; the recording is taken to its end where it is absent.
+    pub checkpoint: Option<Octets>,
+    /// The number of records after which to stop, which is there only where `checkpoint` is.
+    pub stop_after: Option<u32>,
+    /// The file of the checkpoint to go on from; the recording's beginning where it is absent.
+    pub resume: Option<Octets>,
     /// The folder for the files of applications, which splitting needs.
     pub dir: Option<Octets>,
     /// The definition's file, which reading fields needs.
@@ -40,6 +46,8 @@ pub struct Plan {
 pub enum UsageFault {
     /// The words are none that the command takes; this text says what is wrong.
     Usage(Octets),
+    /// The words stop a run after some records, and name no file for its checkpoint.
+    StopAfter,
     /// The words ask for this help.
     Help(Octets),
     /// Memory ran out.

@@ -1,9 +1,10 @@
-//! The order of steps: command line, settings, definition, recording, report, run.
+//! The order of steps: command line, settings, definition, checkpoint, recording, report, run, checkpoint of the run.
 
 ghost use Rattle.std.specs.Prelude.{IsSome};
 
 use crate::fault::ToolFault;
-use crate::files::{create, file_fault, open, read_file};
+use crate::files::{append, create, file_fault, open, read_file};
+use crate::kept::{ending_by, job_by, keep, resumed_by};
 use crate::report::Report;
 use crate::request::{Action, Plan, UsageFault};
 use crate::shelf::FileShelf;
@@ -14,7 +15,7 @@ use std::io::{self, BufReader, BufWriter, ErrorKind, Read, Write};
 use std::rt::{Env, Files};
 use tm_fields::Definition;
 use tm_tool::{
-    Command, Ending, Job, Octets, Reading, RunFault, Settings, Writing, list_frames,
+    Command, Done, Ending, Job, Octets, Reading, RunFault, Settings, Writing, list_frames,
     run as run_job, split,
 };
 
@@ -83,73 +84,80 @@ fn list<R: Print + AllocGlobal, S: Read + Drop>(
 // Gives the packets of a recording on standard output.
 fn give_packets<R: Print + AllocGlobal, S: Read + Drop, V: Write + Drop>(
     rt: &R,
-    settings: &Settings,
+    job: Job,
     command: Command<'_>,
     recording: S,
     report: V,
-) -> Result<(), ToolFault> {
+    ending: Ending,
+) -> Result<Done, ToolFault> {
     let alloc = rt.alloc();
     let mut source = source(alloc, recording)?;
     let mut out = drain(alloc, BUFFER, io::writer(rt))?;
     let mut report = drain(alloc, REPORT_BUFFER, report)?;
-    let Ok(job) = Job::new(alloc, settings) else {
-        return Err(no_memory());
-    };
-    match run_job(
+    let done = run_job(
         alloc,
         job,
         command,
         &mut source,
         &mut out,
         &mut report,
-        Ending::Close,
-    ) {
-        Ok(_) => Ok(()),
-        Err(fault) => Err(ToolFault::Run(fault)),
-    }
+        ending,
+    );
+    done.map_err(ToolFault::Run)
 }
 
 // Gives the packets of a recording to a file for each application.
 fn split_packets<R: Files + AllocGlobal, S: Read + Drop, V: Write + Drop>(
     rt: &R,
-    settings: &Settings,
-    dir: &Octets,
+    job: Job,
+    mut shelf: FileShelf<'_, R>,
     recording: S,
     report: V,
-) -> Result<(), ToolFault> {
+    ending: Ending,
+) -> Result<Done, ToolFault> {
     let alloc = rt.alloc();
-    let Ok(dir) = std::str::from_utf8(dir.as_slice()) else {
-        return Err(file_fault(alloc, dir));
-    };
     let mut source = source(alloc, recording)?;
     let mut report = drain(alloc, REPORT_BUFFER, report)?;
-    let Ok(mut shelf) = FileShelf::new(rt, dir) else {
-        return Err(no_memory());
-    };
-    let Ok(job) = Job::new(alloc, settings) else {
-        return Err(no_memory());
-    };
-    let done = split(
-        alloc,
-        job,
-        &mut source,
-        &mut shelf,
-        &mut report,
-        Ending::Close,
-    );
+    let done = split(alloc, job, &mut source, &mut shelf, &mut report, ending);
     match (done, shelf.write_held()) {
-        (Ok(_), Ok(())) => Ok(()),
+        (Ok(done), Ok(())) => Ok(done),
         (Ok(_), Err(_)) => Err(ToolFault::Run(RunFault::Write)),
         (Err(fault), _) => Err(ToolFault::Run(fault)),
     }
 }
 
-// A file of this name is read, and so must not be emptied for the report.
+// The files for the applications in this folder.
+fn shelf_in<'a, R: Files + AllocGlobal>(
+    rt: &'a R,
+    dir: &'a Octets,
+    goes_on: bool,
+) -> Result<FileShelf<'a, R>, ToolFault> {
+    let Ok(path) = std::str::from_utf8(dir.as_slice()) else {
+        return Err(file_fault(rt.alloc(), dir));
+    };
+    FileShelf::new(rt, path, goes_on).map_err(|_| no_memory())
+}
+
+// A file of this name is read, and so must not be written.
 fn is_read(plan: &Plan, name: &Octets) -> bool {
     let is_it = |file: &Octets| file.as_slice() == name.as_slice();
     plan.recording.as_ref().is_some_and(is_it)
         || plan.settings.as_ref().is_some_and(is_it)
         || plan.definition.as_ref().is_some_and(is_it)
+}
+
+// A file of this name has the checkpoint, before the run or after it.
+fn is_checkpoint(plan: &Plan, name: &Octets) -> bool {
+    let is_it = |file: &Octets| file.as_slice() == name.as_slice();
+    plan.checkpoint.as_ref().is_some_and(is_it) || plan.resume.as_ref().is_some_and(is_it)
+}
+
+// The checkpoint must not take the place of a file that is read.
+fn check_checkpoint(alloc: Global, plan: &Plan) -> Result<(), ToolFault> {
+    match &plan.checkpoint {
+        Some(name) if is_read(plan, name) => Err(file_fault(alloc, name)),
+        _ => Ok(()),
+    }
 }
 
 // Where the plan wants the report.
@@ -159,7 +167,10 @@ fn report_by<R: Files + AllocGlobal, E: Write + Drop>(
     errors: E,
 ) -> Result<Report<R::File, E>, ToolFault> {
     match &plan.report {
-        Some(name) if is_read(plan, name) => Err(file_fault(rt.alloc(), name)),
+        Some(name) if is_read(plan, name) || is_checkpoint(plan, name) => {
+            Err(file_fault(rt.alloc(), name))
+        }
+        Some(name) if plan.resume.is_some() => Ok(Report::File(append(rt, name)?)),
         Some(name) => Ok(Report::File(create(rt, name)?)),
         None => Ok(Report::Errors(errors)),
     }
@@ -200,26 +211,59 @@ fn command_by<'a>(plan: &Plan, definition: Option<&'a Definition>) -> Command<'a
     }
 }
 
+// What the files of the plan say.
+#[derive(Drop)]
+struct Inputs {
+    settings: Settings,
+    definition: Option<Definition>,
+    resumed: Option<Job>,
+}
+
+// Reads the files of the plan but for the recording.
+fn inputs_by<R: Files + AllocGlobal>(rt: &R, plan: &Plan) -> Result<Inputs, ToolFault>
+    requires { IsSome plan.now.settings }
+{
+    let settings = settings_by(rt, plan)?;
+    let definition = definition_by(rt, plan)?;
+    let resumed = resumed_by(rt, plan, &settings)?;
+    Ok(Inputs {
+        settings,
+        definition,
+        resumed,
+    })
+}
+
 // Does what the plan asks for with the recording.
 fn run_on<R: Files + Print + AllocGlobal, S: Read + Drop, E: Write + Drop>(
     rt: &R,
     plan: &Plan,
-    settings: &Settings,
-    definition: Option<&Definition>,
+    inputs: Inputs,
     recording: S,
     errors: E,
 ) -> Result<(), ToolFault> {
     if plan.action == Action::Frames {
-        return list(rt, settings, recording);
+        return list(rt, &inputs.settings, recording);
     }
+    let Inputs {
+        settings,
+        definition,
+        resumed,
+    } = inputs;
+    check_checkpoint(rt.alloc(), plan)?;
     let report = report_by(rt, plan, errors)?;
-    match (plan.action, &plan.dir) {
-        (Action::Split, Some(dir)) => split_packets(rt, settings, dir, recording, report),
-        _ => {
-            let command = command_by(plan, definition);
-            give_packets(rt, settings, command, recording, report)
+    let job = job_by(rt, resumed, &settings)?;
+    let ending = ending_by(plan);
+    let done = match (plan.action, &plan.dir) {
+        (Action::Split, Some(dir)) => {
+            let shelf = shelf_in(rt, dir, plan.resume.is_some())?;
+            split_packets(rt, job, shelf, recording, report, ending)?
         }
-    }
+        _ => {
+            let command = command_by(plan, definition.as_ref());
+            give_packets(rt, job, command, recording, report, ending)?
+        }
+    };
+    keep(rt, plan, &done)
 }
 
 /// Does what the command line asks for. A report that has no file goes to `errors`, all of it before this returns.
@@ -228,24 +272,9 @@ pub fn run<R: Files + Env + Input + Print + AllocGlobal, E: Write + Drop>(
     errors: E,
 ) -> Result<(), ToolFault> {
     let plan = plan(rt.alloc(), words(rt)?).map_err(ToolFault::Usage)?;
-    let settings = settings_by(rt, &plan)?;
-    let definition = definition_by(rt, &plan)?;
+    let inputs = inputs_by(rt, &plan)?;
     match &plan.recording {
-        Some(name) => run_on(
-            rt,
-            &plan,
-            &settings,
-            definition.as_ref(),
-            open(rt, name)?,
-            errors,
-        ),
-        None => run_on(
-            rt,
-            &plan,
-            &settings,
-            definition.as_ref(),
-            rt.reader(),
-            errors,
-        ),
+        Some(name) => run_on(rt, &plan, inputs, open(rt, name)?, errors),
+        None => run_on(rt, &plan, inputs, rt.reader(), errors),
     }
 }

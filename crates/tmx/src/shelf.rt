@@ -4,7 +4,7 @@ ghost use Rattle.std.specs.Prelude.{◌≡◌, ◌<◌, vec_len, IfOk};
 
 use std::alloc::{AllocError, Global};
 use std::fs::{File, OpenOptions};
-use std::io::Write;
+use std::io::{self, Write};
 use std::rt::Files;
 use tm_tool::Shelf;
 
@@ -18,13 +18,14 @@ const MOST_HELD: usize = 8_388_608;
 #[derive(Clone, Copy, Debug, PartialEq, Eq)]
 pub struct NotWritten;
 
-/// The files `apid-NNNN.pkt` of a folder. A file is made at its application's first packet. Octets are held in memory and written
+/// The files `apid-NNNN.pkt` of a folder. A file is made at its application's first packet, or gone on with where a run goes on. Octets are held in memory and written
 /// from time to time, with one file open at a time.
 #[derive(Drop)]
 pub struct FileShelf<'a, R> {
     rt: &'a R,
     alloc: Global,
     dir: &'a str,
+    goes_on: bool,
     // For each application what is not written yet, and whether its file was begun.
     held: Vec<Vec<u8>>,
     begun: Vec<bool>,
@@ -35,8 +36,8 @@ pub struct FileShelf<'a, R> {
 }
 
 impl<'a, R: Files + AllocGlobal> FileShelf<'a, R> {
-    /// Files in this folder, none begun.
-    pub fn new(rt: &'a R, dir: &'a str) -> Result<Self, AllocError>
+    /// Files in this folder, none begun. Those that are there are gone on with where the run goes on, and else begin empty.
+    pub fn new(rt: &'a R, dir: &'a str, goes_on: bool) -> Result<Self, AllocError>
         ensures { IfOk result (λ s. s.refused ≡ 0) }
     {
         let alloc = rt.alloc();
@@ -48,6 +49,7 @@ impl<'a, R: Files + AllocGlobal> FileShelf<'a, R> {
             rt,
             alloc,
             dir,
+            goes_on,
             held,
             begun: vec![in alloc; false; APPLICATIONS]?,
             octets: 0,
@@ -61,7 +63,19 @@ impl<'a, R: Files + AllocGlobal> FileShelf<'a, R> {
         format!(in self.alloc; "{dir}/apid-{application:04}.pkt").map_err(|_| NotWritten)
     }
 
-    // Makes the file of an application at its first packet. It is empty from then on.
+    // Opens the file of this name, which is empty from then on unless the run goes on.
+    fn make(&self, name: &str) -> io::Result<R::File> {
+        if self.goes_on {
+            OpenOptions::new()
+                .append(true)
+                .create(true)
+                .open(self.rt, name)
+        } else {
+            File::create(self.rt, name)
+        }
+    }
+
+    // Makes the file of an application at its first packet.
     fn begin(&mut self, application: usize) -> Result<(), NotWritten>
         requires { application < 2048 }
         ensures { self.new.refused ≡ self.old.refused }
@@ -70,7 +84,7 @@ impl<'a, R: Files + AllocGlobal> FileShelf<'a, R> {
             return Ok(());
         }
         let name = self.name_of(application)?;
-        match File::create(self.rt, name.as_str()) {
+        match self.make(name.as_str()) {
             Ok(_) => {
                 self.begun[application] = true;
                 Ok(())

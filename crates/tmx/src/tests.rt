@@ -9,7 +9,7 @@ use crate::words::plan;
 use std::alloc::{AllocError, Global};
 use std::test::Fail;
 use tm_fields::{Column, DefinitionFault};
-use tm_tool::{Key, Octets, RunFault, SettingsFault, Shelf};
+use tm_tool::{CheckpointFault, Key, Octets, RunFault, SettingsFault, Shelf};
 
 fn owned(alloc: Global, words: &[&str]) -> Result<Vec<String>, AllocError> {
     let mut all = Vec::new(alloc);
@@ -54,6 +54,65 @@ fn command_words(rt: HostRuntime) -> Result<(), Fail> {
     assert_eq!(rt; plan.action, Action::Packets);
     assert!(rt; plan.report.is_none());
     assert!(rt; plan.recording.is_none());
+    Ok(())
+}
+
+#[test]
+fn stop_without_checkpoint(rt: HostRuntime) -> Result<(), Fail> {
+    let words = ["extract", "--settings", "s", "--stop-after", "3"];
+    let found = planned(rt.alloc(), &words)?;
+    let Err(UsageFault::StopAfter) = found else {
+        return Ok(assert!(rt; false));
+    };
+    let fault = ToolFault::Usage(UsageFault::StopAfter);
+    let Ok(line) = fault_line(rt.alloc(), &fault) else {
+        return Ok(assert!(rt; false));
+    };
+    assert_eq!(rt;
+        line.as_slice(),
+        b"tmx: --stop-after needs --checkpoint\n".as_slice()
+    );
+    assert_eq!(rt; status(&fault), 2);
+    Ok(())
+}
+
+#[test]
+fn words_of_checkpoints(rt: HostRuntime) -> Result<(), Fail> {
+    let words = [
+        "packets",
+        "--settings=s",
+        "--checkpoint=c",
+        "--stop-after=4294967295",
+        "--resume=b",
+    ];
+    let Ok(plan) = planned(rt.alloc(), &words)? else {
+        return Ok(assert!(rt; false));
+    };
+    let checkpoint = plan.checkpoint.as_ref().ok_or("checkpoint")?;
+    assert_eq!(rt; checkpoint.as_slice(), b"c".as_slice());
+    let resume = plan.resume.as_ref().ok_or("resume")?;
+    assert_eq!(rt; resume.as_slice(), b"b".as_slice());
+    assert_eq!(rt; plan.stop_after, Some(4_294_967_295));
+    Ok(())
+}
+
+#[test]
+fn words_that_are_no_stop(rt: HostRuntime) -> Result<(), Fail> {
+    for number in ["0", "4294967296", "-1", "x"] {
+        let words = [
+            "split",
+            "--settings=s",
+            "--dir=d",
+            "--checkpoint=c",
+            "--stop-after",
+            number,
+        ];
+        let found = planned(rt.alloc(), &words)?;
+        assert!(rt; matches!(&found, Err(UsageFault::Usage(_))));
+    }
+    let words = ["frames", "--settings=s", "--checkpoint=c"];
+    let found = planned(rt.alloc(), &words)?;
+    assert!(rt; matches!(&found, Err(UsageFault::Usage(_))));
     Ok(())
 }
 
@@ -135,11 +194,16 @@ fn texts_of_usage_and_help(rt: HostRuntime) -> Result<(), Fail> {
     let wanted =
         "Lists the frames: one line for each record of the recording\n\nUsage: tmx frames --settings <FILE> [RECORDING]\n\nArguments:\n  [RECORDING]  The recording; standard input if it is left out\n\nOptions:\n      --settings <FILE>  The settings of the recording: a TOML file\n  -h, --help             Print help\n";
     assert_eq!(rt; text.as_slice(), wanted.as_bytes());
-    let Err(UsageFault::Help(text)) = planned(alloc, &["packets", "--help"])? else {
+    Ok(())
+}
+
+#[test]
+fn help_of_packets(rt: HostRuntime) -> Result<(), Fail> {
+    let Err(UsageFault::Help(text)) = planned(rt.alloc(), &["packets", "--help"])? else {
         return Ok(assert!(rt; false));
     };
     let wanted =
-        "Lists the packets of the chosen channels: one line for each\n\nUsage: tmx packets [OPTIONS] --settings <FILE> [RECORDING]\n\nArguments:\n  [RECORDING]  The recording; standard input if it is left out\n\nOptions:\n      --settings <FILE>  The settings of the recording: a TOML file\n      --report <FILE>    The report of what is bad or lost; standard error if it is left out\n  -h, --help             Print help\n";
+        "Lists the packets of the chosen channels: one line for each\n\nUsage: tmx packets [OPTIONS] --settings <FILE> [RECORDING]\n\nArguments:\n  [RECORDING]  The recording; standard input if it is left out\n\nOptions:\n      --settings <FILE>    The settings of the recording: a TOML file\n      --report <FILE>      The report of what is bad or lost; standard error if it is left out\n      --checkpoint <FILE>  The checkpoint, written after the run, from which another run can go on\n      --stop-after <N>     Records to stop after, a number from 1 to 4294967295; needs --checkpoint\n      --resume <FILE>      The checkpoint of an earlier run, to go on from there\n  -h, --help               Print help\n";
     assert_eq!(rt; text.as_slice(), wanted.as_bytes());
     Ok(())
 }
@@ -186,6 +250,11 @@ fn lines_and_statuses(rt: HostRuntime) -> Result<(), Fail> {
         (ToolFault::Run(RunFault::Read), "tmx: read failed\n", 1),
         (ToolFault::Run(RunFault::Write), "tmx: write failed\n", 1),
         (ToolFault::Run(RunFault::Report), "tmx: report failed\n", 1),
+        (
+            ToolFault::Run(RunFault::ShortRecording),
+            "tmx: recording is shorter than the checkpoint\n",
+            2,
+        ),
         (
             ToolFault::Run(RunFault::TooMany),
             "tmx: too many records\n",
@@ -238,6 +307,33 @@ fn lines_of_definitions(rt: HostRuntime) -> Result<(), Fail> {
     Ok(())
 }
 
+#[test]
+fn lines_of_checkpoints(rt: HostRuntime) -> Result<(), Fail> {
+    let table = [
+        (CheckpointFault::Short, "short"),
+        (CheckpointFault::Magic, "magic"),
+        (CheckpointFault::Version, "version"),
+        (CheckpointFault::Check, "check"),
+        (CheckpointFault::Settings, "settings"),
+        (CheckpointFault::State, "state"),
+        (CheckpointFault::Trailing, "trailing"),
+    ];
+    for (fault, word) in table {
+        let fault = ToolFault::Checkpoint(fault);
+        let Ok(found) = fault_line(rt.alloc(), &fault) else {
+            return Ok(assert!(rt; false));
+        };
+        let line = format!(in rt.alloc(); "tmx: checkpoint: {word}\n")?;
+        assert_eq!(rt; found.as_slice(), line.as_bytes());
+        assert_eq!(rt; status(&fault), 2);
+    }
+    assert_eq!(rt;
+        status(&ToolFault::Checkpoint(CheckpointFault::NoMemory)),
+        3
+    );
+    Ok(())
+}
+
 // The name and the line of the fault of a file that is read whole.
 fn unread(rt: &HostRuntime, name: &str) -> Result<Vec<u8>, Fail> {
     let alloc = rt.alloc();
@@ -270,7 +366,7 @@ fn files_that_are_not_read(rt: HostRuntime) -> Result<(), Fail> {
 
 #[test]
 fn shelf_without_folder(rt: HostRuntime) -> Result<(), Fail> {
-    let mut shelf = FileShelf::new(&rt, "/no such folder")?;
+    let mut shelf = FileShelf::new(&rt, "/no such folder", false)?;
     assert!(rt; shelf.put(200, b"packet".as_slice()).is_err());
     Ok(())
 }

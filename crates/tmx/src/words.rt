@@ -1,8 +1,8 @@
 //! The plan of the words.
 
-ghost use Rattle.std.specs.Prelude.{◌≡◌, true, Some, [], map, IfOk, IfErr, option_and_then, string_bytes};
+ghost use Rattle.std.specs.Prelude.{◌≡◌, ◌≢◌, ◌⊎◌, true, false, Err, Some, [], map, IfOk, IfErr, option_and_then, string_bytes};
 ghost use Rattle.clap.specs.Words.{first_of, found_of, kind_of, one_of, rows_of, subcommand_rows_of};
-ghost use Rattle.tmx.specs.CommandLine.{HasRequired, action_named, decimal, faults_of, is_taken, matches_of, plan_in, plan_of};
+ghost use Rattle.tmx.specs.CommandLine.{HasRequired, HasStop, action_named, decimal, faults_of, is_taken, lacks_checkpoint, matches_of, plan_in, plan_of};
 
 use crate::command::tmx_command;
 use crate::request::{Action, Plan, UsageFault};
@@ -28,11 +28,18 @@ fn value_of(alloc: Global, matches: &ArgMatches<'_>, id: &str) -> Result<Option<
     }
 }
 
-// The number that the value of an argument spells.
-fn number_of(matches: &ArgMatches<'_>, id: &str) -> Option<u16>
+// The number of sixteen bits that the value of an argument spells.
+fn short_number_of(matches: &ArgMatches<'_>, id: &str) -> Option<u16>
     ensures { result ≡ option_and_then (decimal 16) (one_of id.now (rows_of (found_of matches.now))) }
 {
     matches.get_one::<u16>(id)
+}
+
+// The number of thirty-two bits that the value of an argument spells.
+fn number_of(matches: &ArgMatches<'_>, id: &str) -> Option<u32>
+    ensures { result ≡ option_and_then (decimal 32) (one_of id.now (rows_of (found_of matches.now))) }
+{
+    matches.get_one::<u32>(id)
 }
 
 // The action of this name.
@@ -63,14 +70,20 @@ fn plan_within(
     let recording = value_of(alloc, matches, "recording")?;
     let settings = value_of(alloc, matches, "settings")?;
     let report = value_of(alloc, matches, "report")?;
+    let checkpoint = value_of(alloc, matches, "checkpoint")?;
+    let stop_after = number_of(matches, "stop-after");
+    let resume = value_of(alloc, matches, "resume")?;
     let dir = value_of(alloc, matches, "dir")?;
     let definition = value_of(alloc, matches, "definition")?;
-    let apid = number_of(matches, "apid");
+    let apid = short_number_of(matches, "apid");
     Ok(Some(Plan {
         action,
         recording,
         settings,
         report,
+        checkpoint,
+        stop_after,
+        resume,
         dir,
         definition,
         apid,
@@ -89,7 +102,8 @@ fn plan_by(alloc: Global, matches: &ArgMatches<'_>) -> Result<Option<Plan>, Allo
 
 // The text of an error, unless memory runs out.
 fn fault_by(alloc: Global, error: &Error) -> UsageFault
-    ensures { kind_of error.now ≡ ErrorKind.OutOfMemory → result ≡ UsageFault.NoMemory }
+    ensures memory { kind_of error.now ≡ ErrorKind.OutOfMemory → result ≡ UsageFault.NoMemory }
+    ensures text { result ≢ UsageFault.StopAfter }
 {
     if error.kind() == ErrorKind::OutOfMemory {
         return UsageFault::NoMemory;
@@ -115,18 +129,13 @@ fn matches_by<'a>(alloc: Global, words: &'a [String]) -> Result<ArgMatches<'a>, 
     tmx_command(alloc)?.try_get_matches_from(words)
 }
 
-/// What the words after the program's name ask for: `frames --settings FILE [RECORDING]`, or `packets` or
-/// `extract` with `--settings FILE [--report FILE] [RECORDING]`, or `split` with `--dir DIR` as well, or `fields` with
-/// `--definition FILE --apid N` as well, N from 0 to 2047. Other words are `Usage`, `--help` is `Help`, each with a text
-/// to print.
-pub fn plan(alloc: Global, words: Vec<String>) -> Result<Plan, UsageFault>
-    // A plan is what `clap`'s matches of the words say, with what its action needs, and comes only for words in
-    // which `clap` finds nothing wrong.
+// The plan that `clap`'s matches of the words say.
+fn matched_plan(alloc: Global, words: Vec<String>) -> Result<Plan, UsageFault>
     ensures ok { IfOk result (λ p. plan_of (map string_bytes words.items) ≡ Some p) }
     ensures required { IfOk result HasRequired }
     ensures whole { IfOk result (λ _. faults_of (map string_bytes words.items) ≡ []) }
-
-    // Words that the command takes, by `clap`'s own definition, are refused for want of memory alone.
+    ensures stop { IfOk result (HasStop (map string_bytes words.items)) }
+    ensures text { IfErr result (λ f. f ≢ UsageFault.StopAfter) }
     ensures taken { IfErr result (λ f. is_taken (map string_bytes words.items) ≡ true → f ≡ UsageFault.NoMemory) }
 {
     let matches = match matches_by(alloc, words.as_slice()) {
@@ -138,4 +147,40 @@ pub fn plan(alloc: Global, words: Vec<String>) -> Result<Plan, UsageFault>
         Ok(None) => unreachable!(),
         Err(_) => Err(UsageFault::NoMemory),
     }
+}
+
+// The plan stops a run, and names no file for its checkpoint.
+fn lacks_checkpoint(plan: &Plan) -> bool
+    ensures { result ≡ lacks_checkpoint plan.now }
+{
+    plan.stop_after.is_some() && plan.checkpoint.is_none()
+}
+
+/// What the words after the program's name ask for: `frames --settings FILE [RECORDING]`, or `packets` or `extract` with
+/// `--settings FILE [--report FILE] [--checkpoint FILE] [--stop-after N] [--resume FILE] [RECORDING]`, or `split` with
+/// `--dir DIR` as well, or `fields` with `--definition FILE --apid N` as well. The N of `--stop-after` is from 1 to 4294967295, that of
+/// `--apid` from 0 to 2047. `--stop-after` without `--checkpoint` is `StopAfter`. Other words are `Usage`, `--help` is `Help`,
+/// each with a text to print.
+pub fn plan(alloc: Global, words: Vec<String>) -> Result<Plan, UsageFault>
+    // A plan is what `clap`'s matches of the words say, with what its action needs, and comes only for words in
+    // which `clap` finds nothing wrong. It stops after a number of records only where it has a file for the checkpoint.
+    ensures ok { IfOk result (λ p. plan_of (map string_bytes words.items) ≡ Some p) }
+    ensures required { IfOk result HasRequired }
+    ensures whole { IfOk result (λ _. faults_of (map string_bytes words.items) ≡ []) }
+    ensures stop { IfOk result (HasStop (map string_bytes words.items)) }
+    ensures checked { IfOk result (λ p. lacks_checkpoint p ≡ false) }
+
+    // `StopAfter` comes only where `clap`'s matches of the words say a plan that stops and has no such file.
+    ensures stop_after { result ≡ Err UsageFault.StopAfter → (faults_of (map string_bytes words.items) ≡ [])
+        × ((p : Plan) × (plan_of (map string_bytes words.items) ≡ Some p) × (lacks_checkpoint p ≡ true)) }
+
+    // Words that the command takes, by `clap`'s own definition, are refused for that and for want of memory alone.
+    ensures taken { IfErr result (λ f. is_taken (map string_bytes words.items) ≡ true
+        → (f ≡ UsageFault.NoMemory) ⊎ (f ≡ UsageFault.StopAfter)) }
+{
+    let plan = matched_plan(alloc, words)?;
+    if lacks_checkpoint(&plan) {
+        return Err(UsageFault::StopAfter);
+    }
+    Ok(plan)
 }

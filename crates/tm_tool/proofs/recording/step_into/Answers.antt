@@ -1,5 +1,8 @@
 use Rattle.tm_tool.proofs.Sinks.{took_all, stopped_among}
-use Rattle.tm_tool.proofs.Running.{stepped_work, step_stopped}
+use Rattle.std.proofs.Common.{ap, arith}
+use Rattle.tm_reassembly.specs.Steps.{Progress}
+use Rattle.tm_bits.specs.Bits.{AreOctets}
+use Rattle.tm_tool.proofs.Running.{stepped_valid, stepped_work, step_stopped}
 use Rattle.tm_tool.proofs.recording.step_into.Goals as goal
 
 pub returns-in-Ok-clause-same_tracker : goal.returns-in-Ok-clause-same_tracker
@@ -41,3 +44,8 @@ pub returns-in-Err-Sink-clause-written : goal.returns-in-Err-Sink-clause-written
 returns-in-Err-Sink-clause-written g c =
     step_stopped g.O.Outlet.grows _ _ _ _ _ _
     (stopped_among g.O.Outlet.grows g.met.O.Outlet.grows_nil g.met.O.Outlet.grows_trans g.O.Outlet.text g.O.Outlet.rows _ _ _ _ _ _ _ _ _ _ (rw c.in-Err-Sink.field-0-is at c.in-Err-Sink.ensures.refused).3).stopped
+
+pub returns-in-Ok-clause-going_on : goal.returns-in-Ok-clause-going_on
+returns-in-Ok-clause-going_on g c =
+    let octets : AreOctets c.args.octets.now = record { below = λ i. omega (arith, c.type_inv.octets i) } in
+    (ap (λ (x : Progress). x.failed) c.in-Ok.ensures.left, stepped_valid c.args.reassembly.now c.step.new.self c.args.octets.now c.requires.going.1 octets c.in-Ok.ensures.asked.1 c.in-Ok.ensures.left)

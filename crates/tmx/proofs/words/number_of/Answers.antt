@@ -7,5 +7,5 @@ use Rattle.tmx.proofs.words.number_of.Goals as goal
 pub returns : goal.returns
 returns c =
     let is = one_text-rows (found_of c.args.matches.now) c.args.id.now in
-    rw (← is) (one_number _ (λ bs r. ParsesUnsigned 16 10 bs r × ExplainsUnsignedError 10 bs r × HasUnsignedDigitsIfOk bs r) 16
+    rw (← is) (one_number _ (λ bs r. ParsesUnsigned 32 10 bs r × ExplainsUnsignedError 10 bs r × HasUnsignedDigitsIfOk bs r) 32
     (one_text (found_of c.args.matches.now) c.args.id.now) c.get_one.result c.get_one.ensures.none c.get_one.ensures.value (λ u x g. g.0))

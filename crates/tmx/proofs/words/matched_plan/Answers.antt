@@ -1,14 +1,20 @@
 use Rattle.std.proofs.Common.{◌≡◌, rules, List, Some, None, map, string_bytes}
 use Rattle.clap.specs.Words.{Text}
 use Rattle.tmx.specs.CommandLine.{plan_of}
-use Rattle.tmx.proofs.Required.{reaches, required_by, some_plan}
-use Rattle.tmx.proofs.words.plan.Goals as goal
+use Rattle.tmx.proofs.Required.{reaches, required_by, some_plan, stop_by}
+use Rattle.tmx.proofs.words.matched_plan.Goals as goal
 
 pub returns-in-Ok-Some-clause-required : goal.returns-in-Ok-Some-clause-required
 returns-in-Ok-Some-clause-required c =
     let words : List Text = map string_bytes c.args.words.items in
     let got : plan_of words ≡ Some c.in-Ok-Some.plan = search rules in
     required_by words c.in-Ok-Some.plan (reaches words (search rules)) got
+
+pub returns-in-Ok-Some-clause-stop : goal.returns-in-Ok-Some-clause-stop
+returns-in-Ok-Some-clause-stop c =
+    let words : List Text = map string_bytes c.args.words.items in
+    let got : plan_of words ≡ Some c.in-Ok-Some.plan = search rules in
+    stop_by words c.in-Ok-Some.plan (reaches words (search rules)) got
 
 pub unreachable-requires : goal.unreachable-requires
 unreachable-requires c =

@@ -1,0 +1,113 @@
+-- Headers leave a valid state valid.
+use Rattle.std.proofs.Common.{◌≡◌, ℕ, ◌+◌, ◌-◌, ◌*◌, ◌^◌, ◌<◌, ◌≤◌, min, true, false, Option, Some, None, List, [], ◌∷◌, length, drop, set, sym, subst, ◌∙◌, ⊎_elim, arith}
+use Rattle.std.specs.Prelude.{slice_range}
+use Rattle.std.proofs.Math.Pow.{pow_mono}
+use Rattle.std.proofs.lemmas.Bool.{cases_Bool, cases_eq, cond_both, eq-eqb}
+use Rattle.std.proofs.lemmas.List.{length-set, length-take, get_or-set_other}
+use Rattle.std.proofs.lemmas.Grind.{get_or-set_at}
+use Rattle.tm_bits.specs.Bits.{part, bits_of}
+use Rattle.tm_bits.proofs.BitLemmas.{number-lt}
+use Rattle.tm_packet.specs.declared.header.Flags.{Flags}
+use Rattle.tm_packet.specs.declared.header.Flags.TheVariants as flag
+use Rattle.tm_packet.specs.declared.tracker.Last.{Last}
+use Rattle.tm_packet.specs.Header.{Fields, AreInRange, header_of}
+use Rattle.tm_packet.specs.Sequence.{begun, opened, first_in, goes_on}
+use Rattle.tm_packet.specs.Single.{member_after, single_after}
+use Rattle.tm_packet.specs.Merge.{Sent, key_of, is_idle, entry_at, after}
+use Rattle.tm_packet.specs.Valid.{Fits, FirstFits, IsEntry, EntryFits, IsState}
+use Rattle.tm_packet.proofs.Merging.{after-idle, after-one, after-append, after_from-none}
+
+-- ---- the numbers of a header
+
+-- a part of n bits is below 2 ^ n, also where bits are missing
+part_below : (octets : List ℕ) (from to : ℕ) → part octets from to < 2 ^ (to - from)
+unfolding part
+part_below octets from to =
+    let small = number-lt (slice_range (bits_of octets) from to) in
+    let l : length (slice_range (bits_of octets) from to) ≡ min (to - from) (length (drop from (bits_of octets))) = length-take (to - from) (drop from (bits_of octets)) in
+    let less : 2 ^ length (slice_range (bits_of octets) from to) ≤ 2 ^ (to - from) = pow_mono (omega (arith, l)) in
+    omega arith
+
+-- the header in any octets, also in too few, is in range
+pub header-range : (octets : List ℕ) → AreInRange (header_of octets)
+header-range octets = record {
+  application = part_below octets 5 16;
+  count = part_below octets 18 32;
+  data_length = part_below octets 32 48;
+}
+
+-- and so it fits on each of the eight channels
+pub header-fits : (channel : ℕ) (octets : List ℕ) → channel < 8 → Fits (record { channel = channel; header = header_of octets })
+header-fits channel octets h = record { channel = h; application = (header-range octets).application }
+
+-- ---- the entry of a key
+
+begun-fits : (flags : Flags) (count : ℕ) → count < 16384 → FirstFits (begun flags count)
+begun-fits flag.Continuation count h = tt
+begun-fits flag.First count h = h
+begun-fits flag.Last count h = tt
+begun-fits flag.Unsegmented count h = tt
+
+first_in-fits : (e : Option Last) → EntryFits e → FirstFits (first_in e)
+first_in-fits None h = tt
+first_in-fits (Some e) h = h.first
+
+-- a header leaves counts
+pub entry-valid : (e : Option Last) (h : Fields) → EntryFits e → h.count < 16384 → IsEntry (single_after e h)
+entry-valid e h fits small = record {
+  count = small;
+  first = cond_both (goes_on (member_after e h)) (first_in e) (opened (member_after e h)) FirstFits (λ p. first_in-fits e fits) (λ p. begun-fits h.flags h.count small);
+}
+
+-- ---- the entries of all keys
+
+-- a packet that isn't idle has no key of an idle one
+not_idle : (channel : ℕ) (p : Sent) → Fits p → is_idle p.header ≡ false → 2048 * channel + 2047 ≡ key_of p → ⊥
+not_idle channel p fits h e =
+    let small = fits.application in
+    let idle : p.header.application ≡ 2047 = omega arith in
+    true_false (sym (eq-eqb p.header.application 2047 idle) ∙ h)
+  where
+    true_false : true ≡ false → ⊥
+    true_false h = cc
+
+-- an entry with counts may be put at the key of a packet that isn't idle
+set-valid : (s : List (Option Last)) (p : Sent) (kept : Last) → IsState s → Fits p → is_idle p.header ≡ false → IsEntry kept
+    → IsState (set s (key_of p) (Some kept))
+set-valid s p kept valid fits h k =
+    let all = valid.places in
+    let c = fits.channel in
+    let a = fits.application in
+    let inside : key_of p < length s = omega arith in
+    record {
+      places = length-set s (key_of p) (Some kept) ∙ valid.places;
+      fit = λ key.
+          ⊎_elim (λ e. subst EntryFits (sym (get_or-set_at s (key_of p) key (Some kept) None e inside)) k)
+          (λ ne. subst EntryFits (sym (get_or-set_other s (key_of p) key (Some kept) None ne)) (valid.fit key)) (cases_eq key (key_of p));
+      idle = λ channel. get_or-set_other s (key_of p) (2048 * channel + 2047) (Some kept) None (not_idle channel p fits h) ∙ valid.idle channel;
+    }
+
+-- a header leaves a valid state valid
+pub after-valid : (s : List (Option Last)) (p : Sent) → IsState s → Fits p → p.header.count < 16384 → IsState (after s (p ∷ []))
+after-valid s p valid fits small =
+    ⊎_elim (λ h. subst IsState (sym (after-idle s p h)) valid)
+    (λ h.
+    let all = valid.places in
+    let c = fits.channel in
+    let a = fits.application in
+    let inside : key_of p < length s = omega arith in
+    subst IsState (sym (after-one s p h inside))
+    (set-valid s p (single_after (entry_at s (key_of p)) p.header) valid fits h
+    (entry-valid (entry_at s (key_of p)) p.header (valid.fit (key_of p)) small)))
+    (cases_Bool (is_idle p.header))
+
+-- headers that have a key and a count
+abbrev pub AllSent : List Sent → Type 0
+AllSent [] = Unit {0}
+AllSent (p ∷ ps) = Fits p × (p.header.count < 16384) × AllSent ps
+
+-- and so do more
+pub all_after-valid : (s : List (Option Last)) (ps : List Sent) → IsState s → AllSent ps → IsState (after s ps)
+all_after-valid s [] valid h = subst IsState (sym (after_from-none 0 s)) valid
+all_after-valid s (p ∷ ps) valid h =
+    subst IsState (sym (after-append s (p ∷ []) ps)) (all_after-valid (after s (p ∷ [])) ps (after-valid s p valid h.0 h.1) h.2)

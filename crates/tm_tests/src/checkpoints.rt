@@ -1,0 +1,131 @@
+//! Checkpoints: written and read again, and refused where an octet was altered.
+
+use crate::runs::{new_job, octets_of};
+use std::alloc::Global;
+use std::test::Fail;
+use tm_frame::error_control;
+use tm_tool::{CheckpointFault, Job, Settings};
+
+const BASE: &str = "spacecraft = 42\nframe_length = 24\nerror_control = false\n";
+
+// Three records of two channels are done: a packet of 26 octets is begun on channel 0, and one of count 1 was the last on channel 1.
+const BEFORE_CHECK: &str = "544D5843 01 002A 0018 0000 0000 00 00 00 FF 00000003 \
+    02 00 00000000 0000 00000012 0064C0000013555555555555555555555555 01 01 00 00 00 00 00 00 0001 0864 0001 FFFF";
+
+// Before any record.
+const NEW_BEFORE_CHECK: &str =
+    "544D5843 01 002A 0018 0000 0000 00 00 00 FF 00000000 00 00 00 00 00 00 00 00 0000";
+
+// The octets with their error control behind them.
+fn checked(alloc: Global, text: &str) -> Result<Vec<u8>, Fail> {
+    let mut octets = octets_of(alloc, text)?;
+    let check = error_control(&octets);
+    octets.extend_from_slice(&check.to_be_bytes())?;
+    Ok(octets)
+}
+
+// What `resume` answers with the settings of a text.
+fn resume_with(
+    alloc: Global,
+    settings: &str,
+    octets: &[u8],
+) -> Result<Result<Job, CheckpointFault>, Fail> {
+    let Ok(settings) = Settings::read(alloc, settings.as_bytes()) else {
+        return Err(Fail::from("the settings"));
+    };
+    Ok(Job::resume(alloc, &settings, octets))
+}
+
+#[test]
+fn stop_and_resume(rt: HostRuntime) -> Result<(), Fail> {
+    let alloc = rt.alloc();
+    let octets = checked(alloc, BEFORE_CHECK)?;
+    assert_eq!(rt; octets.len(), 69);
+    let Ok(job) = resume_with(alloc, BASE, &octets)? else {
+        return Err(Fail::from("a checkpoint"));
+    };
+    assert_eq!(rt; job.records(), 3);
+    let Ok(again) = job.checkpoint(alloc) else {
+        return Err(Fail::from("memory"));
+    };
+    assert_eq!(rt; again.as_slice(), octets.as_slice());
+    Ok(())
+}
+
+#[test]
+fn before_any_record(rt: HostRuntime) -> Result<(), Fail> {
+    let alloc = rt.alloc();
+    let job = new_job(alloc, BASE)?;
+    let Ok(octets) = job.checkpoint(alloc) else {
+        return Err(Fail::from("memory"));
+    };
+    let wanted = checked(alloc, NEW_BEFORE_CHECK)?;
+    assert_eq!(rt; octets.len(), 33);
+    assert_eq!(rt; octets.as_slice(), wanted.as_slice());
+    let Ok(again) = resume_with(alloc, BASE, &octets)? else {
+        return Err(Fail::from("a checkpoint"));
+    };
+    assert_eq!(rt; again.records(), 0);
+    Ok(())
+}
+
+// What is done to the checkpoint, and how it is then refused.
+#[derive(Clone, Copy, Debug)]
+enum Altered {
+    // It is cut off after so many octets.
+    Cut(usize),
+    // The octet at a place is another one.
+    Octet(usize, u8),
+    // Likewise, and the check is made right again.
+    Checked(usize, u8),
+    // An octet 0 is put before a right check.
+    Longer,
+    // It is read with other settings.
+    Settings(&'static str),
+}
+
+// Puts another octet at a place.
+fn exchange(octets: &mut Vec<u8>, at: usize, octet: u8) -> Result<(), Fail> {
+    match octets.get_mut(at) {
+        Some(place) if *place != octet => {
+            *place = octet;
+            Ok(())
+        }
+        _ => Err(Fail::from("no other octet")),
+    }
+}
+
+#[test]
+fn altered_checkpoint(rt: HostRuntime) -> Result<(), Fail> {
+    let alloc = rt.alloc();
+    let longer = "spacecraft = 42\nframe_length = 25\nerror_control = false\n";
+    let table = [
+        (Altered::Cut(32), CheckpointFault::Short),
+        (Altered::Octet(0, 0x55), CheckpointFault::Magic),
+        (Altered::Octet(4, 0x07), CheckpointFault::Version),
+        (Altered::Octet(68, 0x00), CheckpointFault::Check),
+        (Altered::Settings(longer), CheckpointFault::Settings),
+        (Altered::Checked(21, 0x03), CheckpointFault::State),
+        (Altered::Longer, CheckpointFault::Trailing),
+    ];
+    for (altered, fault) in table {
+        let mut settings = BASE;
+        let mut octets = octets_of(alloc, BEFORE_CHECK)?;
+        match altered {
+            Altered::Checked(at, octet) => exchange(&mut octets, at, octet)?,
+            Altered::Longer => octets.push(0)?,
+            Altered::Settings(text) => settings = text,
+            _ => {}
+        }
+        let check = error_control(&octets);
+        octets.extend_from_slice(&check.to_be_bytes())?;
+        match altered {
+            Altered::Cut(len) => octets.truncate(len),
+            Altered::Octet(at, octet) => exchange(&mut octets, at, octet)?,
+            _ => {}
+        }
+        let answer = resume_with(alloc, settings, &octets)?.err();
+        assert_eq!(rt; answer, Some(fault), "{altered:?}");
+    }
+    Ok(())
+}

@@ -1,0 +1,304 @@
+//! Jobs that are stopped and go on: the outputs joined are those of one run.
+
+use crate::runs::{BASE, ROWS, Row, SHORT_REST, TWO_CHANNELS, new_job, octets_of};
+use crate::{MemoryDrain, MemoryShelf, MemorySource};
+use std::alloc::{AllocError, Global};
+use std::test::Fail;
+use tm_fields::Definition;
+use tm_tool::{Command, Ending, Job, RunFault, Settings, run, split};
+
+// How a stopped job goes on.
+#[derive(Clone, Copy, PartialEq, Eq)]
+enum Going {
+    // The job that the run kept goes on itself.
+    Kept,
+    // It is written as a checkpoint, and resumed from that.
+    Resumed,
+}
+
+// The job with which a stopped one goes on.
+fn next_job(alloc: Global, settings: &str, job: Job, going: Going) -> Result<Job, Fail> {
+    if going == Going::Kept {
+        return Ok(job);
+    }
+    let Ok(settings) = Settings::read(alloc, settings.as_bytes()) else {
+        return Err(Fail::from("the settings"));
+    };
+    let Ok(octets) = job.checkpoint(alloc) else {
+        return Err(Fail::from("memory"));
+    };
+    match Job::resume(alloc, &settings, octets.as_slice()) {
+        Ok(job) => Ok(job),
+        Err(_) => Err(Fail::from("a checkpoint")),
+    }
+}
+
+// The outputs of a job that is stopped after each record and goes on, and then closes the recording, joined.
+fn run_in_steps(
+    alloc: Global,
+    row: Row,
+    command: Command<'_>,
+    going: Going,
+) -> Result<(Vec<u8>, Vec<u8>), Fail> {
+    let mut job = new_job(alloc, row.settings)?;
+    let mut out = MemoryDrain::new(Vec::new(alloc), 65_536, 0);
+    let mut report = MemoryDrain::new(Vec::new(alloc), 65_536, 0);
+    for records in 1..=row.records {
+        let mut source = MemorySource::new(octets_of(alloc, row.recording)?, 65_536, 0);
+        let ending = Ending::StopAfter(1);
+        let Ok(done) = run(
+            alloc,
+            job,
+            command,
+            &mut source,
+            &mut out,
+            &mut report,
+            ending,
+        ) else {
+            return Err(Fail::from("a run"));
+        };
+        let Some(kept) = done.kept else {
+            return Err(Fail::from("a job"));
+        };
+        if kept.records() != records {
+            return Err(Fail::from("the number of records"));
+        }
+        job = next_job(alloc, row.settings, kept, going)?;
+    }
+    let mut source = MemorySource::new(octets_of(alloc, row.recording)?, 65_536, 0);
+    let ending = Ending::Close;
+    match run(
+        alloc,
+        job,
+        command,
+        &mut source,
+        &mut out,
+        &mut report,
+        ending,
+    ) {
+        Ok(done) if done.kept.is_none() => Ok((out.octets, report.octets)),
+        _ => Err(Fail::from("the last run")),
+    }
+}
+
+#[test]
+fn worked_rows_in_steps(rt: HostRuntime) -> Result<(), Fail> {
+    let alloc = rt.alloc();
+    for row in ROWS {
+        let name = row.name;
+        let octets = octets_of(alloc, row.octets)?;
+        for going in [Going::Kept, Going::Resumed] {
+            let (out, report) = run_in_steps(alloc, row, Command::Extract, going)?;
+            assert_eq!(rt; out.as_slice(), octets.as_slice(), "{name} by extract");
+            assert_eq!(rt;
+                report.as_slice(),
+                row.report.as_bytes(),
+                "{name} by extract"
+            );
+            let (out, report) = run_in_steps(alloc, row, Command::Packets, going)?;
+            assert_eq!(rt; out.as_slice(), row.lines.as_bytes(), "{name} by packets");
+            assert_eq!(rt;
+                report.as_slice(),
+                row.report.as_bytes(),
+                "{name} by packets"
+            );
+        }
+    }
+    Ok(())
+}
+
+#[test]
+fn rows_of_fields_in_steps(rt: HostRuntime) -> Result<(), Fail> {
+    let alloc = rt.alloc();
+    let Ok(definition) = Definition::read(alloc, b"name,data_type,bit_length\nA,uint,8\n") else {
+        return Err(Fail::from("the definition"));
+    };
+    let rows =
+        "tm_record,tm_channel,tm_apid,tm_count,A\n2,1,100,0,85\n2,1,100,1,85\n3,0,100,0,85\n3,0,100,1,85\n";
+    for going in [Going::Kept, Going::Resumed] {
+        let command = Command::Fields(&definition, 100);
+        let (out, report) = run_in_steps(alloc, TWO_CHANNELS, command, going)?;
+        assert_eq!(rt; out.as_slice(), rows.as_bytes());
+        assert!(rt; report.is_empty());
+    }
+    Ok(())
+}
+
+// All octets that were put on a shelf, in the order of the puts.
+fn joined(alloc: Global, shelf: &MemoryShelf) -> Result<Vec<u8>, AllocError> {
+    let mut octets = Vec::new(alloc);
+    for put in &shelf.puts {
+        octets.extend_from_slice(put.octets.as_slice())?;
+    }
+    Ok(octets)
+}
+
+// What a job that splits a recording, is stopped after each record and then closes it puts on its shelf and reports.
+fn split_in_steps(alloc: Global, row: Row) -> Result<(MemoryShelf, Vec<u8>), Fail> {
+    let mut job = new_job(alloc, row.settings)?;
+    let mut shelf = MemoryShelf::new(alloc, 0);
+    let mut report = MemoryDrain::new(Vec::new(alloc), 65_536, 0);
+    for _ in 0..row.records {
+        let mut source = MemorySource::new(octets_of(alloc, row.recording)?, 65_536, 0);
+        let ending = Ending::StopAfter(1);
+        let Ok(done) = split(alloc, job, &mut source, &mut shelf, &mut report, ending) else {
+            return Err(Fail::from("a run"));
+        };
+        let Some(kept) = done.kept else {
+            return Err(Fail::from("a job"));
+        };
+        job = next_job(alloc, row.settings, kept, Going::Resumed)?;
+    }
+    let mut source = MemorySource::new(octets_of(alloc, row.recording)?, 65_536, 0);
+    let ending = Ending::Close;
+    match split(alloc, job, &mut source, &mut shelf, &mut report, ending) {
+        Ok(done) if done.records == row.records => Ok((shelf, report.octets)),
+        _ => Err(Fail::from("the last run")),
+    }
+}
+
+// The octets of all puts, one after the other, are those that `extract` writes.
+#[test]
+fn worked_rows_split_in_steps(rt: HostRuntime) -> Result<(), Fail> {
+    let alloc = rt.alloc();
+    for row in ROWS {
+        let name = row.name;
+        let octets = octets_of(alloc, row.octets)?;
+        let (shelf, report) = split_in_steps(alloc, row)?;
+        let found = joined(alloc, &shelf)?;
+        assert_eq!(rt; found.as_slice(), octets.as_slice(), "{name} by split");
+        assert_eq!(rt; report.as_slice(), row.report.as_bytes(), "{name} by split");
+    }
+    Ok(())
+}
+
+// Runs a job by `extract` over a recording, and answers the job that is kept.
+fn extract_on(
+    alloc: Global,
+    job: Job,
+    recording: &str,
+    out: &mut MemoryDrain,
+    ending: Ending,
+) -> Result<Option<Job>, Fail> {
+    let mut source = MemorySource::new(octets_of(alloc, recording)?, 65_536, 0);
+    let mut report = MemoryDrain::new(Vec::new(alloc), 65_536, 0);
+    let command = Command::Extract;
+    let Ok(done) = run(alloc, job, command, &mut source, out, &mut report, ending) else {
+        return Err(Fail::from("a run"));
+    };
+    if !report.octets.is_empty() {
+        return Err(Fail::from("no report"));
+    }
+    Ok(done.kept)
+}
+
+// Stopped once, after 1, 2, 3 or 4 records. The checkpoint after 3 is known octet for octet but for its check.
+#[test]
+fn two_channels_stopped_once(rt: HostRuntime) -> Result<(), Fail> {
+    let alloc = rt.alloc();
+    let octets = octets_of(alloc, TWO_CHANNELS.octets)?;
+    let known = octets_of(
+        alloc,
+        "544D5843 01 002A 0018 0000 0000 00 00 00 FF 00000003 \
+            02 00 00000000 0000 00000012 0064C0000013555555555555555555555555 01 01 00 00 00 00 00 00 0001 0864 0001 FFFF",
+    )?;
+    for records in 1..=4u32 {
+        let job = new_job(alloc, BASE)?;
+        let mut out = MemoryDrain::new(Vec::new(alloc), 65_536, 0);
+        let recording = TWO_CHANNELS.recording;
+        let ending = Ending::StopAfter(records);
+        let Some(kept) = extract_on(alloc, job, recording, &mut out, ending)? else {
+            return Err(Fail::from("a job"));
+        };
+        if records == 3 {
+            let Ok(checkpoint) = kept.checkpoint(alloc) else {
+                return Err(Fail::from("memory"));
+            };
+            assert_eq!(rt; checkpoint.len(), 69);
+            assert!(rt; checkpoint.as_slice().starts_with(known.as_slice()));
+        }
+        let job = next_job(alloc, BASE, kept, Going::Resumed)?;
+        let kept = extract_on(alloc, job, recording, &mut out, Ending::Close)?;
+        assert!(rt; kept.is_none());
+        assert_eq!(rt; out.octets.as_slice(), octets.as_slice());
+    }
+    Ok(())
+}
+
+// Stopped after two records, a run has left the other two unread: 48 octets.
+#[test]
+fn reads_two_records(rt: HostRuntime) -> Result<(), Fail> {
+    let alloc = rt.alloc();
+    let job = new_job(alloc, BASE)?;
+    let recording = octets_of(alloc, TWO_CHANNELS.recording)?;
+    let all = recording.len();
+    let mut source = MemorySource::new(recording, 65_536, 0);
+    let mut out = MemoryDrain::new(Vec::new(alloc), 65_536, 0);
+    let mut report = MemoryDrain::new(Vec::new(alloc), 65_536, 0);
+    let ending = Ending::StopAfter(2);
+    let Ok(done) = run(
+        alloc,
+        job,
+        Command::Extract,
+        &mut source,
+        &mut out,
+        &mut report,
+        ending,
+    ) else {
+        return Err(Fail::from("a run"));
+    };
+    assert_eq!(rt; done.records, 2);
+    assert_eq!(rt; all, 96);
+    assert_eq!(rt; source.at, 48);
+    Ok(())
+}
+
+// Kept at its end, with ten octets left, and gone on with when the recording is longer.
+#[test]
+fn short_rest_kept(rt: HostRuntime) -> Result<(), Fail> {
+    let alloc = rt.alloc();
+    let job = new_job(alloc, BASE)?;
+    let mut out = MemoryDrain::new(Vec::new(alloc), 65_536, 0);
+    let Some(kept) = extract_on(alloc, job, SHORT_REST.recording, &mut out, Ending::Keep)? else {
+        return Err(Fail::from("a job"));
+    };
+    assert_eq!(rt; kept.records(), 2);
+    assert!(rt; out.octets.is_empty());
+    let job = next_job(alloc, BASE, kept, Going::Resumed)?;
+    let kept = extract_on(alloc, job, TWO_CHANNELS.recording, &mut out, Ending::Close)?;
+    assert!(rt; kept.is_none());
+    let octets = octets_of(alloc, TWO_CHANNELS.octets)?;
+    assert_eq!(rt; out.octets.as_slice(), octets.as_slice());
+    Ok(())
+}
+
+// Gone on with where the recording has two records, and three are done.
+#[test]
+fn recording_too_short(rt: HostRuntime) -> Result<(), Fail> {
+    let alloc = rt.alloc();
+    let job = new_job(alloc, BASE)?;
+    let mut out = MemoryDrain::new(Vec::new(alloc), 65_536, 0);
+    let recording = TWO_CHANNELS.recording;
+    let ending = Ending::StopAfter(3);
+    let Some(kept) = extract_on(alloc, job, recording, &mut out, ending)? else {
+        return Err(Fail::from("a job"));
+    };
+    let job = next_job(alloc, BASE, kept, Going::Resumed)?;
+    let mut source = MemorySource::new(octets_of(alloc, SHORT_REST.recording)?, 65_536, 0);
+    let mut report = MemoryDrain::new(Vec::new(alloc), 65_536, 0);
+    let answer = run(
+        alloc,
+        job,
+        Command::Extract,
+        &mut source,
+        &mut out,
+        &mut report,
+        Ending::Close,
+    );
+    match answer {
+        Err(fault) => assert_eq!(rt; fault, RunFault::ShortRecording),
+        Ok(_) => assert!(rt; false),
+    }
+    assert!(rt; report.octets.is_empty());
+    Ok(())
+}

@@ -1,0 +1,125 @@
+-- How long checkpoints are: the state and the entries.
+use Rattle.std.proofs.Common.{◌≡◌, ℕ, zero, suc, ◌+◌, ◌*◌, ◌<◌, ◌≤◌, Bool, Option, Some, None, List, [], ◌∷◌, ◌++◌, length, take, drop, get_or, refl, sym, ap, ◌∙◌, arith, length-append, length-drop, append_assoc}
+use Rattle.std.specs.List.{flat_map, slice_get}
+use Rattle.std.proofs.lemmas.List.{get_or-drop, length-take-le, take-append-drop}
+use Rattle.std.proofs.Math.Seq.{drop-cons}
+use Rattle.tm_frame.specs.declared.layout.LayoutParts.{LayoutParts}
+use Rattle.tm_packet.specs.declared.tracker.Last as counted
+use Rattle.tm_packet.specs.Spelling as sequence
+use Rattle.tm_packet.specs.Valid as valid
+use Rattle.tm_reassembly.specs.Checkpoint.{block, with_tail, spelling}
+use Rattle.tm_reassembly.specs.State.{State, Last, Tail}
+use Rattle.tm_reassembly.specs.Valid.{IsState}
+use Rattle.tm_reassembly.proofs.States.{short-tails}
+
+-- ---- entries
+
+abbrev Places : Type 0
+Places = List (Option counted.Last)
+
+abbrev many : ℕ → Places → ℕ
+many k s = length (sequence.entries_from k s)
+
+-- at most as many entries as places
+few : (k : ℕ) (s : Places) → many k s ≤ length s
+few k [] = omega arith
+few k (None ∷ s) = let h = few (k + 1) s in omega arith
+few k (Some l ∷ s) = let h = few (k + 1) s in omega arith
+
+entries_behind : (k : ℕ) (a b : Places) → sequence.entries_from k (a ++ b) ≡ sequence.entries_from k a ++ sequence.entries_from (k + length a) b
+entries_behind k [] b = ap (λ (n : ℕ). sequence.entries_from n b) (let z : k ≡ k + 0 = omega arith in z)
+entries_behind k (l ∷ a) b =
+    let z : k + 1 + length a ≡ k + suc (length a) = omega arith in
+    ap (λ (es : List sequence.Entry). sequence.entry_of k l ++ es)
+    (entries_behind (k + 1) a b ∙ ap (λ (n : ℕ). sequence.entries_from (k + 1) a ++ sequence.entries_from n b) z)
+    ∙ sym (append_assoc (sequence.entry_of k l) (sequence.entries_from (k + 1) a) (sequence.entries_from (k + suc (length a)) b))
+
+split_at : (k : ℕ) (a b : Places) → many k (a ++ b) ≡ many k a + many (k + length a) b
+split_at k a b = ap length (entries_behind k a b) ∙ length-append (sequence.entries_from k a) (sequence.entries_from (k + length a) b)
+
+none_drop : (k : ℕ) (l : Option counted.Last) (s : Places) → l ≡ None → many k (l ∷ s) ≡ many (k + 1) s
+none_drop k l s e = ap (λ (x : Option counted.Last). many k (x ∷ s)) e
+
+-- of each n places the last is empty
+per_channel : (n m k : ℕ) (s : Places) → length s ≡ (n + 1) * m → ((c : ℕ) → get_or s ((n + 1) * c + n) None ≡ None) → many k s ≤ n * m
+per_channel n zero k s l h = let few_here = few k s in omega arith
+per_channel n (suc m) k s l h =
+    let size : (n + 1) * suc m ≡ (n + 1) * m + (n + 1) = omega arith in
+    let front : Places = take n s in
+    let rest : Places = drop (suc n) s in
+    let len : length front ≡ n = length-take-le n s (omega arith) in
+    let first : (n + 1) * 0 + n ≡ n = omega arith in
+    let empty : get_or s n None ≡ None = ap (λ (i : ℕ). get_or s i None) (sym first) ∙ h 0 in
+    let cut : many k s ≡ many k front + many (k + length front) (drop n s) =
+    ap (λ (x : Places). many k x) (sym (take-append-drop n s)) ∙ split_at k front (drop n s) in
+    let here : many (k + length front) (drop n s) ≡ many (k + length front + 1) rest =
+    ap (λ (x : Places). many (k + length front) x) (drop-cons s n None (omega arith)) ∙ none_drop (k + length front) (get_or s n None) rest empty in
+    let long : length rest ≡ (n + 1) * m = length-drop (suc n) s ∙ omega arith in
+    let later : many (k + length front + 1) rest ≤ n * m =
+    per_channel n m (k + length front + 1) rest long
+    (λ c. get_or-drop (suc n) s ((n + 1) * c + n) None ∙ ap (λ (i : ℕ). get_or s i None) (let z : suc n + ((n + 1) * c + n) ≡ (n + 1) * suc c + n = omega arith in z) ∙ h (suc c)) in
+    let least = few k front in
+    let sum : n * suc m ≡ n * m + n = omega arith in
+    omega arith
+
+-- no key of idle packets has an entry
+pub entries_most : (s : Places) → valid.IsState s → many 0 s ≤ 16376
+entries_most s h = per_channel 2047 8 0 s h.places h.idle
+
+length-spelled : (es : List sequence.Entry) → length (sequence.spelled es) ≡ 6 * length es
+length-spelled [] = refl
+length-spelled (e ∷ es) = let h = length-spelled es in omega arith
+
+pub sequence_most : (s : Places) → valid.IsState s → length (sequence.spelling s) ≤ 98258
+sequence_most s h = let a = entries_most s h in let b = length-spelled (sequence.entries_from 0 s) in omega arith
+
+pub sequence_least : (s : Places) → 2 ≤ length (sequence.spelling s)
+sequence_least s = omega arith
+
+-- ---- the state
+
+block_most : (x : Option Last) → ((last : Last) (t : Tail) → x ≡ Some last → last.tail ≡ Some t → length t.octets < 65542) → length (block x) ≤ 65553
+block_most None h = omega arith
+block_most (Some last) h = by_tail last.tail refl
+  where
+    by_tail : (t : Option Tail) → last.tail ≡ t → length (with_tail last.count t) ≤ 65553
+    by_tail None e = omega arith
+    by_tail (Some t) e = let short = h last t refl e in omega arith
+
+blocks_most : (xs : List (Option Last))
+    → ((c : ℕ) (last : Last) (t : Tail) → slice_get xs c ≡ Some (Some last) → last.tail ≡ Some t → length t.octets < 65542)
+    → length (flat_map block xs) ≤ 65553 * length xs
+blocks_most [] h = omega arith
+blocks_most (x ∷ xs) h =
+    let one = block_most x (λ last t e f. h 0 last t (ap Some e) f) in
+    let more = blocks_most xs (λ c last t e f. h (suc c) last t e f) in
+    let sum = length-append (block x) (flat_map block xs) in
+    omega arith
+
+block_least : (x : Option Last) → 1 ≤ length (block x)
+block_least None = omega arith
+block_least (Some last) = by_tail last.tail
+  where
+    by_tail : (t : Option Tail) → 1 ≤ length (with_tail last.count t)
+    by_tail None = omega arith
+    by_tail (Some t) = omega arith
+
+blocks_least : (xs : List (Option Last)) → length xs ≤ length (flat_map block xs)
+blocks_least [] = omega arith
+blocks_least (x ∷ xs) =
+    let one = block_least x in
+    let more = blocks_least xs in
+    let sum = length-append (block x) (flat_map block xs) in
+    omega arith
+
+pub state_most : (layout : LayoutParts) (chosen : ℕ → Bool) (s : State) → IsState layout chosen s → length (spelling s) ≤ 524428
+state_most layout chosen s h =
+    let eight = h.shape.eight_channels in
+    let blocks = blocks_most s.channels (short-tails layout chosen s h) in
+    omega arith
+
+pub state_least : (layout : LayoutParts) (chosen : ℕ → Bool) (s : State) → IsState layout chosen s → 12 ≤ length (spelling s)
+state_least layout chosen s h =
+    let eight = h.shape.eight_channels in
+    let blocks = blocks_least s.channels in
+    omega arith

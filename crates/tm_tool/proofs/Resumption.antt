@@ -1,0 +1,195 @@
+-- Runs that are stopped and resumed write what one run writes.
+use Rattle.std.proofs.Common.{◌≡◌, ◌<◌, ◌≤◌, ◌+◌, ◌-◌, ◌^◌, ℕ, Bool, false, List, [], ◌∷◌, ◌++◌, length, take, drop, refl, sym, ap, subst, ◌∙◌, append_assoc, append-nil, length-append, arith, Ok}
+use Rattle.std.specs.Prelude.{min, Result}
+use Rattle.std.proofs.lemmas.List.{length-take, take-append-drop}
+use Rattle.std.proofs.Math.Seq.{drop-append_seam, take-append_seam}
+use Rattle.tm_frame.specs.Layout.{record_length_of}
+use Rattle.tm_reassembly.specs.Valid.{AllOctets}
+use Rattle.tm_tool.specs.declared.fault.CheckpointFault.{CheckpointFault}
+use Rattle.tm_tool.specs.declared.job.Ending.{Ending}
+use Rattle.tm_tool.specs.declared.job.Ending.TheVariants.{Close, Keep, StopAfter}
+use Rattle.tm_tool.specs.Checkpoints.{IsWork, checkpoint_of, resumed, settings_of}
+use Rattle.tm_tool.specs.Jobs.{JobState, begun}
+use Rattle.tm_tool.specs.Outputs.{Piece}
+use Rattle.tm_tool.specs.Pieces.{Texts, Work, chosen, end_pieces, further, pieces, pieces_after, record_pieces, worked}
+use Rattle.tm_tool.specs.Records.{records, rest_of}
+use Rattle.tm_tool.specs.Resuming.{Stop, KeepsJob, Follows, left_by, then_pieces, run_pieces, resumed_pieces, done_by, done_in_all, in_one}
+use Rattle.tm_tool.specs.Settings.{Choices}
+use Rattle.tm_tool.proofs.CheckpointLemmas.{read_again}
+use Rattle.tm_tool.proofs.WorkValid.{begun-work, worked-work}
+use Rattle.tm_tool.proofs.Running.{IsValid, records-append, records-counted, worked-append, worked-none}
+
+-- a stop has no pieces of its own
+no_end : {A : Type 0} (text : Texts A) (ending : Ending) (w : Work) (rest : ℕ) → KeepsJob ending → end_pieces text ending w rest ≡ []
+no_end text Close w rest keeps = absurd keeps
+no_end text Keep w rest keeps = refl
+no_end text (StopAfter n) w rest keeps = refl
+
+-- one run ends as the last did
+same_end : {A : Type 0} (text : Texts A) (ending : Ending) (count : ℕ) (w : Work) (rest : ℕ) → end_pieces text (in_one ending count) w rest ≡ end_pieces text ending w rest
+same_end text Close count w rest = refl
+same_end text Keep count w rest = refl
+same_end text (StopAfter n) count w rest = refl
+
+-- how many records an ending takes
+chosen-counted : (ending : Ending) (done more : List (List ℕ)) → length (done ++ chosen ending more) ≡ done_by ending (length done) (length (done ++ more))
+chosen-counted Close done more = refl
+chosen-counted Keep done more = refl
+chosen-counted (StopAfter n) done more =
+    let left : length (done ++ more) - length done ≡ length more = omega (arith, length-append done more) in
+    length-append done (take n more) ∙ ap (λ (k : ℕ). length done + k) (length-take n more)
+    ∙ ap (λ (k : ℕ). length done + min n k) (sym left)
+
+-- what an ending takes comes first, and a closed end takes all
+chosen-front : (ending : Ending) (more : List (List ℕ)) → (others : List (List ℕ)) × (more ≡ chosen ending more ++ others) × (ending ≡ Close → others ≡ [])
+chosen-front Close more = ([], sym (append-nil more), λ e. refl)
+chosen-front Keep more = ([], sym (append-nil more), λ e. refl)
+chosen-front (StopAfter n) more = (drop n more, sym (take-append-drop n more), λ e. not_close n e)
+  where
+    not_close : (n : ℕ) {P : Type 0} → StopAfter n ≡ Close → P
+    not_close n e = cc
+
+module _ {A : Type 0} (head : Bool → List (Piece A)) (none : head false ≡ []) (text : Texts A) (ending : Ending) (last : List ℕ)
+    (start : Work) (zero : start.state.records ≡ 0)
+    (valid : (done more : List (List ℕ)) → records (record_length_of start.layout) last ≡ done ++ more → IsWork (worked start done)) where
+  abbrev size : ℕ
+  size = record_length_of start.layout
+
+  -- the records that are taken behind those that are done
+  abbrev taken : (done : List (List ℕ)) (stops : List Stop) → Follows size last done stops → List (List ℕ)
+  taken done [] (more, is) = chosen ending more
+  taken done (stop ∷ stops) (more, is, keeps, rest) = chosen stop.ending more ++ taken (done ++ chosen stop.ending more) stops rest
+
+  -- the last recording begins with the records that are done
+  front : (done : List (List ℕ)) (stops : List Stop) → Follows size last done stops → (more : List (List ℕ)) × (records size last ≡ done ++ more)
+  front done [] (more, is) = (more, is)
+  front done (stop ∷ stops) (more, is, keeps, rest) =
+      let (others, split) = front (done ++ chosen stop.ending more) stops rest in
+      (chosen stop.ending more ++ others, split ∙ append_assoc done (chosen stop.ending more) others)
+
+  -- and with all that are taken; a closed end takes all of them
+  whole : (done : List (List ℕ)) (stops : List Stop) (h : Follows size last done stops)
+      → (others : List (List ℕ)) × (records size last ≡ (done ++ taken done stops h) ++ others) × (ending ≡ Close → others ≡ [])
+  whole done [] (more, is) =
+      let (others, split, all) = chosen-front ending more in
+      (others, is ∙ ap (λ (l : List (List ℕ)). done ++ l) split ∙ sym (append_assoc done (chosen ending more) others), all)
+  whole done (stop ∷ stops) (more, is, keeps, rest) =
+      let (others, split, all) = whole (done ++ chosen stop.ending more) stops rest in (
+        others,
+        split ∙ ap (λ (l : List (List ℕ)). l ++ others) (append_assoc done (chosen stop.ending more) (taken (done ++ chosen stop.ending more) stops rest)),
+        all,
+      )
+
+  -- how many they are
+  counted : (done : List (List ℕ)) (stops : List Stop) (h : Follows size last done stops)
+      → done_in_all size ending last (length done) stops ≡ length (done ++ taken done stops h)
+  counted done [] (more, is) =
+      ap (done_by ending (length done)) (ap (λ (l : List (List ℕ)). length l) is) ∙ sym (chosen-counted ending done more)
+  counted done (stop ∷ stops) (more, is, keeps, rest) =
+      let here : done_by stop.ending (length done) (length (records size stop.recording)) ≡ length (done ++ chosen stop.ending more) =
+      ap (done_by stop.ending (length done)) (ap (λ (l : List (List ℕ)). length l) is) ∙ sym (chosen-counted stop.ending done more) in
+      ap (λ (k : ℕ). done_in_all size ending last k stops) here
+      ∙ counted (done ++ chosen stop.ending more) stops rest
+      ∙ ap (λ (l : List (List ℕ)). length l) (append_assoc done (chosen stop.ending more) (taken (done ++ chosen stop.ending more) stops rest))
+
+  module _ (done : List (List ℕ)) (recording : List ℕ) (more : List (List ℕ)) (is : records size recording ≡ done ++ more) where
+    -- the records that follow those that are done
+    further_is : further (worked start done) recording ≡ more
+    further_is =
+        ap (λ (k : ℕ). drop k (records size recording)) (records-counted start done ∙ ap (λ (k : ℕ). k + length done) zero ∙ omega arith)
+        ∙ ap (drop (length done)) is ∙ drop-append_seam done more
+
+    -- the pieces of a run from there
+    pieces_is : (e : Ending) (v : IsValid start) → pieces text e (worked start done) recording
+        ≡ record_pieces text (worked start done) (chosen e more)
+        ++ end_pieces text e (worked start (done ++ chosen e more)) (length (rest_of size recording))
+    unfolding pieces
+    pieces_is e v =
+        ap (λ (rs : List (List ℕ)). pieces_after text e (worked start done) (chosen e rs) (length (rest_of size recording))) further_is
+        ∙ ap (λ (w : Work). record_pieces text (worked start done) (chosen e more) ++ end_pieces text e w (length (rest_of size recording)))
+        (sym (worked-append start v done (chosen e more)))
+
+  module _ (v : IsValid start) where
+    abbrev after_stop : Choices → List Stop → Result JobState CheckpointFault → List (Piece A)
+    after_stop s stops r = then_pieces r (λ next. resumed_pieces head text ending last s next stops)
+
+    chain : (done : List (List ℕ)) (fresh : Bool) (stops : List Stop) (h : Follows size last done stops)
+        → resumed_pieces head text ending last (settings_of start) (record { work = worked start done; fresh = fresh }) stops
+        ≡ head fresh ++ (record_pieces text (worked start done) (taken done stops h)
+        ++ end_pieces text ending (worked start (done ++ taken done stops h)) (length (rest_of size last)))
+    chain done fresh [] (more, is) = ap (λ (ps : List (Piece A)). head fresh ++ ps) (pieces_is done last more is ending v)
+    chain done fresh (stop ∷ stops) (more, is, keeps, rest) =
+        let c : List (List ℕ) = chosen stop.ending more in
+        let t : List (List ℕ) = taken (done ++ c) stops rest in
+        let w : Work = worked start done in
+        let end : List (Piece A) = end_pieces text ending (worked start ((done ++ c) ++ t)) (length (rest_of size last)) in
+        let here : run_pieces head text stop.ending (record { work = w; fresh = fresh }) stop.recording ≡ head fresh ++ record_pieces text w c =
+        ap (λ (ps : List (Piece A)). head fresh ++ ps)
+        (pieces_is done stop.recording more is stop.ending v
+        ∙ ap (λ (ps : List (Piece A)). record_pieces text w c ++ ps) (no_end text stop.ending (worked start (done ++ c)) (length (rest_of size stop.recording)) keeps)
+        ∙ append-nil (record_pieces text w c)) in
+        let left : left_by stop.ending w stop.recording ≡ worked start (done ++ c) =
+        ap (λ (rs : List (List ℕ)). worked w (chosen stop.ending rs)) (further_is done stop.recording more is) ∙ sym (worked-append start v done c) in
+        let (others, split) = front (done ++ c) stops rest in
+        let again : resumed (settings_of start) (checkpoint_of (left_by stop.ending w stop.recording)) ≡ Ok (record { work = worked start (done ++ c); fresh = false }) =
+        ap (λ (x : Work). resumed (settings_of start) (checkpoint_of x)) left ∙ read_again (worked start (done ++ c)) (valid (done ++ c) others split) in
+        let there : after_stop (settings_of start) stops (resumed (settings_of start) (checkpoint_of (left_by stop.ending w stop.recording)))
+        ≡ record_pieces text (worked w c) t ++ end =
+        ap (after_stop (settings_of start) stops) again ∙ chain (done ++ c) false stops rest
+        ∙ ap (λ (ps : List (Piece A)). ps ++ (record_pieces text (worked start (done ++ c)) t ++ end)) none
+        ∙ ap (λ (x : Work). record_pieces text x t ++ end) (worked-append start v done c) in
+        let (more_all, split_all) = front done (stop ∷ stops) (more, is, keeps, rest) in
+        ap (λ (ps : List (Piece A)). ps ++ after_stop (settings_of start) stops (resumed (settings_of start) (checkpoint_of (left_by stop.ending w stop.recording)))) here
+        ∙ ap (λ (ps : List (Piece A)). (head fresh ++ record_pieces text w c) ++ ps) there
+        ∙ append_assoc (head fresh) (record_pieces text w c) (record_pieces text (worked w c) t ++ end)
+        ∙ ap (λ (ps : List (Piece A)). head fresh ++ ps)
+        (sym (append_assoc (record_pieces text w c) (record_pieces text (worked w c) t) end)
+        ∙ ap (λ (ps : List (Piece A)). ps ++ end) (sym (records-append w (valid done more_all split_all).state text c t))
+        ∙ ap (λ (rs : List (List ℕ)). record_pieces text w (c ++ t) ++ end_pieces text ending (worked start rs) (length (rest_of size last))) (append_assoc done c t))
+
+    -- all of them, in one run
+    chosen_all : (stops : List Stop) (h : Follows size last [] stops)
+        → chosen (in_one ending (done_in_all size ending last 0 stops)) (records size last) ≡ taken [] stops h
+    chosen_all stops h =
+        let (others, split, all) = whole [] stops h in
+        by_cases ending refl others split all
+      where
+        by_cases : (e : Ending) → ending ≡ e → (others : List (List ℕ)) → records size last ≡ taken [] stops h ++ others → (ending ≡ Close → others ≡ [])
+            → chosen (in_one e (done_in_all size ending last 0 stops)) (records size last) ≡ taken [] stops h
+        by_cases Close is others split all = split ∙ ap (λ (l : List (List ℕ)). taken [] stops h ++ l) (all is) ∙ append-nil (taken [] stops h)
+        by_cases Keep is others split all =
+            ap (take (done_in_all size ending last 0 stops)) split ∙ ap (λ (k : ℕ). take k (taken [] stops h ++ others)) (counted [] stops h) ∙ take-append_seam (taken [] stops h) others
+        by_cases (StopAfter n) is others split all =
+            ap (take (done_in_all size ending last 0 stops)) split ∙ ap (λ (k : ℕ). take k (taken [] stops h ++ others)) (counted [] stops h) ∙ take-append_seam (taken [] stops h) others
+
+    pub joined : (fresh : Bool) (stops : List Stop) → Follows size last [] stops
+        → resumed_pieces head text ending last (settings_of start) (record { work = start; fresh = fresh }) stops
+        ≡ run_pieces head text (in_one ending (done_in_all size ending last 0 stops)) (record { work = start; fresh = fresh }) last
+    joined fresh stops h =
+        let t : List (List ℕ) = taken [] stops h in
+        let count : ℕ = done_in_all size ending last 0 stops in
+        let rest : ℕ = length (rest_of size last) in
+        let first : worked start [] ≡ start = worked-none start v in
+        let one : pieces text (in_one ending count) start last ≡ record_pieces text start t ++ end_pieces text ending (worked start t) rest =
+        ap (λ (w : Work). pieces text (in_one ending count) w last) (sym first)
+        ∙ pieces_is [] last (records size last) refl (in_one ending count) v
+        ∙ ap (λ (w : Work). record_pieces text w (chosen (in_one ending count) (records size last)) ++ end_pieces text (in_one ending count) (worked start (chosen (in_one ending count) (records size last))) rest) first
+        ∙ ap (λ (rs : List (List ℕ)). record_pieces text start rs ++ end_pieces text (in_one ending count) (worked start rs) rest) (chosen_all stops h)
+        ∙ ap (λ (ps : List (Piece A)). record_pieces text start t ++ ps) (same_end text ending count (worked start t) rest) in
+        ap (λ (w : Work). resumed_pieces head text ending last (settings_of start) (record { work = w; fresh = fresh }) stops) (sym first)
+        ∙ chain [] fresh stops h
+        ∙ ap (λ (w : Work). head fresh ++ (record_pieces text w t ++ end_pieces text ending (worked start t) rest)) first
+        ∙ ap (λ (ps : List (Piece A)). head fresh ++ ps) (sym one)
+
+-- ---- the work after records that are octets is one that a job may have
+
+front-octets : (done more : List (List ℕ)) → AllOctets (done ++ more) → AllOctets done
+front-octets [] more all = tt
+front-octets (rs ∷ done) more all = (all.0, front-octets done more all.1)
+
+pub front-work : (settings : Choices) (last : List ℕ) → length settings.channels ≡ 8 → AllOctets (records (record_length_of settings.layout) last)
+    → length (records (record_length_of settings.layout) last) < 2 ^ 32
+    → (done more : List (List ℕ)) → records (record_length_of settings.layout) last ≡ done ++ more → IsWork (worked (begun settings).work done)
+front-work settings last eight octets few done more is =
+    let count : length done ≤ length (records (record_length_of settings.layout) last) = omega (arith, ap (λ (l : List (List ℕ)). length l) is, length-append done more) in
+    worked-work (begun settings).work done (begun-work settings eight) (front-octets done more (subst AllOctets is octets)) (omega (arith, count, few))

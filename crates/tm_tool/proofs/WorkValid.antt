@@ -1,0 +1,47 @@
+-- The work of a job is always one that a job may have: when it begins, and after more records.
+use Rattle.std.proofs.Common.{◌≡◌, inl, inr, ℕ, ◌+◌, ◌^◌, ◌<◌, true, List, [], ◌∷◌, length, refl, subst}
+use Rattle.std.proofs.lemmas.Bool.{eq-eqb}
+use Rattle.tm_packet.specs.Valid as valid
+use Rattle.tm_packet.proofs.AfterValid.{header-range, header-fits, after-valid}
+use Rattle.tm_packet.proofs.States.{valid-none}
+use Rattle.tm_reassembly.specs.Among.{Among, is_of}
+use Rattle.tm_reassembly.specs.Channels.{is_chosen}
+use Rattle.tm_reassembly.specs.Item.{Item, Bad, Gap, Vca, Dropped, Packet, Short}
+use Rattle.tm_reassembly.specs.Valid.{AllOctets}
+use Rattle.tm_reassembly.proofs.ItemChannels.{item-channel}
+use Rattle.tm_reassembly.proofs.States.{empty-valid, records-valid}
+use Rattle.tm_tool.specs.Checkpoints.{IsWork}
+use Rattle.tm_tool.specs.Jobs.{begun}
+use Rattle.tm_tool.specs.Pieces.{Entries, Work, sent, noted, noted_all, items_of, worked}
+use Rattle.tm_tool.specs.Settings.{Choices}
+
+-- an item whose channel is one of eight leaves the entries valid
+noted-valid : (entries : Entries) (x : Item) → valid.IsState entries → ((c : ℕ) → is_of c x ≡ true → c < 8) → valid.IsState (noted entries x)
+unfolding noted
+noted-valid entries (Bad seen fault) v h = v
+noted-valid entries (Gap seen channel expected found missing) v h = v
+noted-valid entries (Vca seen channel) v h = v
+noted-valid entries (Dropped seen channel first place octets reason) v h = v
+noted-valid entries (Packet seen channel first place octets) v h =
+    after-valid entries (sent channel octets) v (header-fits channel octets (h channel (eq-eqb channel channel refl))) (header-range octets).count
+noted-valid entries (Short seen octets) v h = v
+
+-- and so do items
+pub noted_all-valid : (entries : Entries) (xs : List Item) → valid.IsState entries
+    → ((c : ℕ) (x : Item) → is_of c x ≡ true → Among x xs → c < 8) → valid.IsState (noted_all entries xs)
+noted_all-valid entries [] v h = v
+noted_all-valid entries (x ∷ xs) v h =
+    noted_all-valid (noted entries x) xs (noted-valid entries x v (λ c own. h c x own (inl refl))) (λ c y own a. h c y own (inr a))
+
+-- the work after more records
+pub worked-work : (w : Work) (rs : List (List ℕ)) → IsWork w → AllOctets rs → w.state.records + length rs < 2 ^ 32 → IsWork (worked w rs)
+worked-work w rs v octets most = record {
+  eight = v.eight;
+  state = records-valid w.layout (is_chosen w.channels) w.state rs v.state octets most;
+  entries = noted_all-valid w.entries (items_of w rs) v.entries
+      (λ c x own a. subst (λ (n : ℕ). c < n) v.eight (item-channel w.layout w.channels w.state rs c x own a));
+}
+
+-- the work of a new job
+pub begun-work : (s : Choices) → length s.channels ≡ 8 → IsWork (begun s).work
+begun-work s h = record { eight = h; state = empty-valid s.layout (is_chosen s.channels); entries = valid-none }

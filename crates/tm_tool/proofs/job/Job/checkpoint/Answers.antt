@@ -1,0 +1,27 @@
+use Rattle.std.proofs.Common.{◌≡◌, length, ap, subst, arith, rules}
+use Rattle.tm_tool.specs.Checkpoints.{IsWork, checkpoint_of, head_octets}
+use Rattle.tm_tool.specs.Jobs.{JobState}
+use Rattle.tm_tool.specs.Pieces.{Work}
+use Rattle.tm_tool.specs.Stepping.{work_of}
+use Rattle.tm_tool.proofs.CheckpointLemmas.{bound, joined}
+use Rattle.tm_tool.proofs.job.Job.checkpoint.Goals as goal
+
+pub returns-in-Ok-push_check-clause-octets : goal.returns-in-Ok-push_check-clause-octets
+returns-in-Ok-push_check-clause-octets c =
+    let w : Work = work_of c.self.inside.reassembly c.self.inside.tracker in
+    let head : c.in-Ok.octets.items ≡ head_octets (record { layout = w.layout; channels = w.channels }) = cc (c.in-Ok.ensures) in
+    subst (λ (j : JobState). c.push_check.new.octets.items ≡ checkpoint_of j.work) c.self.view_is
+    (joined w c.in-Ok.octets.items c.encode.new.out.items c.encode-2.new.out.items c.push_check.new.octets.items
+    head c.in-Ok-encode.ensures.appended c.in-Ok-encode-2.ensures.appended c.in-Ok-push_check.ensures)
+
+pub returns-in-Ok-push_check-clause-bound : goal.returns-in-Ok-push_check-clause-bound
+returns-in-Ok-push_check-clause-bound c =
+    let w : Work = work_of c.self.inside.reassembly c.self.inside.tracker in
+    let head : c.in-Ok.octets.items ≡ head_octets (record { layout = w.layout; channels = w.channels }) = cc (c.in-Ok.ensures) in
+    let all : c.push_check.new.octets.items ≡ checkpoint_of w =
+    joined w c.in-Ok.octets.items c.encode.new.out.items c.encode-2.new.out.items c.push_check.new.octets.items
+    head c.in-Ok-encode.ensures.appended c.in-Ok-encode-2.ensures.appended c.in-Ok-push_check.ensures in
+    let valid : IsWork w = search rules in
+    let most = bound w valid in
+    let same : length c.push_check.new.octets.items ≡ length (checkpoint_of w) = ap length all in
+    omega arith

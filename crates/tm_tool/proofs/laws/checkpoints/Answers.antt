@@ -1,0 +1,18 @@
+use Rattle.tm_tool.proofs.CheckpointLemmas.{read_again, written_again, valid_again, bound}
+use Rattle.tm_tool.proofs.NoPrefix.{no_prefix}
+use Rattle.tm_tool.proofs.laws.checkpoints.Goals as goal
+
+pub returns-clause-read_again : goal.returns-clause-read_again
+returns-clause-read_again c = read_again
+
+pub returns-clause-written_again : goal.returns-clause-written_again
+returns-clause-written_again c = written_again
+
+pub returns-clause-valid : goal.returns-clause-valid
+returns-clause-valid c = valid_again
+
+pub returns-clause-no_prefix : goal.returns-clause-no_prefix
+returns-clause-no_prefix c = no_prefix
+
+pub returns-clause-bound : goal.returns-clause-bound
+returns-clause-bound c = bound

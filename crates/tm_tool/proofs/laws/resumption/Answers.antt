@@ -1,0 +1,23 @@
+use Rattle.std.proofs.Common.{◌≡◌, [], false, refl}
+use Rattle.tm_tool.specs.declared.job.Command.{Command}
+use Rattle.tm_tool.specs.declared.job.Command.TheVariants.{Extract, Packets, Fields}
+use Rattle.tm_tool.specs.Jobs.{begun, head_pieces}
+use Rattle.tm_tool.specs.Pieces.{text_of}
+use Rattle.tm_tool.specs.Resuming.{no_head}
+use Rattle.tm_tool.specs.Shelves.{shelf_text}
+use Rattle.tm_tool.proofs.Resumption.{front-work, joined}
+use Rattle.tm_tool.proofs.Running.{none_valid}
+use Rattle.tm_tool.proofs.laws.resumption.Goals as goal
+
+no_later_head : (command : Command) → head_pieces command false ≡ []
+no_later_head Extract = refl
+no_later_head Packets = refl
+no_later_head (Fields definition application) = refl
+
+pub returns-clause-run : goal.returns-clause-run
+returns-clause-run c command ending last settings stops eight octets few follows =
+    joined (head_pieces command) (no_later_head command) (text_of command) ending last (begun settings).work refl (front-work settings last eight octets few) (none_valid _ _) _ stops follows
+
+pub returns-clause-split : goal.returns-clause-split
+returns-clause-split c ending last settings stops eight octets few follows =
+    joined no_head refl shelf_text ending last (begun settings).work refl (front-work settings last eight octets few) (none_valid _ _) _ stops follows

@@ -1,0 +1,71 @@
+-- A job that is stopped and resumed from its checkpoints, any number of times.
+use Rattle.std.specs.Prelude.{⊤, ◌≡◌, ℕ, ◌+◌, ◌-◌, min, Bool, List, [], ◌∷◌, ◌++◌, length, Result, Ok, Err}
+use Rattle.tm_tool.specs.declared.fault.CheckpointFault.{CheckpointFault}
+use Rattle.tm_tool.specs.declared.job.Ending.{Ending}
+use Rattle.tm_tool.specs.declared.job.Ending.TheVariants.{Close, Keep, StopAfter}
+use Rattle.tm_tool.specs.Checkpoints.{checkpoint_of, resumed}
+use Rattle.tm_tool.specs.Jobs.{JobState}
+use Rattle.tm_tool.specs.Outputs.{Piece}
+use Rattle.tm_tool.specs.Pieces.{Texts, Work, chosen, further, pieces, worked}
+use Rattle.tm_tool.specs.Records.{records}
+use Rattle.tm_tool.specs.Settings.{Choices}
+
+-- a stop: where a run ended, and the recording as it was then
+pub record Stop : Type 0 where
+  pub ending : Ending
+  pub recording : List ℕ
+
+-- a run that ends so keeps its job
+abbrev pub KeepsJob : Ending → Type 0
+KeepsJob Close = ⊥
+KeepsJob Keep = ⊤
+KeepsJob (StopAfter n) = ⊤
+
+-- the work of the job that a run leaves
+abbrev pub left_by : Ending → Work → List ℕ → Work
+left_by ending w recording = worked w (chosen ending (further w recording))
+
+abbrev pub then_pieces : {A : Type 0} → Result JobState CheckpointFault → (JobState → List (Piece A)) → List (Piece A)
+then_pieces (Ok job) more = more job
+then_pieces (Err found) more = []
+
+-- of what a fresh job writes before all else, and of what is given of each item
+module _ {A : Type 0} (head : Bool → List (Piece A)) (text : Texts A) where
+  -- the pieces of one run
+  abbrev pub run_pieces : Ending → JobState → List ℕ → List (Piece A)
+  run_pieces ending job recording = head job.fresh ++ pieces text ending job.work recording
+
+  -- the pieces of all runs: after each stop the job is written as a checkpoint, and resumed from that with the same settings
+  abbrev pub resumed_pieces : Ending → List ℕ → Choices → JobState → List Stop → List (Piece A)
+  resumed_pieces ending last settings job [] = run_pieces ending job last
+  resumed_pieces ending last settings job (stop ∷ stops) =
+      run_pieces stop.ending job stop.recording
+      ++ then_pieces (resumed settings (checkpoint_of (left_by stop.ending job.work stop.recording))) (λ next. resumed_pieces ending last settings next stops)
+
+-- nothing is written before all else
+abbrev pub no_head : {A : Type 0} → Bool → List (Piece A)
+no_head fresh = []
+
+-- each run but the last keeps its job, and each recording begins with the records that are done by then
+abbrev pub Follows : ℕ → List ℕ → List (List ℕ) → List Stop → Type 0
+Follows size last done [] = (more : List (List ℕ)) × (records size last ≡ done ++ more)
+Follows size last done (stop ∷ stops) =
+    (more : List (List ℕ)) × (records size stop.recording ≡ done ++ more) × KeepsJob stop.ending × Follows size last (done ++ chosen stop.ending more) stops
+
+-- how many records are done after a run, of so many in its recording, where so many were done before
+abbrev pub done_by : Ending → ℕ → ℕ → ℕ
+done_by Close done count = count
+done_by Keep done count = count
+done_by (StopAfter n) done count = done + min n (count - done)
+
+-- how many are done after all runs
+abbrev pub done_in_all : ℕ → Ending → List ℕ → ℕ → List Stop → ℕ
+done_in_all size ending last done [] = done_by ending done (length (records size last))
+done_in_all size ending last done (stop ∷ stops) =
+    done_in_all size ending last (done_by stop.ending done (length (records size stop.recording))) stops
+
+-- the ending of one run that takes all these records
+abbrev pub in_one : Ending → ℕ → Ending
+in_one Close count = Close
+in_one Keep count = StopAfter count
+in_one (StopAfter n) count = StopAfter count

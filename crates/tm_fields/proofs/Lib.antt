@@ -1,5 +1,6 @@
 pub mod Causes
 pub mod Digits
+pub mod Escapes
 pub mod Examples
 pub mod Fields
 pub mod Kept

@@ -1,6 +1,6 @@
 //! Octets as printed text.
 
-ghost use Rattle.std.specs.Prelude.{◌≡◌, ◌≤◌, ◌++◌, ◌∷◌, [], length, OnOk};
+ghost use Rattle.std.specs.Prelude.{◌≡◌, ◌+◌, ◌<◌, ◌≤◌, ◌++◌, ◌∷◌, [], length, OnOk, OnErr, vec_len, vec_capacity};
 ghost use Rattle.hex.specs.Hex.{encode_lower};
 ghost use Rattle.tm_fields.specs.Escape.{escaped, is_plain, octet_text};
 ghost use Rattle.tm_fields.specs.Rows.{raw};
@@ -16,7 +16,9 @@ fn is_plain_octet(octet: u8) -> bool
 
 // Writes the two digits of an octet at the end of a text.
 fn push_digits(text: &mut Vec<u8>, octet: u8) -> Result<(), AllocError>
-    ensures { OnOk result (text.new.items ≡ text.old.items ++ encode_lower (octet ∷ [])) }
+    ensures appended { OnOk result (text.new.items ≡ text.old.items ++ encode_lower (octet ∷ [])) }
+    ensures room { vec_capacity text.old ≤ vec_capacity text.new }
+    ensures full { OnErr result (vec_capacity text.old < vec_len text.old + 2) }
 {
     let mut digits = [0u8; 2];
     let _ = hex::encode_to_slice([octet], &mut digits);
@@ -25,7 +27,9 @@ fn push_digits(text: &mut Vec<u8>, octet: u8) -> Result<(), AllocError>
 
 // Writes an octet at the end of a text.
 fn push_octet(text: &mut Vec<u8>, octet: u8) -> Result<(), AllocError>
-    ensures { OnOk result (text.new.items ≡ text.old.items ++ octet_text octet) }
+    ensures appended { OnOk result (text.new.items ≡ text.old.items ++ octet_text octet) }
+    ensures room { vec_capacity text.old ≤ vec_capacity text.new }
+    ensures full { OnErr result (vec_capacity text.old < vec_len text.old + length (octet_text octet)) }
 {
     if is_plain_octet(octet) {
         text.push(octet)?;
@@ -41,9 +45,11 @@ fn push_octet(text: &mut Vec<u8>, octet: u8) -> Result<(), AllocError>
 ///
 /// # Errors
 ///
-/// `AllocError` where memory runs out. A part of the text may then be written.
+/// `AllocError` where the vector's capacity is too small for all octets and can't be made larger. A part of the text may then be
+/// written.
 pub fn push_escaped(text: &mut Vec<u8>, octets: &[u8]) -> Result<(), AllocError>
-    ensures { OnOk result (text.new.items ≡ text.old.items ++ escaped octets.now) }
+    ensures appended { OnOk result (text.new.items ≡ text.old.items ++ escaped octets.now) }
+    ensures full { OnErr result (vec_capacity text.old < vec_len text.old + length (escaped octets.now)) }
 {
     for octet in octets {
         push_octet(text, *octet)?;

@@ -32,7 +32,7 @@ raws-spelled (e ∷ es) rest =
     ∙ ap (λ n. made e.key c n ∷ raws (length es) (spelled es ++ rest)) (joined f)
     ∙ ap (λ r. made e.key c f ∷ r) (raws-spelled es rest)
 
-length-spelled : (es : List Entry) → length (spelled es) ≡ 6 * length es
+pub length-spelled : (es : List Entry) → length (spelled es) ≡ 6 * length es
 length-spelled [] = refl
 length-spelled (e ∷ es) = let h = length-spelled es in omega arith
 

@@ -147,10 +147,11 @@ impl Tracker {
     ///
     /// # Errors
     ///
-    /// `NoMemory` where there is no room for it; the octets are then as they were.
+    /// `NoMemory` where the vector's capacity is too small for it and can't be made larger; the octets are then as they were.
     pub fn encode(&self, out: &mut Vec<u8>) -> Result<(), NoMemory>
         ensures appended { OnOk result (out.new.items ≡ out.old.items ++ spelling self.now) }
         ensures unchanged { OnErr result (out.new.items ≡ out.old.items) }
+        ensures full { OnErr result (vec_capacity out.old < vec_len out.old + length (spelling self.now)) }
         ensures valid { IsState self.now }
     {
         let count = self.count();

@@ -188,10 +188,11 @@ impl Reassembly {
     ///
     /// # Errors
     ///
-    /// `NoMemory` where there is no room for it; the octets are then as they were.
+    /// `NoMemory` where the octets have no room for it and can't be given more; they are then as they were.
     pub fn encode(&self, out: &mut Vec<u8>) -> Result<(), NoMemory>
         requires { self.now.failed ≡ false }
         ensures appended { OnOk result (out.new.items ≡ out.old.items ++ spelling self.now.state) }
+        ensures full { OnErr result (vec_capacity out.old < vec_len out.old + length (spelling self.now.state)) }
         ensures unchanged { OnErr result (out.new.items ≡ out.old.items) }
     {
         match out.try_reserve(4 + spelled_length(&self.kept)) {

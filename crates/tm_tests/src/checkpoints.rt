@@ -1,23 +1,23 @@
 //! Checkpoints: written and read again, and refused where an octet was altered.
 
 use crate::runs::{new_job, octets_of};
-use std::alloc::Global;
+use std::alloc::{AllocError, Global};
 use std::test::Fail;
 use tm_frame::error_control;
 use tm_tool::{CheckpointFault, Job, Settings};
 
 const BASE: &str = "spacecraft = 42\nframe_length = 24\nerror_control = false\n";
 
-// Three records of two channels are done: a packet of 26 octets is begun on channel 0, and one of count 1 was the last on channel 1.
-const BEFORE_CHECK: &str = "544D5843 01 002A 0018 0000 0000 00 00 00 FF 00000003 \
+/// Three records of two channels are done: a packet of 26 octets is begun on channel 0, and one of count 1 was the last on channel 1.
+pub(crate) const BEFORE_CHECK: &str = "544D5843 01 002A 0018 0000 0000 00 00 00 FF 00000003 \
     02 00 00000000 0000 00000012 0064C0000013555555555555555555555555 01 01 00 00 00 00 00 00 0001 0864 0001 FFFF";
 
 // Before any record.
 const NEW_BEFORE_CHECK: &str =
     "544D5843 01 002A 0018 0000 0000 00 00 00 FF 00000000 00 00 00 00 00 00 00 00 0000";
 
-// The octets with their error control behind them.
-fn checked(alloc: Global, text: &str) -> Result<Vec<u8>, Fail> {
+/// The octets with their error control behind them.
+pub(crate) fn checked(alloc: Global, text: &str) -> Result<Vec<u8>, AllocError> {
     let mut octets = octets_of(alloc, text)?;
     let check = error_control(&octets);
     octets.extend_from_slice(&check.to_be_bytes())?;

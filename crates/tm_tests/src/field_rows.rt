@@ -7,12 +7,12 @@ use std::test::Fail;
 use tm_fields::Definition;
 use tm_tool::{Command, Ending, RunFault, run};
 
-const SETTINGS: &str = "spacecraft = 42\nframe_length = 22\nerror_control = false\n";
+pub(crate) const SETTINGS: &str = "spacecraft = 42\nframe_length = 22\nerror_control = false\n";
 
-// One packet of application 100, of 16 octets.
-const RECORDING: &str = "02A000001800 0064C0000009 07FFF0612C623F800000";
+/// One packet of application 100, of 16 octets.
+pub(crate) const RECORDING: &str = "02A000001800 0064C0000009 07FFF0612C623F800000";
 
-const FIELDS: &str =
+pub(crate) const FIELDS: &str =
     "name, data_type, bit_length\nVERSION, uint, 8\nLEVEL, int, 12\nPAD, fill, 4\nLABEL, str, 24\nRATE, float, 32\n";
 
 const FIELDS_AND_ONE_BIT: &str =
@@ -20,7 +20,7 @@ const FIELDS_AND_ONE_BIT: &str =
 
 const HEAD: &str = "tm_record,tm_channel,tm_apid,tm_count,VERSION,LEVEL,LABEL,RATE\n";
 
-const HEAD_AND_ROW: &str =
+pub(crate) const HEAD_AND_ROW: &str =
     "tm_record,tm_channel,tm_apid,tm_count,VERSION,LEVEL,LABEL,RATE\n0,0,100,0,7,-1,\"a,b\",0x3f800000\n";
 
 const HEAD_AND_ONE_BIT: &str =

@@ -4,7 +4,7 @@ use std::alloc::Global;
 use std::test::Fail;
 use tm_fields::{Column, Definition, DefinitionFault, Lead, RowFault, number_at, push_escaped};
 
-const TEXT: &str =
+pub(crate) const TEXT: &str =
     "name, data_type, bit_length\nVERSION, uint, 8\nLEVEL, int, 12\nPAD, fill, 4\nLABEL, str, 24\nRATE, float, 32\n";
 
 const PACKET: [u8; 16] = [

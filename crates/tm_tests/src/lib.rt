@@ -6,7 +6,15 @@ mod memory;
 pub use memory::{MemoryDrain, MemoryShelf, MemorySource, Put};
 
 #[cfg(test)]
+mod altered;
+#[cfg(test)]
+mod calls;
+#[cfg(test)]
 mod checkpoints;
+#[cfg(test)]
+mod cut_texts;
+#[cfg(test)]
+mod failing;
 #[cfg(test)]
 mod field_rows;
 #[cfg(test)]
@@ -17,6 +25,12 @@ mod frames;
 mod packets;
 #[cfg(test)]
 mod reassembly;
+#[cfg(test)]
+mod refused;
+#[cfg(test)]
+mod refused_runs;
+#[cfg(test)]
+mod refusing;
 #[cfg(test)]
 mod runs;
 #[cfg(test)]

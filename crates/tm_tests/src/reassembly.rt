@@ -7,12 +7,11 @@ use std::test::Fail;
 use tm_frame::{FrameFault, Layout, LayoutParts, Presence};
 use tm_reassembly::{Channels, Item, NoMemory, Reason, Reassembly, Sink, StateFault, StepFault};
 
-// A sink that wants these items, one after the other. It refuses any other, and the one at `refuses`.
+// A sink that wants these items, one after the other. It refuses any other.
 #[derive(Drop)]
 struct Wanted<'w> {
     items: &'w [Item<'w>],
     taken: usize,
-    refuses: usize,
 }
 
 #[derive(Clone, Copy, Debug, PartialEq, Eq)]
@@ -20,11 +19,7 @@ struct Refused;
 
 impl<'w> Wanted<'w> {
     fn new(items: &'w [Item<'w>]) -> Self {
-        Wanted {
-            items,
-            taken: 0,
-            refuses: usize::MAX,
-        }
+        Wanted { items, taken: 0 }
     }
 }
 
@@ -36,7 +31,7 @@ impl<'w> Sink for Wanted<'w> {
     ghost refuses = { λ old item fault new. Unit {0} };
 
     fn take(&mut self, item: Item<'_>) -> Result<(), Refused> {
-        if self.taken == self.refuses || self.items.get(self.taken) != Some(&item) {
+        if self.items.get(self.taken) != Some(&item) {
             return Err(Refused);
         }
         self.taken = self.taken.saturating_add(1);
@@ -44,8 +39,8 @@ impl<'w> Sink for Wanted<'w> {
     }
 }
 
-// The layout of frames of this length of spacecraft 42.
-fn layout(frame_length: u32) -> Option<Layout> {
+/// The layout of frames of this length of spacecraft 42.
+pub(crate) fn layout(frame_length: u32) -> Option<Layout> {
     let parts = LayoutParts {
         frame_length,
         skip_before: 0,
@@ -203,48 +198,6 @@ fn channels(rt: HostRuntime) -> Result<(), Fail> {
     assert_eq!(rt; Channels::of(&[]), None);
     assert_eq!(rt; Channels::all().mask(), 255);
     assert_eq!(rt; Reason::Close.word(), "end");
-    Ok(())
-}
-
-#[test]
-fn pointer_disagrees(rt: HostRuntime) -> Result<(), Fail> {
-    let alloc = rt.alloc();
-    let whole: [u8; 15] = packet(0);
-    let cut: [u8; 10] = packet(1);
-    let next: [u8; 17] = packet(1);
-    let first = record(
-        alloc,
-        [0x02, 0xA0, 0, 0, 0x18, 0x00],
-        &whole,
-        front(&cut, 3),
-    )?;
-    let second = record(alloc, [0x02, 0xA0, 1, 1, 0x18, 0x01], &[0x55], &next)?;
-    let items = [
-        given(0, 0, 0, 0, &whole),
-        lost(1, 0, 0, 15, 3, Reason::Pointer),
-        lost(1, 0, 1, 0, 1, Reason::Pointer),
-        given(1, 0, 1, 1, &next),
-    ];
-    let mut sink = Wanted::new(&items);
-    let mut station = Station::new(alloc, 24)?;
-    assert_eq!(rt; station.step(&first, &mut sink), Ok(()));
-    assert_eq!(rt; station.step(&second, &mut sink), Ok(()));
-    assert_eq!(rt; sink.taken, 4);
-    assert_eq!(rt; station.finish(0, &mut sink), Ok(()));
-
-    let mut sink = Wanted::new(&items);
-    sink.refuses = 2;
-    let mut station = Station::new(alloc, 24)?;
-    assert_eq!(rt; station.step(&first, &mut sink), Ok(()));
-    assert_eq!(rt;
-        station.step(&second, &mut sink),
-        Err(StepFault::Sink(Refused))
-    );
-    assert_eq!(rt; sink.taken, 2);
-    assert!(rt; station.reassembly.failed());
-    assert_eq!(rt; station.reassembly.records(), 1);
-    assert_eq!(rt; station.step(&second, &mut sink), Err(StepFault::Failed));
-    assert_eq!(rt; station.finish(0, &mut sink), Err(StepFault::Failed));
     Ok(())
 }
 

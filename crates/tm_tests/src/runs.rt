@@ -1,39 +1,64 @@
 //! Recordings with their packets, and with the report of what is lost.
 
-use crate::{MemoryDrain, MemoryShelf, MemorySource};
+use crate::{MemoryDrain, MemorySource};
 use std::alloc::{AllocError, Global};
 use std::test::Fail;
-use tm_tool::{Command, Done, Ending, Job, RunFault, Settings, run, split};
+use tm_tool::{Command, Done, Ending, Job, RunFault, Settings, run};
 
-pub const BASE: &str = "spacecraft = 42\nframe_length = 24\nerror_control = false\n";
+pub(crate) const BASE: &str = "spacecraft = 42\nframe_length = 24\nerror_control = false\n";
 
-pub const WIDE: &str = "spacecraft = 42\nframe_length = 27\nerror_control = false\n";
+const WIDE: &str = "spacecraft = 42\nframe_length = 27\nerror_control = false\n";
 
-/// A recording, and what is known of it. Octets are in hexadecimal.
+/// A recording, and what is known of it. Octets are in hexadecimal: `55*4` is four octets `55`.
 #[derive(Clone, Copy)]
-pub struct Row {
-    pub name: &'static str,
-    pub settings: &'static str,
+pub(crate) struct Row {
+    pub(crate) name: &'static str,
+    pub(crate) settings: &'static str,
     // Each line is a record: its header, and the packets and parts of packets behind it.
-    pub recording: &'static str,
-    pub records: u32,
-    // What `extract` writes.
-    pub octets: &'static str,
+    pub(crate) recording: &'static str,
+    pub(crate) records: u32,
+    // What is found in it: `packet seen channel first place octets`, `drop seen channel first place octets reason`, and the others likewise.
+    pub(crate) items: &'static str,
+    // What `extract` writes: the packets.
+    pub(crate) octets: &'static str,
     // What `packets` writes.
-    pub lines: &'static str,
-    // What both write to the report.
-    pub report: &'static str,
+    pub(crate) lines: &'static str,
+    // What `fields` writes behind the head, of a field of eight bits behind each packet's header.
+    pub(crate) rows: &'static str,
+    // What all three write to the report.
+    pub(crate) report: &'static str,
+    // What is done, in this order: `/` reads a record, and `.` finds the end. A digit is a packet with so many lines in the report, `i` is
+    // an idle packet, and `-` is a line of the report alone.
+    pub(crate) order: &'static str,
 }
 
-const TWO_PACKETS: Row = Row {
+pub(crate) const TWO_PACKETS: Row = Row {
     name: "two-packets",
     settings: BASE,
     recording: "02A000001800 0064C000000055 0064C00100045555555555",
     records: 1,
+    items: "packet 0 0 0 0 7\n\
+        packet 0 0 0 7 11\n",
     octets: "0064C000000055 0064C00100045555555555",
     lines: "packet record=0 channel=0 from=0 at=0 type=tm secondary=no apid=100 flags=unsegmented count=0 octets=7\n\
         packet record=0 channel=0 from=0 at=7 type=tm secondary=no apid=100 flags=unsegmented count=1 octets=11\n",
+    rows: "0,0,100,0,85\n\
+        0,0,100,1,85\n",
     report: "",
+    order: "/00.",
+};
+
+const EMPTY_RECORDING: Row = Row {
+    name: "empty-recording",
+    settings: BASE,
+    recording: "",
+    records: 0,
+    items: "",
+    octets: "",
+    lines: "",
+    rows: "",
+    report: "",
+    order: ".",
 };
 
 const SKIPPED_OCTETS: Row = Row {
@@ -41,13 +66,18 @@ const SKIPPED_OCTETS: Row = Row {
     settings: "spacecraft = 42\nframe_length = 24\nskip_before = 4\nerror_control = false\n",
     recording: "1ACFFC1D 02A000001800 0064C000000055 0064C00100045555555555",
     records: 1,
+    items: "packet 0 0 0 0 7\n\
+        packet 0 0 0 7 11\n",
     octets: "0064C000000055 0064C00100045555555555",
     lines: "packet record=0 channel=0 from=0 at=0 type=tm secondary=no apid=100 flags=unsegmented count=0 octets=7\n\
         packet record=0 channel=0 from=0 at=7 type=tm secondary=no apid=100 flags=unsegmented count=1 octets=11\n",
+    rows: "0,0,100,0,85\n\
+        0,0,100,1,85\n",
     report: "",
+    order: "/00.",
 };
 
-pub const TWO_CHANNELS: Row = Row {
+pub(crate) const TWO_CHANNELS: Row = Row {
     name: "two-channels",
     settings: BASE,
     recording: "02A000001800 0064C0000013555555555555555555555555 \
@@ -55,6 +85,10 @@ pub const TWO_CHANNELS: Row = Row {
         02A202011804 55555555 0064C00100075555555555555555 \
         02A003011808 5555555555555555 0064C001000355555555",
     records: 4,
+    items: "packet 2 1 1 0 22\n\
+        packet 2 1 2 4 14\n\
+        packet 3 0 0 0 26\n\
+        packet 3 0 3 8 10\n",
     octets: "0064C000000F55555555555555555555555555555555 \
         0064C00100075555555555555555 \
         0064C00000135555555555555555555555555555555555555555 \
@@ -63,7 +97,54 @@ pub const TWO_CHANNELS: Row = Row {
         packet record=2 channel=1 from=2 at=4 type=tm secondary=no apid=100 flags=unsegmented count=1 octets=14\n\
         packet record=3 channel=0 from=0 at=0 type=tm secondary=no apid=100 flags=unsegmented count=0 octets=26\n\
         packet record=3 channel=0 from=3 at=8 type=tm secondary=no apid=100 flags=unsegmented count=1 octets=10\n",
+    rows: "2,1,100,0,85\n\
+        2,1,100,1,85\n\
+        3,0,100,0,85\n\
+        3,0,100,1,85\n",
     report: "",
+    order: "///00/00.",
+};
+
+const PACKET_OVER_THREE_FRAMES: Row = Row {
+    name: "packet-over-three-frames",
+    settings: BASE,
+    recording: "02A000001800 0064C0000021 55*12 \
+        02A001011FFF 55*18 \
+        02A002021804 55*4 0064C0010007 55*8",
+    records: 3,
+    items: "packet 2 0 0 0 40\n\
+        packet 2 0 2 4 14\n",
+    octets: "0064C0000021 55*34 \
+        0064C0010007 55*8",
+    lines: "packet record=2 channel=0 from=0 at=0 type=tm secondary=no apid=100 flags=unsegmented count=0 octets=40\n\
+        packet record=2 channel=0 from=2 at=4 type=tm secondary=no apid=100 flags=unsegmented count=1 octets=14\n",
+    rows: "2,0,100,0,85\n\
+        2,0,100,1,85\n",
+    report: "",
+    order: "///00.",
+};
+
+const SPLIT_HEADER_OVER_IDLE: Row = Row {
+    name: "split-header-over-idle",
+    settings: BASE,
+    recording: "02A000001800 0064C0000008 55*9 0064C0 \
+        02A001011FFE 55*18 \
+        02A002021807 010003 55*4 0064C0020004 55*5",
+    records: 3,
+    items: "packet 0 0 0 0 15\n\
+        packet 2 0 0 15 10\n\
+        packet 2 0 2 7 11\n",
+    octets: "0064C0000008 55*9 \
+        0064C0010003 55*4 \
+        0064C0020004 55*5",
+    lines: "packet record=0 channel=0 from=0 at=0 type=tm secondary=no apid=100 flags=unsegmented count=0 octets=15\n\
+        packet record=2 channel=0 from=0 at=15 type=tm secondary=no apid=100 flags=unsegmented count=1 octets=10\n\
+        packet record=2 channel=0 from=2 at=7 type=tm secondary=no apid=100 flags=unsegmented count=2 octets=11\n",
+    rows: "0,0,100,0,85\n\
+        2,0,100,1,85\n\
+        2,0,100,2,85\n",
+    report: "",
+    order: "/0//00.",
 };
 
 const POINTER_DISAGREES: Row = Row {
@@ -72,11 +153,18 @@ const POINTER_DISAGREES: Row = Row {
     recording: "02A000001800 0064C0000008555555555555555555 0064C0 \
         02A001011801 55 0064C001000A5555555555555555555555",
     records: 2,
+    items: "packet 0 0 0 0 15\n\
+        drop 1 0 0 15 3 pointer\n\
+        drop 1 0 1 0 1 pointer\n\
+        packet 1 0 1 1 17\n",
     octets: "0064C0000008555555555555555555 0064C001000A5555555555555555555555",
     lines: "packet record=0 channel=0 from=0 at=0 type=tm secondary=no apid=100 flags=unsegmented count=0 octets=15\n\
         packet record=1 channel=0 from=1 at=1 type=tm secondary=no apid=100 flags=unsegmented count=1 octets=17\n",
+    rows: "0,0,100,0,85\n\
+        1,0,100,1,85\n",
     report: "drop record=1 channel=0 from=0 at=15 octets=3 reason=pointer\n\
         drop record=1 channel=0 from=1 at=0 octets=1 reason=pointer\n",
+    order: "/0/--0.",
 };
 
 const NO_START_DROPPED: Row = Row {
@@ -85,23 +173,34 @@ const NO_START_DROPPED: Row = Row {
     recording: "02A000001800 0064C000000B555555555555555555555555 \
         02A001011FFF 555555555555555555555555555555555555",
     records: 2,
+    items: "packet 0 0 0 0 18\n\
+        drop 1 0 1 0 18 no-start\n",
     octets: "0064C000000B555555555555555555555555",
     lines: "packet record=0 channel=0 from=0 at=0 type=tm secondary=no apid=100 flags=unsegmented count=0 octets=18\n",
+    rows: "0,0,100,0,85\n",
     report: "drop record=1 channel=0 from=1 at=0 octets=18 reason=no-start\n",
+    order: "/0/-.",
 };
 
-const POINTER_DROP_AND_SEQUENCE_GAP: Row = Row {
+pub(crate) const POINTER_DROP_AND_SEQUENCE_GAP: Row = Row {
     name: "pointer-drop-and-sequence-gap",
     settings: BASE,
     recording: "02A000001800 0064C000000355555555 0064C00100075555 \
         02A001011808 5555555555555555 0064C002000355555555",
     records: 2,
+    items: "packet 0 0 0 0 10\n\
+        drop 1 0 0 10 8 pointer\n\
+        drop 1 0 1 0 8 pointer\n\
+        packet 1 0 1 8 10\n",
     octets: "0064C000000355555555 0064C002000355555555",
     lines: "packet record=0 channel=0 from=0 at=0 type=tm secondary=no apid=100 flags=unsegmented count=0 octets=10\n\
         packet record=1 channel=0 from=1 at=8 type=tm secondary=no apid=100 flags=unsegmented count=2 octets=10\n",
+    rows: "0,0,100,0,85\n\
+        1,0,100,2,85\n",
     report: "drop record=1 channel=0 from=0 at=10 octets=8 reason=pointer\n\
         drop record=1 channel=0 from=1 at=0 octets=8 reason=pointer\n\
         seqgap record=1 channel=0 apid=100 expected=1 found=2 missing=1\n",
+    order: "/0/--1.",
 };
 
 const FRAME_GAP: Row = Row {
@@ -112,6 +211,13 @@ const FRAME_GAP: Row = Row {
         02A000001800 0064C002000355555555 0064C00300075555 \
         02A002021806 555555555555 0064C0040005555555555555",
     records: 4,
+    items: "packet 0 0 0 0 18\n\
+        packet 1 0 1 0 18\n\
+        packet 2 0 2 0 10\n\
+        gap 3 0 1 2 1\n\
+        drop 3 0 2 10 8 gap\n\
+        drop 3 0 3 0 6 no-start\n\
+        packet 3 0 3 6 12\n",
     octets: "0064C000000B555555555555555555555555 \
         0064C001000B555555555555555555555555 \
         0064C002000355555555 \
@@ -120,10 +226,15 @@ const FRAME_GAP: Row = Row {
         packet record=1 channel=0 from=1 at=0 type=tm secondary=no apid=100 flags=unsegmented count=1 octets=18\n\
         packet record=2 channel=0 from=2 at=0 type=tm secondary=no apid=100 flags=unsegmented count=2 octets=10\n\
         packet record=3 channel=0 from=3 at=6 type=tm secondary=no apid=100 flags=unsegmented count=4 octets=12\n",
+    rows: "0,0,100,0,85\n\
+        1,0,100,1,85\n\
+        2,0,100,2,85\n\
+        3,0,100,4,85\n",
     report: "gap record=3 channel=0 expected=1 found=2 missing=1\n\
         drop record=3 channel=0 from=2 at=10 octets=8 reason=gap\n\
         drop record=3 channel=0 from=3 at=0 octets=6 reason=no-start\n\
         seqgap record=3 channel=0 apid=100 expected=3 found=4 missing=1\n",
+    order: "/0/0/0/---1.",
 };
 
 const FRAME_TWICE: Row = Row {
@@ -132,12 +243,18 @@ const FRAME_TWICE: Row = Row {
     recording: "02A000001800 0064C000000B555555555555555555555555 \
         02A000001800 0064C000000B555555555555555555555555",
     records: 2,
+    items: "packet 0 0 0 0 18\n\
+        gap 1 0 1 0 255\n\
+        packet 1 0 1 0 18\n",
     octets: "0064C000000B555555555555555555555555 \
         0064C000000B555555555555555555555555",
     lines: "packet record=0 channel=0 from=0 at=0 type=tm secondary=no apid=100 flags=unsegmented count=0 octets=18\n\
         packet record=1 channel=0 from=1 at=0 type=tm secondary=no apid=100 flags=unsegmented count=0 octets=18\n",
+    rows: "0,0,100,0,85\n\
+        1,0,100,0,85\n",
     report: "gap record=1 channel=0 expected=1 found=0 missing=255\n\
         seqgap record=1 channel=0 apid=100 expected=1 found=0 missing=16383\n",
+    order: "/0/-1.",
 };
 
 const OTHER_VERSION: Row = Row {
@@ -146,11 +263,72 @@ const OTHER_VERSION: Row = Row {
     recording: "02A000001800 0064C000000355555555 E055555555555555 \
         02A001011804 55555555 0064C00100075555555555555555",
     records: 2,
+    items: "packet 0 0 0 0 10\n\
+        drop 0 0 0 10 8 version\n\
+        drop 1 0 1 0 4 no-start\n\
+        packet 1 0 1 4 14\n",
     octets: "0064C000000355555555 0064C00100075555555555555555",
     lines: "packet record=0 channel=0 from=0 at=0 type=tm secondary=no apid=100 flags=unsegmented count=0 octets=10\n\
         packet record=1 channel=0 from=1 at=4 type=tm secondary=no apid=100 flags=unsegmented count=1 octets=14\n",
+    rows: "0,0,100,0,85\n\
+        1,0,100,1,85\n",
     report: "drop record=0 channel=0 from=0 at=10 octets=8 reason=version\n\
         drop record=1 channel=0 from=1 at=0 octets=4 reason=no-start\n",
+    order: "/0-/-0.",
+};
+
+const GREATEST_PACKET: Row = Row {
+    name: "greatest-packet",
+    settings: "spacecraft = 42\nframe_length = 2048\nerror_control = false\n",
+    recording: "02A000001800 0064C000072E 55*1839 0064C001FFFF 55*191 \
+        02A001011FFF 55*2042 \
+        02A002021FFF 55*2042 \
+        02A003031FFF 55*2042 \
+        02A004041FFF 55*2042 \
+        02A005051FFF 55*2042 \
+        02A006061FFF 55*2042 \
+        02A007071FFF 55*2042 \
+        02A008081FFF 55*2042 \
+        02A009091FFF 55*2042 \
+        02A00A0A1FFF 55*2042 \
+        02A00B0B1FFF 55*2042 \
+        02A00C0C1FFF 55*2042 \
+        02A00D0D1FFF 55*2042 \
+        02A00E0E1FFF 55*2042 \
+        02A00F0F1FFF 55*2042 \
+        02A010101FFF 55*2042 \
+        02A011111FFF 55*2042 \
+        02A012121FFF 55*2042 \
+        02A013131FFF 55*2042 \
+        02A014141FFF 55*2042 \
+        02A015151FFF 55*2042 \
+        02A016161FFF 55*2042 \
+        02A017171FFF 55*2042 \
+        02A018181FFF 55*2042 \
+        02A019191FFF 55*2042 \
+        02A01A1A1FFF 55*2042 \
+        02A01B1B1FFF 55*2042 \
+        02A01C1C1FFF 55*2042 \
+        02A01D1D1FFF 55*2042 \
+        02A01E1E1FFF 55*2042 \
+        02A01F1F1FFF 55*2042 \
+        02A020201FFF 55*2042 \
+        02A021211801 55 0064C00207F2 55*2035",
+    records: 34,
+    items: "packet 0 0 0 0 1845\n\
+        packet 33 0 0 1845 65542\n\
+        packet 33 0 33 1 2041\n",
+    octets: "0064C000072E 55*1839 \
+        0064C001FFFF 55*65536 \
+        0064C00207F2 55*2035",
+    lines: "packet record=0 channel=0 from=0 at=0 type=tm secondary=no apid=100 flags=unsegmented count=0 octets=1845\n\
+        packet record=33 channel=0 from=0 at=1845 type=tm secondary=no apid=100 flags=unsegmented count=1 octets=65542\n\
+        packet record=33 channel=0 from=33 at=1 type=tm secondary=no apid=100 flags=unsegmented count=2 octets=2041\n",
+    rows: "0,0,100,0,85\n\
+        33,0,100,1,85\n\
+        33,0,100,2,85\n",
+    report: "",
+    order: "/0/////////////////////////////////00.",
 };
 
 const GROUP_BROKEN_BY_GAP: Row = Row {
@@ -158,13 +336,20 @@ const GROUP_BROKEN_BY_GAP: Row = Row {
     settings: WIDE,
     recording: "02A000001800 00647FFF000055 00640000000055 00648002000055",
     records: 1,
+    items: "packet 0 0 0 0 7\n\
+        packet 0 0 0 7 7\n\
+        packet 0 0 0 14 7\n",
     octets: "00647FFF000055 00640000000055 00648002000055",
     lines: "packet record=0 channel=0 from=0 at=0 type=tm secondary=no apid=100 flags=first count=16383 octets=7\n\
         packet record=0 channel=0 from=0 at=7 type=tm secondary=no apid=100 flags=continuation count=0 octets=7\n\
         packet record=0 channel=0 from=0 at=14 type=tm secondary=no apid=100 flags=last count=2 octets=7\n",
+    rows: "0,0,100,16383,85\n\
+        0,0,100,0,85\n\
+        0,0,100,2,85\n",
     report: "seqgap record=0 channel=0 apid=100 expected=1 found=2 missing=1\n\
         broken record=0 channel=0 apid=100 first=16383 last=0 reason=gap\n\
         stray record=0 channel=0 apid=100 count=2 flag=last\n",
+    order: "/003.",
 };
 
 const GROUPS: Row = Row {
@@ -174,6 +359,13 @@ const GROUPS: Row = Row {
         02A001011800 00644008000055 0064C00900075555555555555555 \
         02A002021800 0064400A000055 07FFC00000075555555555555555",
     records: 3,
+    items: "packet 0 0 0 0 7\n\
+        packet 0 0 0 7 7\n\
+        packet 0 0 0 14 7\n\
+        packet 1 0 1 0 7\n\
+        packet 1 0 1 7 14\n\
+        packet 2 0 2 0 7\n\
+        packet 2 0 2 7 14\n",
     octets: "00644005000055 00640006000055 00648007000055 \
         00644008000055 0064C00900075555555555555555 \
         0064400A000055 07FFC00000075555555555555555",
@@ -184,9 +376,29 @@ const GROUPS: Row = Row {
         packet record=1 channel=0 from=1 at=7 type=tm secondary=no apid=100 flags=unsegmented count=9 octets=14\n\
         packet record=2 channel=0 from=2 at=0 type=tm secondary=no apid=100 flags=first count=10 octets=7\n\
         packet record=2 channel=0 from=2 at=7 type=tm secondary=no apid=2047 flags=unsegmented count=0 octets=14\n",
+    rows: "0,0,100,5,85\n\
+        0,0,100,6,85\n\
+        0,0,100,7,85\n\
+        1,0,100,8,85\n\
+        1,0,100,9,85\n\
+        2,0,100,10,85\n",
     report: "group record=0 channel=0 apid=100 first=5 last=7\n\
         broken record=1 channel=0 apid=100 first=8 last=8 reason=unsegmented\n\
         broken record=3 channel=0 apid=100 first=10 last=10 reason=end\n",
+    order: "/001/01/0i.-",
+};
+
+const FIELDS: Row = Row {
+    name: "fields",
+    settings: "spacecraft = 42\nframe_length = 22\nerror_control = false\n",
+    recording: "02A000001800 0064C0000009 07FFF0612C623F800000",
+    records: 1,
+    items: "packet 0 0 0 0 16\n",
+    octets: "0064C0000009 07FFF0612C623F800000",
+    lines: "packet record=0 channel=0 from=0 at=0 type=tm secondary=no apid=100 flags=unsegmented count=0 octets=16\n",
+    rows: "0,0,100,0,7\n",
+    report: "",
+    order: "/0.",
 };
 
 const VCA_FRAME: Row = Row {
@@ -196,27 +408,55 @@ const VCA_FRAME: Row = Row {
         02A001015800 555555555555555555555555555555555555 \
         02A002021806 555555555555 0064C0020005555555555555",
     records: 3,
+    items: "packet 0 0 0 0 10\n\
+        vca 1 0\n\
+        drop 1 0 0 10 8 vca\n\
+        drop 2 0 2 0 6 no-start\n\
+        packet 2 0 2 6 12\n",
     octets: "0064C000000355555555 0064C0020005555555555555",
     lines: "packet record=0 channel=0 from=0 at=0 type=tm secondary=no apid=100 flags=unsegmented count=0 octets=10\n\
         packet record=2 channel=0 from=2 at=6 type=tm secondary=no apid=100 flags=unsegmented count=2 octets=12\n",
+    rows: "0,0,100,0,85\n\
+        2,0,100,2,85\n",
     report: "vca record=1 channel=0\n\
         drop record=1 channel=0 from=0 at=10 octets=8 reason=vca\n\
         drop record=2 channel=0 from=2 at=0 octets=6 reason=no-start\n\
         seqgap record=2 channel=0 apid=100 expected=1 found=2 missing=1\n",
+    order: "/0/--/-1.",
 };
 
-pub const SHORT_REST: Row = Row {
+pub(crate) const SHORT_REST: Row = Row {
     name: "short-rest",
     settings: BASE,
     recording: "02A000001800 0064C0000013555555555555555555555555 \
         02A201001800 0064C000000F555555555555555555555555 \
         00000000000000000000",
     records: 2,
+    items: "short 2 10\n\
+        drop 2 0 0 0 18 end\n\
+        drop 2 1 1 0 18 end\n",
     octets: "",
     lines: "",
+    rows: "",
     report: "short record=2 octets=10\n\
         drop record=2 channel=0 from=0 at=0 octets=18 reason=end\n\
         drop record=2 channel=1 from=1 at=0 octets=18 reason=end\n",
+    order: "//.---",
+};
+
+const SPLIT_WITH_IDLE: Row = Row {
+    name: "split-with-idle",
+    settings: BASE,
+    recording: "02A000001800 0064C000000055 07FFC00000045555555555",
+    records: 1,
+    items: "packet 0 0 0 0 7\n\
+        packet 0 0 0 7 11\n",
+    octets: "0064C000000055 07FFC00000045555555555",
+    lines: "packet record=0 channel=0 from=0 at=0 type=tm secondary=no apid=100 flags=unsegmented count=0 octets=7\n\
+        packet record=0 channel=0 from=0 at=7 type=tm secondary=no apid=2047 flags=unsegmented count=0 octets=11\n",
+    rows: "0,0,100,0,85\n",
+    report: "",
+    order: "/0i.",
 };
 
 const HELD_AFTER_FIRST_RECORD: Row = Row {
@@ -225,10 +465,14 @@ const HELD_AFTER_FIRST_RECORD: Row = Row {
     recording: "02A000001800 0064C0000013555555555555555555555555 \
         00000000000000000000",
     records: 1,
+    items: "short 1 10\n\
+        drop 1 0 0 0 18 end\n",
     octets: "",
     lines: "",
+    rows: "",
     report: "short record=1 octets=10\n\
         drop record=1 channel=0 from=0 at=0 octets=18 reason=end\n",
+    order: "/.--",
 };
 
 const ERROR_CONTROL: Row = Row {
@@ -236,34 +480,42 @@ const ERROR_CONTROL: Row = Row {
     settings: "spacecraft = 42\nframe_length = 9\nerror_control = true\n",
     recording: "02A000001FFE 55 25C9 02A000001FFE 54 25C9",
     records: 2,
+    items: "bad 1 crc\n",
     octets: "",
     lines: "",
+    rows: "",
     report: "bad record=1 fault=crc\n",
+    order: "//-.",
 };
 
-pub const ROWS: [Row; 15] = [
+pub(crate) const ROWS: [Row; 21] = [
     TWO_PACKETS,
+    EMPTY_RECORDING,
     SKIPPED_OCTETS,
     TWO_CHANNELS,
+    PACKET_OVER_THREE_FRAMES,
+    SPLIT_HEADER_OVER_IDLE,
     POINTER_DISAGREES,
     NO_START_DROPPED,
     POINTER_DROP_AND_SEQUENCE_GAP,
     FRAME_GAP,
     FRAME_TWICE,
     OTHER_VERSION,
+    GREATEST_PACKET,
     GROUP_BROKEN_BY_GAP,
     GROUPS,
+    FIELDS,
     VCA_FRAME,
     SHORT_REST,
+    SPLIT_WITH_IDLE,
     HELD_AFTER_FIRST_RECORD,
     ERROR_CONTROL,
 ];
 
-/// The octets that a text spells in hexadecimal. What is no digit is passed over.
-pub fn octets_of(alloc: Global, text: &str) -> Result<Vec<u8>, AllocError> {
-    let mut octets = Vec::new(alloc);
+// Appends the octets that digits spell. What is no digit is passed over.
+fn push_octets(octets: &mut Vec<u8>, digits: &str) -> Result<(), AllocError> {
     let mut high = None;
-    for letter in text.chars() {
+    for letter in digits.chars() {
         let Some(digit) = letter.to_digit(16) else {
             continue;
         };
@@ -276,11 +528,26 @@ pub fn octets_of(alloc: Global, text: &str) -> Result<Vec<u8>, AllocError> {
             }
         };
     }
+    Ok(())
+}
+
+/// The octets that a text spells in hexadecimal, word by word.
+pub(crate) fn octets_of(alloc: Global, text: &str) -> Result<Vec<u8>, AllocError> {
+    let mut octets = Vec::new(alloc);
+    for word in text.split_whitespace() {
+        let (digits, times) = match word.split_once('*') {
+            Some((digits, times)) => (digits, times.parse::<u32>().unwrap_or(0)),
+            None => (word, 1),
+        };
+        for _ in 0..times {
+            push_octets(&mut octets, digits)?;
+        }
+    }
     Ok(octets)
 }
 
 /// A job before any record.
-pub fn new_job(alloc: Global, settings: &str) -> Result<Job, Fail> {
+pub(crate) fn new_job(alloc: Global, settings: &str) -> Result<Job, Fail> {
     let Ok(settings) = Settings::read(alloc, settings.as_bytes()) else {
         return Err(Fail::from("the settings"));
     };
@@ -291,7 +558,7 @@ pub fn new_job(alloc: Global, settings: &str) -> Result<Job, Fail> {
 }
 
 /// How many records are done.
-pub fn records_of(answer: Result<Done, RunFault>) -> Result<u32, RunFault> {
+pub(crate) fn records_of(answer: Result<Done, RunFault>) -> Result<u32, RunFault> {
     match answer {
         Ok(done) => Ok(done.records),
         Err(fault) => Err(fault),
@@ -300,83 +567,11 @@ pub fn records_of(answer: Result<Done, RunFault>) -> Result<u32, RunFault> {
 
 /// What a run answered, and what it wrote.
 #[derive(Drop)]
-pub struct Ran {
+pub(crate) struct Ran {
     /// How many records are done, or why the run ended before.
-    pub answer: Result<u32, RunFault>,
-    pub out: Vec<u8>,
-    pub report: Vec<u8>,
-}
-
-// Runs a new job over a recording, which is read and written in few calls.
-fn run_all(
-    alloc: Global,
-    settings: &str,
-    recording: &str,
-    command: Command<'_>,
-) -> Result<Ran, Fail> {
-    let job = new_job(alloc, settings)?;
-    let mut source = MemorySource::new(octets_of(alloc, recording)?, 65_536, 0);
-    let mut out = MemoryDrain::new(Vec::new(alloc), 65_536, 0);
-    let mut report = MemoryDrain::new(Vec::new(alloc), 65_536, 0);
-    let answer = run(
-        alloc,
-        job,
-        command,
-        &mut source,
-        &mut out,
-        &mut report,
-        Ending::Close,
-    );
-    Ok(Ran {
-        answer: records_of(answer),
-        out: out.octets,
-        report: report.octets,
-    })
-}
-
-#[test]
-fn worked_rows(rt: HostRuntime) -> Result<(), Fail> {
-    let alloc = rt.alloc();
-    for row in ROWS {
-        let name = row.name;
-        let answer = Ok(row.records);
-        let octets = octets_of(alloc, row.octets)?;
-        let ran = run_all(alloc, row.settings, row.recording, Command::Extract)?;
-        assert_eq!(rt; ran.answer, answer, "{name} by extract");
-        assert_eq!(rt; ran.out.as_slice(), octets.as_slice(), "{name} by extract");
-        assert_eq!(rt;
-            ran.report.as_slice(),
-            row.report.as_bytes(),
-            "{name} by extract"
-        );
-
-        let ran = run_all(alloc, row.settings, row.recording, Command::Packets)?;
-        assert_eq!(rt; ran.answer, answer, "{name} by packets");
-        assert_eq!(rt;
-            ran.out.as_slice(),
-            row.lines.as_bytes(),
-            "{name} by packets"
-        );
-        assert_eq!(rt;
-            ran.report.as_slice(),
-            row.report.as_bytes(),
-            "{name} by packets"
-        );
-    }
-    Ok(())
-}
-
-#[test]
-fn empty_recording(rt: HostRuntime) -> Result<(), Fail> {
-    let alloc = rt.alloc();
-    assert_eq!(rt; new_job(alloc, BASE)?.records(), 0);
-    for command in [Command::Extract, Command::Packets] {
-        let ran = run_all(alloc, BASE, "", command)?;
-        assert_eq!(rt; ran.answer, Ok(0));
-        assert!(rt; ran.out.is_empty());
-        assert!(rt; ran.report.is_empty());
-    }
-    Ok(())
+    pub(crate) answer: Result<u32, RunFault>,
+    pub(crate) out: Vec<u8>,
+    pub(crate) report: Vec<u8>,
 }
 
 // The octets of all packets go into a drain that has room for just these, and nothing goes into the report. What is seen here are the
@@ -406,208 +601,5 @@ fn reads_no_further(rt: HostRuntime) -> Result<(), Fail> {
     assert_eq!(rt; out.octets.as_slice(), octets.as_slice());
     assert_eq!(rt; out.octets.capacity(), capacity);
     assert!(rt; report.octets.is_empty());
-    Ok(())
-}
-
-// The device of which a call fails.
-#[derive(Clone, Copy, Debug)]
-enum Device {
-    Recording,
-    Out,
-    Report,
-}
-
-// Runs a new job by `packets`. The recording is read by at most 10 octets per call, and at most 5 are written. One call of the device
-// fails, counted from 1.
-fn run_failing(alloc: Global, row: Row, device: Device, fails_at: u64) -> Result<Ran, Fail> {
-    let (reads, writes, reports) = match device {
-        Device::Recording => (fails_at, 0, 0),
-        Device::Out => (0, fails_at, 0),
-        Device::Report => (0, 0, fails_at),
-    };
-    let job = new_job(alloc, row.settings)?;
-    let mut source = MemorySource::new(octets_of(alloc, row.recording)?, 10, reads);
-    let mut out = MemoryDrain::new(Vec::new(alloc), 5, writes);
-    let mut report = MemoryDrain::new(Vec::new(alloc), 5, reports);
-    let answer = run(
-        alloc,
-        job,
-        Command::Packets,
-        &mut source,
-        &mut out,
-        &mut report,
-        Ending::Close,
-    );
-    Ok(Ran {
-        answer: records_of(answer),
-        out: out.octets,
-        report: report.octets,
-    })
-}
-
-#[test]
-fn failing_devices(rt: HostRuntime) -> Result<(), Fail> {
-    let alloc = rt.alloc();
-    let first_line =
-        "packet record=0 channel=0 from=0 at=0 type=tm secondary=no apid=100 flags=unsegmented count=0 octets=10\n";
-    let gap = POINTER_DROP_AND_SEQUENCE_GAP;
-    let table = [
-        (TWO_PACKETS, Device::Out, 3, RunFault::Write, "packet rec"),
-        (TWO_PACKETS, Device::Recording, 1, RunFault::Read, ""),
-        (gap, Device::Report, 1, RunFault::Report, first_line),
-        // The flushes: of the output after 21 writes for each of the two lines, of the report without any before it.
-        (
-            TWO_PACKETS,
-            Device::Out,
-            43,
-            RunFault::Write,
-            TWO_PACKETS.lines,
-        ),
-        (
-            TWO_PACKETS,
-            Device::Report,
-            1,
-            RunFault::Report,
-            TWO_PACKETS.lines,
-        ),
-    ];
-    for (row, device, fails_at, fault, lines) in table {
-        let ran = run_failing(alloc, row, device, fails_at)?;
-        assert_eq!(rt; ran.answer, Err(fault), "call {fails_at} of {device:?}");
-        assert_eq!(rt;
-            ran.out.as_slice(),
-            lines.as_bytes(),
-            "call {fails_at} of {device:?}"
-        );
-        assert!(rt; ran.report.is_empty(), "call {fails_at} of {device:?}");
-    }
-    Ok(())
-}
-
-// Each call of each device fails in turn, up to the run in which none does: what was written is the front of the texts.
-#[test]
-fn each_call_failing(rt: HostRuntime) -> Result<(), Fail> {
-    let alloc = rt.alloc();
-    let row = POINTER_DROP_AND_SEQUENCE_GAP;
-    let table = [
-        // Three reads for each of the two records, and one that finds the end.
-        (Device::Recording, RunFault::Read, 7),
-        // 21 writes for each of the two lines, and the flush.
-        (Device::Out, RunFault::Write, 43),
-        // 13, 12 and 13 writes for the three lines, and the flush.
-        (Device::Report, RunFault::Report, 39),
-    ];
-    for (device, fault, calls) in table {
-        let mut refused = 0u64;
-        for fails_at in 1..1000u64 {
-            let ran = run_failing(alloc, row, device, fails_at)?;
-            if let Ok(records) = ran.answer {
-                assert_eq!(rt; records, row.records);
-                assert_eq!(rt; ran.out.as_slice(), row.lines.as_bytes());
-                assert_eq!(rt; ran.report.as_slice(), row.report.as_bytes());
-                break;
-            }
-            assert_eq!(rt; ran.answer, Err(fault), "call {fails_at} of {device:?}");
-            assert!(rt;
-                row.lines.as_bytes().starts_with(ran.out.as_slice()),
-                "call {fails_at} of {device:?}"
-            );
-            assert!(rt;
-                row.report.as_bytes().starts_with(ran.report.as_slice()),
-                "call {fails_at} of {device:?}"
-            );
-            refused = refused.saturating_add(1);
-        }
-        assert_eq!(rt; refused, calls, "{device:?}");
-    }
-    Ok(())
-}
-
-// ---- a shelf
-
-const SPLIT_WITH_IDLE: &str = "02A000001800 0064C000000055 07FFC00000045555555555";
-
-// Splits a recording with a new job. The put of this number is refused, none for 0.
-fn split_all(
-    alloc: Global,
-    settings: &str,
-    recording: &str,
-    refuses_at: u64,
-) -> Result<(Result<u32, RunFault>, MemoryShelf, Vec<u8>), Fail> {
-    let job = new_job(alloc, settings)?;
-    let mut source = MemorySource::new(octets_of(alloc, recording)?, 65_536, 0);
-    let mut shelf = MemoryShelf::new(alloc, refuses_at);
-    let mut report = MemoryDrain::new(Vec::new(alloc), 65_536, 0);
-    let answer = split(
-        alloc,
-        job,
-        &mut source,
-        &mut shelf,
-        &mut report,
-        Ending::Close,
-    );
-    Ok((records_of(answer), shelf, report.octets))
-}
-
-// The octets that a shelf has of an application.
-fn octets_on(alloc: Global, shelf: &MemoryShelf, application: u16) -> Result<Vec<u8>, AllocError> {
-    let mut octets = Vec::new(alloc);
-    for put in &shelf.puts {
-        if put.application == application {
-            octets.extend_from_slice(put.octets.as_slice())?;
-        }
-    }
-    Ok(octets)
-}
-
-#[test]
-fn worked_rows_by_split(rt: HostRuntime) -> Result<(), Fail> {
-    let alloc = rt.alloc();
-    let idle = "07FFC00000075555555555555555";
-    let table = [
-        (
-            BASE,
-            SPLIT_WITH_IDLE,
-            "",
-            "0064C000000055",
-            "07FFC00000045555555555",
-        ),
-        (
-            BASE,
-            TWO_CHANNELS.recording,
-            TWO_CHANNELS.report,
-            TWO_CHANNELS.octets,
-            "",
-        ),
-        (
-            WIDE,
-            GROUPS.recording,
-            GROUPS.report,
-            "00644005000055 00640006000055 00648007000055 00644008000055 \
-                0064C00900075555555555555555 0064400A000055",
-            idle,
-        ),
-    ];
-    for (settings, recording, lines, packets, idle) in table {
-        let (answer, shelf, report) = split_all(alloc, settings, recording, 0)?;
-        assert!(rt; answer.is_ok());
-        assert_eq!(rt; report.as_slice(), lines.as_bytes());
-        let wanted = octets_of(alloc, packets)?;
-        let found = octets_on(alloc, &shelf, 100)?;
-        assert_eq!(rt; found.as_slice(), wanted.as_slice());
-        let wanted = octets_of(alloc, idle)?;
-        let found = octets_on(alloc, &shelf, 2047)?;
-        assert_eq!(rt; found.as_slice(), wanted.as_slice());
-    }
-    Ok(())
-}
-
-#[test]
-fn refusing_shelf(rt: HostRuntime) -> Result<(), Fail> {
-    let alloc = rt.alloc();
-    let (answer, shelf, _) = split_all(alloc, BASE, SPLIT_WITH_IDLE, 2)?;
-    assert_eq!(rt; answer, Err(RunFault::Write));
-    assert_eq!(rt; octets_on(alloc, &shelf, 100)?.len(), 7);
-    assert!(rt; octets_on(alloc, &shelf, 2047)?.is_empty());
     Ok(())
 }

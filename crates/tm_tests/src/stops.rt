@@ -3,6 +3,7 @@
 use crate::runs::{BASE, ROWS, Row, SHORT_REST, TWO_CHANNELS, new_job, octets_of};
 use crate::{MemoryDrain, MemoryShelf, MemorySource};
 use std::alloc::{AllocError, Global};
+use std::process::Abort;
 use std::test::Fail;
 use tm_fields::Definition;
 use tm_tool::{Command, Ending, Job, RunFault, Settings, run, split};
@@ -81,30 +82,29 @@ fn run_in_steps(
     }
 }
 
-#[test]
-fn worked_rows_in_steps(rt: HostRuntime) -> Result<(), Fail> {
-    let alloc = rt.alloc();
+fn row_in_steps(rt: &impl Abort, alloc: Global, row: Row, going: Going) -> Result<(), Fail> {
+    let name = row.name;
+    let octets = octets_of(alloc, row.octets)?;
+    let (out, report) = run_in_steps(alloc, row, Command::Extract, going)?;
+    assert_eq!(rt; out.as_slice(), octets.as_slice(), "{name}");
+    assert_eq!(rt; report.as_slice(), row.report.as_bytes(), "{name}");
+    let (out, report) = run_in_steps(alloc, row, Command::Packets, going)?;
+    assert_eq!(rt; out.as_slice(), row.lines.as_bytes(), "{name}");
+    assert_eq!(rt; report.as_slice(), row.report.as_bytes(), "{name}");
+    Ok(())
+}
+
+fn rows_in_steps(rt: &impl Abort, alloc: Global, going: Going) -> Result<(), Fail> {
     for row in ROWS {
-        let name = row.name;
-        let octets = octets_of(alloc, row.octets)?;
-        for going in [Going::Kept, Going::Resumed] {
-            let (out, report) = run_in_steps(alloc, row, Command::Extract, going)?;
-            assert_eq!(rt; out.as_slice(), octets.as_slice(), "{name} by extract");
-            assert_eq!(rt;
-                report.as_slice(),
-                row.report.as_bytes(),
-                "{name} by extract"
-            );
-            let (out, report) = run_in_steps(alloc, row, Command::Packets, going)?;
-            assert_eq!(rt; out.as_slice(), row.lines.as_bytes(), "{name} by packets");
-            assert_eq!(rt;
-                report.as_slice(),
-                row.report.as_bytes(),
-                "{name} by packets"
-            );
-        }
+        row_in_steps(rt, alloc, row, going)?;
     }
     Ok(())
+}
+
+#[test]
+fn worked_rows_in_steps(rt: HostRuntime) -> Result<(), Fail> {
+    rows_in_steps(&rt, rt.alloc(), Going::Kept)?;
+    rows_in_steps(&rt, rt.alloc(), Going::Resumed)
 }
 
 #[test]

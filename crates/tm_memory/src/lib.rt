@@ -1,0 +1,10 @@
+//! Calls that are refused memory: all of it is held, and given back block by block.
+#![tactic(auto)]
+
+mod held;
+#[cfg(test)]
+mod tests;
+mod turns;
+
+pub use held::Held;
+pub use turns::{Answer, Turns, made};

@@ -1,0 +1,111 @@
+//! A call that is made again and again, with more memory each time.
+
+ghost use Rattle.std.specs.Prelude.{◌≡◌, ◌≤◌, if◌then◌else◌, true, None, Some, IfSome};
+ghost use Rattle.tm_memory.specs.Turns.{is_again};
+ghost use Rattle.tm_memory.specs.declared.turns.Answer.TheVariants.{Right, Refused, Wrong};
+
+use crate::Held;
+use std::marker::Model;
+use std::rt::Files;
+
+/// What a call gave, where there may be no memory.
+#[derive(Clone, Copy, Debug, PartialEq, Eq)]
+pub enum Answer {
+    /// All that it gives where there is ample memory.
+    Right,
+    /// It says that memory is wanting, and all is as it is to be then.
+    Refused,
+    /// The call couldn't be made: what it needs found no memory.
+    NotMade,
+    /// Anything else.
+    Wrong,
+}
+
+impl Answer {
+    /// The answer of a call that wasn't refused.
+    pub fn right_if(holds: bool) -> Answer
+        ensures { result ≡ if holds then Right else Wrong }
+    {
+        if holds { Answer::Right } else { Answer::Wrong }
+    }
+
+    /// The answer of a call that was refused.
+    pub fn refused_if(holds: bool) -> Answer
+        ensures { result ≡ if holds then Refused else Wrong }
+    {
+        if holds {
+            Answer::Refused
+        } else {
+            Answer::Wrong
+        }
+    }
+}
+
+/// What is made by a call that is tried twice, for what a test needs beforehand: one request that is refused spoils no test.
+pub fn made<T, F: Fn() -> Option<T>>(make: F) -> Option<T>
+    requires { F.IsAlwaysCallable make }
+    ensures { IfSome result (λ value. F.post make (Some value)) }
+{
+    match make() {
+        Some(value) => Some(value),
+        None => make(),
+    }
+}
+
+/// The turns of a call: with all memory held, and again with a block less as long as it is refused. Where nothing can be held, the
+/// call is made once, and once more if it was refused. Seen as the last answer.
+#[derive(Drop)]
+pub struct Turns {
+    held: Held,
+    refused: bool,
+    last: Option<Answer>,
+}
+
+impl Model for Turns {
+    ghost use Rattle.std.specs.Prelude.{Option};
+    ghost use Rattle.tm_memory.specs.declared.turns.Answer.{Answer};
+
+    ghost Value = { Option Answer };
+
+    ghost view = { λ t. t.last };
+}
+
+impl Turns {
+    /// Holds all memory, before the first turn.
+    pub fn new<R: Files + AllocGlobal>(rt: &R) -> Turns
+        ensures { result ≡ None }
+    {
+        let held = Held::new(rt);
+        let refused = held.blocks() == 0;
+        Turns {
+            held,
+            refused,
+            last: None,
+        }
+    }
+
+    /// How many turns there are at the most.
+    pub fn most(&self) -> usize
+        ensures { result ≤ 262594 }
+    {
+        self.held.blocks() + 2
+    }
+
+    /// Takes the answer of a turn, gives a block back, and says whether another turn follows, if there is one.
+    pub fn take(&mut self, answer: Answer) -> bool
+        ensures last { self.new ≡ Some answer }
+        ensures again { result ≡ is_again answer }
+    {
+        self.refused = self.refused || answer == Answer::Refused;
+        self.last = Some(answer);
+        self.held.give_back();
+        matches!(answer, Answer::Refused | Answer::NotMade)
+    }
+
+    /// The last turn was right, and one before it was refused, if memory could be held at all.
+    pub fn passed(&self) -> bool
+        ensures { result ≡ true → self.now ≡ Some Right }
+    {
+        self.refused && self.last == Some(Answer::Right)
+    }
+}

@@ -1,0 +1,142 @@
+//! Settings and definitions of fields that are cut off after each of their octets.
+
+use crate::fields::TEXT;
+use std::alloc::Global;
+use std::test::Fail;
+use tm_fields::{Column, Definition, DefinitionFault};
+use tm_frame::{LayoutParts, Presence};
+use tm_reassembly::Channels;
+use tm_tool::{Key, Settings, SettingsFault};
+
+// What a table says of a text's front of so many octets. A row has the greatest length of which it speaks, and begins where the one before
+// ends.
+fn answer_at<A: Copy>(table: &[(usize, A)], len: usize) -> Option<A> {
+    for &(last, answer) in table {
+        if len <= last {
+            return Some(answer);
+        }
+    }
+    None
+}
+
+// What settings are read as, or how they are refused.
+#[derive(Clone, Copy, Debug, PartialEq, Eq)]
+enum Answer {
+    Read(LayoutParts, Channels),
+    Toml,
+    Missing(Key),
+    Range(Key),
+    // None of the texts here is refused in another way.
+    Other,
+}
+
+fn settings_answer(alloc: Global, text: &[u8]) -> Answer {
+    match Settings::read(alloc, text) {
+        Ok(settings) => Answer::Read(settings.layout().parts(), settings.channels()),
+        Err(SettingsFault::Toml) => Answer::Toml,
+        Err(SettingsFault::Missing(key)) => Answer::Missing(key),
+        Err(SettingsFault::Range(key)) => Answer::Range(key),
+        Err(_) => Answer::Other,
+    }
+}
+
+// Spacecraft 42, and all that isn't named here absent.
+fn read(frame_length: u32, skip_before: u32, error_control: bool) -> Answer {
+    let parts = LayoutParts {
+        frame_length,
+        skip_before,
+        skip_after: 0,
+        spacecraft: 42,
+        secondary: Presence::Flag,
+        ocf: Presence::Flag,
+        error_control,
+    };
+    Answer::Read(parts, Channels::all())
+}
+
+// A line is whole from the first digit of its number on, or from the end of its boolean. A text that is cut before that is no document.
+#[test]
+fn settings_with_error_control(rt: HostRuntime) {
+    let text = "spacecraft = 42\nframe_length = 9\nerror_control = true\n";
+    let table = [
+        (0, Answer::Missing(Key::Spacecraft)),
+        (13, Answer::Toml),
+        (16, Answer::Missing(Key::FrameLength)),
+        (31, Answer::Toml),
+        (33, Answer::Missing(Key::ErrorControl)),
+        (52, Answer::Toml),
+        (54, read(9, 0, true)),
+    ];
+    for len in 0..=text.len() {
+        let answer = settings_answer(rt.alloc(), &text.as_bytes()[..len]);
+        let wanted = answer_at(&table, len);
+        assert_eq!(rt; Some(answer), wanted, "the first {len} octets");
+    }
+}
+
+#[test]
+fn settings_with_skipped_octets(rt: HostRuntime) {
+    let text = "spacecraft = 42\nframe_length = 24\nerror_control = false\nskip_before = 4\n";
+    let table = [
+        (0, Answer::Missing(Key::Spacecraft)),
+        (13, Answer::Toml),
+        (16, Answer::Missing(Key::FrameLength)),
+        (31, Answer::Toml),
+        // A frame length of 2.
+        (32, Answer::Range(Key::FrameLength)),
+        (34, Answer::Missing(Key::ErrorControl)),
+        (54, Answer::Toml),
+        (56, read(24, 0, false)),
+        (70, Answer::Toml),
+        (72, read(24, 4, false)),
+    ];
+    for len in 0..=text.len() {
+        let answer = settings_answer(rt.alloc(), &text.as_bytes()[..len]);
+        let wanted = answer_at(&table, len);
+        assert_eq!(rt; Some(answer), wanted, "the first {len} octets");
+    }
+}
+
+// The bits that a definition needs, or how it is refused.
+fn definition_answer(alloc: Global, text: &[u8]) -> Result<u32, DefinitionFault> {
+    match Definition::read(alloc, text) {
+        Ok(definition) => Ok(definition.bits_needed()),
+        Err(fault) => Err(fault),
+    }
+}
+
+// The heading alone is a definition without fields. Behind its second comma a line has three values, and it is a field as soon as its digits
+// are a length of its type.
+#[test]
+fn definition_of_fields(rt: HostRuntime) {
+    let table = [
+        (3, Err(DefinitionFault::Column(Column::Name))),
+        (14, Err(DefinitionFault::Column(Column::DataType))),
+        (26, Err(DefinitionFault::Column(Column::BitLength))),
+        (28, Ok(0)),
+        (41, Err(DefinitionFault::Csv)),
+        (43, Err(DefinitionFault::Bits { row: 1 })),
+        (45, Ok(56)),
+        (55, Err(DefinitionFault::Csv)),
+        (57, Err(DefinitionFault::Bits { row: 2 })),
+        // An `int` of one bit, and then of 12.
+        (58, Ok(57)),
+        (60, Ok(68)),
+        (69, Err(DefinitionFault::Csv)),
+        (71, Err(DefinitionFault::Bits { row: 3 })),
+        (73, Ok(72)),
+        (83, Err(DefinitionFault::Csv)),
+        // No length, and then 2.
+        (86, Err(DefinitionFault::Bits { row: 4 })),
+        (88, Ok(96)),
+        (99, Err(DefinitionFault::Csv)),
+        // No length, and then 3.
+        (102, Err(DefinitionFault::Bits { row: 5 })),
+        (104, Ok(128)),
+    ];
+    for len in 0..=TEXT.len() {
+        let answer = definition_answer(rt.alloc(), &TEXT.as_bytes()[..len]);
+        let wanted = answer_at(&table, len);
+        assert_eq!(rt; Some(answer), wanted, "the first {len} octets");
+    }
+}

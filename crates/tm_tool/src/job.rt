@@ -168,7 +168,7 @@ pub fn run<R: Source, W: Drain, V: Drain>(
     report: &mut V,
     ending: Ending,
 ) -> Result<Done, RunFault>
-    // With Ok all was read, and just the pieces of the recording were written, and passed on.
+    // With Ok what the ending wants was read, and just its pieces were written, and passed on.
     ensures all { IfOk result (λ done. IsHeadedRun Appends (makes_rows command.entry) (text_of command.entry) ending job.work (head_pieces command.entry job.fresh) (R.left recording.old) (R.left recording.new)
         (view (W.written out.old) (V.written report.old) (W.failures out.old) (V.failures report.old))
         (view (W.written out.new) (V.written report.new) (W.failures out.new) (V.failures report.new)) done.records (option_map (λ j. j.work) done.kept)) }
@@ -240,7 +240,7 @@ pub fn split<R: Source, H: Shelf, V: Drain>(
     report: &mut V,
     ending: Ending,
 ) -> Result<Done, RunFault>
-    // With Ok all was read, and just the pieces of the recording were written, and passed on.
+    // With Ok what the ending wants was read, and just its pieces were written, and passed on.
     ensures all { IfOk result (λ done. IsRun Shelves false shelf_text ending job.work (R.left recording.old) (R.left recording.new)
         (view (H.kept shelf.old) (V.written report.old) (H.refusals shelf.old) (V.failures report.old))
         (view (H.kept shelf.new) (V.written report.new) (H.refusals shelf.new) (V.failures report.new)) done.records (option_map (λ j. j.work) done.kept)) }

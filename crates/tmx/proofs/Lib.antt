@@ -4,3 +4,4 @@ pub mod Required
 pub mod FileLemmas
 pub mod Examples
 pub mod ShelfLemmas
+pub mod ProgramLemmas

@@ -4,9 +4,13 @@ use Rattle.tm_tool.specs.declared.fault.RunFault.TheVariants.{NoMemory}
 use Rattle.tmx.specs.declared.fault.ToolFault.{ToolFault}
 use Rattle.tmx.specs.declared.fault.ToolFault.TheVariants.{File, TooLong, Run}
 
--- a fault of the file of this name, or want of memory
+-- the file of this name can't be opened, made, read or written, or memory is wanting
+abbrev pub IsFileFault : List ℕ → ToolFault → Type 0
+IsFileFault name (File given) = given ≡ name
+IsFileFault name (Run NoMemory) = ⊤
+IsFileFault name _ = ⊥
+
+-- likewise, of a file that is read whole: it may be too long
 abbrev pub IsFaultOf : List ℕ → ToolFault → Type 0
-IsFaultOf name (File given) = given ≡ name
 IsFaultOf name (TooLong given) = given ≡ name
-IsFaultOf name (Run NoMemory) = ⊤
-IsFaultOf name _ = ⊥
+IsFaultOf name fault = IsFileFault name fault

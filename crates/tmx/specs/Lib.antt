@@ -2,3 +2,5 @@ pub mod CommandLine
 pub mod Endings
 pub mod FaultLines
 pub mod Files
+pub mod Program
+pub mod Reports

@@ -1,7 +1,7 @@
 //! Files that are opened by their names, and files that are read whole.
 
 ghost use Rattle.std.specs.Prelude.{◌≡◌, ◌<◌, ◌≤◌, length, vec_len, IfOk, IfErr, IfSome, MatchOption};
-ghost use Rattle.tmx.specs.Files.{IsFaultOf};
+ghost use Rattle.tmx.specs.Files.{IsFaultOf, IsFileFault};
 
 use crate::fault::ToolFault;
 use std::alloc::Global;
@@ -42,7 +42,7 @@ fn copied(alloc: Global, name: &Octets) -> Option<Octets>
 
 /// The fault of a file that can't be opened, made or read.
 pub fn file_fault(alloc: Global, name: &Octets) -> ToolFault
-    ensures { IsFaultOf name.now result }
+    ensures { IsFileFault name.now result }
 {
     match copied(alloc, name) {
         Some(name) => ToolFault::File(name),
@@ -52,7 +52,7 @@ pub fn file_fault(alloc: Global, name: &Octets) -> ToolFault
 
 // The path that a file's name is.
 fn path_of<'n>(alloc: Global, name: &'n Octets) -> Result<&'n str, ToolFault>
-    ensures { IfErr result (IsFaultOf name.now) }
+    ensures { IfErr result (IsFileFault name.now) }
 {
     match std::str::from_utf8(name.as_slice()) {
         Ok(path) => Ok(path),
@@ -62,7 +62,7 @@ fn path_of<'n>(alloc: Global, name: &'n Octets) -> Result<&'n str, ToolFault>
 
 /// Opens a file for reading. A fault names the file as it was given.
 pub fn open<R: Files + AllocGlobal>(rt: &R, name: &Octets) -> Result<R::File, ToolFault>
-    ensures { IfErr result (IsFaultOf name.now) }
+    ensures { IfErr result (IsFileFault name.now) }
 {
     match File::open(rt, path_of(rt.alloc(), name)?) {
         Ok(file) => Ok(file),
@@ -72,7 +72,7 @@ pub fn open<R: Files + AllocGlobal>(rt: &R, name: &Octets) -> Result<R::File, To
 
 /// Opens a file for writing, made where it is not there, and empty from then on. A fault names the file as it was given.
 pub fn create<R: Files + AllocGlobal>(rt: &R, name: &Octets) -> Result<R::File, ToolFault>
-    ensures { IfErr result (IsFaultOf name.now) }
+    ensures { IfErr result (IsFileFault name.now) }
 {
     match File::create(rt, path_of(rt.alloc(), name)?) {
         Ok(file) => Ok(file),
@@ -82,7 +82,7 @@ pub fn create<R: Files + AllocGlobal>(rt: &R, name: &Octets) -> Result<R::File, 
 
 /// Opens a file for writing behind what it has, made where it is not there. A fault names the file as it was given.
 pub fn append<R: Files + AllocGlobal>(rt: &R, name: &Octets) -> Result<R::File, ToolFault>
-    ensures { IfErr result (IsFaultOf name.now) }
+    ensures { IfErr result (IsFileFault name.now) }
 {
     let path = path_of(rt.alloc(), name)?;
     match OpenOptions::new().append(true).create(true).open(rt, path) {
@@ -118,7 +118,7 @@ pub fn replace<R: Files + AllocGlobal>(
     name: &Octets,
     octets: &[u8],
 ) -> Result<(), ToolFault>
-    ensures { IfErr result (IsFaultOf name.now) }
+    ensures { IfErr result (IsFileFault name.now) }
 {
     let alloc = rt.alloc();
     let path = path_of(alloc, name)?;

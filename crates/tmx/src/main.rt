@@ -6,6 +6,8 @@ mod fault;
 mod files;
 mod kept;
 mod lines;
+#[cfg(test)]
+mod refusals;
 mod report;
 mod request;
 mod run;
@@ -18,9 +20,31 @@ use crate::fault::ToolFault;
 use crate::lines::{fault_line, status};
 use crate::request::UsageFault;
 use crate::run::run;
-use std::io::Write;
+use std::env;
+use std::io::{ErrorKind, Write};
 use std::process::ExitCode;
-use tm_tool::RunFault;
+use tm_tool::{Octets, RunFault};
+
+const NOT_TEXT: &str =
+    "error: the arguments are not UTF-8\n\nFor more information, try '--help'.\n";
+
+// The words after the program's name.
+fn all_words(rt: &HostRuntime) -> Result<Vec<String>, ToolFault> {
+    let alloc = rt.alloc();
+    match env::args(rt) {
+        Ok(args) => args
+            .skip(1)
+            .collect(alloc)
+            .map_err(|_| ToolFault::Run(RunFault::NoMemory)),
+        Err(error) if error.kind() == ErrorKind::OutOfMemory => Err(ToolFault::Run(
+            RunFault::NoMemory,
+        )),
+        Err(_) => match Vec::from_slice(alloc, NOT_TEXT.as_bytes()) {
+            Ok(text) => Err(ToolFault::Usage(UsageFault::Usage(Octets::new(text)))),
+            Err(_) => Err(ToolFault::Run(RunFault::NoMemory)),
+        },
+    }
+}
 
 // Prints the line of a fault on standard error.
 fn refuse(rt: &HostRuntime, fault: &ToolFault) -> ExitCode {
@@ -47,8 +71,13 @@ fn help(rt: &HostRuntime, fault: &ToolFault) -> ExitCode {
     }
 }
 
+// Does what the command line asks for.
+fn done(rt: &HostRuntime) -> Result<(), ToolFault> {
+    run(rt, all_words(rt)?, rt.stderr())
+}
+
 fn main(rt: HostRuntime) -> ExitCode {
-    match run(&rt, rt.stderr()) {
+    match done(&rt) {
         Ok(()) => ExitCode::SUCCESS,
         Err(fault) if matches!(&fault, ToolFault::Usage(UsageFault::Help(_))) => help(&rt, &fault),
         Err(fault) => refuse(&rt, &fault),

@@ -1,5 +1,7 @@
 //! Where the report goes.
 
+ghost use Rattle.tmx.specs.Reports.{contents_of};
+
 use std::io::{self, Write};
 
 /// A file, or standard error.
@@ -10,6 +12,8 @@ pub enum Report<F, E> {
 }
 
 impl<F: Write, E: Write> Write for Report<F, E> {
+    ghost contents = { contents_of F.contents E.contents };
+
     fn write(&mut self, octets: &[u8]) -> io::Result<usize> {
         match self {
             Report::File(file) => file.write(octets),

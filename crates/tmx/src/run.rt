@@ -1,18 +1,19 @@
 //! The order of steps: command line, settings, definition, checkpoint, recording, report, run, checkpoint of the run.
 
-ghost use Rattle.std.specs.Prelude.{IsSome};
+ghost use Rattle.std.specs.Prelude.{◌≡◌, false, IfErr, IfOk, IfSome, IsSome, OnOk, is_some, map, string_bytes};
+ghost use Rattle.tmx.specs.Files.{IsFileFault};
+ghost use Rattle.tmx.specs.Program.{IsAsked, IsRunFault, MayCome, MayEnd, beside, has_name, is_checkpoint, is_in_the_way, is_read};
 
 use crate::fault::ToolFault;
 use crate::files::{append, create, file_fault, open, read_file};
 use crate::kept::{ending_by, job_by, keep, resumed_by};
 use crate::report::Report;
-use crate::request::{Action, Plan, UsageFault};
-use crate::shelf::FileShelf;
+use crate::request::{Action, Plan};
+use crate::shelf::{FileShelf, ShelfFault};
 use crate::words::plan;
 use std::alloc::Global;
-use std::env;
-use std::io::{self, BufReader, BufWriter, ErrorKind, Read, Write};
-use std::rt::{Env, Files};
+use std::io::{self, BufReader, BufWriter, Read, Write};
+use std::rt::Files;
 use tm_fields::Definition;
 use tm_tool::{
     Command, Done, Ending, Job, Octets, Reading, RunFault, Settings, Writing, list_frames,
@@ -25,29 +26,20 @@ const BUFFER: usize = 262_144;
 // The octets of the buffer before the report.
 const REPORT_BUFFER: usize = 65_536;
 
-const NOT_TEXT: &str =
-    "error: the arguments are not UTF-8\n\nFor more information, try '--help'.\n";
+// The system's number of the error that a file isn't open: EBADF.
+const CLOSED: i32 = 9;
 
 // Memory ran out.
-fn no_memory() -> ToolFault {
+fn no_memory() -> ToolFault
+    ensures { IsRunFault result }
+{
     ToolFault::Run(RunFault::NoMemory)
 }
 
-// The words after the program's name.
-fn words<R: Env + AllocGlobal>(rt: &R) -> Result<Vec<String>, ToolFault> {
-    let alloc = rt.alloc();
-    match env::args(rt) {
-        Ok(args) => args.skip(1).collect(alloc).map_err(|_| no_memory()),
-        Err(error) if error.kind() == ErrorKind::OutOfMemory => Err(no_memory()),
-        Err(_) => match Vec::from_slice(alloc, NOT_TEXT.as_bytes()) {
-            Ok(text) => Err(ToolFault::Usage(UsageFault::Usage(Octets::new(text)))),
-            Err(_) => Err(no_memory()),
-        },
-    }
-}
-
 // A source over a buffer behind the recording.
-fn source<S: Read + Drop>(alloc: Global, recording: S) -> Result<Reading<BufReader<S>>, ToolFault> {
+fn source<S: Read + Drop>(alloc: Global, recording: S) -> Result<Reading<BufReader<S>>, ToolFault>
+    ensures { IfErr result IsRunFault }
+{
     match BufReader::with_capacity(alloc, BUFFER, recording) {
         Ok(reader) => Ok(Reading::new(reader)),
         Err(_) => Err(no_memory()),
@@ -59,7 +51,9 @@ fn drain<W: Write + Drop>(
     alloc: Global,
     octets: usize,
     writer: W,
-) -> Result<Writing<BufWriter<W>>, ToolFault> {
+) -> Result<Writing<BufWriter<W>>, ToolFault>
+    ensures { IfErr result IsRunFault }
+{
     match BufWriter::with_capacity(alloc, octets, writer) {
         Ok(writer) => Ok(Writing::new(writer)),
         Err(_) => Err(no_memory()),
@@ -71,7 +65,9 @@ fn list<R: Print + AllocGlobal, S: Read + Drop>(
     rt: &R,
     settings: &Settings,
     recording: S,
-) -> Result<(), ToolFault> {
+) -> Result<(), ToolFault>
+    ensures { IfErr result IsRunFault }
+{
     let alloc = rt.alloc();
     let mut source = source(alloc, recording)?;
     let mut out = drain(alloc, BUFFER, io::writer(rt))?;
@@ -89,7 +85,9 @@ fn give_packets<R: Print + AllocGlobal, S: Read + Drop, V: Write + Drop>(
     recording: S,
     report: V,
     ending: Ending,
-) -> Result<Done, ToolFault> {
+) -> Result<Done, ToolFault>
+    ensures { IfErr result IsRunFault }
+{
     let alloc = rt.alloc();
     let mut source = source(alloc, recording)?;
     let mut out = drain(alloc, BUFFER, io::writer(rt))?;
@@ -103,7 +101,10 @@ fn give_packets<R: Print + AllocGlobal, S: Read + Drop, V: Write + Drop>(
         &mut report,
         ending,
     );
-    done.map_err(ToolFault::Run)
+    match done {
+        Ok(done) => Ok(done),
+        Err(fault) => Err(ToolFault::Run(fault)),
+    }
 }
 
 // Gives the packets of a recording to a file for each application.
@@ -114,58 +115,117 @@ fn split_packets<R: Files + AllocGlobal, S: Read + Drop, V: Write + Drop>(
     recording: S,
     report: V,
     ending: Ending,
-) -> Result<Done, ToolFault> {
+) -> Result<Done, ToolFault>
+    ensures { IfErr result IsRunFault }
+{
     let alloc = rt.alloc();
     let mut source = source(alloc, recording)?;
     let mut report = drain(alloc, REPORT_BUFFER, report)?;
     let done = split(alloc, job, &mut source, &mut shelf, &mut report, ending);
     match (done, shelf.write_held()) {
         (Ok(done), Ok(())) => Ok(done),
-        (Ok(_), Err(_)) => Err(ToolFault::Run(RunFault::Write)),
+        (Ok(_), Err(ShelfFault::NoMemory)) => Err(no_memory()),
+        (Ok(_), Err(ShelfFault::NotWritten)) => Err(ToolFault::Run(RunFault::Write)),
+        (Err(RunFault::Write), _) if shelf.is_starved() => Err(no_memory()),
         (Err(fault), _) => Err(ToolFault::Run(fault)),
     }
 }
 
-// The files for the applications in this folder.
+// The files for the applications in this folder. An empty name is none: it would stand for the root.
 fn shelf_in<'a, R: Files + AllocGlobal>(
     rt: &'a R,
     dir: &'a Octets,
     goes_on: bool,
-) -> Result<FileShelf<'a, R>, ToolFault> {
-    let Ok(path) = std::str::from_utf8(dir.as_slice()) else {
-        return Err(file_fault(rt.alloc(), dir));
+) -> Result<FileShelf<'a, R>, ToolFault>
+    ensures { IfErr result (IsFileFault dir.now) }
+{
+    let path = match std::str::from_utf8(dir.as_slice()) {
+        Ok(path) if !path.is_empty() => path,
+        _ => return Err(file_fault(rt.alloc(), dir)),
     };
-    FileShelf::new(rt, path, goes_on).map_err(|_| no_memory())
-}
-
-// A file of this name is read, and so must not be written.
-fn is_read(plan: &Plan, name: &Octets) -> bool {
-    let is_it = |file: &Octets| file.as_slice() == name.as_slice();
-    plan.recording.as_ref().is_some_and(is_it)
-        || plan.settings.as_ref().is_some_and(is_it)
-        || plan.definition.as_ref().is_some_and(is_it)
-}
-
-// A file of this name has the checkpoint, before the run or after it.
-fn is_checkpoint(plan: &Plan, name: &Octets) -> bool {
-    let is_it = |file: &Octets| file.as_slice() == name.as_slice();
-    plan.checkpoint.as_ref().is_some_and(is_it) || plan.resume.as_ref().is_some_and(is_it)
-}
-
-// The checkpoint must not take the place of a file that is read.
-fn check_checkpoint(alloc: Global, plan: &Plan) -> Result<(), ToolFault> {
-    match &plan.checkpoint {
-        Some(name) if is_read(plan, name) => Err(file_fault(alloc, name)),
-        _ => Ok(()),
+    match FileShelf::new(rt, path, goes_on) {
+        Ok(shelf) => Ok(shelf),
+        Err(_) => Err(ToolFault::Run(RunFault::NoMemory)),
     }
 }
 
+// There is such a file, and it has this name.
+fn has_name(file: &Option<Octets>, name: &Octets) -> bool
+    ensures { result ≡ has_name name.now file.now }
+{
+    match file {
+        Some(file) => file.as_slice() == name.as_slice(),
+        None => false,
+    }
+}
+
+// A file of this name is read, and so must not be written.
+fn is_read(plan: &Plan, name: &Octets) -> bool
+    ensures { result ≡ is_read plan.now name.now }
+{
+    has_name(&plan.recording, name)
+        || has_name(&plan.settings, name)
+        || has_name(&plan.definition, name)
+}
+
+// A file of this name has the checkpoint, before the run or after it.
+fn is_checkpoint(plan: &Plan, name: &Octets) -> bool
+    ensures { result ≡ is_checkpoint plan.now name.now }
+{
+    has_name(&plan.checkpoint, name) || has_name(&plan.resume, name)
+}
+
+// The name of the file in which a checkpoint is written before it takes its name.
+fn beside(alloc: Global, name: &Octets) -> Result<Octets, ToolFault>
+    ensures name { IfOk result (λ found. found ≡ beside name.now) }
+    ensures refused { IfErr result IsRunFault }
+{
+    let Ok(mut octets) = Vec::from_slice(alloc, name.as_slice()) else {
+        return Err(no_memory());
+    };
+    match octets.extend_from_slice(b".new") {
+        Ok(()) => Ok(Octets::new(octets)),
+        Err(_) => Err(no_memory()),
+    }
+}
+
+// A file that the plan reads or writes has the name of the checkpoint or of the file beside it.
+fn is_in_the_way(plan: &Plan, name: &Octets, new_name: &Octets) -> bool
+    requires { new_name.now ≡ beside name.now }
+    ensures { result ≡ is_in_the_way plan.now name.now }
+{
+    is_read(plan, name)
+        || is_read(plan, new_name)
+        || has_name(&plan.report, new_name)
+        || has_name(&plan.resume, new_name)
+}
+
+// The checkpoint must not take the place of a file that is read or of the report, nor the file beside it.
+#[tactic(auto, using(crate::proofs::ProgramLemmas::file_comes, crate::proofs::ProgramLemmas::run_comes))]
+fn check_checkpoint(alloc: Global, plan: &Plan) -> Result<(), ToolFault>
+    ensures ok { OnOk result (IfSome plan.now.checkpoint (λ name. is_in_the_way plan.now name ≡ false)) }
+    ensures refused { IfErr result (MayCome plan.now) }
+{
+    let Some(name) = &plan.checkpoint else {
+        return Ok(());
+    };
+    let new_name = beside(alloc, name)?;
+    if is_in_the_way(plan, name, &new_name) {
+        return Err(file_fault(alloc, name));
+    }
+    Ok(())
+}
+
 // Where the plan wants the report.
+#[tactic(auto, using(crate::proofs::ProgramLemmas::file_comes))]
 fn report_by<R: Files + AllocGlobal, E: Write + Drop>(
     rt: &R,
     plan: &Plan,
     errors: E,
-) -> Result<Report<R::File, E>, ToolFault> {
+) -> Result<Report<R::File, E>, ToolFault>
+    ensures ok { OnOk result (IfSome plan.now.report (λ name. (is_read plan.now name ≡ false) × (is_checkpoint plan.now name ≡ false))) }
+    ensures refused { IfErr result (MayCome plan.now) }
+{
     match &plan.report {
         Some(name) if is_read(plan, name) || is_checkpoint(plan, name) => {
             Err(file_fault(rt.alloc(), name))
@@ -177,33 +237,47 @@ fn report_by<R: Files + AllocGlobal, E: Write + Drop>(
 }
 
 // The settings in the plan's file.
+#[tactic(auto, using(crate::proofs::ProgramLemmas::whole_comes))]
 fn settings_by<R: Files + AllocGlobal>(rt: &R, plan: &Plan) -> Result<Settings, ToolFault>
     requires { IsSome plan.now.settings }
+    ensures { IfErr result (MayCome plan.now) }
 {
     let Some(name) = &plan.settings else {
         unreachable!();
     };
     let octets = read_file(rt, name)?;
-    Settings::read(rt.alloc(), octets.as_slice()).map_err(ToolFault::Settings)
+    match Settings::read(rt.alloc(), octets.as_slice()) {
+        Ok(settings) => Ok(settings),
+        Err(fault) => Err(ToolFault::Settings(fault)),
+    }
 }
 
 // The definition in the plan's file, where it has one.
+#[tactic(auto, using(crate::proofs::ProgramLemmas::whole_comes))]
 fn definition_by<R: Files + AllocGlobal>(
     rt: &R,
     plan: &Plan,
-) -> Result<Option<Definition>, ToolFault> {
-    match &plan.definition {
-        Some(name) => {
-            let octets = read_file(rt, name)?;
-            let definition = Definition::read(rt.alloc(), octets.as_slice());
-            Ok(Some(definition.map_err(ToolFault::Definition)?))
-        }
-        None => Ok(None),
+) -> Result<Option<Definition>, ToolFault>
+    ensures found { IfOk result (λ found. is_some found ≡ is_some plan.now.definition) }
+    ensures refused { IfErr result (MayCome plan.now) }
+{
+    let Some(name) = &plan.definition else {
+        return Ok(None);
+    };
+    let octets = read_file(rt, name)?;
+    match Definition::read(rt.alloc(), octets.as_slice()) {
+        Ok(definition) => Ok(Some(definition)),
+        Err(fault) => Err(ToolFault::Definition(fault)),
     }
 }
 
 // What the plan wants of the packets on standard output.
-fn command_by<'a>(plan: &Plan, definition: Option<&'a Definition>) -> Command<'a> {
+fn command_by<'a>(plan: &Plan, definition: Option<&'a Definition>) -> Command<'a>
+    ensures extract { plan.now.action ≡ Action.Extract → result ≡ Command.Extract }
+    ensures packets { plan.now.action ≡ Action.Packets → result ≡ Command.Packets }
+    ensures fields { plan.now.action ≡ Action.Fields
+        → IfSome definition.entry (λ d. IfSome plan.now.apid (λ application. result ≡ Command.Fields d application)) }
+{
     match (plan.action, definition, plan.apid) {
         (Action::Packets, _, _) => Command::Packets,
         (Action::Fields, Some(definition), Some(apid)) => Command::Fields(definition, apid),
@@ -222,6 +296,7 @@ struct Inputs {
 // Reads the files of the plan but for the recording.
 fn inputs_by<R: Files + AllocGlobal>(rt: &R, plan: &Plan) -> Result<Inputs, ToolFault>
     requires { IsSome plan.now.settings }
+    ensures { IfErr result (MayCome plan.now) }
 {
     let settings = settings_by(rt, plan)?;
     let definition = definition_by(rt, plan)?;
@@ -234,13 +309,16 @@ fn inputs_by<R: Files + AllocGlobal>(rt: &R, plan: &Plan) -> Result<Inputs, Tool
 }
 
 // Does what the plan asks for with the recording.
+#[tactic(auto, using(crate::proofs::ProgramLemmas::file_comes, crate::proofs::ProgramLemmas::run_comes))]
 fn run_on<R: Files + Print + AllocGlobal, S: Read + Drop, E: Write + Drop>(
     rt: &R,
     plan: &Plan,
     inputs: Inputs,
     recording: S,
     errors: E,
-) -> Result<(), ToolFault> {
+) -> Result<(), ToolFault>
+    ensures { IfErr result (MayCome plan.now) }
+{
     if plan.action == Action::Frames {
         return list(rt, &inputs.settings, recording);
     }
@@ -266,12 +344,54 @@ fn run_on<R: Files + Print + AllocGlobal, S: Read + Drop, E: Write + Drop>(
     keep(rt, plan, &done)
 }
 
-/// Does what the command line asks for. A report that has no file goes to `errors`, all of it before this returns.
-pub fn run<R: Files + Env + Input + Print + AllocGlobal, E: Write + Drop>(
+// The plan of the words.
+fn plan_by(alloc: Global, words: Vec<String>) -> Result<Plan, ToolFault>
+    ensures ok { IfOk result (IsAsked (map string_bytes words.items)) }
+    ensures refused { IfErr result (MayEnd (map string_bytes words.items)) }
+{
+    match plan(alloc, words) {
+        Ok(plan) => Ok(plan),
+        Err(fault) => Err(ToolFault::Usage(fault)),
+    }
+}
+
+// A writer of a standard stream is closed: a file that is opened would take its place.
+fn is_closed<W: Write>(stream: &mut W) -> bool {
+    match stream.write(&[]) {
+        Ok(_) => false,
+        Err(error) => error.raw_os_error() == Some(CLOSED),
+    }
+}
+
+// The standard streams to which the plan writes are open.
+fn check_streams<R: Print, E: Write>(rt: &R, plan: &Plan, errors: &mut E) -> Result<(), ToolFault>
+    ensures { IfErr result IsRunFault }
+{
+    if plan.action != Action::Split && is_closed(&mut io::writer(rt)) {
+        return Err(ToolFault::Run(RunFault::Write));
+    }
+    if plan.action != Action::Frames && plan.report.is_none() && is_closed(errors) {
+        return Err(ToolFault::Run(RunFault::Report));
+    }
+    Ok(())
+}
+
+/// Does what these words of the command line ask for. A report that has no file goes to `errors`, all of it before this returns.
+///
+/// # Errors
+///
+/// `Usage` where the words are no plan; else a fault of a file that the plan names, of what the file says, or of the run.
+#[tactic(auto, using(crate::proofs::ProgramLemmas::file_comes, crate::proofs::ProgramLemmas::plan_ends, crate::proofs::ProgramLemmas::run_comes))]
+pub fn run<R: Files + Input + Print + AllocGlobal, E: Write + Drop>(
     rt: &R,
-    errors: E,
-) -> Result<(), ToolFault> {
-    let plan = plan(rt.alloc(), words(rt)?).map_err(ToolFault::Usage)?;
+    words: Vec<String>,
+    mut errors: E,
+) -> Result<(), ToolFault>
+    ensures ok { OnOk result ((p : Plan) × IsAsked (map string_bytes words.items) p) }
+    ensures refused { IfErr result (MayEnd (map string_bytes words.items)) }
+{
+    let plan = plan_by(rt.alloc(), words)?;
+    check_streams(rt, &plan, &mut errors)?;
     let inputs = inputs_by(rt, &plan)?;
     match &plan.recording {
         Some(name) => run_on(rt, &plan, inputs, open(rt, name)?, errors),

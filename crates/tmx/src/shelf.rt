@@ -1,6 +1,6 @@
 //! A file for each application.
 
-ghost use Rattle.std.specs.Prelude.{◌≡◌, ◌<◌, vec_len, IfOk};
+ghost use Rattle.std.specs.Prelude.{◌≡◌, ◌≢◌, ◌<◌, ◌++◌, ℕ, vec_len, slice_get, option_map, IfOk, OnOk};
 
 use std::alloc::{AllocError, Global};
 use std::fs::{File, OpenOptions};
@@ -14,9 +14,14 @@ const APPLICATIONS: usize = 2048;
 // So many octets are held at the most before they are written.
 const MOST_HELD: usize = 8_388_608;
 
-/// A file can't be written.
+/// Why octets don't come to their file.
 #[derive(Clone, Copy, Debug, PartialEq, Eq)]
-pub struct NotWritten;
+pub enum ShelfFault {
+    /// A file can't be made or written.
+    NotWritten,
+    /// Memory ran out.
+    NoMemory,
+}
 
 /// The files `apid-NNNN.pkt` of a folder. A file is made at its application's first packet, or gone on with where a run goes on. Octets are held in memory and written
 /// from time to time, with one file open at a time.
@@ -31,6 +36,8 @@ pub struct FileShelf<'a, R> {
     begun: Vec<bool>,
     octets: usize,
     refused: u64,
+    // A put was refused for want of memory.
+    starved: bool,
     ghost all_held: { vec_len held ≡ 2048 },
     ghost all_begun: { vec_len begun ≡ 2048 },
 }
@@ -54,13 +61,21 @@ impl<'a, R: Files + AllocGlobal> FileShelf<'a, R> {
             begun: vec![in alloc; false; APPLICATIONS]?,
             octets: 0,
             refused: 0,
+            starved: false,
         })
     }
 
+    /// A put was refused for want of memory.
+    pub fn is_starved(&self) -> bool
+        ensures { result ≡ self.now.starved }
+    {
+        self.starved
+    }
+
     // The name of an application's file.
-    fn name_of(&self, application: usize) -> Result<String, NotWritten> {
+    fn name_of(&self, application: usize) -> Result<String, ShelfFault> {
         let dir = self.dir;
-        format!(in self.alloc; "{dir}/apid-{application:04}.pkt").map_err(|_| NotWritten)
+        format!(in self.alloc; "{dir}/apid-{application:04}.pkt").map_err(|_| ShelfFault::NoMemory)
     }
 
     // Opens the file of this name, which is empty from then on unless the run goes on.
@@ -76,7 +91,7 @@ impl<'a, R: Files + AllocGlobal> FileShelf<'a, R> {
     }
 
     // Makes the file of an application at its first packet.
-    fn begin(&mut self, application: usize) -> Result<(), NotWritten>
+    fn begin(&mut self, application: usize) -> Result<(), ShelfFault>
         requires { application < 2048 }
         ensures { self.new.refused ≡ self.old.refused }
     {
@@ -89,48 +104,62 @@ impl<'a, R: Files + AllocGlobal> FileShelf<'a, R> {
                 self.begun[application] = true;
                 Ok(())
             }
-            Err(_) => Err(NotWritten),
+            Err(_) => Err(ShelfFault::NotWritten),
         }
     }
 
     // Writes what is held of an application behind what its file has, and holds it no more.
-    fn write_one(&mut self, application: usize) -> Result<(), NotWritten>
+    fn write_one(&mut self, application: usize) -> Result<(), ShelfFault>
         requires { application < 2048 }
         ensures { self.new.refused ≡ self.old.refused }
     {
         let name = self.name_of(application)?;
         let opened = OpenOptions::new().append(true).open(self.rt, name.as_str());
         let Ok(mut file) = opened else {
-            return Err(NotWritten);
+            return Err(ShelfFault::NotWritten);
         };
         let written = file.write_all(self.held[application].as_slice());
         self.held[application].clear();
-        written.map_err(|_| NotWritten)
+        written.map_err(|_| ShelfFault::NotWritten)
     }
 
     /// Writes all that is held. Where a file can't be written the others still are.
-    pub fn write_held(&mut self) -> Result<(), NotWritten>
+    pub fn write_held(&mut self) -> Result<(), ShelfFault>
         ensures { self.new.refused ≡ self.old.refused }
     {
         let mut done = Ok(());
         for application in 0..APPLICATIONS {
-            if !self.held[application].is_empty() && self.write_one(application).is_err() {
-                done = Err(NotWritten);
+            if !self.held[application].is_empty() {
+                if let Err(fault) = self.write_one(application) {
+                    done = Err(fault);
+                }
             }
         }
         self.octets = 0;
         done
     }
 
+    // Holds octets behind those that are held of an application.
+    fn add(&mut self, application: usize, octets: &[u8]) -> Result<(), ShelfFault>
+        requires { application < 2048 }
+        ensures refused { self.new.refused ≡ self.old.refused }
+        ensures own { OnOk result (option_map (λ held. held.items) (slice_get self.new.held.items application)
+            ≡ option_map (λ held. held.items ++ octets.now) (slice_get self.old.held.items application)) }
+        ensures others { (other : ℕ) → other ≢ application → slice_get self.new.held.items other ≡ slice_get self.old.held.items other }
+    {
+        match self.held[application].extend_from_slice(octets) {
+            Ok(()) => Ok(()),
+            Err(_) => Err(ShelfFault::NoMemory),
+        }
+    }
+
     // Holds octets of an application, whose file is made at the first, and writes what is held where that is much.
-    fn hold(&mut self, application: usize, octets: &[u8]) -> Result<(), NotWritten>
+    fn hold(&mut self, application: usize, octets: &[u8]) -> Result<(), ShelfFault>
         requires { application < 2048 }
         ensures { self.new.refused ≡ self.old.refused }
     {
         self.begin(application)?;
-        if self.held[application].extend_from_slice(octets).is_err() {
-            return Err(NotWritten);
-        }
+        self.add(application, octets)?;
         self.octets = self.octets.saturating_add(octets.len());
         if self.octets < MOST_HELD {
             return Ok(());
@@ -140,17 +169,23 @@ impl<'a, R: Files + AllocGlobal> FileShelf<'a, R> {
 }
 
 impl<R: Files + AllocGlobal> Shelf for FileShelf<'_, R> {
-    type Fault = NotWritten;
+    type Fault = ShelfFault;
 
     ghost refusals = { λ s. s.refused };
 
     #[tactic(auto, using(crate::proofs::ShelfLemmas::none_put))]
-    fn put(&mut self, application: u16, octets: &[u8]) -> Result<(), NotWritten> {
+    fn put(&mut self, application: u16, octets: &[u8]) -> Result<(), ShelfFault> {
         let at = usize::from(application);
-        if at < APPLICATIONS && self.hold(at, octets).is_ok() {
+        let put = if at < APPLICATIONS {
+            self.hold(at, octets)
+        } else {
+            Err(ShelfFault::NotWritten)
+        };
+        let Err(fault) = put else {
             return Ok(());
-        }
+        };
+        self.starved = fault == ShelfFault::NoMemory;
         self.refused = self.refused.saturating_add(1);
-        Err(NotWritten)
+        Err(fault)
     }
 }

@@ -1,0 +1,112 @@
+#!/usr/bin/env python3
+"""Compares tmx with reference.py under random settings, over damaged recordings, in one run and in steps.
+
+    anything.py TMX DEFINITION SECONDS SEED
+
+DEFINITION is fields.csv.  Works in the current folder, until so many seconds are over.  Prints how much was compared, and
+which seeds show a difference; the status is 1 then.
+"""
+
+import random
+import subprocess
+import sys
+import time
+
+import reference
+
+LENGTHS = (9, 10, 11, 12, 13, 14, 16, 18, 20, 24, 30, 40, 64, 100, 256, 300, 1115, 2047, 2048)
+PARTS = ("flag", "always", "never")
+
+
+def make_settings(chance):
+    text = (
+        f"spacecraft = {chance.choice((0, 5, 1023))}\n"
+        f"frame_length = {chance.choice(LENGTHS)}\n"
+        f"error_control = {chance.choice(('true', 'false'))}\n"
+        f"skip_before = {chance.choice((0, 0, 1, 4, 1024))}\n"
+        f"skip_after = {chance.choice((0, 0, 3, 160))}\n"
+        f'secondary = "{chance.choice(PARTS)}"\n'
+        f'ocf = "{chance.choice(PARTS)}"\n'
+    )
+    if chance.random() < 0.4:
+        text += f"channels = {chance.sample(range(8), chance.randrange(1, 8))}\n"
+    with open("settings", "w", encoding="ascii") as file:
+        file.write(text)
+    return reference.Settings("settings")
+
+
+def make_recording(chance, seed, settings):
+    octets = min(60000, settings.record * chance.randrange(1, 400)) + chance.choice((0, 0, 3))
+    recording = bytearray(reference.likely(seed, octets, settings))
+    if chance.random() < 0.15:
+        for _ in range(len(recording) // 300):
+            recording[chance.randrange(len(recording))] = chance.randrange(256)
+    with open("recording", "wb") as file:
+        file.write(recording)
+    return bytes(recording)
+
+
+def text_of(lines):
+    return "".join(f"{line}\n" for line in lines).encode("ascii")
+
+
+def wanted(reader, application):
+    """Standard output and report of each command."""
+    report = text_of(reader.report_of(None))
+    return {
+        "frames": (text_of(reader.frames), b""),
+        "packets": (text_of(it[2] for it in reader.packets), report),
+        "extract": (b"".join(it[1] for it in reader.packets), report),
+        "fields": (text_of(reference.rows(reader.packets, application)), text_of(reader.report_of(application))),
+    }
+
+
+def run(words):
+    ran = subprocess.run([*words, "recording"], capture_output=True, check=False)
+    return ran.returncode, ran.stdout, ran.stderr
+
+
+def run_in_steps(chance, words, records):
+    """The status of the last run, and what all runs gave, joined."""
+    out, report, done, resume = b"", b"", 0, []
+    while done < records:
+        step = chance.randrange(1, max(2, records // 2))
+        status, *found = run([*words, *resume, "--checkpoint", "chk", "--stop-after", str(step)])
+        if status:
+            return status, *found
+        out, report, done, resume = out + found[0], report + found[1], done + step, ["--resume", "chk"]
+    status, *found = run([*words, *resume])
+    return status, out + found[0], report + found[1]
+
+
+def compare(tmx, definition, seed):
+    """How many runs were compared, and the commands that differ."""
+    chance = random.Random(seed)
+    settings = make_settings(chance)
+    recording = make_recording(chance, seed, settings)
+    application, number, wrong = chance.choice((0, 5, 100, 2046, 2047)), 0, []
+    for command, both in wanted(reference.read_recording(settings, recording), application).items():
+        words = [tmx, command, "--settings", "settings"]
+        if command == "fields":
+            words += ["--definition", definition, "--apid", str(application)]
+        found = [run(words)]
+        if command != "frames":
+            found.append(run_in_steps(chance, words, len(recording) // settings.record))
+        number += len(found)
+        if any(it != (0, *both) for it in found):
+            wrong.append(f"seed {seed}: {command}")
+    return number, wrong
+
+
+def main(tmx, definition, seconds, seed):
+    seed, end, number, wrong = int(seed), time.monotonic() + float(seconds), 0, []
+    while time.monotonic() < end:
+        more, differ = compare(tmx, definition, seed)
+        number, wrong, seed = number + more, wrong + differ, seed + 1
+    print(f"{number} runs compared, up to seed {seed - 1}, {len(wrong)} of them differ")
+    if wrong:
+        sys.exit("\n".join(wrong[:10]))
+
+
+if __name__ == "__main__":
+    main(*sys.argv[1:])

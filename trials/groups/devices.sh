@@ -1,0 +1,62 @@
+# shellcheck shell=bash disable=SC2154
+# Group `devices`: what is written to can't be written, and what is read can't be read.
+
+# Whether a file is a proper front of another.
+is_front() {
+    [ "$(stat -c %s "$1")" -lt "$(stat -c %s "$2")" ] && cmp -s -n "$(stat -c %s "$1")" "$1" "$2"
+}
+
+# Further words that send the report to a file.
+plain_words() {
+    case $1 in
+    fields) echo "--report r --definition $example/attitude.csv --apid 101" ;;
+    packets | extract) echo "--report r" ;;
+    esac
+}
+
+devices() {
+    local command
+    names
+    for command in "$packets --report r" "$extract --report r" "$fields --report r" "$tmx frames --settings $s"; do
+        set -- $command
+        gives "$2 to a full device" 1 "tmx: write failed" "$command $rec >/dev/full"
+        gives "$2 to a closed standard output" 1 "tmx: write failed" "$command $rec >&-"
+        gives "$2 to a closed standard output, the recording in a pipe" 1 "tmx: write failed" "cat $rec | $command >&-"
+        gives "$2 to a pipe that nobody reads" 1 "tmx: write failed" "set -o pipefail; (sleep 0.1; $command $rec) | true"
+        gives "$2 to a pipe that nobody reads, its signal ignored" 1 "tmx: write failed" \
+            "set -o pipefail; trap '' PIPE; (sleep 0.1; $command $rec) | true"
+        gives "$2 to a file with room for 8 KiB" 1 "tmx: write failed" "trap '' XFSZ; ulimit -f 8; $command $rec"
+        tell "$2 to a file with room for 8 KiB: it has a front of the output" \
+            "$(is_front out "expected/$2" || [ "$2" = fields ] || echo no)"
+    done
+    for command in packets extract fields frames; do
+        gives "$command with the recording in pieces of an octet" 0 "" \
+            "dd if=$rec bs=1 status=none | $tmx $command --settings $s $(plain_words $command)"
+        tell "$command with the recording in pieces of an octet: all of it" "$([ $command = fields ] || cmp out expected/$command 2>&1)"
+    done
+    gives "packets with all standard streams closed" 1 "" "$packets --report r $rec <&- >&- 2>&-"
+    gives "help to a full device" 1 "tmx: write failed" "$tmx --help >/dev/full"
+    for command in "$packets" "$extract" "$fields" "$split"; do
+        set -- $command
+        gives "report of $2 to a full device" 1 "tmx: report failed" "$command --report /dev/full $rec"
+        gives "report of $2 to a full standard error" 1 "" "$command $rec 2>/dev/full"
+        gives "report of $2 to a closed standard error" 1 "" "$command $rec 2>&-"
+        gives "checkpoint of $2 in a folder that is missing" 1 "tmx: missing/c: failed" "$command --report r --checkpoint missing/c $rec"
+        gives "checkpoint of $2 in a folder that can't be written" 1 "tmx: /proc/c: failed" "$command --report r --checkpoint /proc/c $rec"
+        gives "checkpoint of $2 that is a folder" 1 "tmx: split: failed" "$command --report r --checkpoint split $rec"
+        gives "report of $2 in a folder that is missing" 1 "tmx: missing/r: failed" "$command --report missing/r $rec"
+        tell "nothing is left of a checkpoint of $2" "$(ls -d split.new 2>/dev/null)"
+        gives "$2 with closed standard input" 1 "tmx: read failed" "$command --report r <&-"
+    done
+    rm -rf split
+    gives "split to a folder that is missing" 1 "tmx: write failed" "$split --report r $rec"
+    gives "split to a folder that can't be written" 1 "tmx: write failed" "$tmx split --settings $s --dir /proc --report r $rec"
+    mkdir split
+    gives "split to files with room for 4 KiB" 1 "tmx: write failed" "trap '' XFSZ; ulimit -f 4; $split --report r $rec"
+    tell "split to files with room for 4 KiB: each has a front of its packets" \
+        "$(cd split && for f in *; do cmp -s -n "$(stat -c %s "$f")" "$f" "../expected/split/$f" || echo "$f"; done)"
+    ln -s /dev/full c.new
+    echo before >c
+    gives "a checkpoint on a full device" 1 "tmx: c: failed" "$extract --report r --checkpoint c --stop-after 20 $rec"
+    tell "the checkpoint before is as it was, and nothing is left beside it" "$(echo before | cmp - c 2>&1; ls c.new 2>/dev/null)"
+}

@@ -1,0 +1,223 @@
+# shellcheck shell=bash disable=SC2154
+# Group `faults`: each line and status of the fault table, and want of memory.
+
+# A checkpoint of these octets, in hexadecimal, with its error control.
+forged() {
+    python3 - "$1" "$2" <<'END'
+import sys
+from binascii import crc_hqx
+octets = bytes.fromhex(sys.argv[2])
+open(sys.argv[1], "wb").write(octets + crc_hqx(octets, 0xFFFF).to_bytes(2, "big"))
+END
+}
+
+# Wrong words: status 2, nothing on standard output, and a text on standard error.
+usage() {
+    local found
+    bash -c "$2" >out 2>err </dev/null
+    found=$?
+    if [ $found = 2 ] && [ -s err ] && ! grep -q '^tmx:' err && ! [ -s out ]; then ok "words: $1"; else no "words: $1: status $found: $(head -c 300 err)"; fi
+}
+
+faults() {
+    names
+    usage_faults
+    settings_faults
+    definition_faults
+    checkpoint_faults
+    run_faults
+    memory_faults
+    wide_row
+}
+
+usage_faults() {
+    gives "help" 0 "" "$tmx --help"
+    gives "help of split" 0 "" "$tmx split --help"
+    usage "none" "$tmx"
+    usage "an unknown command" "$tmx unpack"
+    usage "no settings" "$tmx packets $rec"
+    usage "settings twice" "$packets --settings $s $rec"
+    usage "an unknown word" "$packets --report r --verbose $rec"
+    usage "two recordings" "$packets $rec $rec"
+    usage "no application" "$tmx fields --settings $s --definition $example/attitude.csv $rec"
+    usage "application 2048" "$tmx fields --settings $s --definition $example/attitude.csv --apid 2048 $rec"
+    usage "application -1" "$tmx fields --settings $s --definition $example/attitude.csv --apid -1 $rec"
+    usage "application 10^30" "$tmx fields --settings $s --definition $example/attitude.csv --apid 1000000000000000000000000000000 $rec"
+    usage "no folder for split" "$tmx split --settings $s $rec"
+    usage "stop after 0" "$packets --checkpoint c --stop-after 0 $rec"
+    usage "stop after 2^32" "$packets --checkpoint c --stop-after 4294967296 $rec"
+    usage "words that are not UTF-8" "$packets \$'\\xff'"
+    gives "stop after without a checkpoint" 2 "tmx: --stop-after needs --checkpoint" "$packets --stop-after 5 $rec"
+}
+
+# The refusal that is wanted, and the settings.
+settings_fault() {
+    printf '%b' "$2" >bad
+    gives "settings: $1" 2 "tmx: settings: $1" "$tmx frames --settings bad $rec"
+}
+
+settings_faults() {
+    local good='spacecraft = 42\nframe_length = 256\nerror_control = true\n'
+    settings_fault toml 'spacecraft = \n'
+    settings_fault toml '\xff'
+    settings_fault 'unknown colour' "${good}colour = 1\nshape = 2\n"
+    settings_fault 'unknown ' "${good}\"\" = 1\n"
+    settings_fault 'unknown a\x5cb\x0a\xc3\xa9' "${good}\"a\\\\\\\\b\\\\n\\\\u00e9\" = 1\n"
+    settings_fault 'missing spacecraft' 'frame_length = 256\n'
+    settings_fault 'missing frame_length' 'spacecraft = 42\n'
+    settings_fault 'missing error_control' 'spacecraft = 42\nframe_length = 256\n'
+    settings_fault 'kind spacecraft' 'spacecraft = "42"\n'
+    settings_fault 'range spacecraft' 'spacecraft = 1024\n'
+    settings_fault 'range spacecraft' 'spacecraft = -1\n'
+    settings_fault 'range frame_length' 'spacecraft = 42\nframe_length = 8\n'
+    settings_fault 'range frame_length' 'spacecraft = 42\nframe_length = 2049\n'
+    settings_fault 'range skip_before' "${good}skip_before = 1025\n"
+    settings_fault 'kind skip_after' "${good}skip_after = 1.0\n"
+    settings_fault 'range secondary' "${good}secondary = \"Flag\"\n"
+    settings_fault 'kind ocf' "${good}ocf = true\n"
+    settings_fault 'kind error_control' 'spacecraft = 42\nframe_length = 256\nerror_control = 1\n'
+    settings_fault 'kind channels' "${good}channels = 3\n"
+    settings_fault 'kind channels' "${good}channels = [1, \"2\"]\n"
+    settings_fault 'range channels' "${good}channels = []\n"
+    settings_fault 'range channels' "${good}channels = [1, 1]\n"
+    settings_fault 'range channels' "${good}channels = [8]\n"
+}
+
+definition_fault() {
+    printf '%b' "$2" >bad
+    gives "definition: $1" 2 "tmx: definition: $1" "$tmx fields --settings $s --definition bad --apid 1 $rec"
+}
+
+definition_faults() {
+    local head='name,data_type,bit_length,bit_offset\n'
+    definition_fault csv "${head}A,uint,8\n"
+    definition_fault 'column name' 'data_type,bit_length\n'
+    definition_fault 'column data_type' 'name,data_type,bit_length,data_type\n'
+    definition_fault 'column bit_length' 'name,data_type\n'
+    definition_fault 'column bit_offset' 'name,data_type,bit_length,bit_offset,bit_offset\n'
+    definition_fault 'array row 1' "${head}A,uint(3),8,\n"
+    definition_fault 'kind row 2' "${head}A,uint,8,\nB,word,8,\n"
+    definition_fault 'bits row 1' "${head}A,uint,65,\n"
+    definition_fault 'bits row 1' "${head}A,float,8,\n"
+    definition_fault 'bits row 1' "${head}A,str,12,\n"
+    definition_fault 'bits row 1' "${head}A,uint,0000000008,\n"
+    definition_fault 'offset row 1' "${head}A,uint,8,x\n"
+    definition_fault 'offset row 1' "${head}A,uint,8,524329\n"
+    definition_fault 'offset row 2' "${head}A,fill,524288,\nB,uint,1,\n"
+    definition_fault 'name row 2' "${head}A,uint,8,\nA,uint,8,\n"
+    definition_fault 'name row 1' "${head},uint,8,\n"
+    definition_fault 'too many' "$head$(for n in $(seq 1001); do printf 'N%s,uint,1,\\n' "$n"; done)"
+}
+
+checkpoint_fault() {
+    forged bad "$2"
+    gives "checkpoint: $1" 2 "tmx: checkpoint: $1" "$packets --resume bad --report r $rec"
+}
+
+checkpoint_faults() {
+    local head=544d584301 mine=002a010000000000020001 channels=0000000000000000
+    forged good "$head${mine}0b00000000${channels}0000"
+    gives "a forged checkpoint before any record" 0 "" "$packets --resume good --report r $rec"
+    tell "a forged checkpoint before any record gives all" "$(cmp out expected/packets 2>&1)"
+    checkpoint_fault settings "$head${mine}0f00000000${channels}0000"
+    checkpoint_fault settings "${head}002b0100000000000200010b00000000${channels}0000"
+    checkpoint_fault state "$head${mine}0b00000001000001000000000000000000"
+    checkpoint_fault state "$head${mine}0b00000001030000000000000000000000"
+    checkpoint_fault state "$head${mine}0b0000000102010000000100000000000100000000000000000000"
+    checkpoint_fault state "$head${mine}0b00000001${channels}000100004000ffff"
+    checkpoint_fault state "$head${mine}0b00000001${channels}000107ff0000ffff"
+    checkpoint_fault state "$head${mine}0b00000001${channels}ffff"
+    checkpoint_fault trailing "$head${mine}0b00000000${channels}000000"
+    forged later "$head${mine}0b0000012d${channels}0000"
+    gives "a recording that is shorter than the checkpoint" 2 "tmx: recording is shorter than the checkpoint" "$packets --resume later --report r $rec"
+    gives "an empty recording behind a checkpoint" 2 "tmx: recording is shorter than the checkpoint" "$packets --resume later --report r /dev/null"
+    forged last "$head${mine}0bffffffff${channels}0000"
+    gives "a checkpoint after 2^32 - 1 records" 2 "tmx: recording is shorter than the checkpoint" "$packets --resume last --report r $rec"
+}
+
+run_faults() {
+    local used
+    gives "a folder as the recording" 1 "tmx: read failed" "$packets --report r split"
+    gives "a folder as standard input" 1 "tmx: read failed" "$packets --report r <split"
+    gives "a recording that is missing" 1 "tmx: missing.rec: failed" "$packets missing.rec"
+    gives "an empty name of a recording" 1 "tmx: : failed" "$packets ''"
+    gives "a recording with a long name" 1 "tmx: $(printf 'a%.0s' $(seq 5000)): failed" "$packets $(printf 'a%.0s' $(seq 5000))"
+    cp "$rec" own.rec
+    cp "$s" own.toml
+    cp "$example/attitude.csv" own.csv
+    used="$tmx fields --settings own.toml --definition own.csv --apid 101"
+    gives "the report over the recording" 1 "tmx: own.rec: failed" "$used --report own.rec own.rec"
+    gives "the report over the settings" 1 "tmx: own.toml: failed" "$used --report own.toml own.rec"
+    gives "the report over the definition" 1 "tmx: own.csv: failed" "$used --report own.csv own.rec"
+    gives "the report over the checkpoint" 1 "tmx: c: failed" "$used --report c --checkpoint c own.rec"
+    gives "the checkpoint over the recording" 1 "tmx: own.rec: failed" "$used --report r --checkpoint own.rec own.rec"
+    gives "the checkpoint over the settings" 1 "tmx: own.toml: failed" "$used --report r --checkpoint own.toml own.rec"
+    cp "$rec" own.new
+    gives "the checkpoint by way of the recording" 1 "tmx: own: failed" "$used --report r --checkpoint own own.new"
+    tell "the recording is as it was" "$(cmp "$rec" own.new)"
+    gives "the checkpoint by way of the report" 1 "tmx: own: failed" "$used --report own.new --checkpoint own own.rec"
+    gives "split to an empty name of a folder" 1 "tmx: : failed" "$tmx split --settings own.toml --dir '' --report r own.rec"
+    tell "the files that are read are as they were" "$(cmp "$rec" own.rec; cmp "$s" own.toml; cmp "$example/attitude.csv" own.csv)"
+}
+
+# From no memory up to enough: what a command gives must be the loader's refusal, `out of memory`, or all. What was
+# written before is a front of what belongs there.
+memory_faults() {
+    local command limit found least=0 most=0 wrong
+    for command in "frames --settings $s" "packets --settings $s --report r" "extract --settings $s --report r" \
+        "fields --settings $s --definition $example/attitude.csv --apid 101 --report r" "split --settings $s --dir split --report r"; do
+        # shellcheck disable=SC2086
+        set -- $command
+        wrong="" least=0 most=0
+        for limit in $(seq 1024 64 8192); do
+            : >r
+            { bash -c "ulimit -v $limit; exec $tmx $command $rec" >out 2>err </dev/null; } 2>/dev/null
+            found=$?
+            case $found in
+            0) ;;
+            3)
+                [ "$(cat err)" = "tmx: out of memory" ] || wrong+="$limit KiB: $(head -c 100 err); "
+                [ "$least" != 0 ] || least=$limit
+                most=$limit
+                ;;
+            126 | 127 | 137 | 139) [ "$least" = 0 ] || wrong+="$limit KiB: status $found; " ;;
+            *) wrong+="$limit KiB: status $found, $(head -c 100 err); " ;;
+            esac
+            [ $found != 0 ] || [ "$1" = fields ] || [ "$1" = split ] || cmp -s out "expected/$1" || wrong+="$limit KiB: not all; "
+        done
+        [ "$least" != 0 ] || wrong+="no limit gave out of memory; "
+        tell "$1 with little memory" "$wrong"
+        echo "note $1: out of memory from $least to $most KiB of address space"
+    done
+}
+
+# A thousand fields that each are nearly all of the longest packet, which lies over 33 frames: a row of 262 MB.
+wide_row() {
+    local fields="$tmx fields --settings wide.toml --definition wide.csv --apid 1 --report r wide.rec"
+    settings wide.toml 5 2048 false 'secondary = "never"' 'ocf = "never"'
+    python3 - <<'END'
+with open("wide.csv", "w") as file:
+    file.write("name,data_type,bit_length,bit_offset\n")
+    file.writelines(f"N{number},str,524288,48\n" for number in range(1000))
+packets = bytes.fromhex("0001c000ffff") + bytes(65536) + bytes.fromhex("07ffc000") + (1837).to_bytes(2, "big") + bytes(1838)
+with open("wide.rec", "wb") as file:
+    for count in range(33):
+        pointer = {0: 0, 32: 198}.get(count, 2047)
+        head = 5 << 36 | count << 16 | pointer
+        file.write(head.to_bytes(6, "big") + packets[count * 2042 : (count + 1) * 2042])
+END
+    gives "a row of 262 MB with 32 MiB" 3 "tmx: out of memory" "ulimit -v 32768; $fields"
+    tell "a row of 262 MB with 32 MiB: the head stands alone" "$([ "$(wc -l <out)" = 1 ] || wc out)"
+    gives "a row of 262 MB" 0 "" "$fields"
+    tell "a row of 262 MB: all of it" "$([ "$(tail -n 1 out | wc -c)" = $((8 + 1000 * (1 + 65536 * 4) + 1)) ] || tail -n 1 out | wc -c)"
+}
+
+# A sparse recording of 2^32 records, by a checkpoint behind all of them but the last.
+many() {
+    names
+    settings nine 42 9 false
+    truncate -s $((9 * 4294967296)) sparse
+    forged last 544d584301002a000900000000000000ffffffffff00000000000000000000
+    gives "2^32 records" 1 "tmx: too many records" "$tmx packets --settings nine --report r --resume last sparse"
+    rm sparse
+}

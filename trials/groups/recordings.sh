@@ -1,0 +1,149 @@
+# shellcheck shell=bash disable=SC2154
+# Groups `random` and `zero`: what recordings give, beside what reference.py says.
+
+number='(0|[1-9][0-9]*)'
+fault='(crc|version|spacecraft|secondary-flag|ocf-flag|secondary-version|layout|pointer)'
+at="record=$number channel=[0-7]"
+frame_line="^(frame $at master=$number count=$number kind=(packets place=$number|(nostart|idle|vca) place=-)"
+frame_line+=" secondary=$number ocf=(yes|no) order=[01] segment=[0-3] octets=$number|bad record=$number fault=$fault"
+frame_line+="|short record=$number octets=$number)\$"
+report_line="^(bad record=$number fault=$fault|gap $at expected=$number found=$number missing=$number|vca $at"
+report_line+="|drop $at from=$number at=$number octets=$number reason=(pointer|gap|vca|end|no-start|version)"
+report_line+="|short record=$number octets=$number|seqgap $at apid=$number expected=$number found=$number missing=$number"
+report_line+="|broken $at apid=$number first=$number last=$number reason=(gap|first|unsegmented|end)"
+report_line+="|group $at apid=$number first=$number last=$number|stray $at apid=$number count=$number flag=(continuation|last)"
+report_line+="|shortpacket $at from=$number at=$number needed=$number found=$number)\$"
+
+# Further words of a command. The files of `split` go to a folder in the folder that is given.
+words_of() {
+    case $1 in
+    split) echo "--dir $2/split" ;;
+    fields) echo "--definition $here/fields.csv --apid $(cat expected/apid)" ;;
+    esac
+}
+
+# Runs each command over a recording, by its name; the reports go to standard error.
+run_by_name() {
+    local command
+    for command in frames packets extract split fields; do
+        # shellcheck disable=SC2046
+        "$tmx" $command --settings "$1" $(words_of $command found) "$2" >found/$command.out 2>found/$command.report </dev/null ||
+            echo "status of $command; "
+    done
+}
+
+# The same with the recording in a pipe; the reports go to files.
+run_in_pipe() {
+    local command report
+    for command in frames packets extract split fields; do
+        report="--report found/$command.report"
+        [ $command != frames ] || report=""
+        # shellcheck disable=SC2046,SC2086
+        cat "$2" | "$tmx" $command --settings "$1" $report $(words_of $command found) >found/$command.out 2>found/errors ||
+            echo "status of $command in a pipe; "
+        ! [ -s found/errors ] || echo "errors of $command in a pipe; "
+    done
+}
+
+# What is wrong with what was found, beside what the reference says.
+judge() {
+    local command
+    for command in frames packets extract fields; do
+        cmp -s found/$command.out expected/$command || echo "output of $command; "
+    done
+    for command in packets extract split; do
+        cmp -s found/$command.report expected/report || echo "report of $command; "
+    done
+    cmp -s found/fields.report expected/fields.report || echo "report of fields; "
+    [ ! -s found/split.out ] || echo "output of split; "
+    diff -rq found/split expected/split >/dev/null || echo "files of split; "
+}
+
+# What is wrong with what was found, by itself: lines of no known form, and octets that don't add up.
+judge_sums() {
+    local octets
+    ! grep -qvE "$frame_line" found/frames.out || echo "a line of frames; "
+    ! grep -qvE "$report_line" found/fields.report || echo "a line of the report; "
+    octets=$(sed 's/.* octets=//' found/packets.out | awk '{ s += $1 } END { printf "%d", s }')
+    [ "$octets" = "$(stat -c %s found/extract.out)" ] || echo "octets of extract; "
+    [ "$octets" = "$(find found/split -type f -exec cat {} + | wc -c)" ] || echo "octets of split; "
+    python3 "$here/reference.py" tiles "$1" found/frames.out found/packets.out found/packets.report ||
+        echo "octets are lost or given twice; "
+}
+
+# What a recording gives by each command: the name of the trial, settings, recording.
+trial() {
+    local how wrong=""
+    rm -rf expected
+    python3 "$here/reference.py" expect "$2" "$3" expected || wrong="the reference; "
+    for how in run_by_name run_in_pipe; do
+        rm -rf found
+        mkdir -p found/split
+        wrong+=$(
+            $how "$2" "$3"
+            judge
+        )
+    done
+    wrong+=$(judge_sums "$2")
+    tell "$1" "$wrong"
+}
+
+make_settings() {
+    settings s9 5 9 false
+    settings s9e 5 9 true 'ocf = "never"'
+    settings s24 5 24 false 'secondary = "always"' 'ocf = "never"' 'skip_before = 4'
+    settings s24o 5 24 true 'secondary = "never"' 'ocf = "always"' 'skip_after = 1'
+    settings s1115 5 1115 true 'skip_before = 4' 'skip_after = 160'
+    settings s1115n 5 1115 false 'channels = [6, 1, 2, 4]'
+    settings s2048 5 2048 false 'skip_before = 1024' 'skip_after = 1024' 'secondary = "always"' 'ocf = "always"'
+    settings s2048e 5 2048 true 'secondary = "never"' 'ocf = "never"'
+}
+
+record_length() {
+    awk '/^frame_length|^skip/ { s += $3 } END { print s }' "$1"
+}
+
+random() {
+    local name octets seed kind record most
+    make_settings
+    for name in s9 s9e s24 s24o s1115 s1115n s2048 s2048e; do
+        record=$(record_length $name)
+        most=1048576
+        [ "$record" -gt 9 ] || most=262144
+        for octets in 0 1 $((record - 1)) "$record" $((record * 50 + record / 2)) $most; do
+            for kind in random likely; do
+                for seed in 1 2 3; do
+                    [ "$octets" -gt "$record" ] || [ $seed = 1 ] || continue
+                    python3 "$here/reference.py" make $kind $seed "$octets" $name >recording
+                    trial "$octets octets, $kind $seed, settings $name" $name recording
+                done
+            done
+        done
+    done
+    head -c 1048576 /dev/urandom >recording
+    trial "1048576 octets of /dev/urandom" s24 recording
+}
+
+zero() {
+    local length spacecraft
+    head -c 10485760 /dev/zero >zeros
+    for length in 9 24 1115; do
+        for spacecraft in 0 42; do
+            settings z $spacecraft $length false
+            trial "10 MiB of zeros: frames of $length octets, spacecraft $spacecraft" z zeros
+        done
+    done
+    settings z 0 24 true
+    trial "10 MiB of zeros: frames of 24 octets with error control" z zeros
+    rm -rf expected found zeros
+    settings z 0 24 false
+    gives "packets of /dev/zero, stopped after 100000 records" 0 "" \
+        "$tmx packets --settings z --report r --checkpoint c --stop-after 100000 /dev/zero"
+    tell "packets of /dev/zero gives two packets for each record" "$([ "$(wc -l <out)" = 200000 ] || echo "$(wc -l <out) lines")"
+}
+
+# Random settings and damaged recordings, in one run and in steps, for two minutes.
+anything() {
+    local said
+    if said=$(python3 "$here/anything.py" "$tmx" "$here/fields.csv" 120 1 2>&1); then ok "anything: $said"; else no "anything: $said"; fi
+}

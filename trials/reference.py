@@ -1,0 +1,453 @@
+#!/usr/bin/env python3
+"""What tmx has to give, worked out a second time from docs/FRAMES.md, RUNS.md, PACKETS.md and FORMATS.md.
+
+    reference.py make random SEED OCTETS              writes so many octets to standard output
+    reference.py make likely SEED OCTETS SETTINGS     writes a recording of mostly good frames to standard output
+    reference.py expect SETTINGS RECORDING FOLDER     writes what each command has to give of the recording to the folder
+    reference.py tiles SETTINGS FRAMES PACKETS REPORT says whether packets and dropped parts come to the data fields' octets
+
+Nothing of tmx is used here but its documents.  Python 3.11 or later, for its reader of TOML.
+"""
+
+import os
+import random
+import re
+import sys
+import tomllib
+from binascii import crc_hqx
+from collections import Counter
+
+IDLE_DATA_ONLY, NO_PACKET_STARTS = 2046, 2047
+FLAGS = ("continuation", "first", "last", "unsegmented")
+
+# The definition of fields of the trials: name, type, bits, first bit.  fields.csv beside this script says the same.
+FIELDS = (
+    ("NUMBER", "uint", 13, 3),
+    ("SIGNED", "int", 7, 16),
+    ("RAW", "float", 16, 33),
+    ("PASSED", "fill", 5, 49),
+    ("TEXT", "str", 16, 54),
+    ("WIDE", "uint", 64, 1),
+    ("WIDE_SIGNED", "int", 64, 5),
+)
+NEEDED = 70  # bits
+
+
+class Settings:
+    def __init__(self, name):
+        with open(name, "rb") as file:
+            found = tomllib.load(file)
+        self.spacecraft = found["spacecraft"]
+        self.length = found["frame_length"]
+        self.before = found.get("skip_before", 0)
+        self.after = found.get("skip_after", 0)
+        self.secondary = found.get("secondary", "flag")
+        self.ocf = found.get("ocf", "flag")
+        self.error_control = found["error_control"]
+        self.channels = sorted(found.get("channels", range(8)))
+        self.record = self.before + self.length + self.after
+
+
+# Frames.
+
+
+def read_frame(frame, settings):
+    """The word of the frame's fault, or what it says."""
+    if settings.error_control:
+        if crc_hqx(frame[:-2], 0xFFFF) != int.from_bytes(frame[-2:], "big"):
+            return "crc"
+    head = int.from_bytes(frame[:6], "big")
+    secondary, ocf = head >> 15 & 1, head >> 32 & 1
+    if head >> 46:
+        return "version"
+    if head >> 36 & 1023 != settings.spacecraft:
+        return "spacecraft"
+    if (settings.secondary, secondary) in (("always", 0), ("never", 1)):
+        return "secondary-flag"
+    if (settings.ocf, ocf) in (("always", 0), ("never", 1)):
+        return "ocf-flag"
+    if secondary and frame[6] >> 6:
+        return "secondary-version"
+    length = (frame[6] & 63) + 1 if secondary else 0
+    end = len(frame) - 4 * ocf - 2 * settings.error_control
+    field, pointer = frame[6 + length : max(end, 0)], head & 2047
+    if not field:
+        return "layout"
+    if head >> 14 & 1:
+        kind = "vca"
+    elif pointer == NO_PACKET_STARTS:
+        kind = "nostart"
+    elif pointer == IDLE_DATA_ONLY:
+        kind = "idle"
+    elif pointer < len(field):
+        kind = "packets"
+    else:
+        return "pointer"
+    return dict(
+        channel=head >> 33 & 7,
+        master=head >> 24 & 255,
+        count=head >> 16 & 255,
+        kind=kind,
+        place=pointer if kind == "packets" else "-",
+        secondary=length,
+        ocf="yes" if ocf else "no",
+        order=head >> 13 & 1,
+        segment=head >> 11 & 3,
+        octets=len(field),
+        field=field,
+    )
+
+
+def frame_line(number, found):
+    if isinstance(found, str):
+        return f"bad record={number} fault={found}"
+    said = " ".join(f"{key}={value}" for key, value in found.items() if key != "field")
+    return f"frame record={number} {said}"
+
+
+# Packets.
+
+
+def length_of(packet):
+    return int.from_bytes(packet[4:6], "big") + 7
+
+
+class Channel:
+    def __init__(self):
+        self.last = None
+        self.tail = None  # octets, record and place of their beginning
+
+
+class Reader:
+    """Takes records one by one; keeps the packets and the lines that they give."""
+
+    def __init__(self, settings):
+        self.settings = settings
+        self.channels = {number: Channel() for number in settings.channels}
+        self.sequences = {}  # channel and application: last count, first count of the open group
+        self.frames, self.packets, self.report = [], [], []
+
+    def take(self, number, frame):
+        found = read_frame(frame, self.settings)
+        self.frames.append(frame_line(number, found))
+        if isinstance(found, str):
+            self.report.append(self.frames[-1])
+        elif found["channel"] in self.channels:
+            self.take_good(number, found["channel"], found)
+
+    def take_good(self, number, name, found):
+        channel, count, field = self.channels[name], found["count"], found["field"]
+        said = f"record={number} channel={name}"
+        expected = count if channel.last is None else (channel.last + 1) % 256
+        channel.last = count
+        if count != expected:
+            missing = (count - expected) % 256
+            self.report.append(f"gap {said} expected={expected} found={count} missing={missing}")
+        if found["kind"] == "vca":
+            self.report.append(f"vca {said}")
+        if count != expected:
+            self.drop_tail(number, name, "gap")
+        if found["kind"] == "vca":
+            self.drop_tail(number, name, "vca")
+        elif found["kind"] == "nostart":
+            self.take_no_start(number, name, field)
+        elif found["kind"] == "packets":
+            self.take_starts(number, name, field, found["place"])
+
+    def take_no_start(self, number, name, field):
+        channel = self.channels[name]
+        if channel.tail is None:
+            self.drop(number, name, number, 0, len(field), "no-start")
+            return
+        whole, first, place = channel.tail[0] + field, *channel.tail[1:]
+        if len(whole) >= 6 and length_of(whole) < len(whole):
+            self.drop_tail(number, name, "pointer")
+            self.drop(number, name, number, 0, len(field), "pointer")
+        elif len(whole) >= 6 and length_of(whole) == len(whole):
+            channel.tail = None
+            self.give(number, name, first, place, whole)
+        else:
+            channel.tail = (whole, first, place)
+
+    def take_starts(self, number, name, field, at):
+        channel, reason = self.channels[name], "no-start"
+        if channel.tail is not None:
+            whole, first, place = channel.tail[0] + field[:at], *channel.tail[1:]
+            if len(whole) >= 6 and length_of(whole) == len(whole):
+                channel.tail = None
+                self.give(number, name, first, place, whole)
+                reason = None
+            else:
+                self.drop_tail(number, name, "pointer")
+                reason = "pointer"
+        if reason:
+            self.drop(number, name, number, 0, at, reason)
+        while at < len(field):
+            rest = field[at:]
+            if rest[0] >> 5:
+                self.drop(number, name, number, at, len(rest), "version")
+                return
+            if len(rest) < 6 or length_of(rest) > len(rest):
+                channel.tail = (rest, number, at)
+                return
+            self.give(number, name, number, at, rest[: length_of(rest)])
+            at += length_of(rest)
+
+    def drop(self, number, name, first, place, octets, reason):
+        if octets:
+            self.report.append(
+                f"drop record={number} channel={name} from={first} at={place} octets={octets} reason={reason}"
+            )
+
+    def drop_tail(self, number, name, reason):
+        channel = self.channels[name]
+        if channel.tail is not None:
+            octets, first, place = channel.tail
+            channel.tail = None
+            self.drop(number, name, first, place, len(octets), reason)
+
+    def give(self, number, name, first, place, octets):
+        head = int.from_bytes(octets[:6], "big")
+        application, flags, count = head >> 32 & 2047, FLAGS[head >> 30 & 3], head >> 16 & 16383
+        line = (
+            f"packet record={number} channel={name} from={first} at={place} type={'tc' if head >> 44 & 1 else 'tm'}"
+            f" secondary={'yes' if head >> 43 & 1 else 'no'} apid={application} flags={flags} count={count}"
+            f" octets={len(octets)}"
+        )
+        short = ""
+        if len(octets) * 8 < NEEDED:
+            short = (
+                f"shortpacket record={number} channel={name} from={first} at={place}"
+                f" needed={NEEDED} found={len(octets) * 8}"
+            )
+        self.packets.append((application, octets, line, f"{number},{name},{application},{count}"))
+        if application != 2047:
+            self.note(f"record={number} channel={name} apid={application}", (name, application), flags, count)
+        self.report.append((application, short))
+
+    def note(self, said, key, flags, count):
+        last, opened = self.sequences.get(key, (None, None))
+        gap = last is not None and count != (last + 1) % 16384
+        if gap:
+            expected = (last + 1) % 16384
+            missing = (count - expected) % 16384
+            self.report.append(f"seqgap {said} expected={expected} found={count} missing={missing}")
+        if opened is not None and (gap or flags in ("first", "unsegmented")):
+            self.report.append(f"broken {said} first={opened} last={last} reason={'gap' if gap else flags}")
+            opened = None
+        if flags in ("continuation", "last") and opened is None:
+            self.report.append(f"stray {said} count={count} flag={flags}")
+        elif flags == "last":
+            self.report.append(f"group {said} first={opened} last={count}")
+            opened = None
+        elif flags == "first":
+            opened = count
+        self.sequences[key] = (count, opened)
+
+    def close(self, number, rest):
+        if rest:
+            self.frames.append(f"short record={number} octets={rest}")
+            self.report.append(self.frames[-1])
+        for name in self.settings.channels:
+            self.drop_tail(number, name, "end")
+        for (name, application), (last, opened) in sorted(self.sequences.items()):
+            if opened is not None:
+                self.report.append(
+                    f"broken record={number} channel={name} apid={application} first={opened} last={last} reason=end"
+                )
+
+    def report_of(self, application):
+        """The lines of the report; those of short packets for `fields` of this application alone."""
+        for line in self.report:
+            if isinstance(line, str):
+                yield line
+            elif line[1] and line[0] == application:
+                yield line[1]
+
+
+def read_recording(settings, octets):
+    reader = Reader(settings)
+    number = 0
+    while (number + 1) * settings.record <= len(octets):
+        at = number * settings.record + settings.before
+        reader.take(number, octets[at : at + settings.length])
+        number += 1
+    reader.close(number, len(octets) - number * settings.record)
+    return reader
+
+
+# Fields.
+
+
+def escaped(octets):
+    return "".join(chr(o) if 0x20 <= o <= 0x7E and o != 0x5C else f"\\x{o:02x}" for o in octets)
+
+
+def value_of(packet, kind, bits, first):
+    number = int.from_bytes(packet, "big") >> (len(packet) * 8 - first - bits) & (1 << bits) - 1
+    if kind == "float":
+        return f"0x{number:0{bits // 4}x}"
+    if kind == "str":
+        return escaped(number.to_bytes(bits // 8, "big"))
+    if kind == "int" and number >> (bits - 1):
+        number -= 1 << bits
+    return str(number)
+
+
+def in_csv(value):
+    if any(it in value for it in ',"\r\n'):
+        return '"' + value.replace('"', '""') + '"'
+    return value
+
+
+def rows(packets, wanted):
+    fields = [it for it in FIELDS if it[1] != "fill"]
+    yield ",".join(["tm_record,tm_channel,tm_apid,tm_count"] + [it[0] for it in fields])
+    for application, octets, _, start in packets:
+        if application == wanted and len(octets) * 8 >= NEEDED:
+            yield ",".join([start] + [in_csv(value_of(octets, *it[1:])) for it in fields])
+
+
+# What is written.
+
+
+def write_lines(name, lines):
+    with open(name, "w", encoding="ascii") as file:
+        file.writelines(f"{line}\n" for line in lines)
+
+
+def expect(settings, recording, folder):
+    with open(recording, "rb") as file:
+        reader = read_recording(Settings(settings), file.read())
+    wanted = Counter(it[0] for it in reader.packets).most_common(1)
+    wanted = wanted[0][0] if wanted else 0
+    os.makedirs(f"{folder}/split", exist_ok=True)
+    write_lines(f"{folder}/frames", reader.frames)
+    write_lines(f"{folder}/packets", (it[2] for it in reader.packets))
+    write_lines(f"{folder}/report", reader.report_of(None))
+    write_lines(f"{folder}/apid", [wanted])
+    write_lines(f"{folder}/fields", rows(reader.packets, wanted))
+    write_lines(f"{folder}/fields.report", reader.report_of(wanted))
+    with open(f"{folder}/extract", "wb") as file:
+        file.writelines(it[1] for it in reader.packets)
+    files = {}
+    for application, octets, _, _ in reader.packets:
+        files.setdefault(application, []).append(octets)
+    for application, octets in files.items():
+        with open(f"{folder}/split/apid-{application:04}.pkt", "wb") as file:
+            file.writelines(octets)
+
+
+def tiles(settings, frames, packets, report):
+    """Per chosen channel, over the program's own lines: packets and dropped parts come to the data fields' octets."""
+    fields, found = Counter(), Counter()
+    chosen = {str(it) for it in Settings(settings).channels}
+    for line in open(frames, encoding="ascii"):
+        said = dict(re.findall(r"(\w+)=(\S+)", line))
+        if said.get("kind") in ("packets", "nostart") and said["channel"] in chosen:
+            fields[said["channel"]] += int(said["octets"])
+    for name in (packets, report):
+        for line in open(name, encoding="ascii"):
+            if line.startswith(("packet ", "drop ")):
+                said = dict(re.findall(r"(\w+)=(\S+)", line))
+                found[said["channel"]] += int(said["octets"])
+    return fields == found
+
+
+# Recordings.
+
+
+class Sender:
+    """A channel that lays packets end to end into data fields."""
+
+    def __init__(self, chance):
+        self.chance, self.octets, self.starts = chance, b"", []
+        self.counts = Counter()
+        self.count = chance.randrange(256)
+
+    def packet(self):
+        chance = self.chance
+        application = chance.choice((0, 5, 100, 2046, 2047))
+        self.counts[application] += 1 + (chance.random() < 0.02)
+        length = chance.choice((1, 2, 3, chance.randrange(1, 300), chance.randrange(1, 300), chance.randrange(1, 3000)))
+        if chance.random() < 0.002:
+            length = 65536
+        head = chance.randrange(4) << 43 | application << 32
+        head |= chance.choice((0, 0, 1, 2, 3)) << 30 | self.counts[application] % 16384 << 16 | length - 1
+        if chance.random() < 0.01:
+            head |= chance.randrange(1, 8) << 45
+        return head.to_bytes(6, "big") + chance.randbytes(length)
+
+    def field(self, octets):
+        while len(self.octets) < octets:
+            self.starts.append(len(self.octets))
+            self.octets += self.packet()
+        field, self.octets = self.octets[:octets], self.octets[octets:]
+        inside = [it for it in self.starts if it < octets]
+        self.starts = [it - octets for it in self.starts if it >= octets]
+        return field, inside[0] if inside else NO_PACKET_STARTS
+
+
+def likely_frame(chance, settings, sender, number, master):
+    """A frame that is mostly good and goes on where its channel stopped."""
+    flags = {"always": 1, "never": 0}
+    secondary = flags.get(settings.secondary, int(chance.random() < 0.2))
+    ocf = flags.get(settings.ocf, int(chance.random() < 0.2))
+    room = settings.length - 6 - 4 * ocf - 2 * settings.error_control
+    extra = chance.randrange(1, min(65, max(2, room))) if secondary else 0
+    field, pointer = sender.field(max(room - extra, 0))
+    unlike = chance.random()
+    if unlike < 0.02:
+        pointer = chance.randrange(max(len(field), 1))
+    elif unlike < 0.03:
+        pointer = chance.randrange(2048)
+    elif unlike < 0.04:
+        pointer = IDLE_DATA_ONLY
+    sender.count += 1 if chance.random() < 0.98 else chance.randrange(256)
+    head = settings.spacecraft << 36 | number << 33 | ocf << 32 | master % 256 << 24 | sender.count % 256 << 16
+    head |= secondary << 15 | (chance.random() < 0.01) << 14 | chance.randrange(8) << 11 | pointer
+    frame = head.to_bytes(6, "big")
+    frame += bytes([extra - 1]) + chance.randbytes(extra - 1) if secondary else b""
+    frame = (frame + field + chance.randbytes(4 * ocf))[: settings.length - 2 * settings.error_control]
+    frame = bytearray(frame)
+    if not settings.error_control and chance.random() < 0.02:
+        frame[chance.randrange(len(frame))] ^= 1 << chance.randrange(8)
+    if settings.error_control:
+        frame += crc_hqx(bytes(frame), 0xFFFF).to_bytes(2, "big")
+        if chance.random() < 0.02:
+            frame[chance.randrange(len(frame))] ^= 1 << chance.randrange(8)
+    return bytes(frame)
+
+
+def likely(seed, octets, settings):
+    chance = random.Random(seed)
+    senders = {it: Sender(chance) for it in chance.sample(range(8), 3)}
+    records = []
+    for number in range(octets // settings.record + 1):
+        name = chance.choice(list(senders))
+        frame = likely_frame(chance, settings, senders[name], name, number)
+        records.append(chance.randbytes(settings.before) + frame + chance.randbytes(settings.after))
+    return b"".join(records)[:octets]
+
+
+def make(kind, seed, octets, settings=None):
+    if kind == "random":
+        recording = random.Random(int(seed)).randbytes(int(octets))
+    else:
+        recording = likely(int(seed), int(octets), Settings(settings))
+    sys.stdout.buffer.write(recording)
+
+
+def main(words):
+    what, words = words[0], words[1:]
+    if what == "make":
+        make(*words)
+    elif what == "expect":
+        expect(*words)
+    elif what == "tiles":
+        return 0 if tiles(*words) else 1
+    return 0
+
+
+if __name__ == "__main__":
+    sys.exit(main(sys.argv[1:]))

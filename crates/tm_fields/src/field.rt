@@ -1,36 +1,8 @@
 //! What a definition says of one field.
 
-ghost use Rattle.std.specs.Prelude.{◌≡◌, ℕ, List};
+ghost use Rattle.std.specs.Prelude.{◌≡◌};
 
-use std::marker::Model;
-
-/// Octets that contracts see as a list.
-#[derive(Debug, Drop)]
-pub struct Octets {
-    octets: Vec<u8>,
-}
-
-impl Model for Octets {
-    ghost Value = { List ℕ };
-
-    ghost view = { λ o. o.octets.items };
-}
-
-impl Octets {
-    /// The octets of a vector, with no copy.
-    pub fn new(octets: Vec<u8>) -> Octets
-        ensures { result ≡ octets.items }
-    {
-        Octets { octets }
-    }
-
-    /// The octets, lent.
-    pub fn as_slice(&self) -> &[u8]
-        ensures { result.now ≡ self.now }
-    {
-        self.octets.as_slice()
-    }
-}
+use crate::octets::Octets;
 
 /// How the bits of a field are read and printed. The most significant bit comes first.
 #[derive(Clone, Copy, Debug, PartialEq, Eq)]

@@ -6,7 +6,8 @@ ghost use Rattle.tm_fields.specs.Reading.{begin_named, begin_of, field_of, great
 
 use crate::columns::{Columns, value_at};
 use crate::faults::DefinitionFault;
-use crate::field::{DataType, Field, GREATEST_END, Octets};
+use crate::field::{DataType, Field, GREATEST_END};
+use crate::octets::Octets;
 use crate::words::{data_type_named, is_array_text, is_text, number_in};
 use csv::ByteRecord;
 use std::alloc::{AllocError, Global};

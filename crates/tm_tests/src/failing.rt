@@ -3,7 +3,7 @@
 
 use crate::calls::{Call, Calls, Device, line_lengths, moved, packet_lengths};
 use crate::runs::{
-    POINTER_DROP_AND_SEQUENCE_GAP, ROWS, Row, TWO_PACKETS, new_job, octets_of, records_of,
+    POINTER_DROP_AND_SEQUENCE_GAP, Row, TWO_PACKETS, new_job, octets_of, records_of, rows,
 };
 use crate::{MemoryDrain, MemoryShelf, MemorySource};
 use std::alloc::{AllocError, Global};
@@ -293,7 +293,7 @@ impl Plan<'_> {
 // Each call of each device fails in turn, in runs over all rows. The devices move seven octets per call; with the greatest packet's
 // recording, of 69,632 octets, they move 1,500.
 fn each_call_failing(rt: &impl Abort, alloc: Global, by: By<'_>) -> Result<(), Fail> {
-    for row in ROWS {
+    for row in rows() {
         let name = row.name;
         let per_call = if row.records > 10 { 1500 } else { 7 };
         let plan = Plan::new(alloc, row, by, per_call)?;
@@ -345,7 +345,7 @@ fn each_octet_failing(rt: HostRuntime) -> Result<(), Fail> {
 
 // No call fails, in runs over all rows.
 fn none_failing(rt: &impl Abort, alloc: Global, by: By<'_>, per_call: usize) -> Result<(), Fail> {
-    for row in ROWS {
+    for row in rows() {
         let name = row.name;
         let plan = Plan::new(alloc, row, by, per_call)?;
         let tried = plan.run(alloc, Device::Out, 0)?;

@@ -3,6 +3,7 @@
 ghost use Rattle.std.specs.Prelude.{◌≡◌};
 
 use std::alloc::{AllocError, Global};
+use std::process::Abort;
 use std::test::Fail;
 use tm_frame::{FrameFault, Layout, LayoutParts, Presence};
 use tm_reassembly::{Channels, Item, NoMemory, Reason, Reassembly, Sink, StateFault, StepFault};
@@ -185,17 +186,35 @@ fn lost(
     }
 }
 
+// The mask of these channels, where they can be chosen.
+fn mask_of(channels: &[u8]) -> Option<u8> {
+    match Channels::of(channels) {
+        Some(channels) => Some(channels.mask()),
+        None => None,
+    }
+}
+
+// The channel is one of these.
+fn is_one(channel: u8, channels: &[u8]) -> bool {
+    match Channels::of(channels) {
+        Some(channels) => channel < 8 && channels.has(channel),
+        None => false,
+    }
+}
+
 #[test]
 fn channels(rt: HostRuntime) -> Result<(), Fail> {
-    let Some(two) = Channels::of(&[0, 3]) else {
-        return Err(Fail::from("two channels"));
-    };
-    assert_eq!(rt; two.mask(), 9);
-    assert!(rt; two.has(3));
-    assert!(rt; !two.has(1));
-    assert_eq!(rt; Channels::of(&[0, 0]), None);
-    assert_eq!(rt; Channels::of(&[8]), None);
-    assert_eq!(rt; Channels::of(&[]), None);
+    let table = [
+        ([0, 3].as_slice(), Some(9)),
+        (&[0, 0], None),
+        (&[8], None),
+        (&[], None),
+    ];
+    for (channels, mask) in table {
+        assert_eq!(rt; mask_of(channels), mask);
+    }
+    assert!(rt; is_one(3, &[0, 3]));
+    assert!(rt; !is_one(1, &[0, 3]));
     assert_eq!(rt; Channels::all().mask(), 255);
     assert_eq!(rt; Reason::Close.word(), "end");
     Ok(())
@@ -239,52 +258,66 @@ fn held_and_closed(rt: HostRuntime) -> Result<(), Fail> {
     Ok(())
 }
 
-#[test]
-fn state_after_three_records(rt: HostRuntime) -> Result<(), Fail> {
-    let alloc = rt.alloc();
+// Three records, of which the first leaves a tail, and the others have two packets.
+fn after_three_records(rt: &impl Abort, alloc: Global) -> Result<Station, Fail> {
     let first: [u8; 26] = packet(0);
     let second: [u8; 22] = packet(0);
     let third: [u8; 14] = packet(1);
     let items = [given(2, 1, 1, 0, &second), given(2, 1, 2, 4, &third)];
     let mut sink = Wanted::new(&items);
     let mut station = Station::new(alloc, 24)?;
-    let octets = record(
-        alloc,
-        [0x02, 0xA0, 0, 0, 0x18, 0x00],
-        front(&first, 18),
-        &[],
-    )?;
-    assert_eq!(rt; station.step(&octets, &mut sink), Ok(()));
-    let octets = record(
-        alloc,
-        [0x02, 0xA2, 1, 0, 0x18, 0x00],
-        front(&second, 18),
-        &[],
-    )?;
-    assert_eq!(rt; station.step(&octets, &mut sink), Ok(()));
-    let octets = record(
-        alloc,
-        [0x02, 0xA2, 2, 1, 0x18, 0x04],
-        behind(&second, 18),
-        &third,
-    )?;
-    assert_eq!(rt; station.step(&octets, &mut sink), Ok(()));
+    let records = [
+        (
+            [0x02, 0xA0, 0, 0, 0x18, 0x00],
+            front(&first, 18),
+            [].as_slice(),
+        ),
+        ([0x02, 0xA2, 1, 0, 0x18, 0x00], front(&second, 18), &[]),
+        (
+            [0x02, 0xA2, 2, 1, 0x18, 0x04],
+            behind(&second, 18),
+            third.as_slice(),
+        ),
+    ];
+    for (header, octets, more) in records {
+        let octets = record(alloc, header, octets, more)?;
+        assert_eq!(rt; station.step(&octets, &mut sink), Ok(()));
+    }
+    assert_eq!(rt; sink.taken, 2);
+    Ok(station)
+}
 
+// What is spelled of the state after them.
+fn spelled_state(alloc: Global) -> Result<Vec<u8>, AllocError> {
+    let first: [u8; 26] = packet(0);
     let mut spelled = [0, 0, 0, 3, 2, 0, 0, 0, 0, 0, 0, 0, 0, 0, 0, 18].to_vec(alloc)?;
     spelled.extend_from_slice(front(&first, 18))?;
     spelled.extend_from_slice(&[1, 1, 0, 0, 0, 0, 0, 0])?;
-    let mut octets = Vec::new(alloc);
+    Ok(spelled)
+}
+
+#[test]
+fn state_after_three_records(rt: HostRuntime) -> Result<(), Fail> {
+    let station = after_three_records(&rt, rt.alloc())?;
+    let spelled = spelled_state(rt.alloc())?;
+    let mut octets = Vec::new(rt.alloc());
     assert_eq!(rt; station.encode(&mut octets), Ok(()));
     assert_eq!(rt; octets.as_slice(), spelled.as_slice());
+    Ok(())
+}
+
+#[test]
+fn state_that_is_read_again(rt: HostRuntime) -> Result<(), Fail> {
+    let first: [u8; 26] = packet(0);
+    let mut octets = spelled_state(rt.alloc())?;
     octets.push(0x77)?;
-    let Ok((mut again, read)) = Station::decode(alloc, &octets) else {
+    let Ok((mut again, read)) = Station::decode(rt.alloc(), &octets) else {
         return Err(Fail::from("what was spelled"));
     };
     assert_eq!(rt; read, 42);
     assert_eq!(rt; again.reassembly.records(), 3);
     assert_eq!(rt; again.held(0), front(&first, 18));
     assert_eq!(rt; again.last_count(1), Some(1));
-    assert_eq!(rt; sink.taken, 2);
     let bad = [Item::Bad {
         seen: 3,
         fault: FrameFault::Version,

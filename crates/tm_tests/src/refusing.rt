@@ -1,7 +1,7 @@
 //! Sinks that refuse an item. A reassembly has given them the items before it, and goes on no more.
 
 use crate::calls::line_lengths;
-use crate::runs::{ROWS, Row, octets_of};
+use crate::runs::{Row, octets_of, rows};
 use std::alloc::{AllocError, Global};
 use std::process::Abort;
 use std::test::Fail;
@@ -187,7 +187,7 @@ fn row_refused(rt: &impl Abort, alloc: Global, row: Row) -> Result<(), Fail> {
 
 #[test]
 fn each_item_refused(rt: HostRuntime) -> Result<(), Fail> {
-    for row in ROWS {
+    for row in rows() {
         row_refused(&rt, rt.alloc(), row)?;
     }
     Ok(())

@@ -488,29 +488,32 @@ const ERROR_CONTROL: Row = Row {
     order: "//-.",
 };
 
-pub(crate) const ROWS: [Row; 21] = [
-    TWO_PACKETS,
-    EMPTY_RECORDING,
-    SKIPPED_OCTETS,
-    TWO_CHANNELS,
-    PACKET_OVER_THREE_FRAMES,
-    SPLIT_HEADER_OVER_IDLE,
-    POINTER_DISAGREES,
-    NO_START_DROPPED,
-    POINTER_DROP_AND_SEQUENCE_GAP,
-    FRAME_GAP,
-    FRAME_TWICE,
-    OTHER_VERSION,
-    GREATEST_PACKET,
-    GROUP_BROKEN_BY_GAP,
-    GROUPS,
-    FIELDS,
-    VCA_FRAME,
-    SHORT_REST,
-    SPLIT_WITH_IDLE,
-    HELD_AFTER_FIRST_RECORD,
-    ERROR_CONTROL,
-];
+/// All of them.
+pub(crate) fn rows() -> [Row; 21] {
+    [
+        TWO_PACKETS,
+        EMPTY_RECORDING,
+        SKIPPED_OCTETS,
+        TWO_CHANNELS,
+        PACKET_OVER_THREE_FRAMES,
+        SPLIT_HEADER_OVER_IDLE,
+        POINTER_DISAGREES,
+        NO_START_DROPPED,
+        POINTER_DROP_AND_SEQUENCE_GAP,
+        FRAME_GAP,
+        FRAME_TWICE,
+        OTHER_VERSION,
+        GREATEST_PACKET,
+        GROUP_BROKEN_BY_GAP,
+        GROUPS,
+        FIELDS,
+        VCA_FRAME,
+        SHORT_REST,
+        SPLIT_WITH_IDLE,
+        HELD_AFTER_FIRST_RECORD,
+        ERROR_CONTROL,
+    ]
+}
 
 // Appends the octets that digits spell. What is no digit is passed over.
 fn push_octets(octets: &mut Vec<u8>, digits: &str) -> Result<(), AllocError> {

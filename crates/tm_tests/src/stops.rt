@@ -1,6 +1,6 @@
 //! Jobs that are stopped and go on: the outputs joined are those of one run.
 
-use crate::runs::{BASE, ROWS, Row, SHORT_REST, TWO_CHANNELS, new_job, octets_of};
+use crate::runs::{BASE, Row, SHORT_REST, TWO_CHANNELS, new_job, octets_of, rows};
 use crate::{MemoryDrain, MemoryShelf, MemorySource};
 use std::alloc::{AllocError, Global};
 use std::process::Abort;
@@ -95,7 +95,7 @@ fn row_in_steps(rt: &impl Abort, alloc: Global, row: Row, going: Going) -> Resul
 }
 
 fn rows_in_steps(rt: &impl Abort, alloc: Global, going: Going) -> Result<(), Fail> {
-    for row in ROWS {
+    for row in rows() {
         row_in_steps(rt, alloc, row, going)?;
     }
     Ok(())
@@ -161,7 +161,7 @@ fn split_in_steps(alloc: Global, row: Row) -> Result<(MemoryShelf, Vec<u8>), Fai
 #[test]
 fn worked_rows_split_in_steps(rt: HostRuntime) -> Result<(), Fail> {
     let alloc = rt.alloc();
-    for row in ROWS {
+    for row in rows() {
         let name = row.name;
         let octets = octets_of(alloc, row.octets)?;
         let (shelf, report) = split_in_steps(alloc, row)?;

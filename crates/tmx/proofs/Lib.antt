@@ -1,7 +1,3 @@
-pub mod Getters
-pub mod Filled
-pub mod Required
 pub mod FileLemmas
-pub mod Examples
 pub mod ShelfLemmas
 pub mod ProgramLemmas

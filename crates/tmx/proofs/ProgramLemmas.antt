@@ -4,7 +4,7 @@ use Rattle.tmx.specs.Files.{IsFaultOf, IsFileFault}
 use Rattle.tmx.specs.Program.{IsAsked, IsNamed, IsReadWhole, IsRunFault, MayCome, MayEnd}
 use Rattle.tmx.specs.declared.fault.ToolFault.{ToolFault}
 use Rattle.tmx.specs.declared.fault.ToolFault.TheVariants as tool
-use Rattle.tmx.specs.declared.request.Plan.{Plan}
+use Rattle.tm_words.specs.declared.request.Plan.{Plan}
 
 -- a file that the plan names can't be opened, made or written
 pub file_comes : (p : Plan) (name : List ℕ) (fault : ToolFault) → IsNamed p name → IsFileFault name fault → MayCome p fault

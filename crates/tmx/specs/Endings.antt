@@ -2,7 +2,7 @@
 use Rattle.std.specs.Prelude.{ℕ, List, Option, Some, None}
 use Rattle.tm_tool.specs.declared.job.Ending.{Ending}
 use Rattle.tm_tool.specs.declared.job.Ending.TheVariants.{Close, Keep, StopAfter}
-use Rattle.tmx.specs.declared.request.Plan.{Plan}
+use Rattle.tm_words.specs.declared.request.Plan.{Plan}
 
 -- with a file for the checkpoint or none, and a number of records or none
 abbrev pub ending_with : Option (List ℕ) → Option ℕ → Ending

@@ -1,4 +1,3 @@
-pub mod CommandLine
 pub mod Endings
 pub mod FaultLines
 pub mod Files

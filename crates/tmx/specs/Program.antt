@@ -4,12 +4,12 @@ use Rattle.std.specs.Str.{bytes_eq}
 use Rattle.tm_tool.specs.Checkpoints.{resumed}
 use Rattle.tm_tool.specs.Jobs.{JobState}
 use Rattle.tm_tool.specs.Settings.{Choices}
-use Rattle.tmx.specs.CommandLine.{HasRequired, faults_of, is_taken, lacks_checkpoint, plan_of}
+use Rattle.tm_words.specs.CommandLine.{HasRequired, faults_of, is_taken, lacks_checkpoint, plan_of}
 use Rattle.tmx.specs.declared.fault.ToolFault.{ToolFault}
 use Rattle.tmx.specs.declared.fault.ToolFault.TheVariants as tool
-use Rattle.tmx.specs.declared.request.Plan.{Plan}
-use Rattle.tmx.specs.declared.request.UsageFault.{UsageFault}
-use Rattle.tmx.specs.declared.request.UsageFault.TheVariants as usage
+use Rattle.tm_words.specs.declared.request.Plan.{Plan}
+use Rattle.tm_words.specs.declared.request.UsageFault.{UsageFault}
+use Rattle.tm_words.specs.declared.request.UsageFault.TheVariants as usage
 
 -- ---- the files of a plan
 

@@ -1,9 +1,9 @@
 //! Why the program ends before its end.
 
-use crate::request::UsageFault;
 use std::alloc::{AllocError, AllocFailed};
 use tm_fields::DefinitionFault;
 use tm_tool::{CheckpointFault, Octets, RunFault, SettingsFault};
+use tm_words::UsageFault;
 
 /// Memory ran out.
 #[derive(Clone, Copy, Debug, PartialEq, Eq)]

@@ -8,10 +8,10 @@ ghost use Rattle.tmx.specs.Program.{IsResumed, IsRunFault, MayCome};
 
 use crate::fault::ToolFault;
 use crate::files::{read_file, replace};
-use crate::request::Plan;
 use std::alloc::Global;
 use std::rt::Files;
 use tm_tool::{Done, Ending, Job, Octets, RunFault, Settings};
+use tm_words::Plan;
 
 /// Where the run of the plan ends: at the end of the recording, which is closed there unless a checkpoint is wanted, or after so many records.
 pub fn ending_by(plan: &Plan) -> Ending

@@ -4,10 +4,10 @@ ghost use Rattle.std.specs.Prelude.{◌≡◌, IfOk};
 ghost use Rattle.tmx.specs.FaultLines.{checkpoint_text, column_line, definition_text, escaped_line, key_line, line_of, row_line, run_text, settings_text, status_of, usage_text};
 
 use crate::fault::{NoMemory, ToolFault};
-use crate::request::UsageFault;
 use std::alloc::Global;
 use tm_fields::{Column, DefinitionFault, push_escaped};
 use tm_tool::{CheckpointFault, Key, RunFault, SettingsFault};
+use tm_words::UsageFault;
 
 // A copy of a text.
 fn copied(alloc: Global, text: &str) -> Result<Vec<u8>, NoMemory>

@@ -1,7 +1,6 @@
 //! `tmx`: reads recordings of TM transfer frames (CCSDS 132.0-B-3).
 #![tactic(auto)]
 
-mod command;
 mod fault;
 mod files;
 mod kept;
@@ -9,21 +8,19 @@ mod lines;
 #[cfg(test)]
 mod refusals;
 mod report;
-mod request;
 mod run;
 mod shelf;
 #[cfg(test)]
 mod tests;
-mod words;
 
 use crate::fault::ToolFault;
 use crate::lines::{fault_line, status};
-use crate::request::UsageFault;
 use crate::run::run;
 use std::env;
 use std::io::{ErrorKind, Write};
 use std::process::ExitCode;
 use tm_tool::{Octets, RunFault};
+use tm_words::UsageFault;
 
 const NOT_TEXT: &str =
     "error: the arguments are not UTF-8\n\nFor more information, try '--help'.\n";

@@ -8,9 +8,7 @@ use crate::fault::ToolFault;
 use crate::files::{append, create, file_fault, open, read_file};
 use crate::kept::{ending_by, job_by, keep, resumed_by};
 use crate::report::Report;
-use crate::request::{Action, Plan};
 use crate::shelf::{FileShelf, ShelfFault};
-use crate::words::plan;
 use std::alloc::Global;
 use std::io::{self, BufReader, BufWriter, Read, Write};
 use std::rt::Files;
@@ -19,6 +17,7 @@ use tm_tool::{
     Command, Done, Ending, Job, Octets, Reading, RunFault, Settings, Writing, list_frames,
     run as run_job, split,
 };
+use tm_words::{Action, Plan, plan};
 
 // The octets of the buffers behind the recording and before the output.
 const BUFFER: usize = 262_144;

@@ -3,7 +3,7 @@
 ghost use Rattle.std.specs.Prelude.{◌≡◌, IfOk, codes, false};
 ghost use Rattle.clap.specs.Words.{app_of, rule_of};
 ghost use Rattle.clap.specs.declared.builder.command.Command.TheViews.{out-Command as fields_of};
-ghost use Rattle.tmx.specs.CommandLine.{apid_rule, bare, fields_app, fields_start, frames_app, job_app, kept_app, option_rule, recording_rule, reported_app, required_rule, of_lines, split_app, stop_rule, tmx};
+ghost use Rattle.tm_words.specs.CommandLine.{apid_rule, bare, fields_app, fields_start, frames_app, job_app, kept_app, option_rule, recording_rule, reported_app, required_rule, of_lines, split_app, stop_rule, tmx};
 
 use clap::{Arg, Command};
 use std::alloc::{AllocError, Global};

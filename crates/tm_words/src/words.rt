@@ -2,14 +2,14 @@
 
 ghost use Rattle.std.specs.Prelude.{◌≡◌, ◌≢◌, ◌⊎◌, true, false, Err, Some, [], map, IfOk, IfErr, option_and_then, string_bytes};
 ghost use Rattle.clap.specs.Words.{first_of, found_of, kind_of, one_of, rows_of, subcommand_rows_of};
-ghost use Rattle.tmx.specs.CommandLine.{HasRequired, HasStop, action_named, decimal, faults_of, is_taken, lacks_checkpoint, matches_of, plan_in, plan_of};
+ghost use Rattle.tm_words.specs.CommandLine.{HasRequired, HasStop, action_named, decimal, faults_of, is_taken, lacks_checkpoint, matches_of, plan_in, plan_of};
 
 use crate::command::tmx_command;
 use crate::request::{Action, Plan, UsageFault};
 use clap::error::ErrorKind;
 use clap::{ArgMatches, Error};
 use std::alloc::{AllocError, Global};
-use tm_tool::Octets;
+use tm_fields::Octets;
 
 // A copy of a text.
 fn copied(alloc: Global, text: &str) -> Result<Octets, AllocError>

@@ -17,7 +17,7 @@ use Rattle.clap.specs.declared.parser.matches.Found.{Found}
 use Rattle.clap.proofs.CallerReads.{signed_reads}
 use Rattle.clap.proofs.ValueTestLemmas.{accepts-Accepts}
 use Rattle.clap.proofs.WalkLemmas.{first_value-rows}
-use Rattle.tmx.specs.CommandLine.{IsBetween, numbers, decimal}
+use Rattle.tm_words.specs.CommandLine.{IsBetween, numbers, decimal}
 
 pub value_in_rows : (f : Found) (id : Text) (r : Option (Bor Text)) → option_map (λ s. s.now) r ≡ first_value f id → option_map (λ s. s.now) r ≡ first_of id (rows_of f)
 value_in_rows f id r h = h ∙ first_value-rows f id

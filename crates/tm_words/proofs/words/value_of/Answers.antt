@@ -1,7 +1,7 @@
 use Rattle.std.proofs.Common.{rules}
 use Rattle.clap.specs.Words.{found_of}
-use Rattle.tmx.proofs.Getters.{value_in_rows}
-use Rattle.tmx.proofs.words.value_of.Goals as goal
+use Rattle.tm_words.proofs.Getters.{value_in_rows}
+use Rattle.tm_words.proofs.words.value_of.Goals as goal
 
 pub returns-in_ok-copied-in-Some : goal.returns-in_ok-copied-in-Some
 returns-in_ok-copied-in-Some c =

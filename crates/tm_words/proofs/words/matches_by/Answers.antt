@@ -1,9 +1,9 @@
 use Rattle.std.proofs.Common.{◌≡◌, ◌∙◌, ap, List, map, string_bytes}
 use Rattle.std.proofs.lemmas.Result.{IfErr-weaker, IfOk-weaker}
 use Rattle.clap.specs.Words.{App, Text, app_of, fault_of, is_simple, is_simple_and_free, subcommand_of, takes}
-use Rattle.tmx.specs.CommandLine.{tmx, is_taken, faults_of, matches_of}
-use Rattle.tmx.proofs.Required.{tmx_simple, tmx_free, whole_of}
-use Rattle.tmx.proofs.words.matches_by.Goals as goal
+use Rattle.tm_words.specs.CommandLine.{tmx, is_taken, faults_of, matches_of}
+use Rattle.tm_words.proofs.Required.{tmx_simple, tmx_free, whole_of}
+use Rattle.tm_words.proofs.words.matches_by.Goals as goal
 
 pub returns : goal.returns
 unfolding is_taken faults_of matches_of

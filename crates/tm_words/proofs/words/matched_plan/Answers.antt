@@ -1,8 +1,8 @@
 use Rattle.std.proofs.Common.{◌≡◌, rules, List, Some, None, map, string_bytes}
 use Rattle.clap.specs.Words.{Text}
-use Rattle.tmx.specs.CommandLine.{plan_of}
-use Rattle.tmx.proofs.Required.{reaches, required_by, some_plan, stop_by}
-use Rattle.tmx.proofs.words.matched_plan.Goals as goal
+use Rattle.tm_words.specs.CommandLine.{plan_of}
+use Rattle.tm_words.proofs.Required.{reaches, required_by, some_plan, stop_by}
+use Rattle.tm_words.proofs.words.matched_plan.Goals as goal
 
 pub returns-in-Ok-Some-clause-required : goal.returns-in-Ok-Some-clause-required
 returns-in-Ok-Some-clause-required c =

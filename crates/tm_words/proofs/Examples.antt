@@ -3,8 +3,8 @@ use Rattle.std.proofs.Common.{◌≡◌, true, List, [], ◌∷◌, Some, None, 
 use Rattle.clap.specs.Words.{Text}
 use Rattle.clap.specs.declared.error.kind.ErrorKind.TheVariants.{MissingRequiredArgument, UnknownArgument, ValueValidation}
 use Rattle.clap.proofs.OnLiterals.{clap_on_literals}
-use Rattle.tmx.specs.declared.request.Action.TheVariants.{Frames, Packets, Extract, Split, Fields}
-use Rattle.tmx.specs.CommandLine.{faults_of, is_taken, lacks_checkpoint, matches_of, plan_of}
+use Rattle.tm_words.specs.declared.request.Action.TheVariants.{Frames, Packets, Extract, Split, Fields}
+use Rattle.tm_words.specs.CommandLine.{faults_of, is_taken, lacks_checkpoint, matches_of, plan_of}
 
 words : List Text
 words = codes "frames" ∷ codes "--settings" ∷ codes "s" ∷ codes "r" ∷ []

@@ -15,11 +15,11 @@ use Rattle.clap.specs.Simple.{App, Shape, built, entered, label_of, names_of, ne
 use Rattle.clap.specs.Takes.{is_given}
 use Rattle.clap.specs.Faults.{check_fault, entered_fault, level_fault}
 use Rattle.clap.proofs.OnLiterals.{clap_on_literals}
-use Rattle.tmx.specs.declared.request.Action.{Action}
-use Rattle.tmx.specs.declared.request.Action.TheVariants.{Frames, Packets, Extract, Split, Fields}
-use Rattle.tmx.specs.declared.request.Plan.{Plan}
-use Rattle.tmx.specs.CommandLine.{tmx, plan_with, action_named, decimal, faults_of, matches_of, plan_of, HasNeeds, HasRequired, HasStop, IsBetween}
-use Rattle.tmx.proofs.Filled.{Filled, IsRuled, OfRange, Range, is_sized, level-filled, given-first, given-number, range_of, read-number}
+use Rattle.tm_words.specs.declared.request.Action.{Action}
+use Rattle.tm_words.specs.declared.request.Action.TheVariants.{Frames, Packets, Extract, Split, Fields}
+use Rattle.tm_words.specs.declared.request.Plan.{Plan}
+use Rattle.tm_words.specs.CommandLine.{tmx, plan_with, action_named, decimal, faults_of, matches_of, plan_of, HasNeeds, HasRequired, HasStop, IsBetween}
+use Rattle.tm_words.proofs.Filled.{Filled, IsRuled, OfRange, Range, is_sized, level-filled, given-first, given-number, range_of, read-number}
 
 pub tmx_simple : is_simple tmx ≡ true
 unfolding clap_on_literals

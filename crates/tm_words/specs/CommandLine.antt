@@ -11,9 +11,9 @@ use Rattle.clap.specs.Faults.{fault_of}
 use Rattle.clap.specs.Kinds.{Kinds}
 use Rattle.clap.specs.declared.builder.ValueParser.{ValueParser}
 use Rattle.clap.specs.declared.builder.ValueParser.TheVariants as parser
-use Rattle.tmx.specs.declared.request.Action.{Action}
-use Rattle.tmx.specs.declared.request.Action.TheVariants.{Frames, Packets, Extract, Split, Fields}
-use Rattle.tmx.specs.declared.request.Plan.{Plan}
+use Rattle.tm_words.specs.declared.request.Action.{Action}
+use Rattle.tm_words.specs.declared.request.Action.TheVariants.{Frames, Packets, Extract, Split, Fields}
+use Rattle.tm_words.specs.declared.request.Plan.{Plan}
 
 -- ---- the command
 

@@ -1,0 +1,4 @@
+pub mod Getters
+pub mod Filled
+pub mod Required
+pub mod Examples

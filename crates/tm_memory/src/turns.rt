@@ -1,7 +1,7 @@
 //! A call that is made again and again, with more memory each time.
 
-ghost use Rattle.std.specs.Prelude.{◌≡◌, ◌≤◌, if◌then◌else◌, true, None, Some, IfSome};
-ghost use Rattle.tm_memory.specs.Turns.{is_again};
+ghost use Rattle.std.specs.Prelude.{◌≡◌, ◌+◌, if◌then◌else◌, nat_lt, not, None, Some, MatchOption};
+ghost use Rattle.tm_memory.specs.Turns.{has_passed, is_again, turned};
 ghost use Rattle.tm_memory.specs.declared.turns.Answer.TheVariants.{Right, Refused, Wrong};
 
 use crate::Held;
@@ -44,7 +44,7 @@ impl Answer {
 /// What is made by a call that is tried twice, for what a test needs beforehand: one request that is refused spoils no test.
 pub fn made<T, F: Fn() -> Option<T>>(make: F) -> Option<T>
     requires { F.IsAlwaysCallable make }
-    ensures { IfSome result (λ value. F.post make (Some value)) }
+    ensures { MatchOption result (F.post make None) (λ value. F.post make (Some value)) }
 {
     match make() {
         Some(value) => Some(value),
@@ -53,7 +53,8 @@ pub fn made<T, F: Fn() -> Option<T>>(make: F) -> Option<T>
 }
 
 /// The turns of a call: with all memory held, and again with a block less as long as it is refused. Where nothing can be held, the
-/// call is made once, and once more if it was refused. Seen as the last answer.
+/// call is made once, and once more if it was refused. Seen as the last answer, whether a call was refused, or none could be, and the
+/// number of blocks that are held.
 #[derive(Drop)]
 pub struct Turns {
     held: Held,
@@ -62,18 +63,18 @@ pub struct Turns {
 }
 
 impl Model for Turns {
-    ghost use Rattle.std.specs.Prelude.{Option};
-    ghost use Rattle.tm_memory.specs.declared.turns.Answer.{Answer};
+    ghost use Rattle.tm_memory.specs.Turns.{Course};
 
-    ghost Value = { Option Answer };
+    ghost Value = { Course };
 
-    ghost view = { λ t. t.last };
+    ghost view = { λ t. record { last = t.last; refused = t.refused; blocks = t.held } };
 }
 
 impl Turns {
     /// Holds all memory, before the first turn.
     pub fn new<R: Files + AllocGlobal>(rt: &R) -> Turns
-        ensures { result ≡ None }
+        ensures none { result.last ≡ None }
+        ensures refused { result.refused ≡ not (nat_lt 0 result.blocks) }
     {
         let held = Held::new(rt);
         let refused = held.blocks() == 0;
@@ -86,14 +87,14 @@ impl Turns {
 
     /// How many turns there are at the most.
     pub fn most(&self) -> usize
-        ensures { result ≤ 262594 }
+        ensures { result ≡ self.now.blocks + 2 }
     {
         self.held.blocks() + 2
     }
 
     /// Takes the answer of a turn, gives a block back, and says whether another turn follows, if there is one.
     pub fn take(&mut self, answer: Answer) -> bool
-        ensures last { self.new ≡ Some answer }
+        ensures turned { self.new ≡ turned self.old answer }
         ensures again { result ≡ is_again answer }
     {
         self.refused = self.refused || answer == Answer::Refused;
@@ -104,7 +105,7 @@ impl Turns {
 
     /// The last turn was right, and one before it was refused, if memory could be held at all.
     pub fn passed(&self) -> bool
-        ensures { result ≡ true → self.now ≡ Some Right }
+        ensures { result ≡ has_passed self.now }
     {
         self.refused && self.last == Some(Answer::Right)
     }

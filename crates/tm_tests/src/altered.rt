@@ -1,19 +1,11 @@
 //! Checkpoints and frames with one bit changed, and checkpoints that are cut off: each is refused.
 
 use crate::checkpoints::{BEFORE_CHECK, checked};
-use crate::runs::BASE;
+use crate::runs::{BASE, settings_of};
 use std::alloc::Global;
 use std::test::Fail;
 use tm_frame::FrameFault;
-use tm_tool::{CheckpointFault, Job, Reading, Settings, Writing, list_frames};
-
-// The settings of a text.
-fn settings_of(alloc: Global, text: &str) -> Result<Settings, Fail> {
-    let Ok(settings) = Settings::read(alloc, text.as_bytes()) else {
-        return Err(Fail::from("the settings"));
-    };
-    Ok(settings)
-}
+use tm_tool::{CheckpointFault, Job, Reading, Writing, list_frames};
 
 // The octets with one bit changed, the first being the most significant of the first octet.
 fn changed(alloc: Global, octets: &[u8], bit: usize) -> Result<Vec<u8>, Fail> {

@@ -1,12 +1,10 @@
 //! Checkpoints: written and read again, and refused where an octet was altered.
 
-use crate::runs::{new_job, octets_of};
+use crate::runs::{BASE, new_job, octets_of, settings_of};
 use std::alloc::{AllocError, Global};
 use std::test::Fail;
 use tm_frame::error_control;
-use tm_tool::{CheckpointFault, Job, Settings};
-
-const BASE: &str = "spacecraft = 42\nframe_length = 24\nerror_control = false\n";
+use tm_tool::{CheckpointFault, Job};
 
 /// Three records of two channels are done: a packet of 26 octets is begun on channel 0, and one of count 1 was the last on channel 1.
 pub(crate) const BEFORE_CHECK: &str = "544D5843 01 002A 0018 0000 0000 00 00 00 FF 00000003 \
@@ -30,9 +28,7 @@ fn resume_with(
     settings: &str,
     octets: &[u8],
 ) -> Result<Result<Job, CheckpointFault>, Fail> {
-    let Ok(settings) = Settings::read(alloc, settings.as_bytes()) else {
-        return Err(Fail::from("the settings"));
-    };
+    let settings = settings_of(alloc, settings)?;
     Ok(Job::resume(alloc, &settings, octets))
 }
 

@@ -4,6 +4,7 @@
 use crate::calls::{Call, Calls, Device, line_lengths, moved, packet_lengths};
 use crate::runs::{
     POINTER_DROP_AND_SEQUENCE_GAP, Row, TWO_PACKETS, new_job, octets_of, records_of, rows,
+    settings_of,
 };
 use crate::{MemoryDrain, MemoryShelf, MemorySource};
 use std::alloc::{AllocError, Global};
@@ -47,16 +48,9 @@ struct Tried {
     failed: [u64; 3],
 }
 
-fn settings_of(alloc: Global, row: Row) -> Result<Settings, Fail> {
-    let Ok(settings) = Settings::read(alloc, row.settings.as_bytes()) else {
-        return Err(Fail::from("the settings"));
-    };
-    Ok(settings)
-}
-
 // The lines of the frames, as they are listed where no call fails: one for each record, and one for a rest.
 fn frame_lines(alloc: Global, row: Row) -> Result<Vec<u8>, Fail> {
-    let settings = settings_of(alloc, row)?;
+    let settings = settings_of(alloc, row.settings)?;
     let mut source = MemorySource::new(octets_of(alloc, row.recording)?, 65_536, 0);
     let mut out = MemoryDrain::new(Vec::new(alloc), 65_536, 0);
     match list_frames(alloc, &settings, &mut source, &mut out) {
@@ -170,7 +164,7 @@ fn split_closed(
 
 impl<'a> Plan<'a> {
     fn new(alloc: Global, row: Row, by: By<'a>, per_call: usize) -> Result<Self, Fail> {
-        let settings = settings_of(alloc, row)?;
+        let settings = settings_of(alloc, row.settings)?;
         let recording = octets_of(alloc, row.recording)?;
         let out = out_of(alloc, row, by)?;
         let record = settings.layout().record_length();

@@ -1,12 +1,11 @@
 //! Recordings with the lines of their frames.
 
+use crate::runs::{BASE, settings_of};
 use crate::{MemoryDrain, MemorySource};
 use std::alloc::{AllocError, Global};
 use std::io::{self, ErrorKind, Read, Write};
 use std::test::Fail;
-use tm_tool::{Reading, RunFault, Settings, Writing, list_frames};
-
-const BASE: &str = "spacecraft = 42\nframe_length = 24\nerror_control = false\n";
+use tm_tool::{Reading, RunFault, Writing, list_frames};
 
 // A frame of 24 octets with a packet of 7 octets and one of 11.
 const TWO_PACKETS: [u8; 24] = [
@@ -30,9 +29,7 @@ fn listed(
     settings: &str,
     recording: Vec<u8>,
 ) -> Result<(Vec<u8>, Result<u32, RunFault>), Fail> {
-    let Ok(settings) = Settings::read(alloc, settings.as_bytes()) else {
-        return Err(Fail::from("the settings"));
-    };
+    let settings = settings_of(alloc, settings)?;
     let mut source = MemorySource::new(recording, 65_536, 0);
     let mut out = MemoryDrain::new(Vec::new(alloc), 65_536, 0);
     let answer = list_frames(alloc, &settings, &mut source, &mut out);
@@ -84,9 +81,7 @@ fn error_control(rt: HostRuntime) -> Result<(), Fail> {
 fn skipped_octets(rt: HostRuntime) -> Result<(), Fail> {
     let alloc = rt.alloc();
     let text = format!(in alloc; "{BASE}skip_before = 4\n")?;
-    let Ok(settings) = Settings::read(alloc, text.as_bytes()) else {
-        return Ok(assert!(rt; false));
-    };
+    let settings = settings_of(alloc, text.as_str())?;
     assert_eq!(rt; settings.layout().record_length(), 28);
     let mut recording = [0x1A, 0xCF, 0xFC, 0x1D].to_vec(alloc)?;
     recording.extend_from_slice(&TWO_PACKETS)?;
@@ -197,9 +192,7 @@ const WITH_REST_LINES: &str =
 #[test]
 fn through_readers_and_writers(rt: HostRuntime) -> Result<(), Fail> {
     let alloc = rt.alloc();
-    let Ok(settings) = Settings::read(alloc, BASE.as_bytes()) else {
-        return Ok(assert!(rt; false));
-    };
+    let settings = settings_of(alloc, BASE)?;
     let octets = with_rest(alloc)?;
     let mut lines = Vec::new(alloc);
     let mut source = Reading::new(octets.as_slice());
@@ -251,9 +244,7 @@ impl Write for Unflushed {
 #[test]
 fn failing_readers_and_writers(rt: HostRuntime) -> Result<(), Fail> {
     let alloc = rt.alloc();
-    let Ok(settings) = Settings::read(alloc, BASE.as_bytes()) else {
-        return Ok(assert!(rt; false));
-    };
+    let settings = settings_of(alloc, BASE)?;
     let mut source = Reading::new(Broken);
     let mut out = Writing::new(Unflushed);
     assert_eq!(rt;

@@ -1,12 +1,11 @@
 //! Sinks that refuse an item. A reassembly has given them the items before it, and goes on no more.
 
 use crate::calls::line_lengths;
-use crate::runs::{Row, octets_of, rows};
+use crate::runs::{Row, octets_of, rows, settings_of};
 use std::alloc::{AllocError, Global};
 use std::process::Abort;
 use std::test::Fail;
 use tm_reassembly::{Item, Reassembly, Sink, StepFault};
-use tm_tool::Settings;
 
 // A sink that wants these items and the octets of these packets, one after the other. It refuses the item at `refuses`.
 #[derive(Drop)]
@@ -111,9 +110,7 @@ fn answers_of(
     row: Row,
     sink: &mut Wanted<'_>,
 ) -> Result<Vec<Result<(), StepFault<Refused>>>, Fail> {
-    let Ok(settings) = Settings::read(alloc, row.settings.as_bytes()) else {
-        return Err(Fail::from("the settings"));
-    };
+    let settings = settings_of(alloc, row.settings)?;
     let layout = settings.layout();
     let Ok(mut reassembly) = Reassembly::new(alloc, layout, settings.channels()) else {
         return Err(Fail::from("memory"));

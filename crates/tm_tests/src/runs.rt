@@ -549,11 +549,17 @@ pub(crate) fn octets_of(alloc: Global, text: &str) -> Result<Vec<u8>, AllocError
     Ok(octets)
 }
 
-/// A job before any record.
-pub(crate) fn new_job(alloc: Global, settings: &str) -> Result<Job, Fail> {
-    let Ok(settings) = Settings::read(alloc, settings.as_bytes()) else {
+/// The settings of a text.
+pub(crate) fn settings_of(alloc: Global, text: &str) -> Result<Settings, Fail> {
+    let Ok(settings) = Settings::read(alloc, text.as_bytes()) else {
         return Err(Fail::from("the settings"));
     };
+    Ok(settings)
+}
+
+/// A job before any record.
+pub(crate) fn new_job(alloc: Global, settings: &str) -> Result<Job, Fail> {
+    let settings = settings_of(alloc, settings)?;
     match Job::new(alloc, &settings) {
         Ok(job) => Ok(job),
         Err(_) => Err(Fail::from("memory")),

@@ -1,11 +1,10 @@
 //! Settings that are read, and settings that are refused.
 
+use crate::runs::{BASE, settings_of};
 use std::alloc::Global;
 use std::test::Fail;
 use tm_frame::{Layout, LayoutFault, LayoutParts, Presence};
 use tm_tool::{Key, Settings, SettingsFault};
-
-const BASE: &str = "spacecraft = 42\nframe_length = 24\nerror_control = false\n";
 
 fn base() -> LayoutParts {
     LayoutParts {
@@ -22,17 +21,13 @@ fn base() -> LayoutParts {
 #[test]
 fn read_with_defaults_and_without(rt: HostRuntime) -> Result<(), Fail> {
     let alloc = rt.alloc();
-    let Ok(plain) = Settings::read(alloc, BASE.as_bytes()) else {
-        return Ok(assert!(rt; false));
-    };
+    let plain = settings_of(alloc, BASE)?;
     assert_eq!(rt; plain.layout().parts(), base());
     assert_eq!(rt; plain.layout().record_length(), 24);
     let text = format!(in alloc;
         "{BASE}skip_before = 4\nskip_after = 1024\nsecondary = \"always\"\nocf = \"never\"\nchannels = [7, 0]\n"
     )?;
-    let Ok(full) = Settings::read(alloc, text.as_bytes()) else {
-        return Ok(assert!(rt; false));
-    };
+    let full = settings_of(alloc, text.as_str())?;
     let parts = LayoutParts {
         skip_before: 4,
         skip_after: 1024,

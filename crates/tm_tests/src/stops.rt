@@ -1,12 +1,12 @@
 //! Jobs that are stopped and go on: the outputs joined are those of one run.
 
-use crate::runs::{BASE, Row, SHORT_REST, TWO_CHANNELS, new_job, octets_of, rows};
+use crate::runs::{BASE, Row, SHORT_REST, TWO_CHANNELS, new_job, octets_of, rows, settings_of};
 use crate::{MemoryDrain, MemoryShelf, MemorySource};
 use std::alloc::{AllocError, Global};
 use std::process::Abort;
 use std::test::Fail;
 use tm_fields::Definition;
-use tm_tool::{Command, Ending, Job, RunFault, Settings, run, split};
+use tm_tool::{Command, Ending, Job, RunFault, run, split};
 
 // How a stopped job goes on.
 #[derive(Clone, Copy, PartialEq, Eq)]
@@ -22,9 +22,7 @@ fn next_job(alloc: Global, settings: &str, job: Job, going: Going) -> Result<Job
     if going == Going::Kept {
         return Ok(job);
     }
-    let Ok(settings) = Settings::read(alloc, settings.as_bytes()) else {
-        return Err(Fail::from("the settings"));
-    };
+    let settings = settings_of(alloc, settings)?;
     let Ok(octets) = job.checkpoint(alloc) else {
         return Err(Fail::from("memory"));
     };

@@ -4,7 +4,9 @@ use Rattle.std.specs.Str.{bytes_eq}
 use Rattle.tm_tool.specs.Checkpoints.{resumed}
 use Rattle.tm_tool.specs.Jobs.{JobState}
 use Rattle.tm_tool.specs.Settings.{Choices}
+use Rattle.tm_tool.specs.declared.fault.RunFault.TheVariants.{NoMemory}
 use Rattle.tm_words.specs.CommandLine.{HasRequired, faults_of, is_taken, lacks_checkpoint, plan_of}
+use Rattle.tmx.specs.Files.{IsFaultOf, IsFileFault}
 use Rattle.tmx.specs.declared.fault.ToolFault.{ToolFault}
 use Rattle.tmx.specs.declared.fault.ToolFault.TheVariants as tool
 use Rattle.tm_words.specs.declared.request.Plan.{Plan}
@@ -54,10 +56,44 @@ MayCome p (tool.File name) = IsNamed p name
 MayCome p (tool.TooLong name) = IsReadWhole p name
 MayCome p (tool.Run fault) = ⊤
 
+-- there is such a file, and it can't be opened, made or written
+abbrev pub HasFault : Option (List ℕ) → ToolFault → Type 0
+HasFault None fault = ⊥
+HasFault (Some name) fault = IsFileFault name fault
+
+-- there is such a file, and it can't be read whole
+abbrev pub HasReadFault : Option (List ℕ) → ToolFault → Type 0
+HasReadFault None fault = ⊥
+HasReadFault (Some name) fault = IsFaultOf name fault
+
+-- the settings' file can't be read, or is no settings
+abbrev pub IsOfSettings : Plan → ToolFault → Type 0
+IsOfSettings p (tool.Settings fault) = ⊤
+IsOfSettings p fault = HasReadFault p.settings fault
+
+-- likewise the definition's
+abbrev pub IsOfDefinition : Plan → ToolFault → Type 0
+IsOfDefinition p (tool.Definition fault) = IsSome p.definition
+IsOfDefinition p fault = HasReadFault p.definition fault
+
+-- likewise that of the checkpoint to go on from
+abbrev pub IsOfResumed : Plan → ToolFault → Type 0
+IsOfResumed p (tool.Checkpoint fault) = IsSome p.resume
+IsOfResumed p fault = HasReadFault p.resume fault
+
+-- memory ran out
+abbrev pub IsNoMemory : ToolFault → Type 0
+IsNoMemory (tool.Run NoMemory) = ⊤
+IsNoMemory _ = ⊥
+
 -- a fault of a run, or want of memory
 abbrev pub IsRunFault : ToolFault → Type 0
 IsRunFault (tool.Run fault) = ⊤
 IsRunFault _ = ⊥
+
+-- the run ended before its end, or a file or the folder that it writes can't be opened, made or written
+abbrev pub IsOfOutputs : Plan → ToolFault → Type 0
+IsOfOutputs p fault = IsRunFault fault ⊎ HasFault p.report fault ⊎ HasFault p.checkpoint fault ⊎ HasFault p.dir fault
 
 -- a job that a checkpoint of these settings says
 abbrev pub IsResumed : Choices → JobState → Type 0

@@ -52,7 +52,8 @@ pub fn file_fault(alloc: Global, name: &Octets) -> ToolFault
 
 // The path that a file's name is.
 fn path_of<'n>(alloc: Global, name: &'n Octets) -> Result<&'n str, ToolFault>
-    ensures { IfErr result (IsFileFault name.now) }
+    ensures path { IfOk result (λ path. path.now ≡ name.now) }
+    ensures refused { IfErr result (IsFileFault name.now) }
 {
     match std::str::from_utf8(name.as_slice()) {
         Ok(path) => Ok(path),

@@ -4,7 +4,7 @@ ghost use Rattle.std.specs.Prelude.{◌≡◌, ◌⊎◌, None, Ok, Some, IfErr,
 ghost use Rattle.tm_tool.specs.Checkpoints.{checkpoint_of};
 ghost use Rattle.tm_tool.specs.Jobs.{JobState, begun};
 ghost use Rattle.tmx.specs.Endings.{ending_of};
-ghost use Rattle.tmx.specs.Program.{IsResumed, IsRunFault, MayCome};
+ghost use Rattle.tmx.specs.Program.{HasFault, IsNoMemory, IsOfResumed, IsResumed};
 
 use crate::fault::ToolFault;
 use crate::files::{read_file, replace};
@@ -25,7 +25,6 @@ pub fn ending_by(plan: &Plan) -> Ending
 }
 
 /// The job of the checkpoint that the plan goes on from, where it has one.
-#[tactic(auto, using(crate::proofs::ProgramLemmas::whole_comes))]
 pub fn resumed_by<R: Files + AllocGlobal>(
     rt: &R,
     plan: &Plan,
@@ -33,7 +32,7 @@ pub fn resumed_by<R: Files + AllocGlobal>(
 ) -> Result<Option<Job>, ToolFault>
     ensures found { IfOk result (λ found. is_some found ≡ is_some plan.now.resume) }
     ensures job { IfOk result (λ found. IfSome found (IsResumed settings.now)) }
-    ensures refused { IfErr result (MayCome plan.now) }
+    ensures refused { IfErr result (IsOfResumed plan.now) }
 {
     let Some(name) = &plan.resume else {
         return Ok(None);
@@ -52,7 +51,7 @@ pub fn job_by<R: AllocGlobal>(
     settings: &Settings,
 ) -> Result<Job, ToolFault>
     ensures job { MatchOption resumed (IfOk result (λ job. job ≡ begun settings.now)) (λ job. result ≡ Ok job) }
-    ensures refused { IfErr result IsRunFault }
+    ensures refused { IfErr result IsNoMemory }
 {
     match resumed {
         Some(job) => Ok(job),
@@ -72,7 +71,7 @@ fn wanted<'p>(
     ensures unwanted { (plan.now.checkpoint ≡ None) ⊎ (done.now.kept ≡ None) → result ≡ Ok None }
     ensures octets { IfOk result (λ found. MatchOption found ((plan.now.checkpoint ≡ None) ⊎ (done.now.kept ≡ None))
         (λ w. (plan.now.checkpoint ≡ Some w.0.now) × ((job : JobState) × (done.now.kept ≡ Some job) × (w.1.items ≡ checkpoint_of job.work)))) }
-    ensures refused { IfErr result IsRunFault }
+    ensures refused { IfErr result IsNoMemory }
 {
     let (Some(name), Some(job)) = (&plan.checkpoint, &done.kept) else {
         return Ok(None);
@@ -84,10 +83,10 @@ fn wanted<'p>(
 }
 
 /// Writes the checkpoint that the plan wants of what a run kept. What the file then holds has no place in a contract.
-#[tactic(auto, using(crate::proofs::ProgramLemmas::file_comes, crate::proofs::ProgramLemmas::run_comes))]
+#[tactic(auto, using(crate::proofs::ProgramLemmas::starved_there))]
 pub fn keep<R: Files + AllocGlobal>(rt: &R, plan: &Plan, done: &Done) -> Result<(), ToolFault>
     ensures unwanted { (plan.now.checkpoint ≡ None) ⊎ (done.now.kept ≡ None) → result ≡ Ok tt }
-    ensures refused { IfErr result (MayCome plan.now) }
+    ensures refused { IfErr result (HasFault plan.now.checkpoint) }
 {
     match wanted(rt.alloc(), plan, done)? {
         Some((name, octets)) => replace(rt, name, octets.as_slice()),

@@ -1,8 +1,8 @@
 //! The order of steps: command line, settings, definition, checkpoint, recording, report, run, checkpoint of the run.
 
-ghost use Rattle.std.specs.Prelude.{◌≡◌, false, IfErr, IfOk, IfSome, IsSome, OnOk, is_some, map, string_bytes};
+ghost use Rattle.std.specs.Prelude.{◌≡◌, ◌⊎◌, false, IfErr, IfOk, IfSome, IsSome, OnOk, is_some, map, string_bytes};
 ghost use Rattle.tmx.specs.Files.{IsFileFault};
-ghost use Rattle.tmx.specs.Program.{IsAsked, IsRunFault, MayCome, MayEnd, beside, has_name, is_checkpoint, is_in_the_way, is_read};
+ghost use Rattle.tmx.specs.Program.{HasFault, IsAsked, IsNoMemory, IsOfDefinition, IsOfOutputs, IsOfResumed, IsOfSettings, IsRunFault, MayEnd, beside, has_name, is_checkpoint, is_in_the_way, is_read};
 
 use crate::fault::ToolFault;
 use crate::files::{append, create, file_fault, open, read_file};
@@ -30,14 +30,14 @@ const CLOSED: i32 = 9;
 
 // Memory ran out.
 fn no_memory() -> ToolFault
-    ensures { IsRunFault result }
+    ensures { IsNoMemory result }
 {
     ToolFault::Run(RunFault::NoMemory)
 }
 
 // A source over a buffer behind the recording.
 fn source<S: Read + Drop>(alloc: Global, recording: S) -> Result<Reading<BufReader<S>>, ToolFault>
-    ensures { IfErr result IsRunFault }
+    ensures { IfErr result IsNoMemory }
 {
     match BufReader::with_capacity(alloc, BUFFER, recording) {
         Ok(reader) => Ok(Reading::new(reader)),
@@ -51,7 +51,7 @@ fn drain<W: Write + Drop>(
     octets: usize,
     writer: W,
 ) -> Result<Writing<BufWriter<W>>, ToolFault>
-    ensures { IfErr result IsRunFault }
+    ensures { IfErr result IsNoMemory }
 {
     match BufWriter::with_capacity(alloc, octets, writer) {
         Ok(writer) => Ok(Writing::new(writer)),
@@ -60,6 +60,7 @@ fn drain<W: Write + Drop>(
 }
 
 // Lists the frames of a recording on standard output.
+#[tactic(auto, using(crate::proofs::ProgramLemmas::starved_run))]
 fn list<R: Print + AllocGlobal, S: Read + Drop>(
     rt: &R,
     settings: &Settings,
@@ -77,6 +78,7 @@ fn list<R: Print + AllocGlobal, S: Read + Drop>(
 }
 
 // Gives the packets of a recording on standard output.
+#[tactic(auto, using(crate::proofs::ProgramLemmas::starved_run))]
 fn give_packets<R: Print + AllocGlobal, S: Read + Drop, V: Write + Drop>(
     rt: &R,
     job: Job,
@@ -107,6 +109,7 @@ fn give_packets<R: Print + AllocGlobal, S: Read + Drop, V: Write + Drop>(
 }
 
 // Gives the packets of a recording to a file for each application.
+#[tactic(auto, using(crate::proofs::ProgramLemmas::starved_run))]
 fn split_packets<R: Files + AllocGlobal, S: Read + Drop, V: Write + Drop>(
     rt: &R,
     job: Job,
@@ -177,7 +180,7 @@ fn is_checkpoint(plan: &Plan, name: &Octets) -> bool
 // The name of the file in which a checkpoint is written before it takes its name.
 fn beside(alloc: Global, name: &Octets) -> Result<Octets, ToolFault>
     ensures name { IfOk result (λ found. found ≡ beside name.now) }
-    ensures refused { IfErr result IsRunFault }
+    ensures refused { IfErr result IsNoMemory }
 {
     let Ok(mut octets) = Vec::from_slice(alloc, name.as_slice()) else {
         return Err(no_memory());
@@ -200,10 +203,10 @@ fn is_in_the_way(plan: &Plan, name: &Octets, new_name: &Octets) -> bool
 }
 
 // The checkpoint must not take the place of a file that is read or of the report, nor the file beside it.
-#[tactic(auto, using(crate::proofs::ProgramLemmas::file_comes, crate::proofs::ProgramLemmas::run_comes))]
+#[tactic(auto, using(crate::proofs::ProgramLemmas::starved_there))]
 fn check_checkpoint(alloc: Global, plan: &Plan) -> Result<(), ToolFault>
     ensures ok { OnOk result (IfSome plan.now.checkpoint (λ name. is_in_the_way plan.now name ≡ false)) }
-    ensures refused { IfErr result (MayCome plan.now) }
+    ensures refused { IfErr result (HasFault plan.now.checkpoint) }
 {
     let Some(name) = &plan.checkpoint else {
         return Ok(());
@@ -216,14 +219,13 @@ fn check_checkpoint(alloc: Global, plan: &Plan) -> Result<(), ToolFault>
 }
 
 // Where the plan wants the report.
-#[tactic(auto, using(crate::proofs::ProgramLemmas::file_comes))]
 fn report_by<R: Files + AllocGlobal, E: Write + Drop>(
     rt: &R,
     plan: &Plan,
     errors: E,
 ) -> Result<Report<R::File, E>, ToolFault>
     ensures ok { OnOk result (IfSome plan.now.report (λ name. (is_read plan.now name ≡ false) × (is_checkpoint plan.now name ≡ false))) }
-    ensures refused { IfErr result (MayCome plan.now) }
+    ensures refused { IfErr result (HasFault plan.now.report) }
 {
     match &plan.report {
         Some(name) if is_read(plan, name) || is_checkpoint(plan, name) => {
@@ -236,10 +238,9 @@ fn report_by<R: Files + AllocGlobal, E: Write + Drop>(
 }
 
 // The settings in the plan's file.
-#[tactic(auto, using(crate::proofs::ProgramLemmas::whole_comes))]
 fn settings_by<R: Files + AllocGlobal>(rt: &R, plan: &Plan) -> Result<Settings, ToolFault>
     requires { IsSome plan.now.settings }
-    ensures { IfErr result (MayCome plan.now) }
+    ensures { IfErr result (IsOfSettings plan.now) }
 {
     let Some(name) = &plan.settings else {
         unreachable!();
@@ -252,13 +253,12 @@ fn settings_by<R: Files + AllocGlobal>(rt: &R, plan: &Plan) -> Result<Settings, 
 }
 
 // The definition in the plan's file, where it has one.
-#[tactic(auto, using(crate::proofs::ProgramLemmas::whole_comes))]
 fn definition_by<R: Files + AllocGlobal>(
     rt: &R,
     plan: &Plan,
 ) -> Result<Option<Definition>, ToolFault>
     ensures found { IfOk result (λ found. is_some found ≡ is_some plan.now.definition) }
-    ensures refused { IfErr result (MayCome plan.now) }
+    ensures refused { IfErr result (IsOfDefinition plan.now) }
 {
     let Some(name) = &plan.definition else {
         return Ok(None);
@@ -295,7 +295,7 @@ struct Inputs {
 // Reads the files of the plan but for the recording.
 fn inputs_by<R: Files + AllocGlobal>(rt: &R, plan: &Plan) -> Result<Inputs, ToolFault>
     requires { IsSome plan.now.settings }
-    ensures { IfErr result (MayCome plan.now) }
+    ensures { IfErr result (λ f. IsOfSettings plan.now f ⊎ IsOfDefinition plan.now f ⊎ IsOfResumed plan.now f) }
 {
     let settings = settings_by(rt, plan)?;
     let definition = definition_by(rt, plan)?;
@@ -308,7 +308,7 @@ fn inputs_by<R: Files + AllocGlobal>(rt: &R, plan: &Plan) -> Result<Inputs, Tool
 }
 
 // Does what the plan asks for with the recording.
-#[tactic(auto, using(crate::proofs::ProgramLemmas::file_comes, crate::proofs::ProgramLemmas::run_comes))]
+#[tactic(auto, using(crate::proofs::ProgramLemmas::starved_run))]
 fn run_on<R: Files + Print + AllocGlobal, S: Read + Drop, E: Write + Drop>(
     rt: &R,
     plan: &Plan,
@@ -316,7 +316,7 @@ fn run_on<R: Files + Print + AllocGlobal, S: Read + Drop, E: Write + Drop>(
     recording: S,
     errors: E,
 ) -> Result<(), ToolFault>
-    ensures { IfErr result (MayCome plan.now) }
+    ensures { IfErr result (IsOfOutputs plan.now) }
 {
     if plan.action == Action::Frames {
         return list(rt, &inputs.settings, recording);
@@ -380,7 +380,7 @@ fn check_streams<R: Print, E: Write>(rt: &R, plan: &Plan, errors: &mut E) -> Res
 /// # Errors
 ///
 /// `Usage` where the words are no plan; else a fault of a file that the plan names, of what the file says, or of the run.
-#[tactic(auto, using(crate::proofs::ProgramLemmas::file_comes, crate::proofs::ProgramLemmas::plan_ends, crate::proofs::ProgramLemmas::run_comes))]
+#[tactic(auto, using(crate::proofs::ProgramLemmas::definition_comes, crate::proofs::ProgramLemmas::file_comes, crate::proofs::ProgramLemmas::outputs_come, crate::proofs::ProgramLemmas::plan_ends, crate::proofs::ProgramLemmas::resumed_comes, crate::proofs::ProgramLemmas::run_comes, crate::proofs::ProgramLemmas::settings_come))]
 pub fn run<R: Files + Input + Print + AllocGlobal, E: Write + Drop>(
     rt: &R,
     words: Vec<String>,

@@ -27,6 +27,9 @@ impl MemorySource {
         requires { 0 < per_call }
         ensures octets { result.octets.items ≡ octets.items }
         ensures start { result.at ≡ 0 }
+        ensures most { result.per_call ≡ per_call }
+        ensures fails_at { result.fails_at ≡ fails_at }
+        ensures calls { result.calls ≡ 0 }
         ensures failed { result.failed ≡ 0 }
     {
         MemorySource {
@@ -78,7 +81,11 @@ impl MemoryDrain {
     pub fn new(octets: Vec<u8>, per_call: usize, fails_at: u64) -> Self
         requires { 0 < per_call }
         ensures octets { result.octets.items ≡ octets.items }
+        ensures most { result.per_call ≡ per_call }
+        ensures fails_at { result.fails_at ≡ fails_at }
+        ensures calls { result.calls ≡ 0 }
         ensures failed { result.failed ≡ 0 }
+        ensures passed { result.passed ≡ 0 }
     {
         MemoryDrain {
             octets,
@@ -144,6 +151,8 @@ pub struct MemoryShelf {
 impl MemoryShelf {
     pub fn new(alloc: Global, refuses_at: u64) -> Self
         ensures empty { result.puts.items ≡ [] }
+        ensures refuses_at { result.refuses_at ≡ refuses_at }
+        ensures calls { result.calls ≡ 0 }
         ensures none { result.refused ≡ 0 }
     {
         MemoryShelf {

@@ -1,3 +1,4 @@
+pub mod EndingLemmas
 pub mod FileLemmas
 pub mod ShelfLemmas
 pub mod ProgramLemmas

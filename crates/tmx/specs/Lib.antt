@@ -3,3 +3,4 @@ pub mod FaultLines
 pub mod Files
 pub mod Program
 pub mod Reports
+pub mod Shelves

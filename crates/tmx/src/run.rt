@@ -1,6 +1,7 @@
 //! The order of steps: command line, settings, definition, checkpoint, recording, report, run, checkpoint of the run.
 
-ghost use Rattle.std.specs.Prelude.{◌≡◌, ◌⊎◌, false, IfErr, IfOk, IfSome, IsSome, OnOk, is_some, map, string_bytes};
+ghost use Rattle.std.specs.Prelude.{◌≡◌, ◌≢◌, ◌⊎◌, [], false, IfErr, IfOk, IfSome, IsSome, OnOk, is_some, map, option_map, string_bytes};
+ghost use Rattle.tmx.specs.Endings.{IsDone};
 ghost use Rattle.tmx.specs.Files.{IsFileFault};
 ghost use Rattle.tmx.specs.Program.{HasFault, IsAsked, IsNoMemory, IsOfDefinition, IsOfOutputs, IsOfResumed, IsOfSettings, IsRunFault, MayEnd, beside, has_name, is_checkpoint, is_in_the_way, is_read};
 
@@ -78,7 +79,7 @@ fn list<R: Print + AllocGlobal, S: Read + Drop>(
 }
 
 // Gives the packets of a recording on standard output.
-#[tactic(auto, using(crate::proofs::ProgramLemmas::starved_run))]
+#[tactic(auto, using(crate::proofs::EndingLemmas::headed_run_done, crate::proofs::ProgramLemmas::starved_run))]
 fn give_packets<R: Print + AllocGlobal, S: Read + Drop, V: Write + Drop>(
     rt: &R,
     job: Job,
@@ -87,7 +88,8 @@ fn give_packets<R: Print + AllocGlobal, S: Read + Drop, V: Write + Drop>(
     report: V,
     ending: Ending,
 ) -> Result<Done, ToolFault>
-    ensures { IfErr result IsRunFault }
+    ensures done { IfOk result (λ done. IsDone ending job.work done.records (option_map (λ kept. kept.work) done.kept)) }
+    ensures refused { IfErr result IsRunFault }
 {
     let alloc = rt.alloc();
     let mut source = source(alloc, recording)?;
@@ -109,7 +111,7 @@ fn give_packets<R: Print + AllocGlobal, S: Read + Drop, V: Write + Drop>(
 }
 
 // Gives the packets of a recording to a file for each application.
-#[tactic(auto, using(crate::proofs::ProgramLemmas::starved_run))]
+#[tactic(auto, using(crate::proofs::EndingLemmas::run_done, crate::proofs::ProgramLemmas::starved_run))]
 fn split_packets<R: Files + AllocGlobal, S: Read + Drop, V: Write + Drop>(
     rt: &R,
     job: Job,
@@ -118,7 +120,8 @@ fn split_packets<R: Files + AllocGlobal, S: Read + Drop, V: Write + Drop>(
     report: V,
     ending: Ending,
 ) -> Result<Done, ToolFault>
-    ensures { IfErr result IsRunFault }
+    ensures done { IfOk result (λ done. IsDone ending job.work done.records (option_map (λ kept. kept.work) done.kept)) }
+    ensures refused { IfErr result IsRunFault }
 {
     let alloc = rt.alloc();
     let mut source = source(alloc, recording)?;
@@ -139,7 +142,8 @@ fn shelf_in<'a, R: Files + AllocGlobal>(
     dir: &'a Octets,
     goes_on: bool,
 ) -> Result<FileShelf<'a, R>, ToolFault>
-    ensures { IfErr result (IsFileFault dir.now) }
+    ensures folder { IfOk result (λ s. (s.dir.now ≡ dir.now) × (s.goes_on ≡ goes_on) × (dir.now ≢ [])) }
+    ensures refused { IfErr result (IsFileFault dir.now) }
 {
     let path = match std::str::from_utf8(dir.as_slice()) {
         Ok(path) if !path.is_empty() => path,

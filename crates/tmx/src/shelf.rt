@@ -1,6 +1,7 @@
 //! A file for each application.
 
-ghost use Rattle.std.specs.Prelude.{◌≡◌, ◌≢◌, ◌<◌, ◌++◌, ℕ, vec_len, slice_get, option_map, IfOk, OnOk};
+ghost use Rattle.std.specs.Prelude.{◌≡◌, ◌≢◌, ◌<◌, ◌+◌, ◌++◌, ◌⊎◌, ℕ, [], Some, true, false, length, vec_len, slice_get, option_map, replicate, IfErr, IfOk, OnOk};
+ghost use Rattle.tmx.specs.Shelves.{HoldsNone, IsAdded};
 
 use std::alloc::{AllocError, Global};
 use std::fs::{File, OpenOptions};
@@ -44,8 +45,12 @@ pub struct FileShelf<'a, R> {
 
 impl<'a, R: Files + AllocGlobal> FileShelf<'a, R> {
     /// Files in this folder, none begun. Those that are there are gone on with where the run goes on, and else begin empty.
+    #[tactic(auto, using(crate::proofs::ShelfLemmas::none_of_next))]
     pub fn new(rt: &'a R, dir: &'a str, goes_on: bool) -> Result<Self, AllocError>
-        ensures { IfOk result (λ s. s.refused ≡ 0) }
+        ensures folder { IfOk result (λ s. (s.dir ≡ dir.entry) × (s.goes_on ≡ goes_on)) }
+        ensures counts { IfOk result (λ s. (s.octets ≡ 0) × (s.refused ≡ 0) × (s.starved ≡ false)) }
+        ensures begun { IfOk result (λ s. s.begun.items ≡ replicate 2048 false) }
+        ensures held { IfOk result (λ s. HoldsNone s.held.items) }
     {
         let alloc = rt.alloc();
         let mut held = Vec::with_capacity(alloc, APPLICATIONS)?;
@@ -93,7 +98,10 @@ impl<'a, R: Files + AllocGlobal> FileShelf<'a, R> {
     // Makes the file of an application at its first packet.
     fn begin(&mut self, application: usize) -> Result<(), ShelfFault>
         requires { application < 2048 }
-        ensures { self.new.refused ≡ self.old.refused }
+        ensures begun { OnOk result (slice_get self.new.begun.items application ≡ Some true) }
+        ensures others { (other : ℕ) → other ≢ application → slice_get self.new.begun.items other ≡ slice_get self.old.begun.items other }
+        ensures held { (self.new.held ≡ self.old.held) × (self.new.octets ≡ self.old.octets) }
+        ensures same { (self.new.dir ≡ self.old.dir) × (self.new.goes_on ≡ self.old.goes_on) × (self.new.refused ≡ self.old.refused) × (self.new.starved ≡ self.old.starved) }
     {
         if self.begun[application] {
             return Ok(());
@@ -111,7 +119,10 @@ impl<'a, R: Files + AllocGlobal> FileShelf<'a, R> {
     // Writes what is held of an application behind what its file has, and holds it no more.
     fn write_one(&mut self, application: usize) -> Result<(), ShelfFault>
         requires { application < 2048 }
-        ensures { self.new.refused ≡ self.old.refused }
+        ensures own { OnOk result (option_map (λ held. held.items) (slice_get self.new.held.items application) ≡ Some []) }
+        ensures others { (other : ℕ) → other ≢ application → slice_get self.new.held.items other ≡ slice_get self.old.held.items other }
+        ensures begun { (self.new.begun ≡ self.old.begun) × (self.new.octets ≡ self.old.octets) }
+        ensures same { (self.new.dir ≡ self.old.dir) × (self.new.goes_on ≡ self.old.goes_on) × (self.new.refused ≡ self.old.refused) × (self.new.starved ≡ self.old.starved) }
     {
         let name = self.name_of(application)?;
         let opened = OpenOptions::new().append(true).open(self.rt, name.as_str());
@@ -123,16 +134,33 @@ impl<'a, R: Files + AllocGlobal> FileShelf<'a, R> {
         written.map_err(|_| ShelfFault::NotWritten)
     }
 
+    // Likewise, where anything is held.
+    #[tactic(auto, using(crate::proofs::ShelfLemmas::none_there))]
+    fn write_any(&mut self, application: usize) -> Result<(), ShelfFault>
+        requires { application < 2048 }
+        ensures own { OnOk result (option_map (λ held. held.items) (slice_get self.new.held.items application) ≡ Some []) }
+        ensures others { (other : ℕ) → other ≢ application → slice_get self.new.held.items other ≡ slice_get self.old.held.items other }
+        ensures begun { (self.new.begun ≡ self.old.begun) × (self.new.octets ≡ self.old.octets) }
+        ensures same { (self.new.dir ≡ self.old.dir) × (self.new.goes_on ≡ self.old.goes_on) × (self.new.refused ≡ self.old.refused) × (self.new.starved ≡ self.old.starved) }
+    {
+        if self.held[application].is_empty() {
+            return Ok(());
+        }
+        self.write_one(application)
+    }
+
     /// Writes all that is held. Where a file can't be written the others still are.
+    #[tactic(auto, using(crate::proofs::ShelfLemmas::none_so_far))]
     pub fn write_held(&mut self) -> Result<(), ShelfFault>
-        ensures { self.new.refused ≡ self.old.refused }
+        ensures held { OnOk result (HoldsNone self.new.held.items) }
+        ensures octets { self.new.octets ≡ 0 }
+        ensures begun { self.new.begun ≡ self.old.begun }
+        ensures same { (self.new.dir ≡ self.old.dir) × (self.new.goes_on ≡ self.old.goes_on) × (self.new.refused ≡ self.old.refused) × (self.new.starved ≡ self.old.starved) }
     {
         let mut done = Ok(());
         for application in 0..APPLICATIONS {
-            if !self.held[application].is_empty() {
-                if let Err(fault) = self.write_one(application) {
-                    done = Err(fault);
-                }
+            if let Err(fault) = self.write_any(application) {
+                done = Err(fault);
             }
         }
         self.octets = 0;
@@ -142,10 +170,12 @@ impl<'a, R: Files + AllocGlobal> FileShelf<'a, R> {
     // Holds octets behind those that are held of an application.
     fn add(&mut self, application: usize, octets: &[u8]) -> Result<(), ShelfFault>
         requires { application < 2048 }
-        ensures refused { self.new.refused ≡ self.old.refused }
+        ensures begun { (self.new.begun ≡ self.old.begun) × (self.new.octets ≡ self.old.octets) }
+        ensures same { (self.new.dir ≡ self.old.dir) × (self.new.goes_on ≡ self.old.goes_on) × (self.new.refused ≡ self.old.refused) × (self.new.starved ≡ self.old.starved) }
         ensures own { OnOk result (option_map (λ held. held.items) (slice_get self.new.held.items application)
             ≡ option_map (λ held. held.items ++ octets.now) (slice_get self.old.held.items application)) }
         ensures others { (other : ℕ) → other ≢ application → slice_get self.new.held.items other ≡ slice_get self.old.held.items other }
+        ensures refused { IfErr result (λ fault. fault ≡ ShelfFault.NoMemory) }
     {
         match self.held[application].extend_from_slice(octets) {
             Ok(()) => Ok(()),
@@ -156,7 +186,12 @@ impl<'a, R: Files + AllocGlobal> FileShelf<'a, R> {
     // Holds octets of an application, whose file is made at the first, and writes what is held where that is much.
     fn hold(&mut self, application: usize, octets: &[u8]) -> Result<(), ShelfFault>
         requires { application < 2048 }
-        ensures { self.new.refused ≡ self.old.refused }
+        ensures begun { OnOk result (slice_get self.new.begun.items application ≡ Some true) }
+        ensures others { (other : ℕ) → other ≢ application → slice_get self.new.begun.items other ≡ slice_get self.old.begun.items other }
+        ensures held { OnOk result ((IsAdded self.old.held.items self.new.held.items application octets.now × (self.new.octets ≡ self.old.octets + length octets.now))
+            ⊎ HoldsNone self.new.held.items) }
+        ensures few { OnOk result (self.new.octets < 8388608) }
+        ensures same { (self.new.dir ≡ self.old.dir) × (self.new.goes_on ≡ self.old.goes_on) × (self.new.refused ≡ self.old.refused) × (self.new.starved ≡ self.old.starved) }
     {
         self.begin(application)?;
         self.add(application, octets)?;

@@ -1,7 +1,7 @@
 -- Where the run of a plan ends, and what is done then.
-use Rattle.std.specs.Prelude.{◌≡◌, ◌≤◌, ◌⊎◌, ℕ, List, length, Option, Some, None}
+use Rattle.std.specs.Prelude.{◌≡◌, ◌≤◌, ℕ, List, length, Option, Some, None}
 use Rattle.tm_tool.specs.Pieces.{Work, worked}
-use Rattle.tm_tool.specs.Runs.{GoesOn, Suffices, behind, kept_of}
+use Rattle.tm_tool.specs.Runs.{HasEnded, behind, kept_of}
 use Rattle.tm_tool.specs.declared.job.Ending.{Ending}
 use Rattle.tm_tool.specs.declared.job.Ending.TheVariants.{Close, Keep, StopAfter}
 use Rattle.tm_words.specs.declared.request.Plan.{Plan}
@@ -15,9 +15,8 @@ ending_with (Some name) (Some records) = StopAfter records
 abbrev pub ending_of : Plan → Ending
 ending_of p = ending_with p.checkpoint p.stop_after
 
--- So many records are done by a run from this work: those that were done, and as many behind them as the ending wants, or
--- fewer where the recording ends; and where the ending keeps a job it is the one after them.
+-- So many records are done by a run from this work, whatever its source tells: those that were done, and as many whole records
+-- behind them as the ending wants, or fewer; and where the ending keeps a job it is the one after them.
 abbrev pub IsDone : Ending → Work → ℕ → Option Work → Type 0
-IsDone ending w records kept = (read : List (List ℕ)) × (w.state.records ≤ length read) × (records ≡ length read)
-    × (GoesOn ending w.state.records (length read) ⊎ Suffices ending w.state.records (length read))
-    × (kept ≡ kept_of ending (worked w (behind w read)))
+IsDone ending w records kept = (read : List (List ℕ)) × (rest : List ℕ) × HasEnded ending w None None read rest
+    × (w.state.records ≤ length read) × (records ≡ length read) × (kept ≡ kept_of ending (worked w (behind w read)))

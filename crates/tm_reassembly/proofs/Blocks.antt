@@ -1,13 +1,10 @@
 -- The loops over the blocks of channels: what was read so far, and what is still to be read.
 use Rattle.std.proofs.Common.{◌≡◌, ℕ, suc, zero, ◌+◌, ◌-◌, ◌<◌, ◌≤◌, Bool, Ok, Err, Result, Option, List, [], ◌∷◌, ◌++◌, length, take, drop, refl, sym, ap, subst, ◌∙◌, arith, append_assoc, length-drop}
-use Rattle.std.specs.Prelude.{slice_index_or, slice_set, IsOk}
-use Rattle.std.specs.List.{flat_map}
+use Rattle.std.specs.Prelude.{slice_set, IsOk}
 use Rattle.std.proofs.lemmas.List.{append-nil, drop-drop, take_all}
-use Rattle.std.proofs.lemmas.List.Concat.{flat_map-append}
-use Rattle.std.proofs.Math.Seq.{take-suc}
-use Rattle.tm_frame.specs.declared.layout.LayoutParts.{LayoutParts}
+use Rattle.tm_reassembly.specs.Rules.{Rules, chooses}
 use Rattle.tm_reassembly.specs.declared.fault.StateFault.{StateFault}
-use Rattle.tm_reassembly.specs.Checkpoint.{block, Read, ReadAll, block_read, blocks_read, in_front, and_then}
+use Rattle.tm_reassembly.specs.Checkpoint.{Read, ReadAll, block_read, blocks_read, in_front, and_then}
 use Rattle.tm_reassembly.specs.State.{Last}
 
 -- some blocks in front
@@ -16,8 +13,8 @@ in_fronts done at (Ok rest) = Ok (record { kept = done ++ rest.kept; octets = at
 in_fronts done at (Err found) = Err found
 
 -- up to channel c, `done` was read from the octets before `at`
-pub record ReadsTo (layout : LayoutParts) (chosen : ℕ → Bool) (records : ℕ) (xs : List ℕ) (c at : ℕ) (done : List (Option Last)) : Type 0 where
-  pub so_far : blocks_read layout chosen records 8 0 xs ≡ in_fronts done at (blocks_read layout chosen records (8 - c) c (drop at xs))
+pub record ReadsTo (rules : Rules) (records : ℕ) (xs : List ℕ) (c at : ℕ) (done : List (Option Last)) : Type 0 where
+  pub so_far : blocks_read rules records 8 0 xs ≡ in_fronts done at (blocks_read rules records (8 - c) c (drop at xs))
   pub inside : at ≤ length xs
 
 all_of : (x : Result ReadAll StateFault) → x ≡ in_fronts [] 0 x
@@ -27,15 +24,15 @@ all_of (Ok rest) = rw (zero_plus rest.octets) refl
     zero_plus n = omega arith
 all_of (Err found) = refl
 
-module _ (layout : LayoutParts) (chosen : ℕ → Bool) (records : ℕ) (xs : List ℕ) where
-  pub reads_none : (kept : List (Option Last)) → ReadsTo layout chosen records xs 0 0 (take 0 kept)
-  reads_none kept = record { so_far = all_of (blocks_read layout chosen records 8 0 xs); inside = omega arith }
+module _ (rules : Rules) (records : ℕ) (xs : List ℕ) where
+  pub reads_none : (kept : List (Option Last)) → ReadsTo rules records xs 0 0 (take 0 kept)
+  reads_none kept = record { so_far = all_of (blocks_read rules records 8 0 xs); inside = omega arith }
 
   one_block : (n c at : ℕ) → 8 - c ≡ suc n
-      → blocks_read layout chosen records (8 - c) c (drop at xs)
-      ≡ and_then (block_read layout (chosen c) records (drop at xs)) (λ used. blocks_read layout chosen records n (c + 1) (drop used (drop at xs)))
+      → blocks_read rules records (8 - c) c (drop at xs)
+      ≡ and_then (block_read rules.max_packet rules.layout (chooses rules c) records (drop at xs)) (λ used. blocks_read rules records n (c + 1) (drop used (drop at xs)))
   unfolding blocks_read
-  one_block n c at e = ap (λ (k : ℕ). blocks_read layout chosen records k c (drop at xs)) e
+  one_block n c at e = ap (λ (k : ℕ). blocks_read rules records k c (drop at xs)) e
 
   joined : (done : List (Option Last)) (at : ℕ) (one : Read) (x : Result ReadAll StateFault)
       → in_fronts done at (in_front one x) ≡ in_fronts (done ++ one.kept ∷ []) (at + one.octets) x
@@ -45,9 +42,9 @@ module _ (layout : LayoutParts) (chosen : ℕ → Bool) (records : ℕ) (xs : Li
       plus a b c = omega arith
   joined done at one (Err found) = refl
 
-  pub reads_more : (c at used : ℕ) (done : List (Option Last)) (kept : Option Last) → ReadsTo layout chosen records xs c at done → c < 8
-      → block_read layout (chosen c) records (drop at xs) ≡ Ok (record { kept = kept; octets = used }) → used ≤ length (drop at xs)
-      → ReadsTo layout chosen records xs (c + 1) (at + used) (done ++ kept ∷ [])
+  pub reads_more : (c at used : ℕ) (done : List (Option Last)) (kept : Option Last) → ReadsTo rules records xs c at done → c < 8
+      → block_read rules.max_packet rules.layout (chooses rules c) records (drop at xs) ≡ Ok (record { kept = kept; octets = used }) → used ≤ length (drop at xs)
+      → ReadsTo rules records xs (c + 1) (at + used) (done ++ kept ∷ [])
   reads_more c at used done kept r h e fits =
       let n : ℕ = 7 - c in
       let left : 8 - c ≡ suc n = omega arith in
@@ -57,46 +54,46 @@ module _ (layout : LayoutParts) (chosen : ℕ → Bool) (records : ℕ) (xs : Li
       record {
         so_far =
             r.so_far
-            ∙ ap (in_fronts done at) (one_block n c at left ∙ ap (λ (b : Result Read StateFault). and_then b (λ used. blocks_read layout chosen records n (c + 1) (drop used (drop at xs)))) e)
-            ∙ joined done at (record { kept = kept; octets = used }) (blocks_read layout chosen records n (c + 1) (drop used (drop at xs)))
-            ∙ ap (λ (l : List ℕ). in_fronts (done ++ kept ∷ []) (at + used) (blocks_read layout chosen records n (c + 1) l)) (drop-drop used at xs)
-            ∙ ap (λ (k : ℕ). in_fronts (done ++ kept ∷ []) (at + used) (blocks_read layout chosen records k (c + 1) (drop (at + used) xs))) (sym rest);
+            ∙ ap (in_fronts done at) (one_block n c at left ∙ ap (λ (b : Result Read StateFault). and_then b (λ used. blocks_read rules records n (c + 1) (drop used (drop at xs)))) e)
+            ∙ joined done at (record { kept = kept; octets = used }) (blocks_read rules records n (c + 1) (drop used (drop at xs)))
+            ∙ ap (λ (l : List ℕ). in_fronts (done ++ kept ∷ []) (at + used) (blocks_read rules records n (c + 1) l)) (drop-drop used at xs)
+            ∙ ap (λ (k : ℕ). in_fronts (done ++ kept ∷ []) (at + used) (blocks_read rules records k (c + 1) (drop (at + used) xs))) (sym rest);
         inside = omega arith;
       }
 
-  pub reads_fault : (c at : ℕ) (done : List (Option Last)) (found : StateFault) → ReadsTo layout chosen records xs c at done → c < 8
-      → block_read layout (chosen c) records (drop at xs) ≡ Err found → blocks_read layout chosen records 8 0 xs ≡ Err found
+  pub reads_fault : (c at : ℕ) (done : List (Option Last)) (found : StateFault) → ReadsTo rules records xs c at done → c < 8
+      → block_read rules.max_packet rules.layout (chooses rules c) records (drop at xs) ≡ Err found → blocks_read rules records 8 0 xs ≡ Err found
   reads_fault c at done found r h e =
       let n : ℕ = 7 - c in
       let left : 8 - c ≡ suc n = omega arith in
       r.so_far
-      ∙ ap (in_fronts done at) (one_block n c at left ∙ ap (λ (b : Result Read StateFault). and_then b (λ used. blocks_read layout chosen records n (c + 1) (drop used (drop at xs)))) e)
+      ∙ ap (in_fronts done at) (one_block n c at left ∙ ap (λ (b : Result Read StateFault). and_then b (λ used. blocks_read rules records n (c + 1) (drop used (drop at xs)))) e)
 
-  pub reads_all : (c at : ℕ) (done : List (Option Last)) → ReadsTo layout chosen records xs c at done → 8 ≤ c
-      → blocks_read layout chosen records 8 0 xs ≡ Ok (record { kept = done; octets = at })
+  pub reads_all : (c at : ℕ) (done : List (Option Last)) → ReadsTo rules records xs c at done → 8 ≤ c
+      → blocks_read rules records 8 0 xs ≡ Ok (record { kept = done; octets = at })
   unfolding blocks_read
   reads_all c at done r h =
       let none : 8 - c ≡ 0 = omega arith in
-      r.so_far ∙ ap (λ (n : ℕ). in_fronts done at (blocks_read layout chosen records n c (drop at xs))) none ∙ rw (append-nil done, nothing at) refl
+      r.so_far ∙ ap (λ (n : ℕ). in_fronts done at (blocks_read rules records n c (drop at xs))) none ∙ rw (append-nil done, nothing at) refl
     where
       nothing : (a : ℕ) → a + 0 ≡ a
       nothing a = omega arith
 
 -- the same without telling what was read
-pub record ReadsSome (layout : LayoutParts) (chosen : ℕ → Bool) (records : ℕ) (xs : List ℕ) (c at : ℕ) : Type 0 where
+pub record ReadsSome (rules : Rules) (records : ℕ) (xs : List ℕ) (c at : ℕ) : Type 0 where
   pub done : List (Option Last)
-  pub reads : ReadsTo layout chosen records xs c at done
+  pub reads : ReadsTo rules records xs c at done
 
 is_ok : (x : Result ReadAll StateFault) (all : ReadAll) → x ≡ Ok all → IsOk x
 is_ok (Ok rest) all e = refl
 is_ok (Err found) all e = absurd (cc)
 
 -- the octets from a place on, as the code takes them, and whether a channel is chosen, as it asks
-as_asked : (layout : LayoutParts) (chosen : ℕ → Bool) (records : ℕ) (xs : List ℕ) (c at : ℕ) (b : Bool) (x : Result Read StateFault) → at ≤ length xs
-    → b ≡ chosen c → block_read layout b records (take (length xs - at) (drop at xs)) ≡ x → block_read layout (chosen c) records (drop at xs) ≡ x
-as_asked layout chosen records xs c at b x inside same e =
-    ap (λ (a : Bool). block_read layout a records (drop at xs)) (sym same)
-    ∙ ap (λ (l : List ℕ). block_read layout b records l) (sym (take_all (length xs - at) (drop at xs) (omega (arith, length-drop at xs))))
+as_asked : (rules : Rules) (records : ℕ) (xs : List ℕ) (c at : ℕ) (b : Bool) (x : Result Read StateFault) → at ≤ length xs
+    → b ≡ chooses rules c → block_read rules.max_packet rules.layout b records (take (length xs - at) (drop at xs)) ≡ x → block_read rules.max_packet rules.layout (chooses rules c) records (drop at xs) ≡ x
+as_asked rules records xs c at b x inside same e =
+    ap (λ (a : Bool). block_read rules.max_packet rules.layout a records (drop at xs)) (sym same)
+    ∙ ap (λ (l : List ℕ). block_read rules.max_packet rules.layout b records l) (sym (take_all (length xs - at) (drop at xs) (omega (arith, length-drop at xs))))
     ∙ e
 
 used_fits : (xs : List ℕ) (at used : ℕ) → at ≤ length xs → used ≤ length (take (length xs - at) (drop at xs)) → used ≤ length (drop at xs)
@@ -104,26 +101,26 @@ used_fits xs at used inside h =
     let all : length (take (length xs - at) (drop at xs)) ≡ length (drop at xs) = ap length (take_all (length xs - at) (drop at xs) (omega (arith, length-drop at xs))) in
     omega arith
 
-module _ (layout : LayoutParts) (chosen : ℕ → Bool) (records : ℕ) (xs : List ℕ) where
-  pub some_none : ReadsSome layout chosen records xs 0 0
-  some_none = record { done = []; reads = reads_none layout chosen records xs [] }
+module _ (rules : Rules) (records : ℕ) (xs : List ℕ) where
+  pub some_none : ReadsSome rules records xs 0 0
+  some_none = record { done = []; reads = reads_none rules records xs [] }
 
-  pub some_more : (c at used : ℕ) (kept : Option Last) (b : Bool) → ReadsSome layout chosen records xs c at → c < 8 → b ≡ chosen c
-      → block_read layout b records (take (length xs - at) (drop at xs)) ≡ Ok (record { kept = kept; octets = used })
+  pub some_more : (c at used : ℕ) (kept : Option Last) (b : Bool) → ReadsSome rules records xs c at → c < 8 → b ≡ chooses rules c
+      → block_read rules.max_packet rules.layout b records (take (length xs - at) (drop at xs)) ≡ Ok (record { kept = kept; octets = used })
       → used ≤ length (take (length xs - at) (drop at xs))
-      → ReadsSome layout chosen records xs (c + 1) (at + used)
+      → ReadsSome rules records xs (c + 1) (at + used)
   some_more c at used kept b r h same e fits = record {
     done = r.done ++ kept ∷ [];
-    reads = reads_more layout chosen records xs c at used r.done kept r.reads h (as_asked layout chosen records xs c at b _ r.reads.inside same e) (used_fits xs at used r.reads.inside fits);
+    reads = reads_more rules records xs c at used r.done kept r.reads h (as_asked rules records xs c at b _ r.reads.inside same e) (used_fits xs at used r.reads.inside fits);
   }
 
-  pub some_fault : (c at : ℕ) (found : StateFault) (b : Bool) → ReadsSome layout chosen records xs c at → c < 8 → b ≡ chosen c
-      → block_read layout b records (take (length xs - at) (drop at xs)) ≡ Err found → blocks_read layout chosen records 8 0 xs ≡ Err found
+  pub some_fault : (c at : ℕ) (found : StateFault) (b : Bool) → ReadsSome rules records xs c at → c < 8 → b ≡ chooses rules c
+      → block_read rules.max_packet rules.layout b records (take (length xs - at) (drop at xs)) ≡ Err found → blocks_read rules records 8 0 xs ≡ Err found
   some_fault c at found b r h same e =
-      reads_fault layout chosen records xs c at r.done found r.reads h (as_asked layout chosen records xs c at b _ r.reads.inside same e)
+      reads_fault rules records xs c at r.done found r.reads h (as_asked rules records xs c at b _ r.reads.inside same e)
 
-  pub some_all : (c at : ℕ) → ReadsSome layout chosen records xs c at → 8 ≤ c → IsOk (blocks_read layout chosen records 8 0 xs)
-  some_all c at r h = is_ok (blocks_read layout chosen records 8 0 xs) _ (reads_all layout chosen records xs c at r.done r.reads h)
+  pub some_all : (c at : ℕ) → ReadsSome rules records xs c at → 8 ≤ c → IsOk (blocks_read rules records 8 0 xs)
+  some_all c at r h = is_ok (blocks_read rules records 8 0 xs) _ (reads_all rules records xs c at r.done r.reads h)
 
 -- the channels that are kept, one by one
 take_set_at : (kept : List (Option Last)) (c : ℕ) (x : Option Last) → c < length kept → take (suc c) (slice_set kept c x) ≡ take c kept ++ x ∷ []
@@ -136,45 +133,24 @@ take_set kept c x h =
     let one : suc c ≡ c + 1 = omega arith in
     sym (take_set_at kept c x h) ∙ ap (λ (n : ℕ). take n (slice_set kept c x)) one
 
-module _ (layout : LayoutParts) (chosen : ℕ → Bool) (records : ℕ) (xs : List ℕ) where
+module _ (rules : Rules) (records : ℕ) (xs : List ℕ) where
   -- what is kept of the channels up to c is what was read
-  pub kept_more : (kept : List (Option Last)) (c at used : ℕ) (x : Option Last) (b : Bool) → ReadsTo layout chosen records xs c at (take c kept) → length kept ≡ 8
-      → c < 8 → b ≡ chosen c
-      → block_read layout b records (take (length xs - at) (drop at xs)) ≡ Ok (record { kept = x; octets = used })
+  pub kept_more : (kept : List (Option Last)) (c at used : ℕ) (x : Option Last) (b : Bool) → ReadsTo rules records xs c at (take c kept) → length kept ≡ 8
+      → c < 8 → b ≡ chooses rules c
+      → block_read rules.max_packet rules.layout b records (take (length xs - at) (drop at xs)) ≡ Ok (record { kept = x; octets = used })
       → used ≤ length (take (length xs - at) (drop at xs))
-      → ReadsTo layout chosen records xs (c + 1) (at + used) (take (c + 1) (slice_set kept c x))
+      → ReadsTo rules records xs (c + 1) (at + used) (take (c + 1) (slice_set kept c x))
   kept_more kept c at used x b r eight h same e fits =
-      subst (ReadsTo layout chosen records xs (c + 1) (at + used)) (take_set kept c x (omega arith))
-      (reads_more layout chosen records xs c at used (take c kept) x r h (as_asked layout chosen records xs c at b _ r.inside same e) (used_fits xs at used r.inside fits))
+      subst (ReadsTo rules records xs (c + 1) (at + used)) (take_set kept c x (omega arith))
+      (reads_more rules records xs c at used (take c kept) x r h (as_asked rules records xs c at b _ r.inside same e) (used_fits xs at used r.inside fits))
 
-  pub kept_fault : (kept : List (Option Last)) (c at : ℕ) (found : StateFault) (b : Bool) → ReadsTo layout chosen records xs c at (take c kept) → c < 8 → b ≡ chosen c
-      → block_read layout b records (take (length xs - at) (drop at xs)) ≡ Err found → blocks_read layout chosen records 8 0 xs ≡ Err found
+  pub kept_fault : (kept : List (Option Last)) (c at : ℕ) (found : StateFault) (b : Bool) → ReadsTo rules records xs c at (take c kept) → c < 8 → b ≡ chooses rules c
+      → block_read rules.max_packet rules.layout b records (take (length xs - at) (drop at xs)) ≡ Err found → blocks_read rules records 8 0 xs ≡ Err found
   kept_fault kept c at found b r h same e =
-      reads_fault layout chosen records xs c at (take c kept) found r h (as_asked layout chosen records xs c at b _ r.inside same e)
+      reads_fault rules records xs c at (take c kept) found r h (as_asked rules records xs c at b _ r.inside same e)
 
-  pub kept_all : (kept : List (Option Last)) (c at : ℕ) → ReadsTo layout chosen records xs c at (take c kept) → length kept ≡ 8 → 8 ≤ c
-      → blocks_read layout chosen records 8 0 xs ≡ Ok (record { kept = kept; octets = at })
+  pub kept_all : (kept : List (Option Last)) (c at : ℕ) → ReadsTo rules records xs c at (take c kept) → length kept ≡ 8 → 8 ≤ c
+      → blocks_read rules records 8 0 xs ≡ Ok (record { kept = kept; octets = at })
   kept_all kept c at r eight h =
-      reads_all layout chosen records xs c at (take c kept) r h
+      reads_all rules records xs c at (take c kept) r h
       ∙ ap (λ (l : List (Option Last)). Ok (record { kept = l; octets = at })) (take_all c kept (omega arith))
-
--- spelled one by one
-pub spelled_more : (kept : List (Option Last)) (c : ℕ) (d : Option Last) → c < length kept
-    → flat_map block (take (c + 1) kept) ≡ flat_map block (take c kept) ++ block (slice_index_or kept c d)
-spelled_more kept c d h =
-    let one : c + 1 ≡ suc c = omega arith in
-    ap (λ (n : ℕ). flat_map block (take n kept)) one
-    ∙ ap (flat_map block) (take-suc kept c d h)
-    ∙ flat_map-append block (take c kept) (slice_index_or kept c d ∷ [])
-    ∙ ap (λ (l : List ℕ). flat_map block (take c kept) ++ l) (append-nil (block (slice_index_or kept c d)))
-
-pub spelled_rest : (kept : List (Option Last)) (c : ℕ) (d : Option Last) → c < length kept
-    → flat_map block (drop c kept) ≡ block (slice_index_or kept c d) ++ flat_map block (drop (c + 1) kept)
-spelled_rest kept c d h =
-    let one : suc c ≡ c + 1 = omega arith in
-    ap (flat_map block) (drop_at kept c d h) ∙ ap (λ (n : ℕ). block (slice_index_or kept c d) ++ flat_map block (drop n kept)) one
-  where
-    drop_at : (xs : List (Option Last)) (n : ℕ) (d : Option Last) → n < length xs → drop n xs ≡ slice_index_or xs n d ∷ drop (suc n) xs
-    drop_at [] n d h = absurd (omega arith)
-    drop_at (x ∷ xs) zero d h = refl
-    drop_at (x ∷ xs) (suc n) d h = drop_at xs n d (omega arith)

@@ -1,71 +1,81 @@
 -- What octets spell: the first fault, or a state, which is valid.
-use Rattle.std.proofs.Common.{◌≡◌, ℕ, suc, zero, ◌+◌, ◌-◌, ◌^◌, ◌<◌, ◌≤◌, Bool, true, false, not, ◌||◌, ◌&&◌, Ok, Err, Result, Option, Some, None, List, [], ◌∷◌, length, take, drop, refl, sym, ap, subst, ◌∙◌, ⊎_elim, arith, length-drop, ltb, eqb}
-use Rattle.std.specs.Prelude.{slice_index, slice_range, IsOk}
+use Rattle.std.proofs.Common.{◌≡◌, ℕ, suc, zero, ◌+◌, ◌-◌, ◌^◌, ◌<◌, ◌≤◌, Bool, true, false, not, ◌||◌, ◌&&◌, Ok, Err, Result, Option, Some, None, List, [], ◌∷◌, length, take, drop, refl, sym, ap, subst, ◌∙◌, ⊎_elim, arith, length-drop, ltb, leb, eqb}
+use Rattle.std.specs.Prelude.{slice_index, slice_range}
 use Rattle.std.specs.List.{slice_get}
-use Rattle.std.proofs.lemmas.List.{length-take-le, take_all}
+use Rattle.std.proofs.lemmas.List.{length-take-le, take_all, drop-drop}
 use Rattle.std.proofs.lemmas.Bool.{cases_lt, cond_both, cond-true, cond-false, ltb-true, lt-ltb, le-ltb}
 use Rattle.tm_bits.specs.Bits.{AreOctets}
 use Rattle.tm_bits.proofs.PartLemmas.{octets_behind}
 use Rattle.tm_frame.specs.declared.layout.LayoutParts.{LayoutParts}
 use Rattle.tm_reassembly.specs.declared.fault.StateFault.{StateFault}
 use Rattle.tm_reassembly.specs.declared.fault.StateFault.TheVariants as fault
-use Rattle.tm_reassembly.specs.Checkpoint.{Read, ReadAll, Decoded, two_at, four_at, is_unfinished, tail_read, flagged, block_read, blocks_read, in_front, and_then, with_records, decoding_of}
-use Rattle.tm_reassembly.specs.Parts.{is_packet, reach}
+use Rattle.tm_reassembly.specs.Checkpoint.{Read, ReadAll, two_at, four_at, is_unfinished, tail_read, flagged, block_read, blocks_read, in_front, and_then, master_read, with_channels, with_master, decoding_of, old_decoding_of}
+use Rattle.tm_reassembly.specs.Parts.{begins_packet, reach}
+use Rattle.tm_reassembly.specs.Rules.{Rules, IsLimit, chooses}
 use Rattle.tm_reassembly.specs.State.{Last}
-use Rattle.tm_reassembly.specs.Valid.{IsState}
+use Rattle.tm_reassembly.specs.Valid.{IsCount, IsState}
 use Rattle.tm_reassembly.proofs.Chained.{IsTail}
 use Rattle.tm_reassembly.proofs.Fits.{octets_front}
 use Rattle.tm_reassembly.proofs.States.{Keeps, state-from}
 
 -- ---- what is answered
 
-pub decoding_short : (layout : LayoutParts) (chosen : ℕ → Bool) (xs : List ℕ) → length xs < 4 → decoding_of layout chosen xs ≡ Err fault.Short
+pub decoding_short : (rules : Rules) (xs : List ℕ) → length xs < 4 → decoding_of rules xs ≡ Err fault.Short
 unfolding decoding_of
-decoding_short layout chosen xs h = cond-true (ltb (length xs) 4) _ _ (lt-ltb (length xs) 4 h)
+decoding_short rules xs h = cond-true (ltb (length xs) 4) _ _ (lt-ltb (length xs) 4 h)
 
-long : (layout : LayoutParts) (chosen : ℕ → Bool) (xs : List ℕ) → 4 ≤ length xs
-    → decoding_of layout chosen xs ≡ with_records (four_at xs 0) (blocks_read layout chosen (four_at xs 0) 8 0 (take (length xs - 4) (drop 4 xs)))
+long : (rules : Rules) (xs : List ℕ) → 4 ≤ length xs → decoding_of rules xs ≡ with_master rules (four_at xs 0) (drop 4 xs) (master_read (drop 4 xs))
 unfolding decoding_of
-long layout chosen xs h =
-    cond-false (ltb (length xs) 4) _ _ (le-ltb (length xs) 4 h)
-    ∙ ap (λ (l : List ℕ). with_records (four_at xs 0) (blocks_read layout chosen (four_at xs 0) 8 0 l))
-    (sym (take_all (length xs - 4) (drop 4 xs) (omega (arith, length-drop 4 xs))))
+long rules xs h = cond-false (ltb (length xs) 4) _ _ (le-ltb (length xs) 4 h)
 
-pub decoding_fault : (layout : LayoutParts) (chosen : ℕ → Bool) (xs : List ℕ) (records : ℕ) (found : StateFault) → 4 ≤ length xs → records ≡ four_at xs 0
-    → blocks_read layout chosen records 8 0 (take (length xs - 4) (drop 4 xs)) ≡ Err found → decoding_of layout chosen xs ≡ Err found
-decoding_fault layout chosen xs records found h same e =
-    long layout chosen xs h
-    ∙ ap (λ (r : ℕ). with_records r (blocks_read layout chosen r 8 0 (take (length xs - 4) (drop 4 xs)))) (sym same)
-    ∙ ap (with_records records) e
+pub old_decoding_short : (rules : Rules) (xs : List ℕ) → length xs < 4 → old_decoding_of rules xs ≡ Err fault.Short
+unfolding old_decoding_of
+old_decoding_short rules xs h = cond-true (ltb (length xs) 4) _ _ (lt-ltb (length xs) 4 h)
 
-pub decoding_all : (layout : LayoutParts) (chosen : ℕ → Bool) (xs : List ℕ) (records used : ℕ) (kept : List (Option Last)) → 4 ≤ length xs → records ≡ four_at xs 0
-    → blocks_read layout chosen records 8 0 (take (length xs - 4) (drop 4 xs)) ≡ Ok (record { kept = kept; octets = used })
-    → decoding_of layout chosen xs ≡ Ok (record { state = record { records = records; channels = kept }; octets = 4 + used })
-decoding_all layout chosen xs records used kept h same e =
-    long layout chosen xs h
-    ∙ ap (λ (r : ℕ). with_records r (blocks_read layout chosen r 8 0 (take (length xs - 4) (drop 4 xs)))) (sym same)
-    ∙ ap (with_records records) e
+-- the octets behind the number of records, as the code takes them
+behind : (n : ℕ) (xs : List ℕ) → n ≤ length xs → take (length xs - n) (drop n xs) ≡ drop n xs
+behind n xs h = take_all (length xs - n) (drop n xs) (omega (arith, length-drop n xs))
 
-ok_with : (records : ℕ) (x : Result ReadAll StateFault) → IsOk x → IsOk (with_records records x)
-ok_with records (Ok all) h = refl
-ok_with records (Err found) h = absurd (cc)
+pub decoding_master : (rules : Rules) (xs : List ℕ) (found : StateFault) → 4 ≤ length xs
+    → master_read (take (length xs - 4) (drop 4 xs)) ≡ Err found → decoding_of rules xs ≡ Err found
+decoding_master rules xs found h e =
+    long rules xs h ∙ ap (with_master rules (four_at xs 0) (drop 4 xs)) (ap master_read (sym (behind 4 xs h)) ∙ e)
 
-pub decoding_ok : (layout : LayoutParts) (chosen : ℕ → Bool) (xs : List ℕ) (records : ℕ) → 4 ≤ length xs → records ≡ four_at xs 0
-    → IsOk (blocks_read layout chosen records 8 0 (take (length xs - 4) (drop 4 xs))) → IsOk (decoding_of layout chosen xs)
-decoding_ok layout chosen xs records h same e =
-    subst (λ (x : Result Decoded StateFault). IsOk x)
-    (sym (long layout chosen xs h ∙ ap (λ (r : ℕ). with_records r (blocks_read layout chosen r 8 0 (take (length xs - 4) (drop 4 xs)))) (sym same)))
-    (ok_with records (blocks_read layout chosen records 8 0 (take (length xs - 4) (drop 4 xs))) e)
+pub decoding_blocks : (rules : Rules) (xs : List ℕ) (records used : ℕ) (master : Option ℕ) → 4 ≤ length xs → records ≡ four_at xs 0
+    → master_read (take (length xs - 4) (drop 4 xs)) ≡ Ok (record { count = master; octets = used })
+    → decoding_of rules xs ≡ with_channels records master (4 + used) (blocks_read rules records 8 0 (drop (4 + used) xs))
+decoding_blocks rules xs records used master h same e =
+    let n : used + 4 ≡ 4 + used = omega arith in
+    long rules xs h
+    ∙ ap (λ (r : ℕ). with_master rules r (drop 4 xs) (master_read (drop 4 xs))) (sym same)
+    ∙ ap (with_master rules records (drop 4 xs)) (ap master_read (sym (behind 4 xs h)) ∙ e)
+    ∙ ap (λ (l : List ℕ). with_channels records master (4 + used) (blocks_read rules records 8 0 l)) (drop-drop used 4 xs)
+
+pub old_decoding_blocks : (rules : Rules) (xs : List ℕ) (records : ℕ) → 4 ≤ length xs → records ≡ four_at xs 0
+    → with_channels records None 4 (blocks_read rules records 8 0 (take (length xs - 4) (drop 4 xs))) ≡ old_decoding_of rules xs
+unfolding old_decoding_of
+old_decoding_blocks rules xs records h same =
+    ap (λ (l : List ℕ). with_channels records None 4 (blocks_read rules records 8 0 l)) (behind 4 xs h)
+    ∙ ap (λ (r : ℕ). with_channels r None 4 (blocks_read rules r 8 0 (drop 4 xs))) same
+    ∙ sym (cond-false (ltb (length xs) 4) _ _ (le-ltb (length xs) 4 h))
+
+-- the same of the octets behind the master channel count, as the code takes them
+pub decoding_behind : (rules : Rules) (xs : List ℕ) (records used : ℕ) (master : Option ℕ) → 4 ≤ length xs → records ≡ four_at xs 0
+    → master_read (take (length xs - 4) (drop 4 xs)) ≡ Ok (record { count = master; octets = used }) → 4 + used ≤ length xs
+    → with_channels records master (4 + used) (blocks_read rules records 8 0 (take (length xs - (4 + used)) (drop (4 + used) xs))) ≡ decoding_of rules xs
+decoding_behind rules xs records used master h same e inside =
+    ap (λ (l : List ℕ). with_channels records master (4 + used) (blocks_read rules records 8 0 l)) (behind (4 + used) xs inside)
+    ∙ sym (decoding_blocks rules xs records used master h same e)
 
 -- ---- what is read is valid
 
-abbrev Kept : LayoutParts → ℕ → Bool → Option Last → Type 0
-Kept layout records chosen None = Unit {0}
-Kept layout records chosen (Some last) = (chosen ≡ true) × Keeps layout records last
+abbrev Kept : ℕ → LayoutParts → ℕ → Bool → Option Last → Type 0
+Kept limit layout records chosen None = Unit {0}
+Kept limit layout records chosen (Some last) = (chosen ≡ true) × Keeps limit layout records last
 
-abbrev Sound : LayoutParts → ℕ → Bool → Result Read StateFault → Type 0
-Sound layout records chosen (Ok one) = Kept layout records chosen one.kept
-Sound layout records chosen (Err found) = Unit {0}
+abbrev Sound : ℕ → LayoutParts → ℕ → Bool → Result Read StateFault → Type 0
+Sound limit layout records chosen (Ok one) = Kept limit layout records chosen one.kept
+Sound limit layout records chosen (Err found) = Unit {0}
 
 not-true : (b : Bool) → not b ≡ false → b ≡ true
 not-true true e = refl
@@ -79,33 +89,33 @@ and-true : (a b : Bool) → (a && b) ≡ true → (a ≡ true) × (b ≡ true)
 and-true true b e = (refl, e)
 and-true false b e = absurd (cc)
 
-open-of : (o : List ℕ) → 0 < length o → is_unfinished o ≡ true → IsTail o
-open-of [] some h = absurd (omega arith)
-open-of (x ∷ xs) some h =
-    let both = and-true (is_packet (x ∷ xs)) (ltb (suc (length xs)) (reach (x ∷ xs))) h in
+open-of : (limit : ℕ) (o : List ℕ) → 0 < length o → is_unfinished limit o ≡ true → IsTail limit o
+open-of limit [] some h = absurd (omega arith)
+open-of limit (x ∷ xs) some h =
+    let both = and-true (begins_packet limit (x ∷ xs)) (ltb (suc (length xs)) (reach (x ∷ xs))) h in
     (both.0, ltb-true (suc (length xs)) (reach (x ∷ xs)) both.1)
 
-module _ (layout : LayoutParts) (records : ℕ) (chosen : Bool) (is_chosen : chosen ≡ true) (xs : List ℕ) (octets : AreOctets xs) (enough : 12 ≤ length xs) where
-  tail-sound : (first place size : ℕ) → Sound layout records chosen (tail_read layout records xs first place size)
+module _ (limit : ℕ) (layout : LayoutParts) (records : ℕ) (chosen : Bool) (is_chosen : chosen ≡ true) (xs : List ℕ) (octets : AreOctets xs) (enough : 12 ≤ length xs) where
+  tail-sound : (first place size : ℕ) → Sound limit layout records chosen (tail_read limit layout records xs first place size)
   tail-sound first place size =
-      cond_both (not (ltb first records) || ltb layout.frame_length (place + 7)) _ _ (Sound layout records chosen) (λ p. tt)
+      cond_both (not (ltb first records) || ltb layout.frame_length (place + 7)) _ _ (Sound limit layout records chosen) (λ p. tt)
       (λ within.
-      cond_both (eqb size 0 || ltb 65541 size) _ _ (Sound layout records chosen) (λ p. tt)
+      cond_both (eqb size 0 || leb limit size) _ _ (Sound limit layout records chosen) (λ p. tt)
       (λ sized.
-      cond_both (ltb (length xs) (12 + size)) _ _ (Sound layout records chosen) (λ p. tt)
+      cond_both (ltb (length xs) (12 + size)) _ _ (Sound limit layout records chosen) (λ p. tt)
       (λ there.
-      cond_both (not (is_unfinished (slice_range xs 12 (12 + size)))) _ _ (Sound layout records chosen) (λ p. tt)
-      (λ unfinished. kept within sized there (not-true (is_unfinished (slice_range xs 12 (12 + size))) unfinished)))))
+      cond_both (not (is_unfinished limit (slice_range xs 12 (12 + size)))) _ _ (Sound limit layout records chosen) (λ p. tt)
+      (λ unfinished. kept within sized there (not-true (is_unfinished limit (slice_range xs 12 (12 + size))) unfinished)))))
     where
-      kept : (not (ltb first records) || ltb layout.frame_length (place + 7)) ≡ false → (eqb size 0 || ltb 65541 size) ≡ false → ltb (length xs) (12 + size) ≡ false
-          → is_unfinished (slice_range xs 12 (12 + size)) ≡ true
-          → Sound layout records chosen (Ok (record {
+      kept : (not (ltb first records) || ltb layout.frame_length (place + 7)) ≡ false → (eqb size 0 || leb limit size) ≡ false → ltb (length xs) (12 + size) ≡ false
+          → is_unfinished limit (slice_range xs 12 (12 + size)) ≡ true
+          → Sound limit layout records chosen (Ok (record {
             kept = Some (record { count = slice_index xs 1; tail = Some (record { first = first; place = place; octets = slice_range xs 12 (12 + size) }) });
             octets = 12 + size;
           }))
       kept within sized there unfinished =
           let bounds = or-false (not (ltb first records)) (ltb layout.frame_length (place + 7)) within in
-          let sizes = or-false (eqb size 0) (ltb 65541 size) sized in
+          let sizes = or-false (eqb size 0) (leb limit size) sized in
           let some : 0 < size = ⊎_elim (λ (z : size < 1). absurd (zero-size size z sizes.0)) (λ h. omega arith) (cases_lt size 1) in
           let first_in : first < records = ltb-true first records (not-true (ltb first records) bounds.0) in
           let fits : 12 + size ≤ length xs = ltb-false (length xs) (12 + size) there in
@@ -114,7 +124,7 @@ module _ (layout : LayoutParts) (records : ℕ) (chosen : Bool) (is_chosen : cho
             is_chosen,
             record {
               count = octets.below 1;
-              open_tail = open-of (slice_range xs 12 (12 + size)) (omega arith) unfinished;
+              open_tail = open-of limit (slice_range xs 12 (12 + size)) (omega arith) unfinished;
               within = record {
                 first = first_in;
                 place = place_in;
@@ -133,60 +143,60 @@ module _ (layout : LayoutParts) (records : ℕ) (chosen : Bool) (is_chosen : cho
               clash : true ≡ false → ⊥
               clash p = cc
 
-flagged-sound : (layout : LayoutParts) (records : ℕ) (chosen : Bool) (xs : List ℕ) (flag : ℕ) → AreOctets xs → Sound layout records chosen (flagged layout chosen records xs flag)
-flagged-sound layout records chosen xs flag octets =
-    cond_both (eqb flag 0) _ _ (Sound layout records chosen) (λ p. tt)
+flagged-sound : (limit : ℕ) (layout : LayoutParts) (records : ℕ) (chosen : Bool) (xs : List ℕ) (flag : ℕ) → AreOctets xs → Sound limit layout records chosen (flagged limit layout chosen records xs flag)
+flagged-sound limit layout records chosen xs flag octets =
+    cond_both (eqb flag 0) _ _ (Sound limit layout records chosen) (λ p. tt)
     (λ p.
-    cond_both (not chosen || ltb 2 flag) _ _ (Sound layout records chosen) (λ q. tt)
+    cond_both (not chosen || ltb 2 flag) _ _ (Sound limit layout records chosen) (λ q. tt)
     (λ q.
     let is_chosen : chosen ≡ true = not-true chosen (or-false (not chosen) (ltb 2 flag) q).0 in
-    cond_both (eqb flag 1) _ _ (Sound layout records chosen)
-    (λ r. cond_both (ltb (length xs) 2) _ _ (Sound layout records chosen) (λ s. tt)
+    cond_both (eqb flag 1) _ _ (Sound limit layout records chosen)
+    (λ r. cond_both (ltb (length xs) 2) _ _ (Sound limit layout records chosen) (λ s. tt)
     (λ s. (is_chosen, record { count = octets.below 1; open_tail = tt; within = tt })))
     (λ r. ⊎_elim
-    (λ (short : length xs < 12). subst (Sound layout records chosen) (sym (cond-true (ltb (length xs) 12) _ _ (lt-ltb (length xs) 12 short))) tt)
-    (λ enough. subst (Sound layout records chosen) (sym (cond-false (ltb (length xs) 12) _ _ (le-ltb (length xs) 12 enough)))
-    (tail-sound layout records chosen is_chosen xs octets enough (four_at xs 2) (two_at xs 6) (four_at xs 8)))
+    (λ (short : length xs < 12). subst (Sound limit layout records chosen) (sym (cond-true (ltb (length xs) 12) _ _ (lt-ltb (length xs) 12 short))) tt)
+    (λ enough. subst (Sound limit layout records chosen) (sym (cond-false (ltb (length xs) 12) _ _ (le-ltb (length xs) 12 enough)))
+    (tail-sound limit layout records chosen is_chosen xs octets enough (four_at xs 2) (two_at xs 6) (four_at xs 8)))
     (cases_lt (length xs) 12))))
 
-block-sound : (layout : LayoutParts) (records : ℕ) (chosen : Bool) (xs : List ℕ) → AreOctets xs → Sound layout records chosen (block_read layout chosen records xs)
+block-sound : (limit : ℕ) (layout : LayoutParts) (records : ℕ) (chosen : Bool) (xs : List ℕ) → AreOctets xs → Sound limit layout records chosen (block_read limit layout chosen records xs)
 unfolding block_read
-block-sound layout records chosen xs octets =
-    cond_both (eqb (length xs) 0) _ _ (Sound layout records chosen) (λ p. tt) (λ p. flagged-sound layout records chosen xs (slice_index xs 0) octets)
+block-sound limit layout records chosen xs octets =
+    cond_both (eqb (length xs) 0) _ _ (Sound limit layout records chosen) (λ p. tt) (λ p. flagged-sound limit layout records chosen xs (slice_index xs 0) octets)
 
 -- the channels from c on
-record SoundAll (layout : LayoutParts) (records : ℕ) (chosen : ℕ → Bool) (n c : ℕ) (kept : List (Option Last)) : Type 0 where
+record SoundAll (rules : Rules) (records : ℕ) (n c : ℕ) (kept : List (Option Last)) : Type 0 where
   many : length kept ≡ n
-  each : (i : ℕ) (x : Option Last) → slice_get kept i ≡ Some x → Kept layout records (chosen (c + i)) x
+  each : (i : ℕ) (x : Option Last) → slice_get kept i ≡ Some x → Kept rules.max_packet rules.layout records (chooses rules (c + i)) x
 
-abbrev AllSound : LayoutParts → ℕ → (ℕ → Bool) → ℕ → ℕ → Result ReadAll StateFault → Type 0
-AllSound layout records chosen n c (Ok all) = SoundAll layout records chosen n c all.kept
-AllSound layout records chosen n c (Err found) = Unit {0}
+abbrev AllSound : Rules → ℕ → ℕ → ℕ → Result ReadAll StateFault → Type 0
+AllSound rules records n c (Ok all) = SoundAll rules records n c all.kept
+AllSound rules records n c (Err found) = Unit {0}
 
-blocks-sound : (layout : LayoutParts) (records : ℕ) (chosen : ℕ → Bool) (n c : ℕ) (xs : List ℕ) → AreOctets xs
-    → AllSound layout records chosen n c (blocks_read layout chosen records n c xs)
+blocks-sound : (rules : Rules) (records : ℕ) (n c : ℕ) (xs : List ℕ) → AreOctets xs
+    → AllSound rules records n c (blocks_read rules records n c xs)
 unfolding blocks_read
-blocks-sound layout records chosen zero c xs octets = record { many = refl; each = λ i x e. absurd (cc) }
-blocks-sound layout records chosen (suc n) c xs octets =
-    step (block_read layout (chosen c) records xs) (block-sound layout records (chosen c) xs octets)
-    (λ used. blocks_read layout chosen records n (c + 1) (drop used xs)) (λ used. blocks-sound layout records chosen n (c + 1) (drop used xs) (octets_behind used xs octets))
+blocks-sound rules records zero c xs octets = record { many = refl; each = λ i x e. absurd (cc) }
+blocks-sound rules records (suc n) c xs octets =
+    step (block_read rules.max_packet rules.layout (chooses rules c) records xs) (block-sound rules.max_packet rules.layout records (chooses rules c) xs octets)
+    (λ used. blocks_read rules records n (c + 1) (drop used xs)) (λ used. blocks-sound rules records n (c + 1) (drop used xs) (octets_behind used xs octets))
   where
-    joined : (one : Read) → Kept layout records (chosen c) one.kept → (x : Result ReadAll StateFault) → AllSound layout records chosen n (c + 1) x
-        → AllSound layout records chosen (suc n) c (in_front one x)
+    joined : (one : Read) → Kept rules.max_packet rules.layout records (chooses rules c) one.kept → (x : Result ReadAll StateFault) → AllSound rules records n (c + 1) x
+        → AllSound rules records (suc n) c (in_front one x)
     joined one h (Err found) k = tt
     joined one h (Ok rest) k = record { many = ap suc k.many; each = λ i x e. at i x e }
       where
-        at : (i : ℕ) (x : Option Last) → slice_get (one.kept ∷ rest.kept) i ≡ Some x → Kept layout records (chosen (c + i)) x
+        at : (i : ℕ) (x : Option Last) → slice_get (one.kept ∷ rest.kept) i ≡ Some x → Kept rules.max_packet rules.layout records (chooses rules (c + i)) x
         at zero x e =
             let same : one.kept ≡ x = cc in
             let z : c ≡ c + 0 = omega arith in
-            subst (λ (k : ℕ). Kept layout records (chosen k) x) z (subst (Kept layout records (chosen c)) same h)
+            subst (λ (k : ℕ). Kept rules.max_packet rules.layout records (chooses rules k) x) z (subst (Kept rules.max_packet rules.layout records (chooses rules c)) same h)
         at (suc i) x e =
             let z : (c + 1) + i ≡ c + suc i = omega arith in
-            subst (λ (k : ℕ). Kept layout records (chosen k) x) z (k.each i x e)
+            subst (λ (k : ℕ). Kept rules.max_packet rules.layout records (chooses rules k) x) z (k.each i x e)
 
-    step : (b : Result Read StateFault) → Sound layout records (chosen c) b → (others : ℕ → Result ReadAll StateFault)
-        → ((used : ℕ) → AllSound layout records chosen n (c + 1) (others used)) → AllSound layout records chosen (suc n) c (and_then b others)
+    step : (b : Result Read StateFault) → Sound rules.max_packet rules.layout records (chooses rules c) b → (others : ℕ → Result ReadAll StateFault)
+        → ((used : ℕ) → AllSound rules records n (c + 1) (others used)) → AllSound rules records (suc n) c (and_then b others)
     step (Err found) h others k = tt
     step (Ok one) h others k = joined one h (others one.octets) (k one.octets)
 
@@ -196,21 +206,21 @@ some-at (x ∷ xs) zero h = (x, refl)
 some-at (x ∷ xs) (suc c) h = some-at xs c (omega arith)
 
 -- the state that blocks spell
-pub blocks_valid : (layout : LayoutParts) (chosen : ℕ → Bool) (records used : ℕ) (kept : List (Option Last)) (xs : List ℕ) → AreOctets xs → records < 2 ^ 32
-    → blocks_read layout chosen records 8 0 xs ≡ Ok (record { kept = kept; octets = used })
-    → IsState layout chosen (record { records = records; channels = kept })
-blocks_valid layout chosen records used kept xs octets small e =
-    let all : SoundAll layout records chosen 8 0 kept = subst (AllSound layout records chosen 8 0) e (blocks-sound layout records chosen 8 0 xs octets) in
-    state-from layout chosen (record { records = records; channels = kept }) small all.many
+pub blocks_valid : (rules : Rules) (records used : ℕ) (kept : List (Option Last)) (xs : List ℕ) → AreOctets xs → records < 2 ^ 32
+    → blocks_read rules records 8 0 xs ≡ Ok (record { kept = kept; octets = used })
+    → IsLimit rules.max_packet → (master : Option ℕ) → IsCount master → IsState rules (record { records = records; master = master; channels = kept })
+blocks_valid rules records used kept xs octets small e range master octet =
+    let all : SoundAll rules records 8 0 kept = subst (AllSound rules records 8 0) e (blocks-sound rules records 8 0 xs octets) in
+    state-from rules (record { records = records; master = master; channels = kept }) range small octet all.many
     (λ c n less. none-at c n less all (some-at kept c (omega (arith, all.many))))
     (λ c last f. (all.each c (Some last) f).1)
   where
-    none-at : (c : ℕ) → chosen c ≡ false → c < 8 → SoundAll layout records chosen 8 0 kept → (x : Option Last) × (slice_get kept c ≡ Some x) → slice_get kept c ≡ Some None
+    none-at : (c : ℕ) → chooses rules c ≡ false → c < 8 → SoundAll rules records 8 0 kept → (x : Option Last) × (slice_get kept c ≡ Some x) → slice_get kept c ≡ Some None
     none-at c n less all there = by_entry there.0 there.1
       where
         by_entry : (x : Option Last) → slice_get kept c ≡ Some x → slice_get kept c ≡ Some None
         by_entry None f = f
-        by_entry (Some last) f = absurd (clash (sym (all.each c (Some last) f).0 ∙ ap chosen (plus c) ∙ n))
+        by_entry (Some last) f = absurd (clash (sym (all.each c (Some last) f).0 ∙ ap (chooses rules) (plus c) ∙ n))
           where
             plus : (m : ℕ) → 0 + m ≡ m
             plus m = omega arith

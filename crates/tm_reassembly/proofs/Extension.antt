@@ -8,9 +8,9 @@ use Rattle.tm_reassembly.specs.Readings.{Reading}
 use Rattle.tm_reassembly.specs.Chain.{Member, Run, Runs, stem_of, stem_with, chain, frames, member_of, has_gap, runs, runs_after, with_member, cut_before}
 use Rattle.tm_reassembly.specs.Valid.{AllFit, PlaceFits, PlacesFit}
 use Rattle.tm_reassembly.specs.Verdict.{Verdict, verdict, completed_at_once, Grow, GrowFrom, is_whole}
-use Rattle.tm_reassembly.specs.Parts.{text, far_end, reach, is_packet}
+use Rattle.tm_reassembly.specs.Parts.{text, far_end, reach, begins_packet}
 use Rattle.tm_reassembly.proofs.Reach.{reach-settled, reach-unsettled}
-use Rattle.tm_reassembly.proofs.Settled.{open-settled, agreement-settled, whole-settled}
+use Rattle.tm_reassembly.proofs.Settled.{open-settled, agreement-settled, long-settled, whole-settled}
 use Rattle.tm_reassembly.proofs.Split.{breaker-settled}
 use Rattle.tm_reassembly.proofs.Joining.{FitFrom}
 use Rattle.tm_reassembly.proofs.Records.{frames-fit}
@@ -133,22 +133,9 @@ run-places s c rs fits i r at =
     in_list : (rs : Runs) → Fit rs → RunsFit (rs.current ∷ rs.others)
     in_list rs h = h
 
-verdict_by : {a b c d e f : Bool} → a ≡ d → b ≡ e → c ≡ f
-    → ◌≡◌ {A = Verdict} (record { opened = a; agreed = b; completed = c }) (record { opened = d; agreed = e; completed = f })
-verdict_by p q r = rw (p, q, r)
-
-verdict-now : (start : List ℕ) (between : List Member) (m : Member) (later : List Member) → PlacesFit between → PlaceFits m.place (length m.field)
-    → verdict start between m later ≡ verdict start between m []
-verdict-now start between m later h k =
-    verdict_by
-    (ap (λ (b : Bool). is_packet start && b) (open-settled start between m later h))
-    (agreement-settled start between m later k)
-    (whole-settled start between m later)
-
-pub verdict-settled : (start : List ℕ) (between : List Member) (m : Member) (later more : List Member) → PlacesFit between → PlaceFits m.place (length m.field)
-    → verdict start between m (later ++ more) ≡ verdict start between m later
-verdict-settled start between m later more h k =
-    verdict-now start between m (later ++ more) h k ∙ sym (verdict-now start between m later h k)
+verdict_by : {a b c d e f l m : Bool} → a ≡ d → b ≡ e → l ≡ m → c ≡ f
+    → ◌≡◌ {A = Verdict} (record { opened = a; agreed = b; long = l; completed = c }) (record { opened = d; agreed = e; long = m; completed = f })
+verdict_by p q l r = rw (p, q, l, r)
 
 move_more : (before between later more : List Member) (f m : Member)
     → (before ++ f ∷ (between ++ m ∷ later)) ++ more ≡ before ++ f ∷ (between ++ m ∷ (later ++ more))
@@ -156,13 +143,52 @@ move_more before between later more f m =
     append_assoc before (f ∷ (between ++ m ∷ later)) more
     ∙ ap (λ (ms : List Member). before ++ f ∷ ms) (append_assoc between (m ∷ later) more)
 
+module _ (limit : ℕ) where
+  verdict-now : (start : List ℕ) (between : List Member) (m : Member) (later : List Member) → PlacesFit between → PlaceFits m.place (length m.field)
+      → verdict limit start between m later ≡ verdict limit start between m []
+  verdict-now start between m later h k =
+      verdict_by
+      (ap (λ (b : Bool). begins_packet limit start && b) (open-settled limit start between m later h))
+      (agreement-settled limit start between m later k)
+      (long-settled limit start between m later)
+      (whole-settled limit start between m later)
+
+  pub verdict-settled : (start : List ℕ) (between : List Member) (m : Member) (later more : List Member) → PlacesFit between → PlaceFits m.place (length m.field)
+      → verdict limit start between m (later ++ more) ≡ verdict limit start between m later
+  verdict-settled start between m later more h k =
+      verdict-now start between m (later ++ more) h k ∙ sym (verdict-now start between m later h k)
+
+  -- a packet that ends in its own frame
+  pub at-once-settled : (start : List ℕ) (later : List Member)
+      → completed_at_once limit start later ≡ (begins_packet limit start && leb (reach start) (length start))
+  at-once-settled start later =
+      ⊎_elim
+      (λ less.
+      let far : leb (far_end start later) (length start) ≡ false = lt-leb (far_end start later) (length start) (reach-unsettled start (text later) less) in
+      and_right (is_whole limit start later) _ far
+      ∙ sym (and_right (begins_packet limit start) _ (lt-leb (reach start) (length start) less)))
+      (λ whole. settled whole (reach-settled start (text later) whole))
+      (cases_lt (length start) (reach start))
+    where
+      both : (b : Bool) → ((b && true) && true) ≡ (b && true)
+      both true = refl
+      both false = refl
+
+      settled : reach start ≤ length start → far_end start later ≡ reach start
+          → completed_at_once limit start later ≡ (begins_packet limit start && leb (reach start) (length start))
+      settled whole e =
+          let len : length (start ++ text later) ≡ length start + length (text later) = length-append start (text later) in
+          let enough : leb (reach start) (length (start ++ text later)) ≡ true = le-leb _ _ (omega arith) in
+          let here : leb (reach start) (length start) ≡ true = le-leb _ _ whole in
+          rw (e, breaker-settled limit (reach start) (length start) later whole, enough, here) (both (begins_packet limit start))
+
 -- over records
 pub verdicts-stay : (s : State) (c : ℕ) (rs qs : List Reading) → AllFit rs
     → (i : ℕ) (r : Run) → slice_get (runs (chain s c rs)) i ≡ Some r
     → (before between later : List Member) (f m : Member) → r.members ≡ before ++ f ∷ (between ++ m ∷ later)
     → (q : Run) × (more : List Member) × (slice_get (runs (chain s c (rs ++ qs))) i ≡ Some q)
     × (q.members ≡ before ++ f ∷ (between ++ m ∷ (later ++ more)))
-    × ((start : List ℕ) → verdict start between m (later ++ more) ≡ verdict start between m later)
+    × ((limit : ℕ) (start : List ℕ) → verdict limit start between m (later ++ more) ≡ verdict limit start between m later)
 verdicts-stay s c rs qs fits i r at before between later f m split =
     let grown : Become r (runs (chain s c (rs ++ qs))) i =
     grown-at (runs_after None (chain s c rs)).current (runs_after None (chain s c rs)).others (runs (chain s c (rs ++ qs))) i r (runs-grow s c rs qs) at in
@@ -173,29 +199,5 @@ verdicts-stay s c rs qs fits i r at before between later f m split =
       grown.1,
       grown.2,
       grown.3 ∙ ap (λ (ms : List Member). ms ++ grown.1) split ∙ move_more before between later grown.1 f m,
-      λ start. verdict-settled start between m later grown.1 (PlacesFit-left between (m ∷ later) ahead) (PlacesFit-right between (m ∷ later) ahead).0,
+      λ limit start. verdict-settled limit start between m later grown.1 (PlacesFit-left between (m ∷ later) ahead) (PlacesFit-right between (m ∷ later) ahead).0,
     )
-
--- a packet that ends in its own frame
-pub at-once-settled : (start : List ℕ) (later : List Member)
-    → completed_at_once start later ≡ (is_packet start && leb (reach start) (length start))
-at-once-settled start later =
-    ⊎_elim
-    (λ less.
-    let far : leb (far_end start later) (length start) ≡ false = lt-leb (far_end start later) (length start) (reach-unsettled start (text later) less) in
-    and_right (is_whole start later) _ far
-    ∙ sym (and_right (is_packet start) _ (lt-leb (reach start) (length start) less)))
-    (λ whole. settled whole (reach-settled start (text later) whole))
-    (cases_lt (length start) (reach start))
-  where
-    both : (b : Bool) → ((b && true) && true) ≡ (b && true)
-    both true = refl
-    both false = refl
-
-    settled : reach start ≤ length start → far_end start later ≡ reach start
-        → completed_at_once start later ≡ (is_packet start && leb (reach start) (length start))
-    settled whole e =
-        let len : length (start ++ text later) ≡ length start + length (text later) = length-append start (text later) in
-        let enough : leb (reach start) (length (start ++ text later)) ≡ true = le-leb _ _ (omega arith) in
-        let here : leb (reach start) (length start) ≡ true = le-leb _ _ whole in
-        rw (e, breaker-settled (reach start) (length start) later whole, enough, here) (both (is_packet start))

@@ -83,6 +83,7 @@ readings-append layout a b = map-append (reading_of layout) a b
 pub record IsGood (layout : LayoutParts) (f : GoodFrame) : Type 0 where
   pub fits : IsFit (Ok f)
   pub count : f.count < 256
+  pub master : f.master_count < 256
   pub octets : AreOctets f.field
   pub most : 0 < length f.field → length f.field + 6 ≤ layout.frame_length
 
@@ -95,6 +96,7 @@ good : (layout : LayoutParts) (octets : List ℕ) → AreOctets octets → lengt
 good layout octets h long none = record {
   fits = good-fit layout octets none;
   count = part-below octets 24 32;
+  master = part-below octets 16 24;
   octets = octets_front (frame.field_length layout octets) (drop (frame.field_start octets) octets) (octets_behind (frame.field_start octets) octets h);
   most = λ some. let l = field-length layout octets in omega arith;
 }

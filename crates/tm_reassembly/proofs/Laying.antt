@@ -6,11 +6,12 @@ use Rattle.tm_reassembly.specs.declared.items.Reason.TheVariants as why
 use Rattle.tm_reassembly.specs.declared.items.Reason.{Reason}
 use Rattle.tm_reassembly.specs.State.{Tail}
 use Rattle.tm_reassembly.specs.Chain.{Member}
-use Rattle.tm_reassembly.specs.Parts.{Part, reach, agrees, is_packet, lead_part, front_of}
+use Rattle.tm_reassembly.proofs.Long.{agrees-place}
+use Rattle.tm_reassembly.specs.Parts.{Part, reach, agrees, begins_packet, reason_at, lead_part, front_of}
 use Rattle.tm_reassembly.specs.Field.{stop_of, field_parts, unfinished, parts_in, left_in, tail_at, frame_parts, frame_tail, tail_parts, tail_left, step_parts, step_tail, ended_parts, chain_parts_at, chain_tail_at}
 use Rattle.tm_reassembly.specs.Tiles.{Spot, field_spots, octets_at, BeginsAt, IsHeld}
 use Rattle.tm_reassembly.proofs.Reach.{reach-least, reach-unsettled}
-use Rattle.tm_reassembly.proofs.Split.{whole_part, version_part, field_parts-whole, field_parts-version, field_parts-unfinished, unfinished-whole, unfinished-version, unfinished-last}
+use Rattle.tm_reassembly.proofs.Split.{whole_part, unread_part, field_parts-whole, field_parts-version, field_parts-unfinished, unfinished-whole, unfinished-version, unfinished-last}
 use Rattle.tm_reassembly.proofs.Chained.{IsOpenTail, IsTail}
 use Rattle.tm_reassembly.proofs.Tiling.{take-past, front_taken}
 
@@ -65,52 +66,6 @@ begins-more : (first place : ℕ) (a b : List Spot) → BeginsAt first place a �
 begins-more first place [] b h = absurd h
 begins-more first place (x ∷ a) b h = h
 
--- the packets and the unread part of a field, and its unfinished packet
-field_lays : (number place stop skip : ℕ) (o : List ℕ) → stop ≡ place + length o
-    → Laid (drop skip (field_spots number place o)) (field_parts number stop skip o) (tail_at number stop (unfinished skip o))
-field_lays number place stop zero [] h = ([], refl, refl)
-field_lays number place stop (suc skip) [] h = ([], refl, refl)
-field_lays number place stop (suc skip) (x ∷ xs) h = field_lays number (place + 1) stop skip xs (omega arith)
-field_lays number place stop zero (x ∷ xs) h =
-    let back : place ≡ stop - suc (length xs) = omega arith in
-    let spots : List Spot = field_spots number place (x ∷ xs) in
-    let r : ℕ = reach (x ∷ xs) in
-    let some : 0 < reach (x ∷ xs) = omega (arith, reach-least (x ∷ xs)) in
-    ⊎_elim
-    (λ p.
-    ⊎_elim
-    (λ less.
-    laid_by (field_spots number place (x ∷ xs)) _ [] _ (tail_at number stop (x ∷ xs))
-    (field_parts-unfinished number stop x xs p less) (ap (tail_at number stop) (unfinished-last x xs p less))
-    (field_spots number place (x ∷ xs), refl, (octets-field number place (x ∷ xs), (refl, back))))
-    (λ whole.
-    let rest = field_lays number (place + 1) stop (pred (reach (x ∷ xs))) xs (omega arith) in
-    laid_by (field_spots number place (x ∷ xs)) _ (whole_part number (stop - suc (length xs)) (x ∷ xs) ∷ field_parts number stop (pred (reach (x ∷ xs))) xs)
-    _ (tail_at number stop (unfinished (pred (reach (x ∷ xs))) xs))
-    (field_parts-whole number stop x xs p whole) (ap (tail_at number stop) (unfinished-whole x xs p whole)) (
-      rest.0,
-      (
-        drop (pred (reach (x ∷ xs))) (field_spots number (place + 1) xs),
-        (
-          take (reach (x ∷ xs)) (field_spots number place (x ∷ xs)),
-          sym (take_next (reach (x ∷ xs)) _ (field_spots number (place + 1) xs) some),
-          ap octets_at (take-field (reach (x ∷ xs)) number place (x ∷ xs)) ∙ octets-field number place (take (reach (x ∷ xs)) (x ∷ xs)),
-          begins-take (reach (x ∷ xs)) number (stop - suc (length xs)) _ (field_spots number (place + 1) xs) some (refl, back),
-        ),
-        rest.1,
-      ),
-      rest.2,
-    ))
-    (cases_lt (suc (length xs)) (reach (x ∷ xs))))
-    (λ p.
-    laid_by (field_spots number place (x ∷ xs)) _ (version_part number (stop - suc (length xs)) (x ∷ xs) ∷ []) _ None
-    (field_parts-version number stop x xs p) (ap (tail_at number stop) (unfinished-version x xs p)) (
-      [],
-      ([], (field_spots number place (x ∷ xs), sym (append-nil (field_spots number place (x ∷ xs))), octets-field number place (x ∷ xs), (refl, back)), refl),
-      refl,
-    ))
-    (cases_Bool (is_packet (x ∷ xs)))
-
 abbrev pub spots_of : Member → List Spot
 spots_of m = field_spots m.number m.base m.field
 
@@ -119,99 +74,9 @@ lead_lays m reason [] = refl
 lead_lays m reason (x ∷ xs) =
     ([], (field_spots m.number m.base (x ∷ xs), sym (append-nil (field_spots m.number m.base (x ∷ xs))), octets-field m.number m.base (x ∷ xs), (refl, refl)), refl)
 
--- a frame past its front
-front_lays : (m : Member)
-    → (middle : List Spot) × (spots_of m ≡ field_spots m.number m.base (front_of m.place m.field) ++ middle) × Laid middle (frame_parts m) (frame_tail m)
-front_lays m =
-    elim m.place as (λ v.
-    (middle : List Spot) × (field_spots m.number m.base m.field ≡ field_spots m.number m.base (front_of v m.field) ++ middle)
-    × Laid middle (parts_in m.number (stop_of m) v m.field) (tail_at m.number (stop_of m) (left_in v m.field))) [
-      | None ↦ ([], sym (append-nil (field_spots m.number m.base m.field)), ([], refl, refl))
-      | Some place ↦ (
-        drop place (field_spots m.number m.base m.field),
-        sym (take-append-drop place (field_spots m.number m.base m.field))
-            ∙ ap (λ (s : List Spot). s ++ drop place (field_spots m.number m.base m.field)) (take-field place m.number m.base m.field),
-        field_lays m.number m.base (stop_of m) place m.field refl,
-      )
-    ]
-
-frame_lays : (m : Member) (reason : Reason)
-    → Laid (spots_of m) (lead_part m reason (front_of m.place m.field) ++ frame_parts m) (frame_tail m)
-frame_lays m reason =
-    let f = front_lays m in (
-      f.2.0,
-      subst (λ (s : List Spot). Lay s (lead_part m reason (front_of m.place m.field) ++ frame_parts m) f.2.0) (sym f.1)
-          (Lay-append _ f.0 f.2.0 (lead_part m reason (front_of m.place m.field)) (frame_parts m)
-          (Lay-more (field_spots m.number m.base (front_of m.place m.field)) [] f.0 (lead_part m reason (front_of m.place m.field)) (lead_lays m reason (front_of m.place m.field)))
-          f.2.1),
-      f.2.2,
-    )
-
--- a tail and a frame
-tail_lays : (t : Tail) (m : Member) (h : List Spot) → length t.octets ≤ reach (t.octets ++ m.field) → IsHeld (Some t) h
-    → Laid (h ++ spots_of m) (tail_parts t m (reach (t.octets ++ m.field))) (tail_left t m (reach (t.octets ++ m.field)))
-tail_lays t m h long held =
-    let d : ℕ = reach (t.octets ++ m.field) in
-    let a : ℕ = length t.octets in
-    let whole : ℕ = length (t.octets ++ m.field) in
-    let len : length (t.octets ++ m.field) ≡ length t.octets + length m.field = length-append t.octets m.field in
-    ⊎_elim
-    (λ agree.
-    ⊎_elim
-    (λ past.
-    laid_by (h ++ spots_of m) _ [] _ (Some (record { first = t.first; place = t.place; octets = t.octets ++ m.field }))
-    (cond-true (agrees d a m) _ _ agree ∙ cond-false (leb d whole) _ _ (lt-leb d whole past))
-    (cond-true (agrees d a m) _ _ agree ∙ cond-false (leb d whole) _ _ (lt-leb d whole past)) (
-      h ++ spots_of m,
-      refl,
-      (both_octets h (spots_of m) t.octets m.field held.0 (octets-field m.number m.base m.field), begins-more t.first t.place h (spots_of m) held.1),
-    ))
-    (λ within.
-    let front : take d (t.octets ++ m.field) ≡ t.octets ++ front_of m.place m.field =
-    take-past t.octets m.field d long
-    ∙ ap (λ (o : List ℕ). t.octets ++ o) (front_taken m.place d a m.field agree long (omega arith)) in
-    let f = front_lays m in
-    laid_by (h ++ spots_of m) _ _ _ (frame_tail m)
-    (cond-true (agrees d a m) _ _ agree ∙ cond-true (leb d whole) _ _ (le-leb d whole within))
-    (cond-true (agrees d a m) _ _ agree ∙ cond-true (leb d whole) _ _ (le-leb d whole within)) (
-      f.2.0,
-      (
-        f.0,
-        (
-          h ++ field_spots m.number m.base (front_of m.place m.field),
-          ap (λ (s : List Spot). h ++ s) f.1 ∙ sym (append_assoc h (field_spots m.number m.base (front_of m.place m.field)) f.0),
-          both_octets h _ t.octets (front_of m.place m.field) held.0 (octets-field m.number m.base (front_of m.place m.field)) ∙ sym front,
-          begins-more t.first t.place h _ held.1,
-        ),
-        f.2.1,
-      ),
-      f.2.2,
-    ))
-    (cases_lt whole d))
-    (λ differ.
-    let f = frame_lays m why.Pointer in
-    laid_by (h ++ spots_of m) _ _ _ (frame_tail m)
-    (cond-false (agrees d a m) _ _ differ)
-    (cond-false (agrees d a m) _ _ differ)
-    (f.0, (spots_of m, (h, refl, held.0, held.1), f.1), f.2))
-    (cases_Bool (agrees d a m))
-  where
-    both_octets : (a b : List Spot) (u v : List ℕ) → octets_at a ≡ u → octets_at b ≡ v → octets_at (a ++ b) ≡ u ++ v
-    both_octets a b u v e f = map-append (λ x. x.octet) a b ∙ rw (e, f)
-
 ended_lays : (tail : Option Tail) (reason : Reason) (number : ℕ) (h : List Spot) → IsHeld tail h → Lay h (ended_parts tail reason number) []
 ended_lays None reason number h held = held
 ended_lays (Some t) reason number h held = ([], (h, sym (append-nil h), held.0, held.1), refl)
-
-step_lays : (tail : Option Tail) (m : Member) (h : List Spot) → IsOpenTail tail → IsHeld tail h
-    → Laid (h ++ spots_of m) (step_parts tail m) (step_tail tail m)
-step_lays None m h unwhole held =
-    subst (λ (s : List Spot). Laid (s ++ spots_of m) (step_parts None m) (step_tail None m)) (sym held) (frame_lays m why.NoStart)
-step_lays (Some t) m h unwhole held = tail_lays t m h (long t.octets unwhole) held
-  where
-    long : (o : List ℕ) → IsTail o → length o ≤ reach (o ++ m.field)
-    long [] k = absurd k
-    long (x ∷ xs) k = let r : suc (length xs) < reach ((x ∷ xs) ++ m.field) = reach-unsettled (x ∷ xs) m.field k.1 in omega arith
 
 -- VCA frames are left out
 abbrev pub plain_spots : Bool → List Spot → List Spot
@@ -222,15 +87,152 @@ cut_lays : (tail : Option Tail) (reason : Reason) (number : ℕ) (h : List Spot)
 cut_lays tail reason number h held =
     ([], subst (λ (s : List Spot). Lay s (ended_parts tail reason number) []) (sym (append-nil h)) (ended_lays tail reason number h held), refl)
 
-pub chain_lays : (gap vca : Bool) (tail : Option Tail) (m : Member) (h : List Spot) → IsOpenTail tail → IsHeld tail h
-    → Laid (h ++ plain_spots vca (spots_of m)) (chain_parts_at gap vca tail m) (chain_tail_at gap vca tail m)
-chain_lays true true tail m h unwhole held = cut_lays tail why.Gap m.number h held
-chain_lays false true tail m h unwhole held = cut_lays tail why.Vca m.number h held
-chain_lays false false tail m h unwhole held = step_lays tail m h unwhole held
-chain_lays true false tail m h unwhole held =
-    let f = step_lays None m [] tt refl in (
-      f.0,
-      Lay-append (h ++ spots_of m) (spots_of m) f.0 (ended_parts tail why.Gap m.number) (step_parts None m)
-          (Lay-more h [] (spots_of m) (ended_parts tail why.Gap m.number) (ended_lays tail why.Gap m.number h held)) f.1,
-      f.2,
-    )
+module _ (limit : ℕ) where
+  -- the packets and the unread part of a field, and its unfinished packet
+  field_lays : (number place stop skip : ℕ) (o : List ℕ) → stop ≡ place + length o
+      → Laid (drop skip (field_spots number place o)) (field_parts limit number stop skip o) (tail_at number stop (unfinished limit skip o))
+  field_lays number place stop zero [] h = ([], refl, refl)
+  field_lays number place stop (suc skip) [] h = ([], refl, refl)
+  field_lays number place stop (suc skip) (x ∷ xs) h = field_lays number (place + 1) stop skip xs (omega arith)
+  field_lays number place stop zero (x ∷ xs) h =
+      let back : place ≡ stop - suc (length xs) = omega arith in
+      let spots : List Spot = field_spots number place (x ∷ xs) in
+      let r : ℕ = reach (x ∷ xs) in
+      let some : 0 < reach (x ∷ xs) = omega (arith, reach-least (x ∷ xs)) in
+      ⊎_elim
+      (λ p.
+      ⊎_elim
+      (λ less.
+      laid_by (field_spots number place (x ∷ xs)) _ [] _ (tail_at number stop (x ∷ xs))
+      (field_parts-unfinished limit number stop x xs p less) (ap (tail_at number stop) (unfinished-last limit x xs p less))
+      (field_spots number place (x ∷ xs), refl, (octets-field number place (x ∷ xs), (refl, back))))
+      (λ whole.
+      let rest = field_lays number (place + 1) stop (pred (reach (x ∷ xs))) xs (omega arith) in
+      laid_by (field_spots number place (x ∷ xs)) _ (whole_part limit number (stop - suc (length xs)) (x ∷ xs) ∷ field_parts limit number stop (pred (reach (x ∷ xs))) xs)
+      _ (tail_at number stop (unfinished limit (pred (reach (x ∷ xs))) xs))
+      (field_parts-whole limit number stop x xs p whole) (ap (tail_at number stop) (unfinished-whole limit x xs p whole)) (
+        rest.0,
+        (
+          drop (pred (reach (x ∷ xs))) (field_spots number (place + 1) xs),
+          (
+            take (reach (x ∷ xs)) (field_spots number place (x ∷ xs)),
+            sym (take_next (reach (x ∷ xs)) _ (field_spots number (place + 1) xs) some),
+            ap octets_at (take-field (reach (x ∷ xs)) number place (x ∷ xs)) ∙ octets-field number place (take (reach (x ∷ xs)) (x ∷ xs)),
+            begins-take (reach (x ∷ xs)) number (stop - suc (length xs)) _ (field_spots number (place + 1) xs) some (refl, back),
+          ),
+          rest.1,
+        ),
+        rest.2,
+      ))
+      (cases_lt (suc (length xs)) (reach (x ∷ xs))))
+      (λ p.
+      laid_by (field_spots number place (x ∷ xs)) _ (unread_part limit number (stop - suc (length xs)) (x ∷ xs) ∷ []) _ None
+      (field_parts-version limit number stop x xs p) (ap (tail_at number stop) (unfinished-version limit x xs p)) (
+        [],
+        ([], (field_spots number place (x ∷ xs), sym (append-nil (field_spots number place (x ∷ xs))), octets-field number place (x ∷ xs), (refl, back)), refl),
+        refl,
+      ))
+      (cases_Bool (begins_packet limit (x ∷ xs)))
+
+  -- a frame past its front
+  front_lays : (m : Member)
+      → (middle : List Spot) × (spots_of m ≡ field_spots m.number m.base (front_of m.place m.field) ++ middle) × Laid middle (frame_parts limit m) (frame_tail limit m)
+  front_lays m =
+      elim m.place as (λ v.
+      (middle : List Spot) × (field_spots m.number m.base m.field ≡ field_spots m.number m.base (front_of v m.field) ++ middle)
+      × Laid middle (parts_in limit m.number (stop_of m) v m.field) (tail_at m.number (stop_of m) (left_in limit v m.field))) [
+        | None ↦ ([], sym (append-nil (field_spots m.number m.base m.field)), ([], refl, refl))
+        | Some place ↦ (
+          drop place (field_spots m.number m.base m.field),
+          sym (take-append-drop place (field_spots m.number m.base m.field))
+              ∙ ap (λ (s : List Spot). s ++ drop place (field_spots m.number m.base m.field)) (take-field place m.number m.base m.field),
+          field_lays m.number m.base (stop_of m) place m.field refl,
+        )
+      ]
+
+  frame_lays : (m : Member) (reason : Reason)
+      → Laid (spots_of m) (lead_part m reason (front_of m.place m.field) ++ frame_parts limit m) (frame_tail limit m)
+  frame_lays m reason =
+      let f = front_lays m in (
+        f.2.0,
+        subst (λ (s : List Spot). Lay s (lead_part m reason (front_of m.place m.field) ++ frame_parts limit m) f.2.0) (sym f.1)
+            (Lay-append _ f.0 f.2.0 (lead_part m reason (front_of m.place m.field)) (frame_parts limit m)
+            (Lay-more (field_spots m.number m.base (front_of m.place m.field)) [] f.0 (lead_part m reason (front_of m.place m.field)) (lead_lays m reason (front_of m.place m.field)))
+            f.2.1),
+        f.2.2,
+      )
+
+  -- a tail and a frame
+  tail_lays : (t : Tail) (m : Member) (h : List Spot) → length t.octets ≤ reach (t.octets ++ m.field) → IsHeld (Some t) h
+      → Laid (h ++ spots_of m) (tail_parts limit t m (reach (t.octets ++ m.field))) (tail_left limit t m (reach (t.octets ++ m.field)))
+  tail_lays t m h long held =
+      let d : ℕ = reach (t.octets ++ m.field) in
+      let a : ℕ = length t.octets in
+      let whole : ℕ = length (t.octets ++ m.field) in
+      let len : length (t.octets ++ m.field) ≡ length t.octets + length m.field = length-append t.octets m.field in
+      ⊎_elim
+      (λ agree.
+      ⊎_elim
+      (λ past.
+      laid_by (h ++ spots_of m) _ [] _ (Some (record { first = t.first; place = t.place; octets = t.octets ++ m.field }))
+      (cond-true (agrees limit d a m) _ _ agree ∙ cond-false (leb d whole) _ _ (lt-leb d whole past))
+      (cond-true (agrees limit d a m) _ _ agree ∙ cond-false (leb d whole) _ _ (lt-leb d whole past)) (
+        h ++ spots_of m,
+        refl,
+        (both_octets h (spots_of m) t.octets m.field held.0 (octets-field m.number m.base m.field), begins-more t.first t.place h (spots_of m) held.1),
+      ))
+      (λ within.
+      let front : take d (t.octets ++ m.field) ≡ t.octets ++ front_of m.place m.field =
+      take-past t.octets m.field d long
+      ∙ ap (λ (o : List ℕ). t.octets ++ o) (front_taken m.place d a m.field (agrees-place limit d a m agree) long (omega arith)) in
+      let f = front_lays m in
+      laid_by (h ++ spots_of m) _ _ _ (frame_tail limit m)
+      (cond-true (agrees limit d a m) _ _ agree ∙ cond-true (leb d whole) _ _ (le-leb d whole within))
+      (cond-true (agrees limit d a m) _ _ agree ∙ cond-true (leb d whole) _ _ (le-leb d whole within)) (
+        f.2.0,
+        (
+          f.0,
+          (
+            h ++ field_spots m.number m.base (front_of m.place m.field),
+            ap (λ (s : List Spot). h ++ s) f.1 ∙ sym (append_assoc h (field_spots m.number m.base (front_of m.place m.field)) f.0),
+            both_octets h _ t.octets (front_of m.place m.field) held.0 (octets-field m.number m.base (front_of m.place m.field)) ∙ sym front,
+            begins-more t.first t.place h _ held.1,
+          ),
+          f.2.1,
+        ),
+        f.2.2,
+      ))
+      (cases_lt whole d))
+      (λ differ.
+      let f = frame_lays m (reason_at d a m) in
+      laid_by (h ++ spots_of m) _ _ _ (frame_tail limit m)
+      (cond-false (agrees limit d a m) _ _ differ)
+      (cond-false (agrees limit d a m) _ _ differ)
+      (f.0, (spots_of m, (h, refl, held.0, held.1), f.1), f.2))
+      (cases_Bool (agrees limit d a m))
+    where
+      both_octets : (a b : List Spot) (u v : List ℕ) → octets_at a ≡ u → octets_at b ≡ v → octets_at (a ++ b) ≡ u ++ v
+      both_octets a b u v e f = map-append (λ x. x.octet) a b ∙ rw (e, f)
+
+  step_lays : (tail : Option Tail) (m : Member) (h : List Spot) → IsOpenTail limit tail → IsHeld tail h
+      → Laid (h ++ spots_of m) (step_parts limit tail m) (step_tail limit tail m)
+  step_lays None m h unwhole held =
+      subst (λ (s : List Spot). Laid (s ++ spots_of m) (step_parts limit None m) (step_tail limit None m)) (sym held) (frame_lays m why.NoStart)
+  step_lays (Some t) m h unwhole held = tail_lays t m h (long t.octets unwhole) held
+    where
+      long : (o : List ℕ) → IsTail limit o → length o ≤ reach (o ++ m.field)
+      long [] k = absurd k
+      long (x ∷ xs) k = let r : suc (length xs) < reach ((x ∷ xs) ++ m.field) = reach-unsettled (x ∷ xs) m.field k.1 in omega arith
+
+  pub chain_lays : (gap vca : Bool) (tail : Option Tail) (m : Member) (h : List Spot) → IsOpenTail limit tail → IsHeld tail h
+      → Laid (h ++ plain_spots vca (spots_of m)) (chain_parts_at limit gap vca tail m) (chain_tail_at limit gap vca tail m)
+  chain_lays true true tail m h unwhole held = cut_lays tail why.Gap m.number h held
+  chain_lays false true tail m h unwhole held = cut_lays tail why.Vca m.number h held
+  chain_lays false false tail m h unwhole held = step_lays tail m h unwhole held
+  chain_lays true false tail m h unwhole held =
+      let f = step_lays None m [] tt refl in (
+        f.0,
+        Lay-append (h ++ spots_of m) (spots_of m) f.0 (ended_parts tail why.Gap m.number) (step_parts limit None m)
+            (Lay-more h [] (spots_of m) (ended_parts tail why.Gap m.number) (ended_lays tail why.Gap m.number h held)) f.1,
+        f.2,
+      )

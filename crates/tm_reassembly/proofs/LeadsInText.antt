@@ -4,27 +4,17 @@ use Rattle.std.specs.List.{flat_map}
 use Rattle.std.proofs.lemmas.Bool.{cases_Bool, cond-true, cond-false}
 use Rattle.tm_reassembly.specs.declared.items.Reason.TheVariants as why
 use Rattle.tm_reassembly.specs.Chain.{Member}
-use Rattle.tm_reassembly.specs.Parts.{Start, Claim, text, far_end, is_packet, agrees, open_after, starts_of, claim, claims, lead, lead_part, front_of}
-use Rattle.tm_reassembly.specs.Absolute.{reach_at, Agrees, IsOpen, IsOpenAt, Iff, IsStart, IsIn, LiesAfter}
+use Rattle.tm_reassembly.specs.Parts.{Start, Claim, text, far_end, begins_packet, agrees, agrees_at, reason_at, open_after, starts_of, claim, claims, lead, lead_part, front_of}
+use Rattle.tm_reassembly.specs.Absolute.{reach_at, IsLong, AgreesAt, Agrees, IsOpen, IsOpenAt, Iff, IsStart, IsIn, LiesAfter}
 use Rattle.tm_reassembly.proofs.OneOpen.{one-open}
-use Rattle.tm_reassembly.proofs.Places.{agreement-at, open-at}
+use Rattle.tm_reassembly.proofs.Places.{place-at, agreement-at, open-at}
+use Rattle.tm_reassembly.specs.declared.items.Reason.{Reason}
 use Rattle.tm_reassembly.proofs.Starts.{starts-there, starts-here}
 
 -- where no start claims, nothing is claimed
 no-claims : (g : Start → List Claim) (ss : List Start) → ((s : Start) → IsIn s ss → g s ≡ []) → flat_map g ss ≡ []
 no-claims g [] h = refl
 no-claims g (x ∷ ss) h = rw (h x (inl refl), no-claims g ss (λ s i. h s (inr i))) refl
-
-none-claimed : (before ahead : List Member)
-    → ((earlier between : List Member) (f : Member) (s : Start) → before ≡ earlier ++ f ∷ between → IsIn s (starts_of f) → claim between ahead s ≡ [])
-    → claims before ahead ≡ []
-none-claimed [] ahead h = refl
-none-claimed (f ∷ before) ahead h =
-    rw (
-      no-claims (claim before ahead) (starts_of f) (λ s i. h [] before f s refl i),
-      none-claimed before ahead (λ earlier between g s e i. h (f ∷ earlier) between g s (ap (λ (ms : List Member). f ∷ ms) e) i),
-    )
-    refl
 
 -- what a start claims is among the claims
 abbrev Has : Claim → List Claim → Type 0
@@ -36,22 +26,6 @@ has-start g c s (x ∷ ss) (inl p) e = ([], flat_map g ss, ap (λ (cs : List Cla
 has-start g c s (x ∷ ss) (inr i) e =
     let rest = has-start g c s ss i e in
     (g x ++ rest.0, rest.1, ap (λ (cs : List Claim). g x ++ cs) rest.2 ∙ sym (append_assoc (g x) rest.0 (c ∷ rest.1)))
-
-has-claim : (earlier between ahead : List Member) (f : Member) (s : Start) (c : Claim) → IsIn s (starts_of f) → claim between ahead s ≡ c ∷ []
-    → Has c (claims (earlier ++ f ∷ between) ahead)
-has-claim [] between ahead f s c i e =
-    let one = has-start (claim between ahead) c s (starts_of f) i e in (
-      one.0,
-      one.1 ++ claims between ahead,
-      ap (λ (cs : List Claim). cs ++ claims between ahead) one.2 ∙ append_assoc one.0 (c ∷ one.1) (claims between ahead),
-    )
-has-claim (x ∷ earlier) between ahead f s c i e =
-    let rest = has-claim earlier between ahead f s c i e in
-    let first : List Claim = flat_map (claim (earlier ++ f ∷ between) ahead) (starts_of x) in (
-      first ++ rest.0,
-      rest.1,
-      ap (λ (cs : List Claim). first ++ cs) rest.2 ∙ sym (append_assoc first rest.0 (c ∷ rest.1)),
-    )
 
 -- where there is at most one, it is that one
 only-one : (c : Claim) (a b cs : List Claim) → cs ≡ a ++ c ∷ b → length cs ≤ 1 → cs ≡ c ∷ []
@@ -68,89 +42,138 @@ text-at : (before later earlier between : List Member) (f m : Member) → before
 text-at before later earlier between f m e =
     ap (λ (ms : List Member). text (ms ++ m ∷ later)) e ∙ ap text (append_assoc earlier (f ∷ between) (m ∷ later))
 
--- no start is open
-pub lead-no_start : (before later : List Member) (m : Member) → ((q : ℕ) → IsOpenAt (text (before ++ m ∷ later)) before q → ⊥)
-    → lead (claims before (m ∷ later)) m ≡ lead_part m why.NoStart (front_of m.place m.field)
-lead-no_start before later m h = ap (λ (cs : List Claim). lead cs m) (none-claimed before (m ∷ later) none)
-  where
-    none : (earlier between : List Member) (f : Member) (s : Start) → before ≡ earlier ++ f ∷ between → IsIn s (starts_of f)
-        → claim between (m ∷ later) s ≡ []
-    none earlier between f s e i =
-        let there = starts-there earlier f (between ++ m ∷ later) s i in
-        let lies = there.1 in
-        let q : ℕ = length (text earlier) + length there.0 in
-        let same = sym (text-at before later earlier between f m e) in
-        ⊎_elim
-        (λ o.
-        absurd (h q (
-          earlier,
-          between,
-          f,
-          e,
-          subst (λ (t : List ℕ). IsStart t (length (text earlier)) (length (text earlier) + length f.field) f.place q) same there.2,
-          subst (λ (t : List ℕ). IsOpen t q (earlier ++ f ∷ []) between) same
-              ((open-at earlier f there.0 s.octets lies.0 lies.2 between (between ++ m ∷ later)).0 o),
-        )))
-        (λ o. cond-false (is_packet s.octets && open_after (far_end s.octets (between ++ m ∷ later)) (length s.octets) between) _ _ o)
-        (cases_Bool (is_packet s.octets && open_after (far_end s.octets (between ++ m ∷ later)) (length s.octets) between))
+module _ (limit : ℕ) where
+  none-claimed : (before ahead : List Member)
+      → ((earlier between : List Member) (f : Member) (s : Start) → before ≡ earlier ++ f ∷ between → IsIn s (starts_of limit f) → claim limit between ahead s ≡ [])
+      → claims limit before ahead ≡ []
+  none-claimed [] ahead h = refl
+  none-claimed (f ∷ before) ahead h =
+      rw (
+        no-claims (claim limit before ahead) (starts_of limit f) (λ s i. h [] before f s refl i),
+        none-claimed before ahead (λ earlier between g s e i. h (f ∷ earlier) between g s (ap (λ (ms : List Member). f ∷ ms) e) i),
+      )
+      refl
 
--- the claims are one, and the frame agrees with it just if it agrees with the packet that starts at q, where the frame begins at n
-abbrev IsOne : List Claim → Member → List ℕ → ℕ → ℕ → Type 0
-IsOne cs m t q n = (c : Claim) × (cs ≡ c ∷ []) × Iff (agrees c.far c.at m ≡ true) (Agrees (reach_at t q) n m)
+  has-claim : (earlier between ahead : List Member) (f : Member) (s : Start) (c : Claim) → IsIn s (starts_of limit f) → claim limit between ahead s ≡ c ∷ []
+      → Has c (claims limit (earlier ++ f ∷ between) ahead)
+  has-claim [] between ahead f s c i e =
+      let one = has-start (claim limit between ahead) c s (starts_of limit f) i e in (
+        one.0,
+        one.1 ++ claims limit between ahead,
+        ap (λ (cs : List Claim). cs ++ claims limit between ahead) one.2 ∙ append_assoc one.0 (c ∷ one.1) (claims limit between ahead),
+      )
+  has-claim (x ∷ earlier) between ahead f s c i e =
+      let rest = has-claim earlier between ahead f s c i e in
+      let first : List Claim = flat_map (claim limit (earlier ++ f ∷ between) ahead) (starts_of limit x) in (
+        first ++ rest.0,
+        rest.1,
+        ap (λ (cs : List Claim). first ++ cs) rest.2 ∙ sym (append_assoc first rest.0 (c ∷ rest.1)),
+      )
 
-one-start : (earlier between later : List Member) (f m : Member) (s : Start) (skipped : List ℕ) → IsIn s (starts_of f) → LiesAfter f s skipped
-    → IsOpen (text (earlier ++ f ∷ (between ++ m ∷ later))) (length (text earlier) + length skipped) (earlier ++ f ∷ []) between
-    → IsOne (claims (earlier ++ f ∷ between) (m ∷ later)) m (text (earlier ++ f ∷ (between ++ m ∷ later)))
-    (length (text earlier) + length skipped) (length (text ((earlier ++ f ∷ []) ++ between)))
-one-start earlier between later f m s skipped i lies opened =
-    let c : Claim = record { far = far_end s.octets (between ++ m ∷ later); at = length s.octets + length (text between) } in
-    let own : claim between (m ∷ later) s ≡ c ∷ [] =
-    cond-true (is_packet s.octets && open_after (far_end s.octets (between ++ m ∷ later)) (length s.octets) between) _ _
-    ((open-at earlier f skipped s.octets lies.0 lies.2 between (between ++ m ∷ later)).1 opened) in
-    let has = has-claim earlier between (m ∷ later) f s c i own in (
-      c,
-      only-one c has.0 has.1 (claims (earlier ++ f ∷ between) (m ∷ later)) has.2 (one-open (earlier ++ f ∷ between) (m ∷ later)),
-      agreement-at earlier f skipped s.octets lies.0 between (between ++ m ∷ later) m,
-    )
+  -- no start is open
+  pub lead-no_start : (before later : List Member) (m : Member) → ((q : ℕ) → IsOpenAt limit (text (before ++ m ∷ later)) before q → ⊥)
+      → lead limit (claims limit before (m ∷ later)) m ≡ lead_part m why.NoStart (front_of m.place m.field)
+  lead-no_start before later m h = ap (λ (cs : List Claim). lead limit cs m) (none-claimed before (m ∷ later) none)
+    where
+      none : (earlier between : List Member) (f : Member) (s : Start) → before ≡ earlier ++ f ∷ between → IsIn s (starts_of limit f)
+          → claim limit between (m ∷ later) s ≡ []
+      none earlier between f s e i =
+          let there = starts-there limit earlier f (between ++ m ∷ later) s i in
+          let lies = there.1 in
+          let q : ℕ = length (text earlier) + length there.0 in
+          let same = sym (text-at before later earlier between f m e) in
+          ⊎_elim
+          (λ o.
+          absurd (h q (
+            earlier,
+            between,
+            f,
+            e,
+            subst (λ (t : List ℕ). IsStart limit t (length (text earlier)) (length (text earlier) + length f.field) f.place q) same there.2,
+            subst (λ (t : List ℕ). IsOpen limit t q (earlier ++ f ∷ []) between) same
+                ((open-at limit earlier f there.0 s.octets lies.0 lies.2 between (between ++ m ∷ later)).0 o),
+          )))
+          (λ o. cond-false (begins_packet limit s.octets && open_after limit (far_end s.octets (between ++ m ∷ later)) (length s.octets) between) _ _ o)
+          (cases_Bool (begins_packet limit s.octets && open_after limit (far_end s.octets (between ++ m ∷ later)) (length s.octets) between))
 
-one-at : (before later : List Member) (m : Member) (q : ℕ) → IsOpenAt (text (before ++ m ∷ later)) before q
-    → IsOne (claims before (m ∷ later)) m (text (before ++ m ∷ later)) q (length (text before))
-one-at before later m q o =
-    moved o.0 o.1 o.2 o.3 o.4 o.5
-  where
-    moved : (earlier between : List Member) (f : Member) → before ≡ earlier ++ f ∷ between
-        → IsStart (text (before ++ m ∷ later)) (length (text earlier)) (length (text earlier) + length f.field) f.place q
-        → IsOpen (text (before ++ m ∷ later)) q (earlier ++ f ∷ []) between
-        → IsOne (claims before (m ∷ later)) m (text (before ++ m ∷ later)) q (length (text before))
-    moved earlier between f e start opened =
-        let ahead : List Member = m ∷ later in
-        let all : List ℕ = text (earlier ++ f ∷ (between ++ m ∷ later)) in
-        let same = text-at before later earlier between f m e in
-        let found = starts-here earlier f (between ++ m ∷ later) q
-        (subst (λ (t : List ℕ). IsStart t (length (text earlier)) (length (text earlier) + length f.field) f.place q) same start) in
-        let place : ℕ = length (text earlier) + length found.1 in
-        let one = one-start earlier between later f m found.0 found.1 found.2 found.3
-        (subst (λ (k : ℕ). IsOpen (text (earlier ++ f ∷ (between ++ m ∷ later))) k (earlier ++ f ∷ []) between) found.4
-        (subst (λ (t : List ℕ). IsOpen t q (earlier ++ f ∷ []) between) same opened)) in
-        subst (λ (t : List ℕ). IsOne (claims before ahead) m t q (length (text before))) (sym same)
-        (subst (λ (k : ℕ). IsOne (claims before ahead) m all k (length (text before))) (sym found.4)
-        (subst (λ (ms : List Member). IsOne (claims ms ahead) m all place (length (text ms))) (sym e)
-        (subst (λ (ms : List Member). IsOne (claims (earlier ++ f ∷ between) ahead) m all place (length (text ms)))
-        (append_assoc earlier (f ∷ []) between) one)))
+  -- the claims are one, and the frame agrees with it, or does so by its place, just if it agrees so with the packet that starts at q,
+  -- where the frame begins at n
+  abbrev IsOne : List Claim → Member → List ℕ → ℕ → ℕ → Type 0
+  IsOne cs m t q n =
+      (c : Claim) × (cs ≡ c ∷ []) × Iff (agrees limit c.far c.at m ≡ true) (Agrees limit t q n m)
+      × Iff (agrees_at c.far c.at (length m.field) m.place ≡ true) (AgreesAt (reach_at t q) n (length m.field) m.place)
 
--- one is, and the frame agrees with it, or doesn't
-pub lead-pointer : (before later : List Member) (m : Member) (q : ℕ) → IsOpenAt (text (before ++ m ∷ later)) before q
-    → (Agrees (reach_at (text (before ++ m ∷ later)) q) (length (text before)) m → ⊥)
-    → lead (claims before (m ∷ later)) m ≡ lead_part m why.Pointer (front_of m.place m.field)
-lead-pointer before later m q o differs =
-    let one = one-at before later m q o in
-    ap (λ (cs : List Claim). lead cs m) one.1
-    ∙ ⊎_elim (λ agree. absurd (differs (one.2.0 agree))) (λ differ. cond-false (agrees one.0.far one.0.at m) _ _ differ)
-    (cases_Bool (agrees one.0.far one.0.at m))
+  one-start : (earlier between later : List Member) (f m : Member) (s : Start) (skipped : List ℕ) → IsIn s (starts_of limit f) → LiesAfter f s skipped
+      → IsOpen limit (text (earlier ++ f ∷ (between ++ m ∷ later))) (length (text earlier) + length skipped) (earlier ++ f ∷ []) between
+      → IsOne (claims limit (earlier ++ f ∷ between) (m ∷ later)) m (text (earlier ++ f ∷ (between ++ m ∷ later)))
+      (length (text earlier) + length skipped) (length (text ((earlier ++ f ∷ []) ++ between)))
+  one-start earlier between later f m s skipped i lies opened =
+      let c : Claim = record { far = far_end s.octets (between ++ m ∷ later); at = length s.octets + length (text between) } in
+      let own : claim limit between (m ∷ later) s ≡ c ∷ [] =
+      cond-true (begins_packet limit s.octets && open_after limit (far_end s.octets (between ++ m ∷ later)) (length s.octets) between) _ _
+      ((open-at limit earlier f skipped s.octets lies.0 lies.2 between (between ++ m ∷ later)).1 opened) in
+      let has = has-claim earlier between (m ∷ later) f s c i own in (
+        c,
+        only-one c has.0 has.1 (claims limit (earlier ++ f ∷ between) (m ∷ later)) has.2 (one-open limit (earlier ++ f ∷ between) (m ∷ later)),
+        agreement-at limit earlier f skipped s.octets lies.0 between (between ++ m ∷ later) m,
+        place-at limit earlier f skipped s.octets lies.0 between (between ++ m ∷ later) m,
+      )
 
-pub lead-joined : (before later : List Member) (m : Member) (q : ℕ) → IsOpenAt (text (before ++ m ∷ later)) before q
-    → Agrees (reach_at (text (before ++ m ∷ later)) q) (length (text before)) m
-    → lead (claims before (m ∷ later)) m ≡ []
-lead-joined before later m q o agree =
-    let one = one-at before later m q o in
-    ap (λ (cs : List Claim). lead cs m) one.1 ∙ cond-true (agrees one.0.far one.0.at m) _ _ (one.2.1 agree)
+  one-at : (before later : List Member) (m : Member) (q : ℕ) → IsOpenAt limit (text (before ++ m ∷ later)) before q
+      → IsOne (claims limit before (m ∷ later)) m (text (before ++ m ∷ later)) q (length (text before))
+  one-at before later m q o =
+      moved o.0 o.1 o.2 o.3 o.4 o.5
+    where
+      moved : (earlier between : List Member) (f : Member) → before ≡ earlier ++ f ∷ between
+          → IsStart limit (text (before ++ m ∷ later)) (length (text earlier)) (length (text earlier) + length f.field) f.place q
+          → IsOpen limit (text (before ++ m ∷ later)) q (earlier ++ f ∷ []) between
+          → IsOne (claims limit before (m ∷ later)) m (text (before ++ m ∷ later)) q (length (text before))
+      moved earlier between f e start opened =
+          let ahead : List Member = m ∷ later in
+          let all : List ℕ = text (earlier ++ f ∷ (between ++ m ∷ later)) in
+          let same = text-at before later earlier between f m e in
+          let found = starts-here limit earlier f (between ++ m ∷ later) q
+          (subst (λ (t : List ℕ). IsStart limit t (length (text earlier)) (length (text earlier) + length f.field) f.place q) same start) in
+          let place : ℕ = length (text earlier) + length found.1 in
+          let one = one-start earlier between later f m found.0 found.1 found.2 found.3
+          (subst (λ (k : ℕ). IsOpen limit (text (earlier ++ f ∷ (between ++ m ∷ later))) k (earlier ++ f ∷ []) between) found.4
+          (subst (λ (t : List ℕ). IsOpen limit t q (earlier ++ f ∷ []) between) same opened)) in
+          subst (λ (t : List ℕ). IsOne (claims limit before ahead) m t q (length (text before))) (sym same)
+          (subst (λ (k : ℕ). IsOne (claims limit before ahead) m all k (length (text before))) (sym found.4)
+          (subst (λ (ms : List Member). IsOne (claims limit ms ahead) m all place (length (text ms))) (sym e)
+          (subst (λ (ms : List Member). IsOne (claims limit (earlier ++ f ∷ between) ahead) m all place (length (text ms)))
+          (append_assoc earlier (f ∷ []) between) one)))
+
+  -- one is, and the frame agrees with it, or doesn't
+  lead-differs : (before later : List Member) (m : Member) (c : Claim) (r : Reason) → claims limit before (m ∷ later) ≡ c ∷ []
+      → (agrees limit c.far c.at m ≡ true → ⊥) → reason_at c.far c.at m ≡ r
+      → lead limit (claims limit before (m ∷ later)) m ≡ lead_part m r (front_of m.place m.field)
+  lead-differs before later m c r e differs why_not =
+      ap (λ (cs : List Claim). lead limit cs m) e
+      ∙ ⊎_elim (λ agree. absurd (differs agree)) (λ differ. cond-false (agrees limit c.far c.at m) _ _ differ) (cases_Bool (agrees limit c.far c.at m))
+      ∙ ap (λ (z : Reason). lead_part m z (front_of m.place m.field)) why_not
+
+  pub lead-pointer : (before later : List Member) (m : Member) (q : ℕ) → IsOpenAt limit (text (before ++ m ∷ later)) before q
+      → (AgreesAt (reach_at (text (before ++ m ∷ later)) q) (length (text before)) (length m.field) m.place → ⊥)
+      → lead limit (claims limit before (m ∷ later)) m ≡ lead_part m why.Pointer (front_of m.place m.field)
+  lead-pointer before later m q o differs =
+      let one = one-at before later m q o in
+      lead-differs before later m one.0 why.Pointer one.1 (λ agree. differs (one.2.0 agree).0)
+      (⊎_elim (λ place. absurd (differs (one.3.0 place))) (λ place. cond-false (agrees_at one.0.far one.0.at (length m.field) m.place) _ _ place)
+      (cases_Bool (agrees_at one.0.far one.0.at (length m.field) m.place)))
+
+  pub lead-long : (before later : List Member) (m : Member) (q : ℕ) → IsOpenAt limit (text (before ++ m ∷ later)) before q
+      → AgreesAt (reach_at (text (before ++ m ∷ later)) q) (length (text before)) (length m.field) m.place
+      → IsLong limit (text (before ++ m ∷ later)) q (length (text before) + length m.field)
+      → lead limit (claims limit before (m ∷ later)) m ≡ lead_part m why.Length (front_of m.place m.field)
+  lead-long before later m q o place long =
+      let one = one-at before later m q o in
+      lead-differs before later m one.0 why.Length one.1 (λ agree. (one.2.0 agree).1 long)
+      (cond-true (agrees_at one.0.far one.0.at (length m.field) m.place) _ _ (one.3.1 place))
+
+  pub lead-joined : (before later : List Member) (m : Member) (q : ℕ) → IsOpenAt limit (text (before ++ m ∷ later)) before q
+      → Agrees limit (text (before ++ m ∷ later)) q (length (text before)) m
+      → lead limit (claims limit before (m ∷ later)) m ≡ []
+  lead-joined before later m q o agree =
+      let one = one-at before later m q o in
+      ap (λ (cs : List Claim). lead limit cs m) one.1 ∙ cond-true (agrees limit one.0.far one.0.at m) _ _ (one.2.1 agree)

@@ -1,4 +1,5 @@
 pub mod Reach
+pub mod Long
 pub mod Sweep
 pub mod Split
 pub mod Fresh
@@ -8,6 +9,7 @@ pub mod Chained
 pub mod Settled
 pub mod Seen
 pub mod Joining
+pub mod Masters
 pub mod Records
 pub mod OneStep
 pub mod Tiling
@@ -27,6 +29,7 @@ pub mod ReadField
 pub mod Tails
 pub mod PartsInText
 pub mod LeadsInText
+pub mod Slots
 pub mod OneRecord
 pub mod ChannelSets
 pub mod Blocks

@@ -8,7 +8,7 @@ use Rattle.tm_reassembly.specs.declared.items.Reason.TheVariants as why
 use Rattle.tm_reassembly.specs.declared.items.Reason.{Reason}
 use Rattle.tm_reassembly.specs.State.{Tail}
 use Rattle.tm_reassembly.specs.Chain.{Member, Run, Runs, End, Unended, Ended, runs_after, has_gap, cut_before, with_member}
-use Rattle.tm_reassembly.specs.Parts.{Part, Claim, Start, text, far_end, reach, is_packet, agrees, breaker, starts, starts_from, starts_of, fate_at, packet_part, part_from, start_part, claims, lead, lead_part, front_of, parts_from, parts}
+use Rattle.tm_reassembly.specs.Parts.{Part, Claim, Start, text, far_end, reach, begins_packet, agrees, breaker, starts, starts_from, starts_of, fate_at, packet_part, part_from, start_part, claims, lead, lead_part, reason_at, front_of, parts_from, parts}
 use Rattle.tm_reassembly.specs.Items.{held_part, chain_parts}
 use Rattle.tm_reassembly.proofs.Split.{start_at, starts-next, starts-last, starts-unfinished, start_part-whole}
 use Rattle.tm_reassembly.proofs.OneOpen.{no-starts}
@@ -16,164 +16,165 @@ use Rattle.tm_reassembly.proofs.OneOpen.{no-starts}
 abbrev tails : List Part → List Tail
 tails ps = flat_map (λ p. held_part p p.fate) ps
 
--- a start that reaches past all later frames, and each of them agrees with it
-abbrev Stays : List Member → Type 0
-Stays later = (start : List ℕ) × (breaker (far_end start later) (length start) later ≡ None) × (length start + length (text later) < far_end start later)
-
 lead_part-tails : (m : Member) (reason : Reason) (o : List ℕ) → tails (lead_part m reason o) ≡ []
 lead_part-tails m reason [] = refl
 lead_part-tails m reason (x ∷ xs) = refl
 
-lead-tails : (cs : List Claim) (m : Member) → tails (lead cs m) ≡ []
-lead-tails [] m = lead_part-tails m why.NoStart (front_of m.place m.field)
-lead-tails (c ∷ more) m =
-    cond_both (agrees c.far c.at m) [] (lead_part m why.Pointer (front_of m.place m.field)) (λ (ps : List Part). tails ps ≡ [])
-    (λ e. refl) (λ e. lead_part-tails m why.Pointer (front_of m.place m.field))
+module _ (limit : ℕ) where
+  -- a start that reaches past all later frames, and each of them agrees with it
+  abbrev Stays : List Member → Type 0
+  Stays later = (start : List ℕ) × (breaker limit (far_end start later) (length start) later ≡ None) × (length start + length (text later) < far_end start later)
 
--- the tails of a frame's starts, and of the frames after it
-split-tails : (before : List Member) (m : Member) (later : List Member) (end : End)
-    → tails (parts_from before (m ∷ later) end)
-    ≡ tails (map (start_part m later end) (starts_of m)) ++ tails (parts_from (before ++ m ∷ []) later end)
-split-tails before m later end =
-    let own : List Part = map (start_part m later end) (starts_of m) in
-    let rest : List Part = parts_from (before ++ m ∷ []) later end in
-    let first : List Part = lead (claims before (m ∷ later)) m in
-    flat_map-append (λ p. held_part p p.fate) (first ++ own) rest
-    ∙ ap (λ (ts : List Tail). ts ++ tails rest)
-    (flat_map-append (λ p. held_part p p.fate) first own ∙ ap (λ (ts : List Tail). ts ++ tails own) (lead-tails (claims before (m ∷ later)) m))
+  lead-tails : (cs : List Claim) (m : Member) → tails (lead limit cs m) ≡ []
+  lead-tails [] m = lead_part-tails m why.NoStart (front_of m.place m.field)
+  lead-tails (c ∷ more) m =
+      cond_both (agrees limit c.far c.at m) [] (lead_part m (reason_at c.far c.at m) (front_of m.place m.field)) (λ (ps : List Part). tails ps ≡ [])
+      (λ e. refl) (λ e. lead_part-tails m (reason_at c.far c.at m) (front_of m.place m.field))
 
--- after such a start no frame has a start, so nothing is held
-stays-alone : (far at : ℕ) (later : List Member) → breaker far at later ≡ None → at + length (text later) < far
-    → (before : List Member) (end : End) → tails (parts_from before later end) ≡ []
-stays-alone far at [] h past before end = refl
-stays-alone far at (m ∷ later) h past before end =
-    let len : length (m.field ++ text later) ≡ length m.field + length (text later) = length-append m.field (text later) in
-    let here : breaker far at (m ∷ later) ≡ (if agrees far at m then breaker far (at + length m.field) later else Some m) =
-    cond-true (ltb at far) _ _ (lt-ltb at far (omega arith)) in
-    ⊎_elim
-    (λ agree.
-    split-tails before m later end
-    ∙ ap (λ (ss : List Start). tails (map (start_part m later end) ss) ++ tails (parts_from (before ++ m ∷ []) later end)) (no-starts far at m agree (omega arith))
-    ∙ stays-alone far (at + length m.field) later (sym (cond-true (agrees far at m) _ _ agree) ∙ sym here ∙ h) (omega arith) (before ++ m ∷ []) end)
-    (λ differ. absurd (some_none (sym (cond-false (agrees far at m) _ _ differ) ∙ sym here ∙ h)))
-    (cases_Bool (agrees far at m))
-  where
-    some_none : ◌≡◌ {A = Option Member} (Some m) None → ⊥
-    some_none e = cc
+  -- the tails of a frame's starts, and of the frames after it
+  split-tails : (before : List Member) (m : Member) (later : List Member) (end : End)
+      → tails (parts_from limit before (m ∷ later) end)
+      ≡ tails (map (start_part limit m later end) (starts_of limit m)) ++ tails (parts_from limit (before ++ m ∷ []) later end)
+  split-tails before m later end =
+      let own : List Part = map (start_part limit m later end) (starts_of limit m) in
+      let rest : List Part = parts_from limit (before ++ m ∷ []) later end in
+      let first : List Part = lead limit (claims limit before (m ∷ later)) m in
+      flat_map-append (λ p. held_part p p.fate) (first ++ own) rest
+      ∙ ap (λ (ts : List Tail). ts ++ tails rest)
+      (flat_map-append (λ p. held_part p p.fate) first own ∙ ap (λ (ts : List Tail). ts ++ tails own) (lead-tails (claims limit before (m ∷ later)) m))
 
--- no tail, or one, of a start that stays
-abbrev OneTail : List Tail → List Member → End → Type 0
-OneTail ts later end = (ts ≡ []) ⊎ ((length ts ≡ 1) × (end ≡ Unended) × Stays later)
-
-one-part : (first place : ℕ) (later : List Member) (end : End) (start : List ℕ) → OneTail (tails (part_from first place later end start ∷ [])) later end
-one-part first place later end start =
-    cond_both (is_packet start) _ _ (λ (p : Part). OneTail (tails (p ∷ [])) later end)
-    (λ v. broken (breaker (far_end start later) (length start) later) refl)
-    (λ v. inl refl)
-  where
-    by_end : (e : End) → Stays later
-        → OneTail (tails (record { first = first; place = place; octets = start ++ text later; fate = fate_at e } ∷ [])) later e
-    by_end Unended s = inr (refl, refl, s)
-    by_end (Ended reason seen) s = inl refl
-
-    broken : (b : Option Member) → breaker (far_end start later) (length start) later ≡ b
-        → OneTail (tails (packet_part first place later end start (far_end start later) b ∷ [])) later end
-    broken (Some m) e = inl refl
-    broken None e =
-        cond_both (leb (far_end start later) (length (start ++ text later))) _ _ (λ (p : Part). OneTail (tails (p ∷ [])) later end)
-        (λ v. inl refl)
-        (λ v.
-        let past = leb-false (far_end start later) (length (start ++ text later)) v in
-        let len : length (start ++ text later) ≡ length start + length (text later) = length-append start (text later) in
-        by_end end (start, e, omega arith))
-
-module _ (m : Member) (later : List Member) (end : End) where
-  -- a frame's starts leave no tail, or its last one does
-  starts-tails : (at skip : ℕ) (o : List ℕ) → OneTail (tails (map (start_part m later end) (starts at skip o))) later end
-  starts-tails at skip [] = inl refl
-  starts-tails at (suc skip) (x ∷ xs) = starts-tails (at + 1) skip xs
-  starts-tails at zero (x ∷ xs) =
+  -- after such a start no frame has a start, so nothing is held
+  stays-alone : (far at : ℕ) (later : List Member) → breaker limit far at later ≡ None → at + length (text later) < far
+      → (before : List Member) (end : End) → tails (parts_from limit before later end) ≡ []
+  stays-alone far at [] h past before end = refl
+  stays-alone far at (m ∷ later) h past before end =
+      let len : length (m.field ++ text later) ≡ length m.field + length (text later) = length-append m.field (text later) in
+      let here : breaker limit far at (m ∷ later) ≡ (if agrees limit far at m then breaker limit far (at + length m.field) later else Some m) =
+      cond-true (ltb at far) _ _ (lt-ltb at far (omega arith)) in
       ⊎_elim
-      (λ p.
-      ⊎_elim
-      (λ less. alone (starts-unfinished at x xs p less))
-      (λ whole.
-      subst (λ (ss : List Start). OneTail (tails (map (start_part m later end) ss)) later end) (sym (starts-next at x xs p))
-      (subst (λ (q : Part). OneTail (tails (q ∷ map (start_part m later end) (starts (at + 1) (pred (reach (x ∷ xs))) xs))) later end)
-      (sym (start_part-whole m later end at (x ∷ xs) p whole))
-      (starts-tails (at + 1) (pred (reach (x ∷ xs))) xs)))
-      (cases_lt (suc (length xs)) (reach (x ∷ xs))))
-      (λ p. alone (starts-last at x xs p))
-      (cases_Bool (is_packet (x ∷ xs)))
+      (λ agree.
+      split-tails before m later end
+      ∙ ap (λ (ss : List Start). tails (map (start_part limit m later end) ss) ++ tails (parts_from limit (before ++ m ∷ []) later end)) (no-starts limit far at m agree (omega arith))
+      ∙ stays-alone far (at + length m.field) later (sym (cond-true (agrees limit far at m) _ _ agree) ∙ sym here ∙ h) (omega arith) (before ++ m ∷ []) end)
+      (λ differ. absurd (some_none (sym (cond-false (agrees limit far at m) _ _ differ) ∙ sym here ∙ h)))
+      (cases_Bool (agrees limit far at m))
     where
-      alone : starts at 0 (x ∷ xs) ≡ start_at at (x ∷ xs) ∷ [] → OneTail (tails (map (start_part m later end) (starts at 0 (x ∷ xs)))) later end
-      alone e =
-          subst (λ (ss : List Start). OneTail (tails (map (start_part m later end) ss)) later end) (sym e) (one-part m.number at later end (x ∷ xs))
+      some_none : ◌≡◌ {A = Option Member} (Some m) None → ⊥
+      some_none e = cc
 
-  own-tails : OneTail (tails (map (start_part m later end) (starts_of m))) later end
-  own-tails =
-      elim m.place as (λ v. OneTail (tails (map (start_part m later end) (starts_from m.base v m.field))) later end)
-      [ None ↦ inl refl | Some place ↦ starts-tails m.base place m.field ]
+  -- no tail, or one, of a start that stays
+  abbrev OneTail : List Tail → List Member → End → Type 0
+  OneTail ts later end = (ts ≡ []) ⊎ ((length ts ≡ 1) × (end ≡ Unended) × Stays later)
 
--- a run holds at most one
-run-tails : (before ms : List Member) (end : End) → length (tails (parts_from before ms end)) ≤ 1
-run-tails before [] end = omega arith
-run-tails before (m ∷ later) end =
-    let own : List Tail = tails (map (start_part m later end) (starts_of m)) in
-    let rest : List Tail = tails (parts_from (before ++ m ∷ []) later end) in
-    subst (λ (ts : List Tail). length ts ≤ 1) (sym (split-tails before m later end))
-    (⊎_elim
-    (λ none. subst (λ (ts : List Tail). length (ts ++ rest) ≤ 1) (sym none) (run-tails (before ++ m ∷ []) later end))
-    (λ one.
-    let s = one.2 in
-    let nothing : rest ≡ [] = stays-alone (far_end s.0 later) (length s.0) later s.1 s.2 (before ++ m ∷ []) end in
-    subst (λ (ts : List Tail). length (own ++ ts) ≤ 1) (sym nothing)
-    (let same : length (own ++ []) ≡ length own = ap (λ (ts : List Tail). length ts) (append-nil own) in let l : length own ≡ 1 = one.0 in omega arith))
-    (own-tails m later end))
+  one-part : (first place : ℕ) (later : List Member) (end : End) (start : List ℕ) → OneTail (tails (part_from limit first place later end start ∷ [])) later end
+  one-part first place later end start =
+      cond_both (begins_packet limit start) _ _ (λ (p : Part). OneTail (tails (p ∷ [])) later end)
+      (λ v. broken (breaker limit (far_end start later) (length start) later) refl)
+      (λ v. inl refl)
+    where
+      by_end : (e : End) → Stays later
+          → OneTail (tails (record { first = first; place = place; octets = start ++ text later; fate = fate_at e } ∷ [])) later e
+      by_end Unended s = inr (refl, refl, s)
+      by_end (Ended reason seen) s = inl refl
 
--- and none, if it is ended
-ended-tails : (before ms : List Member) (reason : Reason) (seen : ℕ) → tails (parts_from before ms (Ended reason seen)) ≡ []
-ended-tails before [] reason seen = refl
-ended-tails before (m ∷ later) reason seen =
-    split-tails before m later (Ended reason seen)
-    ∙ ap (λ (ts : List Tail). ts ++ tails (parts_from (before ++ m ∷ []) later (Ended reason seen)))
-    (⊎_elim (λ none. none) (λ one. absurd (not_ended one.1)) (own-tails m later (Ended reason seen)))
-    ∙ ended-tails (before ++ m ∷ []) later reason seen
-  where
-    not_ended : ◌≡◌ {A = End} (Ended reason seen) Unended → ⊥
-    not_ended e = cc
+      broken : (b : Option Member) → breaker limit (far_end start later) (length start) later ≡ b
+          → OneTail (tails (packet_part limit first place later end start (far_end start later) b ∷ [])) later end
+      broken (Some m) e = inl refl
+      broken None e =
+          cond_both (leb (far_end start later) (length (start ++ text later))) _ _ (λ (p : Part). OneTail (tails (p ∷ [])) later end)
+          (λ v. inl refl)
+          (λ v.
+          let past = leb-false (far_end start later) (length (start ++ text later)) v in
+          let len : length (start ++ text later) ≡ length start + length (text later) = length-append start (text later) in
+          by_end end (start, e, omega arith))
 
--- a run that isn't ended is the last one, and the others hold at most one
-abbrev IsLast : Runs → Type 0
-IsLast rs = (length (tails (flat_map parts rs.others)) ≤ 1) × (rs.current.end ≡ Unended → rs.others ≡ [])
+  module _ (m : Member) (later : List Member) (end : End) where
+    -- a frame's starts leave no tail, or its last one does
+    starts-tails : (at skip : ℕ) (o : List ℕ) → OneTail (tails (map (start_part limit m later end) (starts limit at skip o))) later end
+    starts-tails at skip [] = inl refl
+    starts-tails at (suc skip) (x ∷ xs) = starts-tails (at + 1) skip xs
+    starts-tails at zero (x ∷ xs) =
+        ⊎_elim
+        (λ p.
+        ⊎_elim
+        (λ less. alone (starts-unfinished limit at x xs p less))
+        (λ whole.
+        subst (λ (ss : List Start). OneTail (tails (map (start_part limit m later end) ss)) later end) (sym (starts-next limit at x xs p))
+        (subst (λ (q : Part). OneTail (tails (q ∷ map (start_part limit m later end) (starts limit (at + 1) (pred (reach (x ∷ xs))) xs))) later end)
+        (sym (start_part-whole limit m later end at (x ∷ xs) p whole))
+        (starts-tails (at + 1) (pred (reach (x ∷ xs))) xs)))
+        (cases_lt (suc (length xs)) (reach (x ∷ xs))))
+        (λ p. alone (starts-last limit at x xs p))
+        (cases_Bool (begins_packet limit (x ∷ xs)))
+      where
+        alone : starts limit at 0 (x ∷ xs) ≡ start_at limit at (x ∷ xs) ∷ [] → OneTail (tails (map (start_part limit m later end) (starts limit at 0 (x ∷ xs)))) later end
+        alone e =
+            subst (λ (ss : List Start). OneTail (tails (map (start_part limit m later end) ss)) later end) (sym e) (one-part m.number at later end (x ∷ xs))
 
-runs-tails : (members : List Member) (end : End) (others : List Run) → length (tails (flat_map parts others)) ≤ 1 → (end ≡ Unended → others ≡ [])
-    → length (tails (flat_map parts (record { members = members; end = end } ∷ others))) ≤ 1
-runs-tails members Unended others h last =
-    subst (λ (rs : List Run). length (tails (flat_map parts (record { members = members; end = Unended } ∷ rs))) ≤ 1) (sym (last refl))
-    (subst (λ (ps : List Part). length (tails ps) ≤ 1) (sym (append-nil (parts_from [] members Unended))) (run-tails [] members Unended))
-runs-tails members (Ended reason seen) others h last =
-    subst (λ (ts : List Tail). length ts ≤ 1)
-    (sym
-    (flat_map-append (λ p. held_part p p.fate) (parts_from [] members (Ended reason seen)) (flat_map parts others)
-    ∙ ap (λ (ts : List Tail). ts ++ tails (flat_map parts others)) (ended-tails [] members reason seen)))
-    h
+    own-tails : OneTail (tails (map (start_part limit m later end) (starts_of limit m))) later end
+    own-tails =
+        elim m.place as (λ v. OneTail (tails (map (start_part limit m later end) (starts_from limit m.base v m.field))) later end)
+        [ None ↦ inl refl | Some place ↦ starts-tails m.base place m.field ]
 
-cut-last : (gap vca : Bool) (m : Member) (rest : Runs) → IsLast rest → IsLast (cut_before gap m (with_member vca m rest))
-cut-last true true m rest h = (
-  runs-tails [] (Ended why.Vca m.number) (rest.current ∷ rest.others) (runs-tails rest.current.members rest.current.end rest.others h.0 h.1) (λ e. cc),
-  λ e. cc,
-)
-cut-last true false m rest h = (runs-tails (m ∷ rest.current.members) rest.current.end rest.others h.0 h.1, λ e. cc)
-cut-last false true m rest h = (runs-tails rest.current.members rest.current.end rest.others h.0 h.1, λ e. cc)
-cut-last false false m rest h = h
+  -- a run holds at most one
+  run-tails : (before ms : List Member) (end : End) → length (tails (parts_from limit before ms end)) ≤ 1
+  run-tails before [] end = omega arith
+  run-tails before (m ∷ later) end =
+      let own : List Tail = tails (map (start_part limit m later end) (starts_of limit m)) in
+      let rest : List Tail = tails (parts_from limit (before ++ m ∷ []) later end) in
+      subst (λ (ts : List Tail). length ts ≤ 1) (sym (split-tails before m later end))
+      (⊎_elim
+      (λ none. subst (λ (ts : List Tail). length (ts ++ rest) ≤ 1) (sym none) (run-tails (before ++ m ∷ []) later end))
+      (λ one.
+      let s = one.2 in
+      let nothing : rest ≡ [] = stays-alone (far_end s.0 later) (length s.0) later s.1 s.2 (before ++ m ∷ []) end in
+      subst (λ (ts : List Tail). length (own ++ ts) ≤ 1) (sym nothing)
+      (let same : length (own ++ []) ≡ length own = ap (λ (ts : List Tail). length ts) (append-nil own) in let l : length own ≡ 1 = one.0 in omega arith))
+      (own-tails m later end))
 
-all-last : (before : Option ℕ) (ms : List Member) → IsLast (runs_after before ms)
-all-last before [] = (omega arith, λ e. refl)
-all-last before (m ∷ ms) = cut-last (has_gap before m) m.is_vca m (runs_after (Some m.count) ms) (all-last (Some m.count) ms)
+  -- and none, if it is ended
+  ended-tails : (before ms : List Member) (reason : Reason) (seen : ℕ) → tails (parts_from limit before ms (Ended reason seen)) ≡ []
+  ended-tails before [] reason seen = refl
+  ended-tails before (m ∷ later) reason seen =
+      split-tails before m later (Ended reason seen)
+      ∙ ap (λ (ts : List Tail). ts ++ tails (parts_from limit (before ++ m ∷ []) later (Ended reason seen)))
+      (⊎_elim (λ none. none) (λ one. absurd (not_ended one.1)) (own-tails m later (Ended reason seen)))
+      ∙ ended-tails (before ++ m ∷ []) later reason seen
+    where
+      not_ended : ◌≡◌ {A = End} (Ended reason seen) Unended → ⊥
+      not_ended e = cc
 
-pub one-held : (ms : List Member) → length (flat_map (λ p. held_part p p.fate) (chain_parts ms)) ≤ 1
-one-held ms =
-    let rs = runs_after None ms in
-    let last = all-last None ms in
-    runs-tails rs.current.members rs.current.end rs.others last.0 last.1
+  -- a run that isn't ended is the last one, and the others hold at most one
+  abbrev IsLast : Runs → Type 0
+  IsLast rs = (length (tails (flat_map (parts limit) rs.others)) ≤ 1) × (rs.current.end ≡ Unended → rs.others ≡ [])
+
+  runs-tails : (members : List Member) (end : End) (others : List Run) → length (tails (flat_map (parts limit) others)) ≤ 1 → (end ≡ Unended → others ≡ [])
+      → length (tails (flat_map (parts limit) (record { members = members; end = end } ∷ others))) ≤ 1
+  runs-tails members Unended others h last =
+      subst (λ (rs : List Run). length (tails (flat_map (parts limit) (record { members = members; end = Unended } ∷ rs))) ≤ 1) (sym (last refl))
+      (subst (λ (ps : List Part). length (tails ps) ≤ 1) (sym (append-nil (parts_from limit [] members Unended))) (run-tails [] members Unended))
+  runs-tails members (Ended reason seen) others h last =
+      subst (λ (ts : List Tail). length ts ≤ 1)
+      (sym
+      (flat_map-append (λ p. held_part p p.fate) (parts_from limit [] members (Ended reason seen)) (flat_map (parts limit) others)
+      ∙ ap (λ (ts : List Tail). ts ++ tails (flat_map (parts limit) others)) (ended-tails [] members reason seen)))
+      h
+
+  cut-last : (gap vca : Bool) (m : Member) (rest : Runs) → IsLast rest → IsLast (cut_before gap m (with_member vca m rest))
+  cut-last true true m rest h = (
+    runs-tails [] (Ended why.Vca m.number) (rest.current ∷ rest.others) (runs-tails rest.current.members rest.current.end rest.others h.0 h.1) (λ e. cc),
+    λ e. cc,
+  )
+  cut-last true false m rest h = (runs-tails (m ∷ rest.current.members) rest.current.end rest.others h.0 h.1, λ e. cc)
+  cut-last false true m rest h = (runs-tails rest.current.members rest.current.end rest.others h.0 h.1, λ e. cc)
+  cut-last false false m rest h = h
+
+  all-last : (before : Option ℕ) (ms : List Member) → IsLast (runs_after before ms)
+  all-last before [] = (omega arith, λ e. refl)
+  all-last before (m ∷ ms) = cut-last (has_gap before m) m.is_vca m (runs_after (Some m.count) ms) (all-last (Some m.count) ms)
+
+  pub one-held : (ms : List Member) → length (flat_map (λ p. held_part p p.fate) (chain_parts limit ms)) ≤ 1
+  one-held ms =
+      let rs = runs_after None ms in
+      let last = all-last None ms in
+      runs-tails rs.current.members rs.current.end rs.others last.0 last.1

@@ -4,84 +4,83 @@ use Rattle.std.specs.List.{flat_map}
 use Rattle.std.proofs.lemmas.List.{append-nil}
 use Rattle.std.proofs.lemmas.Bool.{cases_Bool, cond-true, cond-false, ltb-true, eqb-true}
 use Rattle.tm_reassembly.specs.Chain.{Member}
-use Rattle.tm_reassembly.specs.Parts.{Claim, Start, text, far_end, is_packet, open_after, agrees, agrees_at, claim, claims, starts_from, starts_of}
+use Rattle.tm_reassembly.specs.Parts.{Claim, Start, text, far_end, begins_packet, open_after, agrees, agrees_at, claim, claims, starts_from, starts_of}
 use Rattle.tm_reassembly.specs.Field.{stop_of, unfinished}
+pub use Rattle.tm_reassembly.proofs.Long.{and_both}
+use Rattle.tm_reassembly.proofs.Long.{agrees-place}
 use Rattle.tm_reassembly.proofs.Sweep.{step, own_claims, claims-push}
 use Rattle.tm_reassembly.proofs.Split.{start_at, last_start, starts-past, starts-unfinished}
 use Rattle.tm_reassembly.proofs.Fresh.{OpenTail, unfinished-open, claims_split}
 
-pub and_both : (a b : Bool) → (a && b) ≡ true → (a ≡ true) × (b ≡ true)
-and_both true b h = (refl, h)
-and_both false b h = absurd (cc)
+module _ (limit : ℕ) where
+  at-most : (b : Bool) (c : Claim) → length (if b then c ∷ [] else []) ≤ 1
+  at-most true c = omega arith
+  at-most false c = omega arith
 
-at-most : (b : Bool) (c : Claim) → length (if b then c ∷ [] else []) ≤ 1
-at-most true c = omega arith
-at-most false c = omega arith
+  claim-one : (between ahead : List Member) (start : Start) → length (claim limit between ahead start) ≤ 1
+  claim-one between ahead start =
+      at-most (begins_packet limit start.octets && open_after limit (far_end start.octets (between ++ ahead)) (length start.octets) between)
+      (record { far = far_end start.octets (between ++ ahead); at = length start.octets + length (text between) })
 
-claim-one : (between ahead : List Member) (start : Start) → length (claim between ahead start) ≤ 1
-claim-one between ahead start =
-    at-most (is_packet start.octets && open_after (far_end start.octets (between ++ ahead)) (length start.octets) between)
-    (record { far = far_end start.octets (between ++ ahead); at = length start.octets + length (text between) })
+  last-one : (later : List Member) (stop : ℕ) (u : List ℕ) → OpenTail limit u → length (flat_map (claim limit [] later) (last_start limit stop u)) ≤ 1
+  last-one later stop [] h = omega arith
+  last-one later stop (x ∷ xs) h =
+      subst (λ (cs : List Claim). length cs ≤ 1)
+      (sym (ap (flat_map (claim limit [] later)) (starts-unfinished limit (stop - suc (length xs)) x xs h.0 h.1) ∙ append-nil (claim limit [] later (start_at limit (stop - suc (length xs)) (x ∷ xs)))))
+      (claim-one [] later (start_at limit (stop - suc (length xs)) (x ∷ xs)))
 
-last-one : (later : List Member) (stop : ℕ) (u : List ℕ) → OpenTail u → length (flat_map (claim [] later) (last_start stop u)) ≤ 1
-last-one later stop [] h = omega arith
-last-one later stop (x ∷ xs) h =
-    subst (λ (cs : List Claim). length cs ≤ 1)
-    (sym (ap (flat_map (claim [] later)) (starts-unfinished (stop - suc (length xs)) x xs h.0 h.1) ∙ append-nil (claim [] later (start_at (stop - suc (length xs)) (x ∷ xs)))))
-    (claim-one [] later (start_at (stop - suc (length xs)) (x ∷ xs)))
+  -- of its own starts a frame leaves at most one open
+  own-one : (m : Member) (later : List Member) → length (own_claims limit m later) ≤ 1
+  own-one m later =
+      elim m.place as (λ v. length (flat_map (claim limit [] later) (starts_from limit m.base v m.field)) ≤ 1) [
+        | None ↦ omega arith
+        | Some place ↦ subst (λ (cs : List Claim). length cs ≤ 1) (sym (claims_split limit later (stop_of m) m.base place m.field refl))
+            (last-one later (stop_of m) (unfinished limit place m.field) (unfinished-open limit place m.field))
+      ]
 
--- of its own starts a frame leaves at most one open
-own-one : (m : Member) (later : List Member) → length (own_claims m later) ≤ 1
-own-one m later =
-    elim m.place as (λ v. length (flat_map (claim [] later) (starts_from m.base v m.field)) ≤ 1) [
-      | None ↦ omega arith
-      | Some place ↦ subst (λ (cs : List Claim). length cs ≤ 1) (sym (claims_split later (stop_of m) m.base place m.field refl))
-          (last-one later (stop_of m) (unfinished place m.field) (unfinished-open place m.field))
-    ]
+  -- a frame that agrees with a start that reaches past it has no starts: it has no place, or one that isn't inside its field
+  pub no-starts : (far at : ℕ) (m : Member) → agrees limit far at m ≡ true → at + length m.field < far → starts_of limit m ≡ []
+  no-starts far at m agree past = by_place m.place (agrees-place limit far at m agree)
+    where
+      by_place : (v : Option ℕ) → agrees_at far at (length m.field) v ≡ true → starts_from limit m.base v m.field ≡ []
+      by_place None e = refl
+      by_place (Some place) e =
+          let same : far ≡ at + place = eqb-true far (at + place) e in
+          starts-past limit m.base place m.field (omega arith)
 
--- a frame that agrees with a start that reaches past it has no starts: it has no place, or one that isn't inside its field
-pub no-starts : (far at : ℕ) (m : Member) → agrees far at m ≡ true → at + length m.field < far → starts_of m ≡ []
-no-starts far at m agree past = by_place m.place agree
-  where
-    by_place : (v : Option ℕ) → agrees_at far at (length m.field) v ≡ true → starts_from m.base v m.field ≡ []
-    by_place None e = refl
-    by_place (Some place) e =
-        let same : far ≡ at + place = eqb-true far (at + place) e in
-        starts-past m.base place m.field (omega arith)
+  -- and where an earlier start stays open past it, none
+  step-one : (m : Member) (later : List Member) (c : Claim)
+      → (step limit m c ≡ []) ⊎ ((length (step limit m c) ≡ 1) × (own_claims limit m later ≡ []))
+  step-one m later c =
+      ⊎_elim
+      (λ e.
+      let both = and_both (agrees limit c.far c.at m) (ltb (c.at + length m.field) c.far) e in
+      inr (
+        ap (λ (cs : List Claim). length cs) (cond-true (agrees limit c.far c.at m && ltb (c.at + length m.field) c.far) _ _ e),
+        ap (flat_map (claim limit [] later)) (no-starts c.far c.at m both.0 (ltb-true (c.at + length m.field) c.far both.1)),
+      ))
+      (λ e. inl (cond-false (agrees limit c.far c.at m && ltb (c.at + length m.field) c.far) _ _ e))
+      (cases_Bool (agrees limit c.far c.at m && ltb (c.at + length m.field) c.far))
 
--- and where an earlier start stays open past it, none
-step-one : (m : Member) (later : List Member) (c : Claim)
-    → (step m c ≡ []) ⊎ ((length (step m c) ≡ 1) × (own_claims m later ≡ []))
-step-one m later c =
-    ⊎_elim
-    (λ e.
-    let both = and_both (agrees c.far c.at m) (ltb (c.at + length m.field) c.far) e in
-    inr (
-      ap (λ (cs : List Claim). length cs) (cond-true (agrees c.far c.at m && ltb (c.at + length m.field) c.far) _ _ e),
-      ap (flat_map (claim [] later)) (no-starts c.far c.at m both.0 (ltb-true (c.at + length m.field) c.far both.1)),
-    ))
-    (λ e. inl (cond-false (agrees c.far c.at m && ltb (c.at + length m.field) c.far) _ _ e))
-    (cases_Bool (agrees c.far c.at m && ltb (c.at + length m.field) c.far))
+  step-all : (m : Member) (later : List Member) (cs : List Claim) → length cs ≤ 1 → length (flat_map (step limit m) cs ++ own_claims limit m later) ≤ 1
+  step-all m later [] h = own-one m later
+  step-all m later (c ∷ d ∷ cs) h = absurd (omega arith)
+  step-all m later (c ∷ []) h =
+      ⊎_elim
+      (λ e. subst (λ (s : List Claim). length ((s ++ []) ++ own_claims limit m later) ≤ 1) (sym e) (own-one m later))
+      (λ both.
+      subst (λ (o : List Claim). length ((step limit m c ++ []) ++ o) ≤ 1) (sym both.1)
+      (let len : length ((step limit m c ++ []) ++ []) ≡ length (step limit m c) = ap (λ (s : List Claim). length s) (append-nil (step limit m c ++ []) ∙ append-nil (step limit m c)) in
+      let one = both.0 in omega arith))
+      (step-one m later c)
 
-step-all : (m : Member) (later : List Member) (cs : List Claim) → length cs ≤ 1 → length (flat_map (step m) cs ++ own_claims m later) ≤ 1
-step-all m later [] h = own-one m later
-step-all m later (c ∷ d ∷ cs) h = absurd (omega arith)
-step-all m later (c ∷ []) h =
-    ⊎_elim
-    (λ e. subst (λ (s : List Claim). length ((s ++ []) ++ own_claims m later) ≤ 1) (sym e) (own-one m later))
-    (λ both.
-    subst (λ (o : List Claim). length ((step m c ++ []) ++ o) ≤ 1) (sym both.1)
-    (let len : length ((step m c ++ []) ++ []) ≡ length (step m c) = ap (λ (s : List Claim). length s) (append-nil (step m c ++ []) ∙ append-nil (step m c)) in
-    let one = both.0 in omega arith))
-    (step-one m later c)
+  one-more : (ms before later : List Member) → length (claims limit before (ms ++ later)) ≤ 1 → length (claims limit (before ++ ms) later) ≤ 1
+  one-more [] before later h = subst (λ (b : List Member). length (claims limit b later) ≤ 1) (sym (append-nil before)) h
+  one-more (m ∷ ms) before later h =
+      subst (λ (b : List Member). length (claims limit b later) ≤ 1) (append_assoc before (m ∷ []) ms)
+      (one-more ms (before ++ m ∷ []) later
+      (subst (λ (cs : List Claim). length cs ≤ 1) (sym (claims-push limit before (ms ++ later) m))
+      (step-all m (ms ++ later) (claims limit before (m ∷ (ms ++ later))) h)))
 
-one-more : (ms before later : List Member) → length (claims before (ms ++ later)) ≤ 1 → length (claims (before ++ ms) later) ≤ 1
-one-more [] before later h = subst (λ (b : List Member). length (claims b later) ≤ 1) (sym (append-nil before)) h
-one-more (m ∷ ms) before later h =
-    subst (λ (b : List Member). length (claims b later) ≤ 1) (append_assoc before (m ∷ []) ms)
-    (one-more ms (before ++ m ∷ []) later
-    (subst (λ (cs : List Claim). length cs ≤ 1) (sym (claims-push before (ms ++ later) m))
-    (step-all m (ms ++ later) (claims before (m ∷ (ms ++ later))) h)))
-
-pub one-open : (before ahead : List Member) → length (claims before ahead) ≤ 1
-one-open before ahead = one-more before [] ahead (omega arith)
+  pub one-open : (before ahead : List Member) → length (claims limit before ahead) ≤ 1
+  one-open before ahead = one-more before [] ahead (omega arith)

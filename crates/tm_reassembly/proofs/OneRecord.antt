@@ -1,22 +1,26 @@
 -- One raw record: its items, and the state after it, by what is kept of its channel.
-use Rattle.std.proofs.Common.{◌≡◌, ℕ, suc, zero, ◌+◌, ◌<◌, Ok, Err, Bool, true, false, Option, Some, None, List, [], ◌∷◌, length, set, refl, sym, ap, subst, ◌∙◌, inl, arith}
+use Rattle.std.proofs.Common.{◌≡◌, ℕ, suc, zero, ◌+◌, ◌<◌, Ok, Err, true, false, Option, Some, None, List, [], ◌∷◌, ◌++◌, length, set, refl, sym, ap, subst, ◌∙◌, inl, ⊎_elim, arith}
 use Rattle.std.specs.Prelude.{slice_index_or, slice_set}
 use Rattle.std.specs.List.{slice_get}
-use Rattle.tm_frame.specs.declared.layout.LayoutParts.{LayoutParts}
+use Rattle.std.proofs.lemmas.Bool.{cases_Bool}
+use Rattle.std.proofs.lemmas.List.{append-nil}
+use Rattle.tm_reassembly.specs.Rules.{Rules, chooses}
+use Rattle.tm_reassembly.specs.Items.{master_gap_item, gap_at}
 use Rattle.tm_frame.specs.declared.fault.FrameFault.{FrameFault}
 use Rattle.tm_frame.specs.Fault.{reading_of}
 use Rattle.tm_frame.specs.Frame.{GoodFrame}
 use Rattle.tm_reassembly.specs.State.{State, Last, Tail}
 use Rattle.tm_reassembly.specs.Readings.{Reading}
 use Rattle.tm_reassembly.specs.Item.{Item, Bad}
-use Rattle.tm_reassembly.specs.Chain.{member, has_gap}
+use Rattle.tm_reassembly.specs.Chain.{member, has_gap, master_member}
 use Rattle.tm_reassembly.specs.Field.{chain_tail_at}
 use Rattle.tm_reassembly.specs.Items as read
-use Rattle.tm_reassembly.specs.Kept.{count_in, tail_in, octets_in, kept_items, kept_after}
+use Rattle.tm_reassembly.specs.Kept.{Slot, HaveLimit, lasts, unused, count_in, tail_in, octets_in, counted, kept_items, kept_after}
+use Rattle.tm_reassembly.proofs.Slots.{last_at, lasts_set, lasts_length, limit_at, limit_set}
 use Rattle.tm_reassembly.specs.Recording.{items, after}
 use Rattle.tm_reassembly.specs.Sinks.{RefusesOne}
-use Rattle.tm_reassembly.specs.Valid.{IsState, IsFit, IsTail, IsOpenTail}
-use Rattle.tm_reassembly.proofs.Headers.{reach_most}
+use Rattle.tm_reassembly.specs.Valid.{IsState, IsFit, IsOpenTail}
+use Rattle.tm_reassembly.proofs.States.{tail-short}
 use Rattle.tm_reassembly.proofs.Fits.{reading-fit}
 use Rattle.tm_reassembly.proofs.Joining.{before_of, tail_of, member_items}
 use Rattle.tm_reassembly.proofs.OneStep.{items-one, after-one, after-bad, items-other, after-other}
@@ -36,117 +40,187 @@ tail_some None = refl
 tail_some (Some last) = refl
 
 -- the tail that is kept of a channel
-pub open_entry : (layout : LayoutParts) (chosen : ℕ → Bool) (seen : ℕ) (channels : List (Option Last))
-    → IsState layout chosen (record { records = seen; channels = channels })
-    → (c : ℕ) (d : Option Last) → c < 8 → IsOpenTail (tail_in (slice_index_or channels c d))
-open_entry layout chosen seen channels v c d small = opened (slice_index_or channels c d) (entry_at channels c d (rw v.shape.eight_channels small))
+pub open_entry : (rules : Rules) (seen : ℕ) (master : Option ℕ) (channels : List (Option Last))
+    → IsState rules (record { records = seen; master = master; channels = channels })
+    → (c : ℕ) (d : Option Last) → c < 8 → IsOpenTail rules.max_packet (tail_in (slice_index_or channels c d))
+open_entry rules seen master channels v c d small = opened (slice_index_or channels c d) (entry_at channels c d (rw v.shape.eight_channels small))
   where
-    in_last : (last : Last) → slice_get channels c ≡ Some (Some last) → (t : Option Tail) → last.tail ≡ t → IsOpenTail t
+    in_last : (last : Last) → slice_get channels c ≡ Some (Some last) → (t : Option Tail) → last.tail ≡ t → IsOpenTail rules.max_packet t
     in_last last e None f = tt
     in_last last e (Some t) f = v.shape.tails c last t e f
 
-    opened : (x : Option Last) → slice_get channels c ≡ Some x → IsOpenTail (tail_in x)
+    opened : (x : Option Last) → slice_get channels c ≡ Some x → IsOpenTail rules.max_packet (tail_in x)
     opened None e = tt
     opened (Some last) e = in_last last e last.tail refl
 
-module _ (layout : LayoutParts) (chosen : ℕ → Bool) (seen : ℕ) (channels : List (Option Last)) (v : IsState layout chosen (record { records = seen; channels = channels })) (octets : List ℕ) where
+module _ (rules : Rules) (seen : ℕ) (master : Option ℕ) (channels : List (Option Last)) (v : IsState rules (record { records = seen; master = master; channels = channels })) (octets : List ℕ) where
   s : State
-  s = record { records = seen; channels = channels }
+  s = record { records = seen; master = master; channels = channels }
 
-  as_read : {r : Reading} → reading_of layout octets ≡ r → items layout chosen (record { records = seen; channels = channels }) (octets ∷ []) ≡ read.items chosen (record { records = seen; channels = channels }) (r ∷ [])
+  as_read : {r : Reading} → reading_of rules.layout octets ≡ r → items rules (record { records = seen; master = master; channels = channels }) (octets ∷ []) ≡ read.items rules.max_packet (chooses rules) (record { records = seen; master = master; channels = channels }) (r ∷ [])
   unfolding items
-  as_read e = ap (λ (r : Reading). read.items chosen (record { records = seen; channels = channels }) (r ∷ [])) e
+  as_read e = ap (λ (r : Reading). read.items rules.max_packet (chooses rules) (record { records = seen; master = master; channels = channels }) (r ∷ [])) e
 
-  as_left : {r : Reading} → reading_of layout octets ≡ r → after layout chosen (record { records = seen; channels = channels }) (octets ∷ []) ≡ read.after chosen (record { records = seen; channels = channels }) (r ∷ [])
+  as_left : {r : Reading} → reading_of rules.layout octets ≡ r → after rules (record { records = seen; master = master; channels = channels }) (octets ∷ []) ≡ read.after rules.max_packet (chooses rules) (record { records = seen; master = master; channels = channels }) (r ∷ [])
   unfolding after
-  as_left e = ap (λ (r : Reading). read.after chosen (record { records = seen; channels = channels }) (r ∷ [])) e
+  as_left e = ap (λ (r : Reading). read.after rules.max_packet (chooses rules) (record { records = seen; master = master; channels = channels }) (r ∷ [])) e
 
   -- a bad record
-  pub items_bad_record : (fault : FrameFault) → reading_of layout octets ≡ Err fault
-      → Bad seen fault ∷ [] ≡ items layout chosen (record { records = seen; channels = channels }) (octets ∷ [])
+  pub items_bad_record : (fault : FrameFault) → reading_of rules.layout octets ≡ Err fault
+      → Bad seen fault ∷ [] ≡ items rules (record { records = seen; master = master; channels = channels }) (octets ∷ [])
   items_bad_record fault e = sym (as_read e)
 
   pub refused_bad_record : {S F : Type 0} (takes : S → Item → S → Type 0) (refuses : S → Item → F → S → Type 0) (old new : S) (refusal : F) (fault : FrameFault)
-      → reading_of layout octets ≡ Err fault → refuses old (Bad seen fault) refusal new
-      → RefusesOne takes refuses old (items layout chosen (record { records = seen; channels = channels }) (octets ∷ [])) refusal new
+      → reading_of rules.layout octets ≡ Err fault → refuses old (Bad seen fault) refusal new
+      → RefusesOne takes refuses old (items rules (record { records = seen; master = master; channels = channels }) (octets ∷ [])) refusal new
   refused_bad_record takes refuses old new refusal fault e h =
       subst (λ (xs : List Item). RefusesOne takes refuses old xs refusal new) (items_bad_record fault e) (inl h)
 
-  pub after_bad_record : (fault : FrameFault) → reading_of layout octets ≡ Err fault
-      → ◌≡◌ {A = State} (record { records = seen + 1; channels = channels }) (after layout chosen (record { records = seen; channels = channels }) (octets ∷ []))
-  after_bad_record fault e = sym (as_left e ∙ after-bad chosen (record { records = seen; channels = channels }) fault v.shape)
+  pub after_bad_record : (fault : FrameFault) → reading_of rules.layout octets ≡ Err fault
+      → ◌≡◌ {A = State} (record { records = seen + 1; master = master; channels = channels }) (after rules (record { records = seen; master = master; channels = channels }) (octets ∷ []))
+  after_bad_record fault e = sym (as_left e ∙ after-bad rules.max_packet (chooses rules) (record { records = seen; master = master; channels = channels }) fault v.shape)
 
-  module _ (g : GoodFrame) (e : reading_of layout octets ≡ Ok g) where
+  module _ (g : GoodFrame) (e : reading_of rules.layout octets ≡ Ok g) where
     fit : IsFit (Ok g)
-    fit = subst IsFit e (reading-fit layout octets)
+    fit = subst IsFit e (reading-fit rules.layout octets)
 
     -- a good frame of another channel
-    pub items_other_record : chosen g.channel ≡ false → items layout chosen (record { records = seen; channels = channels }) (octets ∷ []) ≡ []
-    items_other_record not_chosen = as_read e ∙ items-other chosen (record { records = seen; channels = channels }) g not_chosen
+    pub items_other_record : chooses rules g.channel ≡ false
+        → gap_at master_gap_item master (master_member seen g) ≡ items rules (record { records = seen; master = master; channels = channels }) (octets ∷ [])
+    items_other_record not_chosen = sym (as_read e ∙ items-other rules.max_packet (chooses rules) (record { records = seen; master = master; channels = channels }) g not_chosen)
 
-    pub after_other_record : chosen g.channel ≡ false
-        → ◌≡◌ {A = State} (record { records = seen + 1; channels = channels }) (after layout chosen (record { records = seen; channels = channels }) (octets ∷ []))
+    pub after_other_record : chooses rules g.channel ≡ false
+        → ◌≡◌ {A = State} (record { records = seen + 1; master = Some g.master_count; channels = channels }) (after rules (record { records = seen; master = master; channels = channels }) (octets ∷ []))
     after_other_record not_chosen =
-        sym (as_left e ∙ after-other chosen (record { records = seen; channels = channels }) g v.shape fit not_chosen)
+        sym (as_left e ∙ after-other rules.max_packet (chooses rules) (record { records = seen; master = master; channels = channels }) g v.shape fit not_chosen)
 
     -- a good frame of a chosen one
     there : (d : Option Last) → slice_get channels g.channel ≡ Some (slice_index_or channels g.channel d)
     there d = entry_at channels g.channel d (rw v.shape.eight_channels fit.0)
 
-    pub items_one_record : (c : ℕ) (d : Option Last) → c ≡ g.channel → chosen c ≡ true
-        → kept_items c (slice_index_or channels c d) (member seen g) ≡ items layout chosen (record { records = seen; channels = channels }) (octets ∷ [])
+    pub items_one_record : (c : ℕ) (d : Option Last) → c ≡ g.channel → chooses rules c ≡ true
+        → gap_at master_gap_item master (master_member seen g) ++ kept_items rules.max_packet c (slice_index_or channels c d) (member seen g) ≡ items rules (record { records = seen; master = master; channels = channels }) (octets ∷ [])
     items_one_record c d same is_chosen =
         sym
         (as_read e
-        ∙ items-one chosen (record { records = seen; channels = channels }) g v.shape fit (ap chosen (sym same) ∙ is_chosen)
-        ∙ ap (λ (x : Option (Option Last)). member_items g.channel (before_of x) (tail_of x) (member seen g)) (there d)
+        ∙ items-one rules.max_packet (chooses rules) (record { records = seen; master = master; channels = channels }) g v.shape fit (ap (chooses rules) (sym same) ∙ is_chosen)
+        ∙ ap (λ (xs : List Item). gap_at master_gap_item master (master_member seen g) ++ xs)
+        (ap (λ (x : Option (Option Last)). member_items rules.max_packet g.channel (before_of x) (tail_of x) (member seen g)) (there d)
         ∙ by_entry (slice_index_or channels g.channel d)
-        ∙ ap (λ (k : ℕ). kept_items k (slice_index_or channels k d) (member seen g)) (sym same))
+        ∙ ap (λ (k : ℕ). kept_items rules.max_packet k (slice_index_or channels k d) (member seen g)) (sym same)))
       where
-        by_entry : (x : Option Last) → member_items g.channel (before_of (Some x)) (tail_of (Some x)) (member seen g) ≡ kept_items g.channel x (member seen g)
+        by_entry : (x : Option Last) → member_items rules.max_packet g.channel (before_of (Some x)) (tail_of (Some x)) (member seen g) ≡ kept_items rules.max_packet g.channel x (member seen g)
         by_entry x = rw (before_some x, tail_some x) refl
 
-    pub after_one_record : (c : ℕ) (d : Option Last) → c ≡ g.channel → chosen c ≡ true
-        → ◌≡◌ {A = State} (record { records = seen + 1; channels = slice_set channels c (kept_after (slice_index_or channels c d) (member seen g)) })
-        (after layout chosen (record { records = seen; channels = channels }) (octets ∷ []))
+    pub after_one_record : (c : ℕ) (d : Option Last) → c ≡ g.channel → chooses rules c ≡ true
+        → ◌≡◌ {A = State} (record { records = seen + 1; master = Some g.master_count; channels = slice_set channels c (kept_after rules.max_packet (slice_index_or channels c d) (member seen g)) })
+        (after rules (record { records = seen; master = master; channels = channels }) (octets ∷ []))
     after_one_record c d same is_chosen =
         sym
         (as_left e
-        ∙ after-one chosen (record { records = seen; channels = channels }) g v.shape fit (ap chosen (sym same) ∙ is_chosen)
+        ∙ after-one rules.max_packet (chooses rules) (record { records = seen; master = master; channels = channels }) g v.shape fit (ap (chooses rules) (sym same) ∙ is_chosen)
         ∙ ap (λ (x : Option (Option Last)). with_channels (set channels g.channel (moved x))) (there d)
         ∙ ap (λ (x : Option Last). with_channels (set channels g.channel x)) (by_entry (slice_index_or channels g.channel d))
-        ∙ ap (λ (k : ℕ). with_channels (slice_set channels k (kept_after (slice_index_or channels k d) (member seen g)))) (sym same))
+        ∙ ap (λ (k : ℕ). with_channels (slice_set channels k (kept_after rules.max_packet (slice_index_or channels k d) (member seen g)))) (sym same))
       where
         with_channels : List (Option Last) → State
-        with_channels xs = record { records = seen + 1; channels = xs }
+        with_channels xs = record { records = seen + 1; master = Some g.master_count; channels = xs }
 
         moved : Option (Option Last) → Option Last
-        moved x = Some (record { count = g.count; tail = chain_tail_at (has_gap (before_of x) (member seen g)) (member seen g).is_vca (tail_of x) (member seen g) })
+        moved x = Some (record { count = g.count; tail = chain_tail_at rules.max_packet (has_gap (before_of x) (member seen g)) (member seen g).is_vca (tail_of x) (member seen g) })
 
-        by_entry : (x : Option Last) → moved (Some x) ≡ kept_after x (member seen g)
+        by_entry : (x : Option Last) → moved (Some x) ≡ kept_after rules.max_packet x (member seen g)
         by_entry x = rw (before_some x, tail_some x) refl
 
--- a tail is shorter than the greatest packet, and there is none of a channel that isn't chosen
-pub held_short : (layout : LayoutParts) (chosen : ℕ → Bool) (seen : ℕ) (channels : List (Option Last))
-    → IsState layout chosen (record { records = seen; channels = channels })
-    → (c : ℕ) (d : Option Last) → c < 8 → length (octets_in (tail_in (slice_index_or channels c d))) < 65542
-held_short layout chosen seen channels v c d small =
-    short (tail_in (slice_index_or channels c d)) (open_entry layout chosen seen channels v c d small)
+-- a tail is shorter than the limit, and there is none of a channel that isn't chosen
+pub held_short : (rules : Rules) (seen : ℕ) (master : Option ℕ) (channels : List (Option Last))
+    → IsState rules (record { records = seen; master = master; channels = channels })
+    → (c : ℕ) (d : Option Last) → c < 8 → length (octets_in (tail_in (slice_index_or channels c d))) < rules.max_packet
+held_short rules seen master channels v c d small =
+    short (tail_in (slice_index_or channels c d)) (open_entry rules seen master channels v c d small)
   where
-    short_of : (o : List ℕ) → IsTail o → length o < 65542
-    short_of [] h = absurd h
-    short_of (x ∷ xs) h = let most = reach_most (x ∷ xs) in omega (arith, h.1)
+    short : (t : Option Tail) → IsOpenTail rules.max_packet t → length (octets_in t) < rules.max_packet
+    short None h = let least = v.limit.least in omega arith
+    short (Some t) h = tail-short rules.max_packet t.octets v.limit.least h
 
-    short : (t : Option Tail) → IsOpenTail t → length (octets_in t) < 65542
-    short None h = omega arith
-    short (Some t) h = short_of t.octets h
-
-pub held_other : (layout : LayoutParts) (chosen : ℕ → Bool) (seen : ℕ) (channels : List (Option Last))
-    → IsState layout chosen (record { records = seen; channels = channels })
-    → (c : ℕ) (d : Option Last) → c < 8 → chosen c ≡ false → octets_in (tail_in (slice_index_or channels c d)) ≡ []
-held_other layout chosen seen channels v c d small other =
+pub held_other : (rules : Rules) (seen : ℕ) (master : Option ℕ) (channels : List (Option Last))
+    → IsState rules (record { records = seen; master = master; channels = channels })
+    → (c : ℕ) (d : Option Last) → c < 8 → chooses rules c ≡ false → octets_in (tail_in (slice_index_or channels c d)) ≡ []
+held_other rules seen master channels v c d small other =
     ap (λ (x : Option Last). octets_in (tail_in x))
     (same (sym (entry_at channels c d (rw v.shape.eight_channels small)) ∙ v.shape.only_chosen c other small))
   where
     same : {x y : Option Last} → ◌≡◌ {A = Option (Option Last)} (Some x) (Some y) → x ≡ y
     same e = cc
+
+-- the gap of a frame of which only the master channel count matters
+counted_master : (before : Option ℕ) (seen count : ℕ) (g : GoodFrame) → count ≡ g.master_count
+    → gap_at master_gap_item before (counted seen count) ≡ gap_at master_gap_item before (master_member seen g)
+counted_master None seen count g e = refl
+counted_master (Some before) seen count g e = ap (λ (n : ℕ). gap_at master_gap_item (Some before) (counted seen n)) e
+
+-- what is kept of the channels, in their slots
+module _ (rules : Rules) (seen : ℕ) (master : Option ℕ) (slots : List Slot) (v : IsState rules (record { records = seen; master = master; channels = lasts slots })) (limits : HaveLimit rules.max_packet slots) where
+  eight_slots : length slots ≡ 8
+  eight_slots = sym (lasts_length slots) ∙ v.shape.eight_channels
+
+  pub open_slot : (c : ℕ) (d : Slot) → c < 8 → IsOpenTail (slice_index_or slots c d).limit (tail_in (slice_index_or slots c d).last)
+  open_slot c d small =
+      let at : c < length slots = omega (arith, eight_slots) in
+      rw (limit_at rules.max_packet slots c d limits at, ← last_at slots c d) (open_entry rules seen master (lasts slots) v c d.last small)
+
+  pub limit_slot : (c : ℕ) (d x : Slot) → c < 8 → x.limit ≡ (slice_index_or slots c d).limit → HaveLimit rules.max_packet (slice_set slots c x)
+  limit_slot c d x small e = limit_set rules.max_packet slots c x limits (e ∙ limit_at rules.max_packet slots c d limits (omega (arith, eight_slots)))
+
+  module _ (octets : List ℕ) (g : GoodFrame) (e : reading_of rules.layout octets ≡ Ok g) (count : ℕ) (counts : count ≡ g.master_count) where
+    abbrev one_record : List Item
+    one_record = items rules (record { records = seen; master = master; channels = lasts slots }) (octets ∷ [])
+
+    abbrev gap : List Item
+    gap = gap_at master_gap_item master (counted seen count)
+
+    -- a frame of a channel that isn't chosen
+    pub items_unchosen : chooses rules g.channel ≡ false → gap ≡ one_record
+    items_unchosen h = counted_master master seen count g counts ∙ items_other_record rules seen master (lasts slots) v octets g e h
+
+    pub after_unchosen : chooses rules g.channel ≡ false
+        → ◌≡◌ {A = State} (record { records = seen + 1; master = Some count; channels = lasts slots }) (after rules (record { records = seen; master = master; channels = lasts slots }) (octets ∷ []))
+    after_unchosen h =
+        ap (λ (n : ℕ). with_count n) counts ∙ after_other_record rules seen master (lasts slots) v octets g e h
+      where
+        with_count : ℕ → State
+        with_count n = record { records = seen + 1; master = Some n; channels = lasts slots }
+
+    -- of one that is
+    module _ (c : ℕ) (d : Slot) (same : c ≡ g.channel) (is_chosen : chooses rules c ≡ true) where
+      inside : c < length slots
+      inside = let fit : IsFit (Ok g) = subst IsFit e (reading-fit rules.layout octets) in let small = fit.0 in omega (arith, eight_slots)
+
+      pub items_slot : gap ++ kept_items (slice_index_or slots c d).limit c (slice_index_or slots c d).last (member seen g) ≡ one_record
+      items_slot =
+          rw (counted_master master seen count g counts, limit_at rules.max_packet slots c d limits inside, ← last_at slots c d)
+          (items_one_record rules seen master (lasts slots) v octets g e c d.last same is_chosen)
+
+      pub after_slot : (x : Slot) → x.last ≡ kept_after (slice_index_or slots c d).limit (slice_index_or slots c d).last (member seen g)
+          → ◌≡◌ {A = State} (record { records = seen + 1; master = Some count; channels = lasts (slice_set slots c x) })
+          (after rules (record { records = seen; master = master; channels = lasts slots }) (octets ∷ []))
+      after_slot x h =
+          let k : x.last ≡ kept_after rules.max_packet (slice_index_or (lasts slots) c d.last) (member seen g) =
+          h ∙ rw (limit_at rules.max_packet slots c d limits inside, ← last_at slots c d) refl in
+          state_at counts (lasts_set slots c x ∙ ap (λ (y : Option Last). slice_set (lasts slots) c y) k)
+          ∙ after_one_record rules seen master (lasts slots) v octets g e c d.last same is_chosen
+        where
+          state_at : {n m : ℕ} {xs ys : List (Option Last)} → n ≡ m → xs ≡ ys
+              → ◌≡◌ {A = State} (record { records = seen + 1; master = Some n; channels = xs }) (record { records = seen + 1; master = Some m; channels = ys })
+          state_at f k = rw (f, k)
+
+    -- the items of a good frame begin with its master gap
+    pub items_good : (rest : List Item) × (gap ++ rest ≡ one_record)
+    items_good =
+        ⊎_elim
+        (λ h. (
+          kept_items (slice_index_or slots g.channel (unused 0)).limit g.channel (slice_index_or slots g.channel (unused 0)).last (member seen g),
+          items_slot g.channel (unused 0) refl h,
+        ))
+        (λ h. ([], append-nil gap ∙ items_unchosen h))
+        (cases_Bool (chooses rules g.channel))

@@ -1,5 +1,5 @@
 -- One record: its items, and the state after it, said without looking ahead.
-use Rattle.std.proofs.Common.{◌≡◌, Ok, Err, ◌≢◌, ℕ, suc, zero, ◌+◌, ◌<◌, Bool, true, false, Option, Some, None, List, [], ◌∷◌, ◌++◌, map, length, set, refl, sym, ap, subst, ◌∙◌, ⊎_elim, arith, eqb}
+use Rattle.std.proofs.Common.{◌≡◌, Ok, Err, ◌≢◌, ℕ, suc, zero, ◌+◌, ◌<◌, Bool, true, false, Option, Some, None, List, [], ◌∷◌, ◌++◌, map, length, set, refl, sym, ap, subst, ◌∙◌, ⊎_elim, arith, eqb, if◌then◌else◌}
 use Rattle.std.specs.List.{slice_get}
 use Rattle.std.proofs.lemmas.List.{append-nil, length-set}
 use Rattle.std.proofs.lemmas.Bool.{cases_Bool, cases_eq, eq-eqb, ne_eqb, cond-true, cond-false}
@@ -8,27 +8,15 @@ use Rattle.tm_frame.specs.Frame.{GoodFrame}
 use Rattle.tm_frame.specs.declared.fault.FrameFault.{FrameFault}
 use Rattle.tm_reassembly.specs.Readings.{Reading}
 use Rattle.tm_reassembly.specs.Item as item
-use Rattle.tm_reassembly.specs.Chain.{Member, has_gap, member, member_of, is_vca_kind}
+use Rattle.tm_reassembly.specs.Chain.{Member, has_gap, member, member_of, is_vca_kind, chain, master_member, master_stem, master_chain}
 use Rattle.tm_reassembly.specs.Field.{chain_tail_at}
 use Rattle.tm_reassembly.specs.Channels.{eight}
-use Rattle.tm_reassembly.specs.Items.{seen_at, channel_after, after, record_items, items, last_with}
+use Rattle.tm_reassembly.specs.Items.{seen_at, channel_items, channel_after, after, master_gap_item, gap_at, last_count, record_items, items, last_with}
 use Rattle.tm_reassembly.specs.Valid.{HasShape}
 use Rattle.tm_reassembly.proofs.Chained.{IsOpenTail}
+use Rattle.tm_reassembly.proofs.Masters.{master_after, masters-now, master-moved}
 use Rattle.tm_reassembly.proofs.Joining.{before_of, tail_of, member_items, items_after, channel_items-is, items-here}
 use Rattle.tm_reassembly.proofs.Records.{HasOpenTails, IsFit, at_eight, state_same, before-kept, tail-kept, before-moved, tail-moved, channel_after-is, tail_after-end}
-
--- a state that may be has open tails
-pub valid-from : (chosen : ℕ → Bool) (s : State) → HasShape chosen s → HasOpenTails chosen s
-valid-from chosen s v = record { tails_open = λ c small is_chosen. open_at c (slice_get s.channels c) refl }
-  where
-    open_at : (c : ℕ) (x : Option (Option Last)) → slice_get s.channels c ≡ x → IsOpenTail (tail_of x)
-    open_at c None e = tt
-    open_at c (Some None) e = tt
-    open_at c (Some (Some last)) e = in_last last.tail refl
-      where
-        in_last : (t : Option Tail) → last.tail ≡ t → IsOpenTail t
-        in_last None f = tt
-        in_last (Some t) f = v.tails c last t e f
 
 -- two lists with the same at each place
 ext_get : {A : Type 0} (xs ys : List A) → length xs ≡ length ys → ((c : ℕ) → c < length xs → slice_get xs c ≡ slice_get ys c) → xs ≡ ys
@@ -50,46 +38,6 @@ there_is : {A : Type 0} (xs : List A) (c : ℕ) → c < length xs → slice_get 
 there_is [] c h = absurd (omega arith)
 there_is (x ∷ xs) zero h = λ e. cc
 there_is (x ∷ xs) (suc c) h = there_is xs c (omega arith)
-
--- no records leave a state as it is
-pub after-nil : (chosen : ℕ → Bool) (s : State) → HasShape chosen s → after chosen s [] ≡ s
-after-nil chosen s v =
-    let valid = valid-from chosen s v in
-    let channels : map (channel_after chosen s []) eight ≡ s.channels =
-    ext_get (map (channel_after chosen s []) eight) s.channels (sym v.eight_channels)
-    (λ c small.
-    at_eight (channel_after chosen s []) c small
-    ∙ ⊎_elim
-    (λ e.
-    ap (λ (x : Option Last). Some x)
-    (channel_after-is chosen s [] c e
-    ∙ ap (λ (t : Option Tail). last_with t (before_of (slice_get s.channels c)))
-    (tail_after-end (before_of (slice_get s.channels c)) (tail_of (slice_get s.channels c)) (valid.tails_open c small e)))
-    ∙ kept_again (slice_get s.channels c) (there_is s.channels c (rw v.eight_channels small)))
-    (λ e. ap (λ (x : Option Last). Some x) (cond-false (chosen c) _ _ e) ∙ sym (v.only_chosen c e small))
-    (cases_Bool (chosen c))) in
-    state_same (omega arith) channels
-
--- the items of one good frame of a chosen channel
-pub items-one-valid : (chosen : ℕ → Bool) (s : State) (g : GoodFrame) → HasOpenTails chosen s → IsFit (Ok g) → chosen g.channel ≡ true
-    → items chosen s (Ok g ∷ [])
-    ≡ member_items g.channel (before_of (slice_get s.channels g.channel)) (tail_of (slice_get s.channels g.channel)) (member s.records g)
-items-one-valid chosen s g valid fit is_chosen =
-    let c : ℕ = g.channel in
-    let m : Member = member s.records g in
-    let x : Option (Option Last) = slice_get s.channels g.channel in
-    let one : member_of g.channel s.records (Ok g) ≡ member s.records g ∷ [] =
-    cond-true (eqb g.channel g.channel) (member s.records g ∷ []) [] (eq-eqb g.channel g.channel refl) in
-    append-nil (record_items chosen s (Ok g ∷ []) s.records (Ok g))
-    ∙ cond-true (chosen g.channel) _ _ is_chosen
-    ∙ ap (seen_at s.records) (channel_items-is g.channel x (member_of g.channel s.records (Ok g) ++ []))
-    ∙ ap (λ (ms : List Member). seen_at s.records (items_after g.channel (before_of x) (tail_of x) (ms ++ []))) one
-    ∙ items-here g.channel (before_of x) (tail_of x) m [] (valid.tails_open g.channel fit.0 is_chosen) fit.1 tt
-
-pub items-one : (chosen : ℕ → Bool) (s : State) (g : GoodFrame) → HasShape chosen s → IsFit (Ok g) → chosen g.channel ≡ true
-    → items chosen s (Ok g ∷ [])
-    ≡ member_items g.channel (before_of (slice_get s.channels g.channel)) (tail_of (slice_get s.channels g.channel)) (member s.records g)
-items-one chosen s g v fit is_chosen = items-one-valid chosen s g (valid-from chosen s v) fit is_chosen
 
 pub get_set-same : {A : Type 0} (xs : List A) (c : ℕ) (y : A) → c < length xs → slice_get (set xs c y) c ≡ Some y
 get_set-same [] c y h = absurd (omega arith)
@@ -123,99 +71,166 @@ same_view (Some None) (Some None) h k e f = refl
 same_view (Some (Some last)) (Some None) h k e f = absurd (cc)
 same_view y (Some (Some last)) h k e f = from_view y last.count last.tail e f
 
--- the state after it: the channel's count and tail, and all else as before
-pub after-one : (chosen : ℕ → Bool) (s : State) (g : GoodFrame) → HasShape chosen s → IsFit (Ok g) → chosen g.channel ≡ true
-    → after chosen s (Ok g ∷ [])
-    ≡ record {
-      records = s.records + 1;
-      channels = set s.channels g.channel
-          (Some (record {
-            count = g.count;
-            tail = chain_tail_at (has_gap (before_of (slice_get s.channels g.channel)) (member s.records g)) (is_vca_kind g.kind)
-                (tail_of (slice_get s.channels g.channel)) (member s.records g);
-          }));
-    }
-after-one chosen s g v fit is_chosen =
-    state_same (omega arith)
-    (ext_get (map (channel_after chosen s (Ok g ∷ [])) eight) (set s.channels g.channel (Some kept))
-    (sym v.eight_channels ∙ sym (length-set s.channels g.channel (Some kept)))
-    (λ c small. ⊎_elim (at_it c small) (other c small) (cases_eq c g.channel)))
-  where
-    kept : Last
-    kept = record {
-      count = g.count;
-      tail = chain_tail_at (has_gap (before_of (slice_get s.channels g.channel)) (member s.records g)) (is_vca_kind g.kind)
-          (tail_of (slice_get s.channels g.channel)) (member s.records g);
-    }
+module _ (limit : ℕ) where
+  -- a state that may be has open tails
+  pub valid-from : (chosen : ℕ → Bool) (s : State) → HasShape limit chosen s → HasOpenTails limit chosen s
+  valid-from chosen s v = record { tails_open = λ c small is_chosen. open_at c (slice_get s.channels c) refl }
+    where
+      open_at : (c : ℕ) (x : Option (Option Last)) → slice_get s.channels c ≡ x → IsOpenTail limit (tail_of x)
+      open_at c None e = tt
+      open_at c (Some None) e = tt
+      open_at c (Some (Some last)) e = in_last last.tail refl
+        where
+          in_last : (t : Option Tail) → last.tail ≡ t → IsOpenTail limit t
+          in_last None f = tt
+          in_last (Some t) f = v.tails c last t e f
 
-    valid : HasOpenTails chosen s
-    valid = valid-from chosen s v
+  -- no records leave a state as it is
+  pub after-nil : (chosen : ℕ → Bool) (s : State) → HasShape limit chosen s → after limit chosen s [] ≡ s
+  after-nil chosen s v =
+      let valid = valid-from chosen s v in
+      let channels : map (channel_after limit chosen s []) eight ≡ s.channels =
+      ext_get (map (channel_after limit chosen s []) eight) s.channels (sym v.eight_channels)
+      (λ c small.
+      at_eight (channel_after limit chosen s []) c small
+      ∙ ⊎_elim
+      (λ e.
+      ap (λ (x : Option Last). Some x)
+      (channel_after-is limit chosen s [] c e
+      ∙ ap (λ (t : Option Tail). last_with t (before_of (slice_get s.channels c)))
+      (tail_after-end limit (before_of (slice_get s.channels c)) (tail_of (slice_get s.channels c)) (valid.tails_open c small e)))
+      ∙ kept_again (slice_get s.channels c) (there_is s.channels c (rw v.eight_channels small)))
+      (λ e. ap (λ (x : Option Last). Some x) (cond-false (chosen c) _ _ e) ∙ sym (v.only_chosen c e small))
+      (cases_Bool (chosen c))) in
+      state_same (omega arith) (master-nil s.master) channels
+    where
+      master-nil : (before : Option ℕ) → last_count None (master_stem before ++ []) ≡ before
+      master-nil None = refl
+      master-nil (Some count) = refl
 
-    at_it : (c : ℕ) → c < 8 → c ≡ g.channel
-        → slice_get (map (channel_after chosen s (Ok g ∷ [])) eight) c ≡ slice_get (set s.channels g.channel (Some kept)) c
-    at_it c small e =
-        subst (λ (k : ℕ). slice_get (map (channel_after chosen s (Ok g ∷ [])) eight) k ≡ slice_get (set s.channels g.channel (Some kept)) k) (sym e)
-        (let one : member_of g.channel s.records (Ok g) ≡ member s.records g ∷ [] =
-        cond-true (eqb g.channel g.channel) (member s.records g ∷ []) [] (eq-eqb g.channel g.channel refl) in
-        from_view (slice_get (map (channel_after chosen s (Ok g ∷ [])) eight) g.channel) g.count kept.tail
-        (before-moved chosen s (Ok g) valid fit g.channel fit.0 is_chosen (member s.records g) one fit.1)
-        (tail-moved chosen s (Ok g) valid fit g.channel fit.0 is_chosen (member s.records g) one fit.1)
-        ∙ sym (get_set-same s.channels g.channel (Some kept) (rw v.eight_channels fit.0)))
+  -- the items of one good frame of a chosen channel
+  pub items-one-valid : (chosen : ℕ → Bool) (s : State) (g : GoodFrame) → HasOpenTails limit chosen s → IsFit (Ok g) → chosen g.channel ≡ true
+      → items limit chosen s (Ok g ∷ [])
+      ≡ gap_at master_gap_item s.master (master_member s.records g)
+      ++ member_items limit g.channel (before_of (slice_get s.channels g.channel)) (tail_of (slice_get s.channels g.channel)) (member s.records g)
+  items-one-valid chosen s g valid fit is_chosen =
+      let c : ℕ = g.channel in
+      let m : Member = member s.records g in
+      let x : Option (Option Last) = slice_get s.channels g.channel in
+      let one : member_of g.channel s.records (Ok g) ≡ member s.records g ∷ [] =
+      cond-true (eqb g.channel g.channel) (member s.records g ∷ []) [] (eq-eqb g.channel g.channel refl) in
+      append-nil (record_items limit chosen s (Ok g ∷ []) s.records (Ok g))
+      ∙ ap (λ (xs : List item.Item). xs ++ (if chosen g.channel then seen_at s.records (channel_items limit g.channel (chain s g.channel (Ok g ∷ []))) else [])) (masters-now s g [])
+      ∙ ap (λ (xs : List item.Item). gap_at master_gap_item s.master (master_member s.records g) ++ xs)
+      (cond-true (chosen g.channel) _ _ is_chosen
+      ∙ ap (seen_at s.records) (channel_items-is limit g.channel x (member_of g.channel s.records (Ok g) ++ []))
+      ∙ ap (λ (ms : List Member). seen_at s.records (items_after limit g.channel (before_of x) (tail_of x) (ms ++ []))) one
+      ∙ items-here limit g.channel (before_of x) (tail_of x) m [] (valid.tails_open g.channel fit.0 is_chosen) fit.1 tt)
 
-    other : (c : ℕ) → c < 8 → (c ≡ g.channel → ⊥)
-        → slice_get (map (channel_after chosen s (Ok g ∷ [])) eight) c ≡ slice_get (set s.channels g.channel (Some kept)) c
-    other c small ne =
-        let none : member_of c s.records (Ok g) ≡ [] =
-        cond-false (eqb g.channel c) (member s.records g ∷ []) [] (ne_eqb g.channel c (λ z. ne (sym z))) in
-        let there : slice_get (map (channel_after chosen s (Ok g ∷ [])) eight) c ≡ Some (channel_after chosen s (Ok g ∷ []) c) =
-        at_eight (channel_after chosen s (Ok g ∷ [])) c small in
-        ⊎_elim
-        (λ e.
-        same_view (slice_get (map (channel_after chosen s (Ok g ∷ [])) eight) c) (slice_get s.channels c)
-        (λ z. not_none _ _ there z) (there_is s.channels c (rw v.eight_channels small))
-        (before-kept chosen s (Ok g) valid fit c small e none) (tail-kept chosen s (Ok g) valid fit c small e none))
-        (λ e. there ∙ ap (λ (x : Option Last). Some x) (cond-false (chosen c) _ _ e) ∙ sym (v.only_chosen c e small))
-        (cases_Bool (chosen c))
-        ∙ sym (get_set-other s.channels g.channel c (Some kept) ne)
+  pub items-one : (chosen : ℕ → Bool) (s : State) (g : GoodFrame) → HasShape limit chosen s → IsFit (Ok g) → chosen g.channel ≡ true
+      → items limit chosen s (Ok g ∷ [])
+      ≡ gap_at master_gap_item s.master (master_member s.records g)
+      ++ member_items limit g.channel (before_of (slice_get s.channels g.channel)) (tail_of (slice_get s.channels g.channel)) (member s.records g)
+  items-one chosen s g v fit is_chosen = items-one-valid chosen s g (valid-from chosen s v) fit is_chosen
 
--- a record that has no frame of a chosen channel leaves all channels as they are
-channels-kept : (chosen : ℕ → Bool) (s : State) (r : Reading) → HasShape chosen s → IsFit r
-    → ((c : ℕ) → c < 8 → chosen c ≡ true → member_of c s.records r ≡ [])
-    → after chosen s (r ∷ []) ≡ record { records = s.records + 1; channels = s.channels }
-channels-kept chosen s r v fit none =
-    let valid = valid-from chosen s v in
-    state_same (omega arith)
-    (ext_get (map (channel_after chosen s (r ∷ [])) eight) s.channels (sym v.eight_channels)
-    (λ c small.
-    let there : slice_get (map (channel_after chosen s (r ∷ [])) eight) c ≡ Some (channel_after chosen s (r ∷ []) c) =
-    at_eight (channel_after chosen s (r ∷ [])) c small in
-    ⊎_elim
-    (λ e.
-    same_view (slice_get (map (channel_after chosen s (r ∷ [])) eight) c) (slice_get s.channels c)
-    (λ z. not_none _ _ there z) (there_is s.channels c (rw v.eight_channels small))
-    (before-kept chosen s r valid fit c small e (none c small e)) (tail-kept chosen s r valid fit c small e (none c small e)))
-    (λ e. there ∙ ap (λ (x : Option Last). Some x) (cond-false (chosen c) _ _ e) ∙ sym (v.only_chosen c e small))
-    (cases_Bool (chosen c))))
+  -- the state after it: the channel's count and tail, and all else as before
+  pub after-one : (chosen : ℕ → Bool) (s : State) (g : GoodFrame) → HasShape limit chosen s → IsFit (Ok g) → chosen g.channel ≡ true
+      → after limit chosen s (Ok g ∷ [])
+      ≡ record {
+        records = s.records + 1;
+        master = Some g.master_count;
+        channels = set s.channels g.channel
+            (Some (record {
+              count = g.count;
+              tail = chain_tail_at limit (has_gap (before_of (slice_get s.channels g.channel)) (member s.records g)) (is_vca_kind g.kind)
+                  (tail_of (slice_get s.channels g.channel)) (member s.records g);
+            }));
+      }
+  after-one chosen s g v fit is_chosen =
+      state_same (omega arith) (master-moved s (Ok g))
+      (ext_get (map (channel_after limit chosen s (Ok g ∷ [])) eight) (set s.channels g.channel (Some kept))
+      (sym v.eight_channels ∙ sym (length-set s.channels g.channel (Some kept)))
+      (λ c small. ⊎_elim (at_it c small) (other c small) (cases_eq c g.channel)))
+    where
+      kept : Last
+      kept = record {
+        count = g.count;
+        tail = chain_tail_at limit (has_gap (before_of (slice_get s.channels g.channel)) (member s.records g)) (is_vca_kind g.kind)
+            (tail_of (slice_get s.channels g.channel)) (member s.records g);
+      }
 
--- a bad record
-pub items-bad : (chosen : ℕ → Bool) (s : State) (fault : FrameFault) → items chosen s (Err fault ∷ []) ≡ item.Bad s.records fault ∷ []
-items-bad chosen s fault = refl
+      valid : HasOpenTails limit chosen s
+      valid = valid-from chosen s v
 
-pub after-bad : (chosen : ℕ → Bool) (s : State) (fault : FrameFault) → HasShape chosen s
-    → after chosen s (Err fault ∷ []) ≡ record { records = s.records + 1; channels = s.channels }
-after-bad chosen s fault v = channels-kept chosen s (Err fault) v tt (λ c small e. refl)
+      at_it : (c : ℕ) → c < 8 → c ≡ g.channel
+          → slice_get (map (channel_after limit chosen s (Ok g ∷ [])) eight) c ≡ slice_get (set s.channels g.channel (Some kept)) c
+      at_it c small e =
+          subst (λ (k : ℕ). slice_get (map (channel_after limit chosen s (Ok g ∷ [])) eight) k ≡ slice_get (set s.channels g.channel (Some kept)) k) (sym e)
+          (let one : member_of g.channel s.records (Ok g) ≡ member s.records g ∷ [] =
+          cond-true (eqb g.channel g.channel) (member s.records g ∷ []) [] (eq-eqb g.channel g.channel refl) in
+          from_view (slice_get (map (channel_after limit chosen s (Ok g ∷ [])) eight) g.channel) g.count kept.tail
+          (before-moved limit chosen s (Ok g) valid fit g.channel fit.0 is_chosen (member s.records g) one fit.1)
+          (tail-moved limit chosen s (Ok g) valid fit g.channel fit.0 is_chosen (member s.records g) one fit.1)
+          ∙ sym (get_set-same s.channels g.channel (Some kept) (rw v.eight_channels fit.0)))
 
--- a good frame of a channel that isn't chosen
-pub items-other : (chosen : ℕ → Bool) (s : State) (g : GoodFrame) → chosen g.channel ≡ false → items chosen s (Ok g ∷ []) ≡ []
-items-other chosen s g e = append-nil (record_items chosen s (Ok g ∷ []) s.records (Ok g)) ∙ cond-false (chosen g.channel) _ _ e
+      other : (c : ℕ) → c < 8 → (c ≡ g.channel → ⊥)
+          → slice_get (map (channel_after limit chosen s (Ok g ∷ [])) eight) c ≡ slice_get (set s.channels g.channel (Some kept)) c
+      other c small ne =
+          let none : member_of c s.records (Ok g) ≡ [] =
+          cond-false (eqb g.channel c) (member s.records g ∷ []) [] (ne_eqb g.channel c (λ z. ne (sym z))) in
+          let there : slice_get (map (channel_after limit chosen s (Ok g ∷ [])) eight) c ≡ Some (channel_after limit chosen s (Ok g ∷ []) c) =
+          at_eight (channel_after limit chosen s (Ok g ∷ [])) c small in
+          ⊎_elim
+          (λ e.
+          same_view (slice_get (map (channel_after limit chosen s (Ok g ∷ [])) eight) c) (slice_get s.channels c)
+          (λ z. not_none _ _ there z) (there_is s.channels c (rw v.eight_channels small))
+          (before-kept limit chosen s (Ok g) valid fit c small e none) (tail-kept limit chosen s (Ok g) valid fit c small e none))
+          (λ e. there ∙ ap (λ (x : Option Last). Some x) (cond-false (chosen c) _ _ e) ∙ sym (v.only_chosen c e small))
+          (cases_Bool (chosen c))
+          ∙ sym (get_set-other s.channels g.channel c (Some kept) ne)
 
-pub after-other : (chosen : ℕ → Bool) (s : State) (g : GoodFrame) → HasShape chosen s → IsFit (Ok g) → chosen g.channel ≡ false
-    → after chosen s (Ok g ∷ []) ≡ record { records = s.records + 1; channels = s.channels }
-after-other chosen s g v fit not_chosen =
-    channels-kept chosen s (Ok g) v fit
-    (λ c small e.
-    cond-false (eqb g.channel c) (member s.records g ∷ []) []
-    (ne_eqb g.channel c (λ z. true_not_false (sym e ∙ ap chosen (sym z) ∙ not_chosen))))
-  where
-    true_not_false : true ≡ false → ⊥
-    true_not_false h = cc
+  -- a record that has no frame of a chosen channel leaves all channels as they are
+  channels-kept : (chosen : ℕ → Bool) (s : State) (r : Reading) → HasShape limit chosen s → IsFit r
+      → ((c : ℕ) → c < 8 → chosen c ≡ true → member_of c s.records r ≡ [])
+      → after limit chosen s (r ∷ []) ≡ record { records = s.records + 1; master = master_after s.master r; channels = s.channels }
+  channels-kept chosen s r v fit none =
+      let valid = valid-from chosen s v in
+      state_same (omega arith) (master-moved s r)
+      (ext_get (map (channel_after limit chosen s (r ∷ [])) eight) s.channels (sym v.eight_channels)
+      (λ c small.
+      let there : slice_get (map (channel_after limit chosen s (r ∷ [])) eight) c ≡ Some (channel_after limit chosen s (r ∷ []) c) =
+      at_eight (channel_after limit chosen s (r ∷ [])) c small in
+      ⊎_elim
+      (λ e.
+      same_view (slice_get (map (channel_after limit chosen s (r ∷ [])) eight) c) (slice_get s.channels c)
+      (λ z. not_none _ _ there z) (there_is s.channels c (rw v.eight_channels small))
+      (before-kept limit chosen s r valid fit c small e (none c small e)) (tail-kept limit chosen s r valid fit c small e (none c small e)))
+      (λ e. there ∙ ap (λ (x : Option Last). Some x) (cond-false (chosen c) _ _ e) ∙ sym (v.only_chosen c e small))
+      (cases_Bool (chosen c))))
+
+  -- a bad record
+  pub items-bad : (chosen : ℕ → Bool) (s : State) (fault : FrameFault) → items limit chosen s (Err fault ∷ []) ≡ item.Bad s.records fault ∷ []
+  items-bad chosen s fault = refl
+
+  pub after-bad : (chosen : ℕ → Bool) (s : State) (fault : FrameFault) → HasShape limit chosen s
+      → after limit chosen s (Err fault ∷ []) ≡ record { records = s.records + 1; master = s.master; channels = s.channels }
+  after-bad chosen s fault v = channels-kept chosen s (Err fault) v tt (λ c small e. refl)
+
+  -- a good frame of a channel that isn't chosen
+  pub items-other : (chosen : ℕ → Bool) (s : State) (g : GoodFrame) → chosen g.channel ≡ false → items limit chosen s (Ok g ∷ []) ≡ gap_at master_gap_item s.master (master_member s.records g)
+  items-other chosen s g e =
+      append-nil (record_items limit chosen s (Ok g ∷ []) s.records (Ok g))
+      ∙ ap (λ (xs : List item.Item). xs ++ (if chosen g.channel then seen_at s.records (channel_items limit g.channel (chain s g.channel (Ok g ∷ []))) else [])) (masters-now s g [])
+      ∙ ap (λ (xs : List item.Item). gap_at master_gap_item s.master (master_member s.records g) ++ xs) (cond-false (chosen g.channel) _ _ e)
+      ∙ append-nil (gap_at master_gap_item s.master (master_member s.records g))
+
+  pub after-other : (chosen : ℕ → Bool) (s : State) (g : GoodFrame) → HasShape limit chosen s → IsFit (Ok g) → chosen g.channel ≡ false
+      → after limit chosen s (Ok g ∷ []) ≡ record { records = s.records + 1; master = Some g.master_count; channels = s.channels }
+  after-other chosen s g v fit not_chosen =
+      channels-kept chosen s (Ok g) v fit
+      (λ c small e.
+      cond-false (eqb g.channel c) (member s.records g ∷ []) []
+      (ne_eqb g.channel c (λ z. true_not_false (sym e ∙ ap chosen (sym z) ∙ not_chosen))))
+    where
+      true_not_false : true ≡ false → ⊥
+      true_not_false h = cc

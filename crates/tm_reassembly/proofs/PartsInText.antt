@@ -8,139 +8,189 @@ use Rattle.std.proofs.lemmas.List.Concat.{flat_map-append}
 use Rattle.std.proofs.lemmas.Bool.{cases_Bool, cond-true, cond-false, lt-ltb, and_right, and_from}
 use Rattle.tm_reassembly.specs.declared.items.Reason.TheVariants as why
 use Rattle.tm_reassembly.specs.Chain.{Member, End}
-use Rattle.tm_reassembly.specs.Parts.{Part, Fate, Given, Lost, Start, text, far_end, is_packet, start_part, packet_part, fate_at, agrees, open_after, joined, breaker, holder}
-use Rattle.tm_reassembly.specs.Absolute.{reach_at, IsVersionZero, Agrees, IsOpen, IsWhole, LiesAfter, part_at}
-use Rattle.tm_reassembly.proofs.OneOpen.{and_both}
-use Rattle.tm_reassembly.proofs.Places.{drop-place, both_true, none-from, open-to, unbroken-from, text_split, text-length, begins-at, ends-at, agreement-at, zero-to, zero-from, open-at, whole-at}
+use Rattle.tm_reassembly.specs.Parts.{Part, Fate, Given, Lost, Start, text, reach, far_end, is_packet, is_long, begins_packet, reason_at, unread_reason, agrees_at, broken_part, start_part, packet_part, fate_at, agrees, open_after, joined, breaker, holder}
+use Rattle.tm_reassembly.specs.Absolute.{reach_at, IsVersionZero, IsLong, BeginsPacket, AgreesAt, Agrees, IsOpen, IsWhole, LiesAfter, part_at}
+use Rattle.tm_reassembly.proofs.Long.{and_both, begins-zero, begins-short}
+use Rattle.tm_reassembly.specs.declared.items.Reason.{Reason}
+use Rattle.tm_reassembly.proofs.Places.{drop-place, both_true, none-from, open-to, unbroken-from, text_split, text-length, begins-at, ends-at, place-at, agreement-at, own-long-at, zero-to, zero-from, begins-from, open-at, whole-at}
 
--- a start is broken off at the first frame that doesn't agree with it
-breaks-off : (far at : ℕ) (between more : List Member) (m : Member) → open_after far at between ≡ true
-    → agrees far (at + length (text between)) m ≡ false
-    → (breaker far at (between ++ m ∷ more) ≡ Some m) × (joined far at (between ++ m ∷ more) ≡ between)
-breaks-off far at [] more m o a =
-    let z : at ≡ at + 0 = omega arith in
-    let differ : agrees far at m ≡ false = ap (λ (k : ℕ). agrees far k m) z ∙ a in (
-      cond-true (ltb at far) _ _ o ∙ cond-false (agrees far at m) _ _ differ,
-      cond-false (ltb at far && agrees far at m) _ _ (and_right (ltb at far) (agrees far at m) differ),
-    )
-breaks-off far at (f ∷ between) more m o a =
-    let both = and_both (agrees far at f) (open_after far (at + length f.field) between) o in
-    let past = open-to far (at + length f.field) between both.1 in
-    let reaches : ltb at far ≡ true = lt-ltb at far (let p = past.0 in omega arith) in
-    let len : length (f.field ++ text between) ≡ length f.field + length (text between) = length-append f.field (text between) in
-    let rest = breaks-off far (at + length f.field) between more m both.1 (ap (λ (k : ℕ). agrees far k m) (omega arith) ∙ a) in (
-      cond-true (ltb at far) _ _ reaches ∙ cond-true (agrees far at f) _ _ both.0 ∙ rest.0,
-      cond-true (ltb at far && agrees far at f) _ _ (and_from (ltb at far) (agrees far at f) reaches both.0)
-          ∙ ap (λ (ms : List Member). f ∷ ms) rest.1,
-    )
+module _ (limit : ℕ) where
+  -- a start is broken off at the first frame that doesn't agree with it
+  breaks-off : (far at : ℕ) (between more : List Member) (m : Member) → open_after limit far at between ≡ true
+      → agrees limit far (at + length (text between)) m ≡ false
+      → (breaker limit far at (between ++ m ∷ more) ≡ Some m) × (joined limit far at (between ++ m ∷ more) ≡ between)
+  breaks-off far at [] more m o a =
+      let z : at ≡ at + 0 = omega arith in
+      let differ : agrees limit far at m ≡ false = ap (λ (k : ℕ). agrees limit far k m) z ∙ a in (
+        cond-true (ltb at far) _ _ o ∙ cond-false (agrees limit far at m) _ _ differ,
+        cond-false (ltb at far && agrees limit far at m) _ _ (and_right (ltb at far) (agrees limit far at m) differ),
+      )
+  breaks-off far at (f ∷ between) more m o a =
+      let both = and_both (agrees limit far at f) (open_after limit far (at + length f.field) between) o in
+      let past = open-to limit far (at + length f.field) between both.1 in
+      let reaches : ltb at far ≡ true = lt-ltb at far (let p = past.0 in omega arith) in
+      let len : length (f.field ++ text between) ≡ length f.field + length (text between) = length-append f.field (text between) in
+      let rest = breaks-off far (at + length f.field) between more m both.1 (ap (λ (k : ℕ). agrees limit far k m) (omega arith) ∙ a) in (
+        cond-true (ltb at far) _ _ reaches ∙ cond-true (agrees limit far at f) _ _ both.0 ∙ rest.0,
+        cond-true (ltb at far && agrees limit far at f) _ _ (and_from (ltb at far) (agrees limit far at f) reaches both.0)
+            ∙ ap (λ (ms : List Member). f ∷ ms) rest.1,
+      )
 
-module _ (before : List Member) (f : Member) (later : List Member) (s : Start) (skipped : List ℕ) (lies : LiesAfter f s skipped) where
-  -- the text of the run, and the place of the start in it
-  abbrev all : List ℕ
-  all = text (before ++ f ∷ later)
+  module _ (before : List Member) (f : Member) (later : List Member) (s : Start) (skipped : List ℕ) (lies : LiesAfter f s skipped) where
+    -- the text of the run, and the place of the start in it
+    abbrev all : List ℕ
+    all = text (before ++ f ∷ later)
 
-  abbrev here : ℕ
-  here = length (text before) + length skipped
+    abbrev here : ℕ
+    here = length (text before) + length skipped
 
-  -- the text from the start on
-  slice-place : (n : ℕ) → slice_range all here (here + n) ≡ take n (s.octets ++ text later)
-  slice-place n =
-      let back : (here + n) - here ≡ n = omega arith in
-      ap (λ (k : ℕ). take k (drop here all)) back
-      ∙ ap (λ (t : List ℕ). take n (drop here t)) (text_split before f skipped s.octets lies.0 later)
-      ∙ ap (λ (k : ℕ). take n (drop k ((text before ++ skipped) ++ (s.octets ++ text later)))) (sym (length-append (text before) skipped))
-      ∙ ap (take n) (drop-place (text before ++ skipped) (s.octets ++ text later))
+    -- the text from the start on
+    slice-place : (n : ℕ) → slice_range all here (here + n) ≡ take n (s.octets ++ text later)
+    slice-place n =
+        let back : (here + n) - here ≡ n = omega arith in
+        ap (λ (k : ℕ). take k (drop here all)) back
+        ∙ ap (λ (t : List ℕ). take n (drop here t)) (text_split limit before f skipped s.octets lies.0 later)
+        ∙ ap (λ (k : ℕ). take n (drop k ((text before ++ skipped) ++ (s.octets ++ text later)))) (sym (length-append (text before) skipped))
+        ∙ ap (take n) (drop-place (text before ++ skipped) (s.octets ++ text later))
 
-  -- a part by how many octets it has
-  part-place : (stop n : ℕ) (octets : List ℕ) (fate : Fate) → stop ≡ here + n → take n (s.octets ++ text later) ≡ octets
-      → ◌≡◌ {A = Part} (record { first = f.number; place = s.place; octets = octets; fate = fate }) (part_at f s all here stop fate)
-  part-place stop n octets fate e h =
-      ap (λ (o : List ℕ). record { first = f.number; place = s.place; octets = o; fate = fate })
-      (sym (ap (slice_range all here) e ∙ slice-place n ∙ h))
+    -- a part by how many octets it has
+    part-place : (stop n : ℕ) (octets : List ℕ) (fate : Fate) → stop ≡ here + n → take n (s.octets ++ text later) ≡ octets
+        → ◌≡◌ {A = Part} (record { first = f.number; place = s.place; octets = octets; fate = fate }) (part_at f s all here stop fate)
+    part-place stop n octets fate e h =
+        ap (λ (o : List ℕ). record { first = f.number; place = s.place; octets = o; fate = fate })
+        (sym (ap (slice_range all here) e ∙ slice-place n ∙ h))
 
-  -- a start of another version: the rest of its frame
-  pub unread-at : (end : End) → (IsVersionZero all here → ⊥)
-      → start_part f later end s ≡ part_at f s all here (length (text before) + length f.field) (Lost why.Version f.number)
-  unread-at end not_zero =
-      let size : length f.field ≡ length skipped + length s.octets = ap (λ (o : List ℕ). length o) lies.0 ∙ length-append skipped s.octets in
-      ⊎_elim
-      (λ packet. absurd (not_zero (zero-to before f skipped s.octets lies.0 lies.2 later packet)))
-      (λ other.
-      cond-false (is_packet s.octets) _ _ other
-      ∙ part-place (length (text before) + length f.field) (length s.octets) s.octets (Lost why.Version f.number) (omega arith)
-      (take-append_seam s.octets (text later)))
-      (cases_Bool (is_packet s.octets))
+    -- a start at which no packet is read: the rest of its frame
+    unread-by : (end : End) (r : Reason) → (begins_packet limit s.octets ≡ true → ⊥) → unread_reason s.octets ≡ r
+        → start_part limit f later end s ≡ part_at f s all here (length (text before) + length f.field) (Lost r f.number)
+    unread-by end r unread reason =
+        let size : length f.field ≡ length skipped + length s.octets = ap (λ (o : List ℕ). length o) lies.0 ∙ length-append skipped s.octets in
+        ⊎_elim
+        (λ packet. absurd (unread packet))
+        (λ other.
+        cond-false (begins_packet limit s.octets) _ _ other
+        ∙ ap (λ (z : Reason). record { first = f.number; place = s.place; octets = s.octets; fate = Lost z f.number }) reason
+        ∙ part-place (length (text before) + length f.field) (length s.octets) s.octets (Lost r f.number) (omega arith)
+        (take-append_seam s.octets (text later)))
+        (cases_Bool (begins_packet limit s.octets))
 
-  -- a start of version 0, by the frame that breaks it off, if one does
-  packet-place : (end : End) → is_packet s.octets ≡ true
-      → start_part f later end s
-      ≡ packet_part f.number s.place later end s.octets (far_end s.octets later) (breaker (far_end s.octets later) (length s.octets) later)
-  packet-place end packet = cond-true (is_packet s.octets) _ _ packet
+    -- another version
+    pub unread-at : (end : End) → (IsVersionZero all here → ⊥)
+        → start_part limit f later end s ≡ part_at f s all here (length (text before) + length f.field) (Lost why.Version f.number)
+    unread-at end not_zero =
+        let no_packet : is_packet s.octets ≡ true → ⊥ = (λ zero. not_zero (zero-to limit before f skipped s.octets lies.0 lies.2 later zero)) in
+        unread-by end why.Version (λ packet. no_packet (begins-zero limit s.octets packet))
+        (⊎_elim (λ zero. absurd (no_packet zero)) (λ other. cond-false (is_packet s.octets) _ _ other) (cases_Bool (is_packet s.octets)))
 
-  unbroken-place : (end : End) → is_packet s.octets ≡ true → breaker (far_end s.octets later) (length s.octets) later ≡ None
-      → start_part f later end s ≡ packet_part f.number s.place later end s.octets (far_end s.octets later) None
-  unbroken-place end packet none =
-      packet-place end packet ∙ ap (packet_part f.number s.place later end s.octets (far_end s.octets later)) none
+    -- a packet over the limit
+    pub unread_long-at : (end : End) → IsVersionZero all here → IsLong limit all here (length (text (before ++ f ∷ [])))
+        → start_part limit f later end s ≡ part_at f s all here (length (text before) + length f.field) (Lost why.Length f.number)
+    unread_long-at end zero long =
+        let is : is_long limit (reach s.octets) (length s.octets) ≡ true = (own-long-at limit before f skipped s.octets lies.0 later).1 long in
+        unread-by end why.Length (λ packet. true_false (sym is ∙ begins-short limit s.octets packet))
+        (cond-true (is_packet s.octets) _ _ (zero-from limit before f skipped s.octets lies.0 lies.2 later zero))
+      where
+        true_false : true ≡ false → ⊥
+        true_false h = cc
 
-  -- a whole packet: the octets up to where it ends
-  pub packet-at : (end : End) → IsWhole all here (before ++ f ∷ []) later
-      → start_part f later end s
-      ≡ part_at f s all here (reach_at all here) (Given (holder (far_end s.octets later) (length s.octets) f.number later))
-  packet-at end whole =
-      let far : ℕ = far_end s.octets later in
-      let fits : Bool = leb (far_end s.octets later) (length (s.octets ++ text later)) in
-      let one = and_both (is_packet s.octets) (is_none (breaker far (length s.octets) later) && fits) ((whole-at before f skipped s.octets lies.0 lies.2 later).1 whole) in
-      let two = and_both (is_none (breaker far (length s.octets) later)) fits one.1 in
-      unbroken-place end one.0 (none-from _ two.0)
-      ∙ cond-true (leb (far_end s.octets later) (length (s.octets ++ text later))) _ _ two.1
-      ∙ part-place (reach_at all here) far (take far (s.octets ++ text later)) (Given (holder far (length s.octets) f.number later))
-      (ends-at before f skipped s.octets lies.0 later) refl
+    -- a start of version 0, by the frame that breaks it off, if one does
+    packet-place : (end : End) → begins_packet limit s.octets ≡ true
+        → start_part limit f later end s
+        ≡ packet_part limit f.number s.place later end s.octets (far_end s.octets later) (breaker limit (far_end s.octets later) (length s.octets) later)
+    packet-place end packet = cond-true (begins_packet limit s.octets) _ _ packet
 
-  -- a start that a frame breaks off: the octets up to that frame
-  pub broken-at : (end : End) (between more : List Member) (m : Member) → later ≡ between ++ m ∷ more
-      → IsOpen all here (before ++ f ∷ []) between
-      → (Agrees (reach_at all here) (length (text ((before ++ f ∷ []) ++ between))) m → ⊥)
-      → start_part f later end s
-      ≡ part_at f s all here (length (text ((before ++ f ∷ []) ++ between))) (Lost why.Pointer m.number)
-  broken-at end between more m split opened differs =
-      let far : ℕ = far_end s.octets later in
-      let one = and_both (is_packet s.octets) (open_after far (length s.octets) between) ((open-at before f skipped s.octets lies.0 lies.2 between later).1 opened) in
-      let differ : agrees (far_end s.octets later) (length s.octets + length (text between)) m ≡ false =
-      ⊎_elim (λ agree. absurd (differs ((agreement-at before f skipped s.octets lies.0 between later m).0 agree))) (λ d. d)
-      (cases_Bool (agrees (far_end s.octets later) (length s.octets + length (text between)) m)) in
-      let off = breaks-off far (length s.octets) between more m one.1 differ in
-      packet-place end one.0
-      ∙ ap (packet_part f.number s.place later end s.octets far) (ap (breaker far (length s.octets)) split ∙ off.0)
-      ∙ ap (λ (ms : List Member). record { first = f.number; place = s.place; octets = s.octets ++ text ms; fate = Lost why.Pointer m.number })
-      (ap (joined far (length s.octets)) split ∙ off.1)
-      ∙ part-place (length (text ((before ++ f ∷ []) ++ between))) (length s.octets + length (text between)) (s.octets ++ text between) (Lost why.Pointer m.number)
-      (begins-at before f skipped s.octets lies.0 between)
-      (take-append-add s.octets (text later) (length (text between))
-      ∙ ap (λ (o : List ℕ). s.octets ++ take (length (text between)) o) (ap text split ∙ flat_map-append (λ x. x.field) between (m ∷ more))
-      ∙ ap (λ (o : List ℕ). s.octets ++ o) (take-append_seam (text between) (text (m ∷ more))))
+    unbroken-place : (end : End) → begins_packet limit s.octets ≡ true → breaker limit (far_end s.octets later) (length s.octets) later ≡ None
+        → start_part limit f later end s ≡ packet_part limit f.number s.place later end s.octets (far_end s.octets later) None
+    unbroken-place end packet none =
+        packet-place end packet ∙ ap (packet_part limit f.number s.place later end s.octets (far_end s.octets later)) none
 
-  -- a start that neither ends in the text nor is broken off: all the octets that follow
-  pub unended-at : (end : End) → IsVersionZero all here → (IsWhole all here (before ++ f ∷ []) later → ⊥)
-      → ((between more : List Member) (m : Member) → later ≡ between ++ m ∷ more → IsOpen all here (before ++ f ∷ []) between
-      → Agrees (reach_at all here) (length (text ((before ++ f ∷ []) ++ between))) m)
-      → start_part f later end s ≡ part_at f s all here (length all) (fate_at end)
-  unended-at end zero not_whole each =
-      let far : ℕ = far_end s.octets later in
-      let packet : is_packet s.octets ≡ true = zero-from before f skipped s.octets lies.0 lies.2 later zero in
-      let none : breaker (far_end s.octets later) (length s.octets) later ≡ None =
-      unbroken-from (far_end s.octets later) (length s.octets) later
-      (λ between more m e o.
-      (agreement-at before f skipped s.octets lies.0 between later m).1
-      (each between more m e
-      ((open-at before f skipped s.octets lies.0 lies.2 between later).0
-      (both_true (is_packet s.octets) (open_after (far_end s.octets later) (length s.octets) between) packet o)))) in
-      unbroken-place end packet none
-      ∙ ⊎_elim
-      (λ fits.
-      absurd (not_whole ((whole-at before f skipped s.octets lies.0 lies.2 later).0
-      (both_true (is_packet s.octets) _ packet
-      (both_true (is_none (breaker far (length s.octets) later)) _ (ap (λ (b : Option Member). is_none b) none) fits)))))
-      (λ past. cond-false (leb (far_end s.octets later) (length (s.octets ++ text later))) _ _ past)
-      (cases_Bool (leb (far_end s.octets later) (length (s.octets ++ text later))))
-      ∙ part-place (length all) (length (s.octets ++ text later)) (s.octets ++ text later) (fate_at end)
-      (text-length before f skipped s.octets lies.0 lies.2 later) (take-length (s.octets ++ text later))
+    -- a whole packet: the octets up to where it ends
+    pub packet-at : (end : End) → IsWhole limit all here (before ++ f ∷ []) later
+        → start_part limit f later end s
+        ≡ part_at f s all here (reach_at all here) (Given (holder (far_end s.octets later) (length s.octets) f.number later))
+    packet-at end whole =
+        let far : ℕ = far_end s.octets later in
+        let fits : Bool = leb (far_end s.octets later) (length (s.octets ++ text later)) in
+        let one = and_both (begins_packet limit s.octets) (is_none (breaker limit far (length s.octets) later) && fits) ((whole-at limit before f skipped s.octets lies.0 lies.2 later).1 whole) in
+        let two = and_both (is_none (breaker limit far (length s.octets) later)) fits one.1 in
+        unbroken-place end one.0 (none-from _ two.0)
+        ∙ cond-true (leb (far_end s.octets later) (length (s.octets ++ text later))) _ _ two.1
+        ∙ part-place (reach_at all here) far (take far (s.octets ++ text later)) (Given (holder far (length s.octets) f.number later))
+        (ends-at limit before f skipped s.octets lies.0 later) refl
+
+    -- a start that a frame breaks off: the octets up to that frame
+    broken-by : (end : End) (between more : List Member) (m : Member) (r : Reason) → later ≡ between ++ m ∷ more
+        → IsOpen limit all here (before ++ f ∷ []) between
+        → (Agrees limit all here (length (text ((before ++ f ∷ []) ++ between))) m → ⊥)
+        → reason_at (far_end s.octets later) (length s.octets + length (text between)) m ≡ r
+        → start_part limit f later end s
+        ≡ part_at f s all here (length (text ((before ++ f ∷ []) ++ between))) (Lost r m.number)
+    broken-by end between more m r split opened differs reason =
+        let far : ℕ = far_end s.octets later in
+        let one = and_both (begins_packet limit s.octets) (open_after limit far (length s.octets) between) ((open-at limit before f skipped s.octets lies.0 lies.2 between later).1 opened) in
+        let differ : agrees limit (far_end s.octets later) (length s.octets + length (text between)) m ≡ false =
+        ⊎_elim (λ agree. absurd (differs ((agreement-at limit before f skipped s.octets lies.0 between later m).0 agree))) (λ d. d)
+        (cases_Bool (agrees limit (far_end s.octets later) (length s.octets + length (text between)) m)) in
+        let off = breaks-off far (length s.octets) between more m one.1 differ in
+        packet-place end one.0
+        ∙ ap (packet_part limit f.number s.place later end s.octets far) (ap (breaker limit far (length s.octets)) split ∙ off.0)
+        ∙ ap (λ (ms : List Member). broken_part f.number s.place (s.octets ++ text ms) far m)
+        (ap (joined limit far (length s.octets)) split ∙ off.1)
+        ∙ ap (λ (z : Reason). record { first = f.number; place = s.place; octets = s.octets ++ text between; fate = Lost z m.number })
+        (ap (λ (n : ℕ). reason_at far n m) (length-append s.octets (text between)) ∙ reason)
+        ∙ part-place (length (text ((before ++ f ∷ []) ++ between))) (length s.octets + length (text between)) (s.octets ++ text between) (Lost r m.number)
+        (begins-at limit before f skipped s.octets lies.0 between)
+        (take-append-add s.octets (text later) (length (text between))
+        ∙ ap (λ (o : List ℕ). s.octets ++ take (length (text between)) o) (ap text split ∙ flat_map-append (λ x. x.field) between (m ∷ more))
+        ∙ ap (λ (o : List ℕ). s.octets ++ o) (take-append_seam (text between) (text (m ∷ more))))
+
+    -- by its place
+    pub broken-at : (end : End) (between more : List Member) (m : Member) → later ≡ between ++ m ∷ more
+        → IsOpen limit all here (before ++ f ∷ []) between
+        → (AgreesAt (reach_at all here) (length (text ((before ++ f ∷ []) ++ between))) (length m.field) m.place → ⊥)
+        → start_part limit f later end s
+        ≡ part_at f s all here (length (text ((before ++ f ∷ []) ++ between))) (Lost why.Pointer m.number)
+    broken-at end between more m split opened differs =
+        let place : Bool = agrees_at (far_end s.octets later) (length s.octets + length (text between)) (length m.field) m.place in
+        broken-by end between more m why.Pointer split opened (λ agree. differs agree.0)
+        (⊎_elim (λ e. absurd (differs ((place-at limit before f skipped s.octets lies.0 between later m).0 e)))
+        (λ e. cond-false (agrees_at (far_end s.octets later) (length s.octets + length (text between)) (length m.field) m.place) _ _ e)
+        (cases_Bool (agrees_at (far_end s.octets later) (length s.octets + length (text between)) (length m.field) m.place)))
+
+    -- only because the packet is over the limit
+    pub broken_long-at : (end : End) (between more : List Member) (m : Member) → later ≡ between ++ m ∷ more
+        → IsOpen limit all here (before ++ f ∷ []) between
+        → AgreesAt (reach_at all here) (length (text ((before ++ f ∷ []) ++ between))) (length m.field) m.place
+        → IsLong limit all here (length (text ((before ++ f ∷ []) ++ between)) + length m.field)
+        → start_part limit f later end s
+        ≡ part_at f s all here (length (text ((before ++ f ∷ []) ++ between))) (Lost why.Length m.number)
+    broken_long-at end between more m split opened place long =
+        broken-by end between more m why.Length split opened (λ agree. agree.1 long)
+        (cond-true (agrees_at (far_end s.octets later) (length s.octets + length (text between)) (length m.field) m.place) _ _
+        ((place-at limit before f skipped s.octets lies.0 between later m).1 place))
+
+    -- a start that neither ends in the text nor is broken off: all the octets that follow
+    pub unended-at : (end : End) → BeginsPacket limit all here (length (text (before ++ f ∷ []))) → (IsWhole limit all here (before ++ f ∷ []) later → ⊥)
+        → ((between more : List Member) (m : Member) → later ≡ between ++ m ∷ more → IsOpen limit all here (before ++ f ∷ []) between
+        → Agrees limit all here (length (text ((before ++ f ∷ []) ++ between))) m)
+        → start_part limit f later end s ≡ part_at f s all here (length all) (fate_at end)
+    unended-at end zero not_whole each =
+        let far : ℕ = far_end s.octets later in
+        let packet : begins_packet limit s.octets ≡ true = begins-from limit before f skipped s.octets lies.0 lies.2 later zero in
+        let none : breaker limit (far_end s.octets later) (length s.octets) later ≡ None =
+        unbroken-from limit (far_end s.octets later) (length s.octets) later
+        (λ between more m e o.
+        (agreement-at limit before f skipped s.octets lies.0 between later m).1
+        (each between more m e
+        ((open-at limit before f skipped s.octets lies.0 lies.2 between later).0
+        (both_true (begins_packet limit s.octets) (open_after limit (far_end s.octets later) (length s.octets) between) packet o)))) in
+        unbroken-place end packet none
+        ∙ ⊎_elim
+        (λ fits.
+        absurd (not_whole ((whole-at limit before f skipped s.octets lies.0 lies.2 later).0
+        (both_true (begins_packet limit s.octets) _ packet
+        (both_true (is_none (breaker limit far (length s.octets) later)) _ (ap (λ (b : Option Member). is_none b) none) fits)))))
+        (λ past. cond-false (leb (far_end s.octets later) (length (s.octets ++ text later))) _ _ past)
+        (cases_Bool (leb (far_end s.octets later) (length (s.octets ++ text later))))
+        ∙ part-place (length all) (length (s.octets ++ text later)) (s.octets ++ text later) (fate_at end)
+        (text-length limit before f skipped s.octets lies.0 lies.2 later) (take-length (s.octets ++ text later))

@@ -1,17 +1,18 @@
 -- The definitions relative to a start are those with places in the text.
-use Rattle.std.proofs.Common.{◌≡◌, ℕ, ◌+◌, ◌<◌, ◌≤◌, Bool, true, ◌&&◌, Option, Some, None, List, [], ◌∷◌, ◌++◌, length, take, drop, refl, sym, ap, subst, ◌∙◌, ⊎_elim, arith, append_assoc, length-append, ltb, leb}
+use Rattle.std.proofs.Common.{◌≡◌, ℕ, ◌+◌, ◌<◌, ◌≤◌, Bool, true, false, ◌&&◌, Option, Some, None, List, [], ◌∷◌, ◌++◌, length, take, drop, refl, sym, ap, subst, ◌∙◌, ⊎_elim, arith, append_assoc, length-append, ltb, leb}
 use Rattle.std.specs.Prelude.{is_none}
 use Rattle.std.proofs.lemmas.List.{append-nil, take-append-le}
 use Rattle.std.proofs.lemmas.List.Concat.{flat_map-append}
-use Rattle.std.proofs.lemmas.Bool.{cases_Bool, cases_lt, cond-true, cond-false, ltb-true, leb-true, lt-ltb, le-leb, lt-leb, eqb-true, eq-eqb}
+use Rattle.std.proofs.lemmas.Bool.{and_from, cases_Bool, cases_lt, cond-true, cond-false, ltb-true, leb-true, lt-ltb, le-leb, lt-leb, eqb-true, eq-eqb}
 use Rattle.std.proofs.Math.Seq.{drop-append_seam}
 use Rattle.tm_packet.specs.Header.{version_of, header_of}
 use Rattle.tm_reassembly.specs.Chain.{Member}
-use Rattle.tm_reassembly.specs.Parts.{text, reach, far_end, is_packet, agrees, agrees_at, open_after, breaker}
+use Rattle.tm_reassembly.specs.Parts.{text, reach, far_end, is_packet, is_long, begins_packet, agrees, agrees_at, open_after, breaker}
 use Rattle.tm_reassembly.specs.Verdict.{is_whole}
-use Rattle.tm_reassembly.specs.Absolute.{reach_at, IsVersionZero, AgreesAt, Agrees, IsOpen, IsWhole, Iff}
+use Rattle.tm_reassembly.specs.Absolute.{reach_at, IsVersionZero, IsLong, BeginsPacket, AgreesAt, Agrees, IsOpen, IsWhole, Iff}
 use Rattle.tm_reassembly.proofs.Reach.{reach-short, reach-long}
-use Rattle.tm_reassembly.proofs.OneOpen.{and_both}
+use Rattle.tm_reassembly.proofs.Long.{and_both, and_not, agrees-place, agrees-short, begins-zero, begins-short}
+use Rattle.tm_reassembly.proofs.Settled.{own-long-settled}
 
 pub both_true : (a b : Bool) → a ≡ true → b ≡ true → (a && b) ≡ true
 both_true a b e f = rw (e, f) refl
@@ -49,222 +50,304 @@ agrees-from : (q far at len : ℕ) (place : Option ℕ) → AgreesAt (q + far) (
 agrees-from q far at len None h = le-leb (at + len) far (omega arith)
 agrees-from q far at len (Some place) h = eq-eqb far (at + place) (omega arith)
 
--- each frame between agrees
-abbrev pub Each : ℕ → ℕ → List Member → Type 0
-Each far at between =
-    (earlier later : List Member) (g : Member) → between ≡ earlier ++ g ∷ later → agrees far (at + length (text earlier)) g ≡ true
-
 not_split : (earlier later : List Member) (g : Member) → [] ≡ earlier ++ g ∷ later → ⊥
 not_split [] later g e = cc
 not_split (x ∷ earlier) later g e = cc
-
-each-cons : (far at : ℕ) (m : Member) (between : List Member) → agrees far at m ≡ true → Each far (at + length m.field) between → Each far at (m ∷ between)
-each-cons far at m between a h [] later g e =
-    let same : m ≡ g = cc in
-    let z : at + 0 ≡ at = omega arith in
-    ap (λ (k : ℕ). agrees far k g) z ∙ ap (agrees far at) (sym same) ∙ a
-each-cons far at m between a h (x ∷ earlier) later g e =
-    let same : m ≡ x = cc in
-    let rest : between ≡ earlier ++ g ∷ later = cc in
-    let len : length (x.field ++ text earlier) ≡ length x.field + length (text earlier) = length-append x.field (text earlier) in
-    let size : length m.field ≡ length x.field = ap (λ (z : Member). length z.field) same in
-    ap (λ (k : ℕ). agrees far k g) (omega arith) ∙ h earlier later g rest
-
-each-first : (far at : ℕ) (m : Member) (between : List Member) → Each far at (m ∷ between) → agrees far at m ≡ true
-each-first far at m between h = let z : at ≡ at + 0 = omega arith in ap (λ (k : ℕ). agrees far k m) z ∙ h [] between m refl
-
-each-rest : (far at : ℕ) (m : Member) (between : List Member) → Each far at (m ∷ between) → Each far (at + length m.field) between
-each-rest far at m between h earlier later g e =
-    let len : length (m.field ++ text earlier) ≡ length m.field + length (text earlier) = length-append m.field (text earlier) in
-    ap (λ (k : ℕ). agrees far k g) (omega arith) ∙ h (m ∷ earlier) later g (ap (λ (ms : List Member). m ∷ ms) e)
-
-pub open-to : (far at : ℕ) (between : List Member) → open_after far at between ≡ true → (at + length (text between) < far) × Each far at between
-open-to far at [] h = (let e = ltb-true at far h in omega arith, λ earlier later g e. absurd (not_split earlier later g e))
-open-to far at (m ∷ between) h =
-    let both = and_both (agrees far at m) (open_after far (at + length m.field) between) h in
-    let rest = open-to far (at + length m.field) between both.1 in
-    let len : length (m.field ++ text between) ≡ length m.field + length (text between) = length-append m.field (text between) in
-    (let r = rest.0 in omega arith, each-cons far at m between both.0 rest.1)
-
-open-from : (far at : ℕ) (between : List Member) → at + length (text between) < far → Each far at between → open_after far at between ≡ true
-open-from far at [] h each = lt-ltb at far (omega arith)
-open-from far at (m ∷ between) h each =
-    let len : length (m.field ++ text between) ≡ length m.field + length (text between) = length-append m.field (text between) in
-    both_true (agrees far at m) (open_after far (at + length m.field) between) (each-first far at m between each)
-    (open-from far (at + length m.field) between (omega arith) (each-rest far at m between each))
-
--- no frame breaks
-abbrev pub Unbroken : ℕ → ℕ → List Member → Type 0
-Unbroken far at later =
-    (between more : List Member) (m : Member) → later ≡ between ++ m ∷ more → open_after far at between ≡ true
-    → agrees far (at + length (text between)) m ≡ true
-
-unbroken-to : (far at : ℕ) (later : List Member) → breaker far at later ≡ None → Unbroken far at later
-unbroken-to far at [] h between more m e o = absurd (not_split between more m e)
-unbroken-to far at (f ∷ later) h [] more m e o =
-    let same : f ≡ m = cc in
-    let z : at + 0 ≡ at = omega arith in
-    ap (λ (k : ℕ). agrees far k m) z
-    ∙ ap (agrees far at) (sym same)
-    ∙ ⊎_elim (λ a. a)
-    (λ a. absurd (some_none (sym (cond-true (ltb at far) _ _ o ∙ cond-false (agrees far at f) _ _ a) ∙ h)))
-    (cases_Bool (agrees far at f))
-  where
-    some_none : {x : Member} → ◌≡◌ {A = Option Member} (Some x) None → ⊥
-    some_none p = cc
-unbroken-to far at (f ∷ later) h (x ∷ between) more m e o =
-    let same : f ≡ x = cc in
-    let rest : later ≡ between ++ m ∷ more = cc in
-    let both = and_both (agrees far at x) (open_after far (at + length x.field) between) o in
-    let past = open-to far (at + length x.field) between both.1 in
-    let size : length f.field ≡ length x.field = ap (λ (z : Member). length z.field) same in
-    let len : length (x.field ++ text between) ≡ length x.field + length (text between) = length-append x.field (text between) in
-    let agreed : agrees far at f ≡ true = ap (agrees far at) same ∙ both.0 in
-    let here : at < far = let p = past.0 in omega arith in
-    let none : breaker far (at + length f.field) later ≡ None =
-    sym (cond-true (ltb at far) _ _ (lt-ltb at far here) ∙ cond-true (agrees far at f) _ _ agreed) ∙ h in
-    ap (λ (k : ℕ). agrees far k m) (omega arith)
-    ∙ unbroken-to far (at + length f.field) later none between more m rest (ap (λ (k : ℕ). open_after far (at + k) between) size ∙ both.1)
-
-pub unbroken-from : (far at : ℕ) (later : List Member) → Unbroken far at later → breaker far at later ≡ None
-unbroken-from far at [] h = refl
-unbroken-from far at (f ∷ later) h =
-    ⊎_elim
-    (λ here.
-    let z : at ≡ at + 0 = omega arith in
-    let agreed : agrees far at f ≡ true = ap (λ (k : ℕ). agrees far k f) z ∙ h [] later f refl here in
-    cond-true (ltb at far) _ _ here ∙ cond-true (agrees far at f) _ _ agreed
-    ∙ unbroken-from far (at + length f.field) later
-    (λ between more m e o.
-    let len : length (f.field ++ text between) ≡ length f.field + length (text between) = length-append f.field (text between) in
-    ap (λ (k : ℕ). agrees far k m) (omega arith)
-    ∙ h (f ∷ between) more m (ap (λ (ms : List Member). f ∷ ms) e) (both_true (agrees far at f) _ agreed o)))
-    (λ past. cond-false (ltb at far) _ _ past)
-    (cases_Bool (ltb at far))
 
 pub none-from : (b : Option Member) → is_none b ≡ true → b ≡ None
 none-from None h = refl
 none-from (Some m) h = absurd (cc)
 
--- a start whose frame has the octets `skipped` before it
-module _ (before : List Member) (f : Member) (skipped start : List ℕ) (whole_field : f.field ≡ skipped ++ start) where
-  pub text_split : (later : List Member) → text (before ++ f ∷ later) ≡ (text before ++ skipped) ++ (start ++ text later)
-  text_split later =
-      flat_map-append (λ m. m.field) before (f ∷ later)
-      ∙ ap (λ (o : List ℕ). text before ++ (o ++ text later)) whole_field
-      ∙ regroup (text before) skipped start (text later)
+module _ (limit : ℕ) where
+  -- whether a packet is long there
+  long-to : (q r b far at : ℕ) → r ≡ q + far → b ≡ q + at → (q + limit < r) × (q + 6 ≤ b) → is_long limit far at ≡ true
+  long-to q r b far at e g h =
+      let past = h.0 in
+      let there = h.1 in
+      and_from (leb 6 at) (ltb limit far) (le-leb 6 at (omega arith)) (lt-ltb limit far (omega arith))
+
+  long-from : (q r b far at : ℕ) → r ≡ q + far → b ≡ q + at → is_long limit far at ≡ true → (q + limit < r) × (q + 6 ≤ b)
+  long-from q r b far at e g h =
+      let both = and_both (leb 6 at) (ltb limit far) h in
+      let there = leb-true 6 at both.0 in
+      let past = ltb-true limit far both.1 in
+      (omega arith, omega arith)
+
+  short-to : (q r b far at : ℕ) → r ≡ q + far → b ≡ q + at → is_long limit far at ≡ false → (q + limit < r) × (q + 6 ≤ b) → ⊥
+  short-to q r b far at e g h l = true_false (sym (long-to q r b far at e g l) ∙ h)
     where
-      regroup : (a b c d : List ℕ) → a ++ ((b ++ c) ++ d) ≡ (a ++ b) ++ (c ++ d)
-      regroup a b c d = simp append_assoc
+      true_false : true ≡ false → ⊥
+      true_false p = cc
 
-  pub ends-at : (later : List Member)
-      → reach_at (text (before ++ f ∷ later)) (length (text before) + length skipped) ≡ (length (text before) + length skipped) + far_end start later
-  ends-at later =
-      let len : length (text before ++ skipped) ≡ length (text before) + length skipped = length-append (text before) skipped in
-      ap (λ (t : List ℕ). reach_at t (length (text before) + length skipped)) (text_split later)
-      ∙ ap (reach_at ((text before ++ skipped) ++ (start ++ text later))) (sym len)
-      ∙ reach-place (text before ++ skipped) (start ++ text later)
-      ∙ ap (λ (k : ℕ). k + far_end start later) len
+  short-from : (q r b far at : ℕ) → r ≡ q + far → b ≡ q + at → ((q + limit < r) × (q + 6 ≤ b) → ⊥) → is_long limit far at ≡ false
+  short-from q r b far at e g h =
+      ⊎_elim (λ l. absurd (h (long-from q r b far at e g l))) (λ s. s) (cases_Bool (is_long limit far at))
 
-  -- where a later frame begins
-  pub begins-at : (between : List Member)
-      → length (text ((before ++ f ∷ []) ++ between)) ≡ (length (text before) + length skipped) + (length start + length (text between))
-  begins-at between =
-      let own : length f.field ≡ length skipped + length start = ap (λ (o : List ℕ). length o) whole_field ∙ length-append skipped start in
-      let all : length (text ((before ++ f ∷ []) ++ between)) ≡ (length (text before) + length f.field) + length (text between) =
-      simp (flat_map-append, length-append, append-nil) in
-      omega arith
+  -- each frame between agrees
+  abbrev pub Each : ℕ → ℕ → List Member → Type 0
+  Each far at between =
+      (earlier later : List Member) (g : Member) → between ≡ earlier ++ g ∷ later → agrees limit far (at + length (text earlier)) g ≡ true
 
-  pub agreement-at : (between later : List Member) (m : Member)
-      → Iff (agrees (far_end start later) (length start + length (text between)) m ≡ true)
-      (Agrees (reach_at (text (before ++ f ∷ later)) (length (text before) + length skipped)) (length (text ((before ++ f ∷ []) ++ between))) m)
-  agreement-at between later m =
-      let q : ℕ = length (text before) + length skipped in
-      let far : ℕ = far_end start later in
-      let at : ℕ = length start + length (text between) in (
-        λ h. rw (ends-at later, begins-at between) (agrees-to q far at (length m.field) m.place h),
-        λ h. agrees-from q far at (length m.field) m.place (moved h),
+  each-cons : (far at : ℕ) (m : Member) (between : List Member) → agrees limit far at m ≡ true → Each far (at + length m.field) between → Each far at (m ∷ between)
+  each-cons far at m between a h [] later g e =
+      let same : m ≡ g = cc in
+      let z : at + 0 ≡ at = omega arith in
+      ap (λ (k : ℕ). agrees limit far k g) z ∙ ap (agrees limit far at) (sym same) ∙ a
+  each-cons far at m between a h (x ∷ earlier) later g e =
+      let same : m ≡ x = cc in
+      let rest : between ≡ earlier ++ g ∷ later = cc in
+      let len : length (x.field ++ text earlier) ≡ length x.field + length (text earlier) = length-append x.field (text earlier) in
+      let size : length m.field ≡ length x.field = ap (λ (z : Member). length z.field) same in
+      ap (λ (k : ℕ). agrees limit far k g) (omega arith) ∙ h earlier later g rest
+
+  each-first : (far at : ℕ) (m : Member) (between : List Member) → Each far at (m ∷ between) → agrees limit far at m ≡ true
+  each-first far at m between h = let z : at ≡ at + 0 = omega arith in ap (λ (k : ℕ). agrees limit far k m) z ∙ h [] between m refl
+
+  each-rest : (far at : ℕ) (m : Member) (between : List Member) → Each far at (m ∷ between) → Each far (at + length m.field) between
+  each-rest far at m between h earlier later g e =
+      let len : length (m.field ++ text earlier) ≡ length m.field + length (text earlier) = length-append m.field (text earlier) in
+      ap (λ (k : ℕ). agrees limit far k g) (omega arith) ∙ h (m ∷ earlier) later g (ap (λ (ms : List Member). m ∷ ms) e)
+
+  pub open-to : (far at : ℕ) (between : List Member) → open_after limit far at between ≡ true → (at + length (text between) < far) × Each far at between
+  open-to far at [] h = (let e = ltb-true at far h in omega arith, λ earlier later g e. absurd (not_split earlier later g e))
+  open-to far at (m ∷ between) h =
+      let both = and_both (agrees limit far at m) (open_after limit far (at + length m.field) between) h in
+      let rest = open-to far (at + length m.field) between both.1 in
+      let len : length (m.field ++ text between) ≡ length m.field + length (text between) = length-append m.field (text between) in
+      (let r = rest.0 in omega arith, each-cons far at m between both.0 rest.1)
+
+  open-from : (far at : ℕ) (between : List Member) → at + length (text between) < far → Each far at between → open_after limit far at between ≡ true
+  open-from far at [] h each = lt-ltb at far (omega arith)
+  open-from far at (m ∷ between) h each =
+      let len : length (m.field ++ text between) ≡ length m.field + length (text between) = length-append m.field (text between) in
+      both_true (agrees limit far at m) (open_after limit far (at + length m.field) between) (each-first far at m between each)
+      (open-from far (at + length m.field) between (omega arith) (each-rest far at m between each))
+
+  -- no frame breaks
+  abbrev pub Unbroken : ℕ → ℕ → List Member → Type 0
+  Unbroken far at later =
+      (between more : List Member) (m : Member) → later ≡ between ++ m ∷ more → open_after limit far at between ≡ true
+      → agrees limit far (at + length (text between)) m ≡ true
+
+  unbroken-to : (far at : ℕ) (later : List Member) → breaker limit far at later ≡ None → Unbroken far at later
+  unbroken-to far at [] h between more m e o = absurd (not_split between more m e)
+  unbroken-to far at (f ∷ later) h [] more m e o =
+      let same : f ≡ m = cc in
+      let z : at + 0 ≡ at = omega arith in
+      ap (λ (k : ℕ). agrees limit far k m) z
+      ∙ ap (agrees limit far at) (sym same)
+      ∙ ⊎_elim (λ a. a)
+      (λ a. absurd (some_none (sym (cond-true (ltb at far) _ _ o ∙ cond-false (agrees limit far at f) _ _ a) ∙ h)))
+      (cases_Bool (agrees limit far at f))
+    where
+      some_none : {x : Member} → ◌≡◌ {A = Option Member} (Some x) None → ⊥
+      some_none p = cc
+  unbroken-to far at (f ∷ later) h (x ∷ between) more m e o =
+      let same : f ≡ x = cc in
+      let rest : later ≡ between ++ m ∷ more = cc in
+      let both = and_both (agrees limit far at x) (open_after limit far (at + length x.field) between) o in
+      let past = open-to far (at + length x.field) between both.1 in
+      let size : length f.field ≡ length x.field = ap (λ (z : Member). length z.field) same in
+      let len : length (x.field ++ text between) ≡ length x.field + length (text between) = length-append x.field (text between) in
+      let agreed : agrees limit far at f ≡ true = ap (agrees limit far at) same ∙ both.0 in
+      let here : at < far = let p = past.0 in omega arith in
+      let none : breaker limit far (at + length f.field) later ≡ None =
+      sym (cond-true (ltb at far) _ _ (lt-ltb at far here) ∙ cond-true (agrees limit far at f) _ _ agreed) ∙ h in
+      ap (λ (k : ℕ). agrees limit far k m) (omega arith)
+      ∙ unbroken-to far (at + length f.field) later none between more m rest (ap (λ (k : ℕ). open_after limit far (at + k) between) size ∙ both.1)
+
+  pub unbroken-from : (far at : ℕ) (later : List Member) → Unbroken far at later → breaker limit far at later ≡ None
+  unbroken-from far at [] h = refl
+  unbroken-from far at (f ∷ later) h =
+      ⊎_elim
+      (λ here.
+      let z : at ≡ at + 0 = omega arith in
+      let agreed : agrees limit far at f ≡ true = ap (λ (k : ℕ). agrees limit far k f) z ∙ h [] later f refl here in
+      cond-true (ltb at far) _ _ here ∙ cond-true (agrees limit far at f) _ _ agreed
+      ∙ unbroken-from far (at + length f.field) later
+      (λ between more m e o.
+      let len : length (f.field ++ text between) ≡ length f.field + length (text between) = length-append f.field (text between) in
+      ap (λ (k : ℕ). agrees limit far k m) (omega arith)
+      ∙ h (f ∷ between) more m (ap (λ (ms : List Member). f ∷ ms) e) (both_true (agrees limit far at f) _ agreed o)))
+      (λ past. cond-false (ltb at far) _ _ past)
+      (cases_Bool (ltb at far))
+
+  -- a start whose frame has the octets `skipped` before it
+  module _ (before : List Member) (f : Member) (skipped start : List ℕ) (whole_field : f.field ≡ skipped ++ start) where
+    pub text_split : (later : List Member) → text (before ++ f ∷ later) ≡ (text before ++ skipped) ++ (start ++ text later)
+    text_split later =
+        flat_map-append (λ m. m.field) before (f ∷ later)
+        ∙ ap (λ (o : List ℕ). text before ++ (o ++ text later)) whole_field
+        ∙ regroup (text before) skipped start (text later)
+      where
+        regroup : (a b c d : List ℕ) → a ++ ((b ++ c) ++ d) ≡ (a ++ b) ++ (c ++ d)
+        regroup a b c d = simp append_assoc
+
+    pub ends-at : (later : List Member)
+        → reach_at (text (before ++ f ∷ later)) (length (text before) + length skipped) ≡ (length (text before) + length skipped) + far_end start later
+    ends-at later =
+        let len : length (text before ++ skipped) ≡ length (text before) + length skipped = length-append (text before) skipped in
+        ap (λ (t : List ℕ). reach_at t (length (text before) + length skipped)) (text_split later)
+        ∙ ap (reach_at ((text before ++ skipped) ++ (start ++ text later))) (sym len)
+        ∙ reach-place (text before ++ skipped) (start ++ text later)
+        ∙ ap (λ (k : ℕ). k + far_end start later) len
+
+    -- where a later frame begins
+    pub begins-at : (between : List Member)
+        → length (text ((before ++ f ∷ []) ++ between)) ≡ (length (text before) + length skipped) + (length start + length (text between))
+    begins-at between =
+        let own : length f.field ≡ length skipped + length start = ap (λ (o : List ℕ). length o) whole_field ∙ length-append skipped start in
+        let all : length (text ((before ++ f ∷ []) ++ between)) ≡ (length (text before) + length f.field) + length (text between) =
+        simp (flat_map-append, length-append, append-nil) in
+        omega arith
+
+    -- where the start's own frame ends, and where a later one does
+    pub own-end : length (text (before ++ f ∷ [])) ≡ (length (text before) + length skipped) + length start
+    own-end =
+        let own : length f.field ≡ length skipped + length start = ap (λ (o : List ℕ). length o) whole_field ∙ length-append skipped start in
+        let all : length (text (before ++ f ∷ [])) ≡ length (text before) + length f.field = simp (flat_map-append, length-append, append-nil) in
+        omega arith
+
+    later-end : (between : List Member) (m : Member) → length (text ((before ++ f ∷ []) ++ between)) + length m.field
+        ≡ (length (text before) + length skipped) + ((length start + length (text between)) + length m.field)
+    later-end between m = let b = begins-at between in omega arith
+
+    pub place-at : (between later : List Member) (m : Member)
+        → Iff (agrees_at (far_end start later) (length start + length (text between)) (length m.field) m.place ≡ true)
+        (AgreesAt (reach_at (text (before ++ f ∷ later)) (length (text before) + length skipped)) (length (text ((before ++ f ∷ []) ++ between))) (length m.field) m.place)
+    place-at between later m =
+        let q : ℕ = length (text before) + length skipped in
+        let far : ℕ = far_end start later in
+        let at : ℕ = length start + length (text between) in (
+          λ h. rw (ends-at later, begins-at between) (agrees-to q far at (length m.field) m.place h),
+          λ h. agrees-from q far at (length m.field) m.place (moved h),
+        )
+      where
+        moved : AgreesAt (reach_at (text (before ++ f ∷ later)) (length (text before) + length skipped)) (length (text ((before ++ f ∷ []) ++ between))) (length m.field) m.place
+            → AgreesAt ((length (text before) + length skipped) + far_end start later) ((length (text before) + length skipped) + (length start + length (text between))) (length m.field) m.place
+        moved h =
+            subst (λ (k : ℕ). AgreesAt k ((length (text before) + length skipped) + (length start + length (text between))) (length m.field) m.place) (ends-at later)
+            (subst (λ (k : ℕ). AgreesAt (reach_at (text (before ++ f ∷ later)) (length (text before) + length skipped)) k (length m.field) m.place) (begins-at between) h)
+
+    pub long-at : (between later : List Member) (m : Member)
+        → Iff (is_long limit (far_end start later) ((length start + length (text between)) + length m.field) ≡ true)
+        (IsLong limit (text (before ++ f ∷ later)) (length (text before) + length skipped) (length (text ((before ++ f ∷ []) ++ between)) + length m.field))
+    long-at between later m = (
+      long-from _ _ _ _ ((length start + length (text between)) + length m.field) (ends-at later) (later-end between m),
+      long-to _ _ _ (far_end start later) ((length start + length (text between)) + length m.field) (ends-at later) (later-end between m),
+    )
+
+    pub agreement-at : (between later : List Member) (m : Member)
+        → Iff (agrees limit (far_end start later) (length start + length (text between)) m ≡ true)
+        (Agrees limit (text (before ++ f ∷ later)) (length (text before) + length skipped) (length (text ((before ++ f ∷ []) ++ between))) m)
+    agreement-at between later m =
+        let at : ℕ = length start + length (text between) in
+        let far : ℕ = far_end start later in (
+          λ h. (
+            (place-at between later m).0 (agrees-place limit far at m h),
+            short-to _ _ _ far (at + length m.field) (ends-at later) (later-end between m) (agrees-short limit far at m h),
+          ),
+          λ h.
+              and_not (agrees_at far at (length m.field) m.place) (is_long limit far (at + length m.field)) ((place-at between later m).1 h.0)
+              (short-from _ _ _ far (at + length m.field) (ends-at later) (later-end between m) h.1),
+        )
+
+    -- in its own frame
+    pub own-long-at : (later : List Member)
+        → Iff (is_long limit (reach start) (length start) ≡ true)
+        (IsLong limit (text (before ++ f ∷ later)) (length (text before) + length skipped) (length (text (before ++ f ∷ []))))
+    own-long-at later = (
+      λ h. long-from _ _ _ (far_end start later) (length start) (ends-at later) own-end (own-long-settled limit start later ∙ h),
+      λ h. sym (own-long-settled limit start later) ∙ long-to _ _ _ (far_end start later) (length start) (ends-at later) own-end h,
+    )
+
+    module _ (some : 0 < length start) where
+      version-at : (later : List Member)
+          → version_of (take 1 (drop (length (text before) + length skipped) (text (before ++ f ∷ later)))) ≡ version_of (take 1 start)
+      version-at later =
+          ap (λ (t : List ℕ). version_of (take 1 (drop (length (text before) + length skipped) t))) (text_split later)
+          ∙ ap (λ (k : ℕ). version_of (take 1 (drop k ((text before ++ skipped) ++ (start ++ text later))))) (sym (length-append (text before) skipped))
+          ∙ version-place (text before ++ skipped) start (text later) some
+
+      pub zero-to : (later : List Member) → is_packet start ≡ true → IsVersionZero (text (before ++ f ∷ later)) (length (text before) + length skipped)
+      zero-to later h = version-at later ∙ eqb-true (version_of (take 1 start)) 0 h
+
+      pub zero-from : (later : List Member) → IsVersionZero (text (before ++ f ∷ later)) (length (text before) + length skipped) → is_packet start ≡ true
+      zero-from later h = eq-eqb (version_of (take 1 start)) 0 (sym (version-at later) ∙ h)
+
+      pub begins-to : (later : List Member) → begins_packet limit start ≡ true
+          → BeginsPacket limit (text (before ++ f ∷ later)) (length (text before) + length skipped) (length (text (before ++ f ∷ [])))
+      begins-to later h = (
+        zero-to later (begins-zero limit start h),
+        short-to _ _ _ (far_end start later) (length start) (ends-at later) own-end (own-long-settled limit start later ∙ begins-short limit start h),
       )
-    where
-      moved : Agrees (reach_at (text (before ++ f ∷ later)) (length (text before) + length skipped)) (length (text ((before ++ f ∷ []) ++ between))) m
-          → AgreesAt ((length (text before) + length skipped) + far_end start later) ((length (text before) + length skipped) + (length start + length (text between))) (length m.field) m.place
-      moved h =
-          subst (λ (k : ℕ). AgreesAt k ((length (text before) + length skipped) + (length start + length (text between))) (length m.field) m.place) (ends-at later)
-          (subst (λ (k : ℕ). AgreesAt (reach_at (text (before ++ f ∷ later)) (length (text before) + length skipped)) k (length m.field) m.place) (begins-at between) h)
 
-  module _ (some : 0 < length start) where
-    version-at : (later : List Member)
-        → version_of (take 1 (drop (length (text before) + length skipped) (text (before ++ f ∷ later)))) ≡ version_of (take 1 start)
-    version-at later =
-        ap (λ (t : List ℕ). version_of (take 1 (drop (length (text before) + length skipped) t))) (text_split later)
-        ∙ ap (λ (k : ℕ). version_of (take 1 (drop k ((text before ++ skipped) ++ (start ++ text later))))) (sym (length-append (text before) skipped))
-        ∙ version-place (text before ++ skipped) start (text later) some
+      pub begins-from : (later : List Member)
+          → BeginsPacket limit (text (before ++ f ∷ later)) (length (text before) + length skipped) (length (text (before ++ f ∷ [])))
+          → begins_packet limit start ≡ true
+      begins-from later h =
+          and_not (is_packet start) (is_long limit (reach start) (length start)) (zero-from later h.0)
+          (sym (own-long-settled limit start later) ∙ short-from _ _ _ (far_end start later) (length start) (ends-at later) own-end h.1)
 
-    pub zero-to : (later : List Member) → is_packet start ≡ true → IsVersionZero (text (before ++ f ∷ later)) (length (text before) + length skipped)
-    zero-to later h = version-at later ∙ eqb-true (version_of (take 1 start)) 0 h
+      begins-before : (r q b far at : ℕ) → r ≡ q + far → b ≡ q + at → at < far → b < r
+      begins-before r q b far at e g h = omega arith
 
-    pub zero-from : (later : List Member) → IsVersionZero (text (before ++ f ∷ later)) (length (text before) + length skipped) → is_packet start ≡ true
-    zero-from later h = eq-eqb (version_of (take 1 start)) 0 (sym (version-at later) ∙ h)
+      reaches-past : (r q b far at : ℕ) → r ≡ q + far → b ≡ q + at → b < r → at < far
+      reaches-past r q b far at e g h = omega arith
 
-    begins-before : (r q b far at : ℕ) → r ≡ q + far → b ≡ q + at → at < far → b < r
-    begins-before r q b far at e g h = omega arith
+      pub open-at : (between later : List Member)
+          → Iff ((begins_packet limit start && open_after limit (far_end start later) (length start) between) ≡ true)
+          (IsOpen limit (text (before ++ f ∷ later)) (length (text before) + length skipped) (before ++ f ∷ []) between)
+      open-at between later = (
+        λ h.
+            let both = and_both (begins_packet limit start) (open_after limit (far_end start later) (length start) between) h in
+            let o = open-to (far_end start later) (length start) between both.1 in (
+              begins-to later both.0,
+              begins-before _ (length (text before) + length skipped) _ (far_end start later) (length start + length (text between)) (ends-at later) (begins-at between) o.0,
+              λ earlier more g e. (agreement-at earlier later g).0 (o.1 earlier more g e),
+            ),
+        λ h.
+            both_true (begins_packet limit start) (open_after limit (far_end start later) (length start) between) (begins-from later h.0)
+            (open-from (far_end start later) (length start) between
+            (reaches-past _ (length (text before) + length skipped) _ (far_end start later) (length start + length (text between)) (ends-at later) (begins-at between) h.1)
+            (λ earlier more g e. (agreement-at earlier later g).1 (h.2 earlier more g e))),
+      )
 
-    reaches-past : (r q b far at : ℕ) → r ≡ q + far → b ≡ q + at → b < r → at < far
-    reaches-past r q b far at e g h = omega arith
+      pub text-length : (later : List Member) → length (text (before ++ f ∷ later)) ≡ (length (text before) + length skipped) + length (start ++ text later)
+      text-length later =
+          ap (λ (t : List ℕ). length t) (text_split later)
+          ∙ length-append (text before ++ skipped) (start ++ text later)
+          ∙ ap (λ (k : ℕ). k + length (start ++ text later)) (length-append (text before) skipped)
 
-    pub open-at : (between later : List Member)
-        → Iff ((is_packet start && open_after (far_end start later) (length start) between) ≡ true)
-        (IsOpen (text (before ++ f ∷ later)) (length (text before) + length skipped) (before ++ f ∷ []) between)
-    open-at between later = (
-      λ h.
-          let both = and_both (is_packet start) (open_after (far_end start later) (length start) between) h in
-          let o = open-to (far_end start later) (length start) between both.1 in (
-            zero-to later both.0,
-            begins-before _ (length (text before) + length skipped) _ (far_end start later) (length start + length (text between)) (ends-at later) (begins-at between) o.0,
-            λ earlier more g e. (agreement-at earlier later g).0 (o.1 earlier more g e),
-          ),
-      λ h.
-          both_true (is_packet start) (open_after (far_end start later) (length start) between) (zero-from later h.0)
-          (open-from (far_end start later) (length start) between
-          (reaches-past _ (length (text before) + length skipped) _ (far_end start later) (length start + length (text between)) (ends-at later) (begins-at between) h.1)
-          (λ earlier more g e. (agreement-at earlier later g).1 (h.2 earlier more g e))),
-    )
+      fits-to : (r q b far len : ℕ) → r ≡ q + far → b ≡ q + len → far ≤ len → r ≤ b
+      fits-to r q b far len e g h = omega arith
 
-    pub text-length : (later : List Member) → length (text (before ++ f ∷ later)) ≡ (length (text before) + length skipped) + length (start ++ text later)
-    text-length later =
-        ap (λ (t : List ℕ). length t) (text_split later)
-        ∙ length-append (text before ++ skipped) (start ++ text later)
-        ∙ ap (λ (k : ℕ). k + length (start ++ text later)) (length-append (text before) skipped)
+      fits-from : (r q b far len : ℕ) → r ≡ q + far → b ≡ q + len → r ≤ b → far ≤ len
+      fits-from r q b far len e g h = omega arith
 
-    fits-to : (r q b far len : ℕ) → r ≡ q + far → b ≡ q + len → far ≤ len → r ≤ b
-    fits-to r q b far len e g h = omega arith
-
-    fits-from : (r q b far len : ℕ) → r ≡ q + far → b ≡ q + len → r ≤ b → far ≤ len
-    fits-from r q b far len e g h = omega arith
-
-    pub whole-at : (later : List Member)
-        → Iff (is_whole start later ≡ true)
-        (IsWhole (text (before ++ f ∷ later)) (length (text before) + length skipped) (before ++ f ∷ []) later)
-    whole-at later = (
-      λ h.
-          let one = and_both (is_packet start) (is_none (breaker (far_end start later) (length start) later) && leb (far_end start later) (length (start ++ text later))) h in
-          let two = and_both (is_none (breaker (far_end start later) (length start) later)) (leb (far_end start later) (length (start ++ text later))) one.1 in
-          let unbroken = unbroken-to (far_end start later) (length start) later (none-from _ two.0) in (
-            zero-to later one.0,
-            fits-to _ (length (text before) + length skipped) _ (far_end start later) (length (start ++ text later)) (ends-at later) (text-length later)
-                (leb-true (far_end start later) (length (start ++ text later)) two.1),
-            λ between more m e o.
-                (agreement-at between later m).0
-                (unbroken between more m e (and_both (is_packet start) (open_after (far_end start later) (length start) between) ((open-at between later).1 o)).1),
-          ),
-      λ h.
-          both_true (is_packet start) _ (zero-from later h.0)
-          (both_true (is_none (breaker (far_end start later) (length start) later)) (leb (far_end start later) (length (start ++ text later)))
-          (ap (λ (b : Option Member). is_none b)
-          (unbroken-from (far_end start later) (length start) later
-          (λ between more m e o.
-          (agreement-at between later m).1
-          (h.2 between more m e ((open-at between later).0 (both_true (is_packet start) (open_after (far_end start later) (length start) between) (zero-from later h.0) o))))))
-          (le-leb (far_end start later) (length (start ++ text later))
-          (fits-from _ (length (text before) + length skipped) _ (far_end start later) (length (start ++ text later)) (ends-at later) (text-length later) h.1))),
-    )
+      pub whole-at : (later : List Member)
+          → Iff (is_whole limit start later ≡ true)
+          (IsWhole limit (text (before ++ f ∷ later)) (length (text before) + length skipped) (before ++ f ∷ []) later)
+      whole-at later = (
+        λ h.
+            let one = and_both (begins_packet limit start) (is_none (breaker limit (far_end start later) (length start) later) && leb (far_end start later) (length (start ++ text later))) h in
+            let two = and_both (is_none (breaker limit (far_end start later) (length start) later)) (leb (far_end start later) (length (start ++ text later))) one.1 in
+            let unbroken = unbroken-to (far_end start later) (length start) later (none-from _ two.0) in (
+              begins-to later one.0,
+              fits-to _ (length (text before) + length skipped) _ (far_end start later) (length (start ++ text later)) (ends-at later) (text-length later)
+                  (leb-true (far_end start later) (length (start ++ text later)) two.1),
+              λ between more m e o.
+                  (agreement-at between later m).0
+                  (unbroken between more m e (and_both (begins_packet limit start) (open_after limit (far_end start later) (length start) between) ((open-at between later).1 o)).1),
+            ),
+        λ h.
+            both_true (begins_packet limit start) _ (begins-from later h.0)
+            (both_true (is_none (breaker limit (far_end start later) (length start) later)) (leb (far_end start later) (length (start ++ text later)))
+            (ap (λ (b : Option Member). is_none b)
+            (unbroken-from (far_end start later) (length start) later
+            (λ between more m e o.
+            (agreement-at between later m).1
+            (h.2 between more m e ((open-at between later).0 (both_true (begins_packet limit start) (open_after limit (far_end start later) (length start) between) (begins-from later h.0) o))))))
+            (le-leb (far_end start later) (length (start ++ text later))
+            (fits-from _ (length (text before) + length skipped) _ (far_end start later) (length (start ++ text later)) (ends-at later) (text-length later) h.1))),
+      )

@@ -3,35 +3,15 @@ use Rattle.std.proofs.Common.{◌++◌, ◌≡◌, ℕ, suc, zero, pred, ◌+◌
 use Rattle.std.proofs.lemmas.List.{length-drop, drop-drop, take_all}
 use Rattle.tm_reassembly.proofs.Reach.{reach-least}
 use Rattle.tm_reassembly.proofs.Split.{whole_part, field_parts-whole, unfinished-whole}
-use Rattle.std.specs.Prelude.{Option, slice_index_or}
-use Rattle.tm_reassembly.specs.State.{Last}
-use Rattle.tm_reassembly.specs.Items.{close_last, close_channels}
 use Rattle.tm_reassembly.specs.Item.{Item, Packet}
-use Rattle.tm_reassembly.specs.Parts.{Part, is_packet, reach}
+use Rattle.tm_reassembly.specs.Parts.{Part, begins_packet, reach}
 use Rattle.tm_reassembly.specs.Field.{field_parts, unfinished}
 use Rattle.tm_reassembly.specs.Sinks.{TakesAll, RefusesOne, part_items}
-
--- octets that hold no start may be dropped
-pub field_parts-skip : (number stop skip : ℕ) (octets : List ℕ) → field_parts number stop skip octets ≡ field_parts number stop 0 (drop skip octets)
-field_parts-skip number stop zero [] = refl
-field_parts-skip number stop zero (x ∷ xs) = refl
-field_parts-skip number stop (suc skip) [] = refl
-field_parts-skip number stop (suc skip) (x ∷ xs) = field_parts-skip number stop skip xs
-
-pub unfinished-skip : (skip : ℕ) (octets : List ℕ) → unfinished skip octets ≡ unfinished 0 (drop skip octets)
-unfinished-skip zero [] = refl
-unfinished-skip zero (x ∷ xs) = refl
-unfinished-skip (suc skip) [] = refl
-unfinished-skip (suc skip) (x ∷ xs) = unfinished-skip skip xs
 
 -- what follows from taking the rest of the items, or from refusing one of them
 pub record Leads {S F : Type 0} (takes : S → Item → S → Type 0) (refuses : S → Item → F → S → Type 0) (start now : S) (all rest : List Item) : Type 0 where
   pub taken : (new : S) → TakesAll takes now rest new → TakesAll takes start all new
   pub refused : (fault : F) (new : S) → RefusesOne takes refuses now rest fault new → RefusesOne takes refuses start all fault new
-
--- the items that a field gives from a place on
-abbrev pub items_from : ℕ → ℕ → List ℕ → ℕ → List Item
-items_from seen channel field at = part_items channel (field_parts seen (length field) 0 (drop at field))
 
 pub leads_start : {S F : Type 0} {takes : S → Item → S → Type 0} {refuses : S → Item → F → S → Type 0} (s : S) (all rest : List Item)
     → all ≡ rest → Leads takes refuses s s all rest
@@ -52,64 +32,6 @@ module _ {S F : Type 0} {takes : S → Item → S → Type 0} {refuses : S → I
 drop-pred : (n x : ℕ) (xs : List ℕ) → 0 < n → drop n (x ∷ xs) ≡ drop (pred n) xs
 drop-pred zero x xs h = absurd (omega arith)
 drop-pred (suc n) x xs h = refl
-
--- one packet, and the rest of the field
-field_parts-packet : (number stop : ℕ) (o : List ℕ) → 0 < length o → is_packet o ≡ true → reach o ≤ length o
-    → field_parts number stop 0 o ≡ whole_part number (stop - length o) o ∷ field_parts number stop 0 (drop (reach o) o)
-field_parts-packet number stop [] h p fits = absurd (omega arith)
-field_parts-packet number stop (x ∷ xs) h p fits =
-    let least : 0 < reach (x ∷ xs) = omega (arith, reach-least (x ∷ xs)) in
-    field_parts-whole number stop x xs p fits
-    ∙ ap (λ (ps : List Part). whole_part number (stop - suc (length xs)) (x ∷ xs) ∷ ps)
-    (field_parts-skip number stop (pred (reach (x ∷ xs))) xs
-    ∙ ap (field_parts number stop 0) (sym (drop-pred (reach (x ∷ xs)) x xs least)))
-
-unfinished-packet : (o : List ℕ) → 0 < length o → is_packet o ≡ true → reach o ≤ length o → unfinished 0 o ≡ unfinished 0 (drop (reach o) o)
-unfinished-packet [] h p fits = absurd (omega arith)
-unfinished-packet (x ∷ xs) h p fits =
-    let least : 0 < reach (x ∷ xs) = omega (arith, reach-least (x ∷ xs)) in
-    unfinished-whole x xs p fits
-    ∙ unfinished-skip (pred (reach (x ∷ xs))) xs
-    ∙ ap (unfinished 0) (sym (drop-pred (reach (x ∷ xs)) x xs least))
-
--- one packet in a field
-pub items_from-packet : (seen channel : ℕ) (field : List ℕ) (at r : ℕ) → at < length field → is_packet (drop at field) ≡ true
-    → r ≡ reach (drop at field) → r ≤ length field - at
-    → items_from seen channel field at ≡ Packet seen channel seen at (take r (drop at field)) ∷ items_from seen channel field (at + r)
-items_from-packet seen channel field at r h p e fits =
-    let o = drop at field in
-    let len : length (drop at field) ≡ length field - at = length-drop at field in
-    let some : 0 < length (drop at field) = omega arith in
-    let inside : reach (drop at field) ≤ length (drop at field) = omega arith in
-    let place : length field - length (drop at field) ≡ at = omega arith in
-    ap (part_items channel) (field_parts-packet seen (length field) o some p inside)
-    ∙ rw (place, ← e, drop-drop r at field) refl
-
-pub unfinished_from-packet : (field : List ℕ) (at r : ℕ) → at < length field → is_packet (drop at field) ≡ true
-    → r ≡ reach (drop at field) → r ≤ length field - at → unfinished 0 (drop at field) ≡ unfinished 0 (drop (at + r) field)
-unfinished_from-packet field at r h p e fits =
-    let len : length (drop at field) ≡ length field - at = length-drop at field in
-    let some : 0 < length (drop at field) = omega arith in
-    let inside : reach (drop at field) ≤ length (drop at field) = omega arith in
-    unfinished-packet (drop at field) some p inside ∙ rw (← e, drop-drop r at field) refl
-
--- what the code tests, and what follows
-pub read_packet : (seen channel : ℕ) (field : List ℕ) (at n : ℕ) (t : List ℕ) → t ≡ take (length field - at) (drop at field)
-    → at < length field → is_packet t ≡ true → n ≡ reach t → n ≤ length t
-    → (items_from seen channel field at ≡ Packet seen channel seen at (take n t) ∷ items_from seen channel field (at + n))
-    × (unfinished 0 (drop at field) ≡ unfinished 0 (drop (at + n) field))
-read_packet seen channel field at n t e h p r fits =
-    let len : length (drop at field) ≡ length field - at = length-drop at field in
-    let e' : t ≡ drop at field = e ∙ take_all (length field - at) (drop at field) (omega arith) in
-    let here : drop at field ≡ t = sym e' in
-    let same : length t ≡ length (drop at field) = ap length e' in
-    let p' : is_packet (drop at field) ≡ true = ap is_packet here ∙ p in
-    let r' : n ≡ reach (drop at field) = r ∙ ap reach e' in
-    let short : n ≤ length field - at = omega arith in (
-      items_from-packet seen channel field at n h p' r' short
-          ∙ ap (λ (o : List ℕ). Packet seen channel seen at (take n o) ∷ items_from seen channel field (at + n)) here,
-      unfinished_from-packet field at n h p' r' short,
-    )
 
 -- taking two lists, one after the other
 pub TakesAll-append : {S : Type 0} (takes : S → Item → S → Type 0) (old mid new : S) (xs ys : List Item)
@@ -145,15 +67,78 @@ pub leads_refused : {S F : Type 0} {takes : S → Item → S → Type 0} {refuse
 leads_refused {takes = takes} {refuses = refuses} {now = now} l fault new xs more e r =
     l.refused fault new (subst (λ (ys : List Item). RefusesOne takes refuses now ys fault new) (sym e) (RefusesOne-left takes refuses now new xs more fault r))
 
--- the tails from one channel on
-pub close_more : (seen i : ℕ) (kept : List (Option Last)) (d : Option Last) → i < length kept
-    → close_channels seen i (drop i kept) ≡ close_last seen i (slice_index_or kept i d) ++ close_channels seen (i + 1) (drop (i + 1) kept)
-close_more seen i kept d h =
-    let one : i + 1 ≡ suc i = omega arith in
-    ap (close_channels seen i) (drop_at kept i d h)
-    ∙ ap (λ (n : ℕ). close_last seen i (slice_index_or kept i d) ++ close_channels seen (i + 1) (drop n kept)) (sym one)
-  where
-    drop_at : (xs : List (Option Last)) (n : ℕ) (d : Option Last) → n < length xs → drop n xs ≡ slice_index_or xs n d ∷ drop (suc n) xs
-    drop_at [] n d h = absurd (omega arith)
-    drop_at (x ∷ xs) zero d h = refl
-    drop_at (x ∷ xs) (suc n) d h = drop_at xs n d (omega arith)
+module _ (limit : ℕ) where
+  -- octets that hold no start may be dropped
+  pub field_parts-skip : (number stop skip : ℕ) (octets : List ℕ) → field_parts limit number stop skip octets ≡ field_parts limit number stop 0 (drop skip octets)
+  field_parts-skip number stop zero [] = refl
+  field_parts-skip number stop zero (x ∷ xs) = refl
+  field_parts-skip number stop (suc skip) [] = refl
+  field_parts-skip number stop (suc skip) (x ∷ xs) = field_parts-skip number stop skip xs
+
+  pub unfinished-skip : (skip : ℕ) (octets : List ℕ) → unfinished limit skip octets ≡ unfinished limit 0 (drop skip octets)
+  unfinished-skip zero [] = refl
+  unfinished-skip zero (x ∷ xs) = refl
+  unfinished-skip (suc skip) [] = refl
+  unfinished-skip (suc skip) (x ∷ xs) = unfinished-skip skip xs
+
+  -- the items that a field gives from a place on
+  abbrev pub items_from : ℕ → ℕ → List ℕ → ℕ → List Item
+  items_from seen channel field at = part_items channel (field_parts limit seen (length field) 0 (drop at field))
+
+  -- one packet, and the rest of the field
+  field_parts-packet : (number stop : ℕ) (o : List ℕ) → 0 < length o → begins_packet limit o ≡ true → reach o ≤ length o
+      → field_parts limit number stop 0 o ≡ whole_part limit number (stop - length o) o ∷ field_parts limit number stop 0 (drop (reach o) o)
+  field_parts-packet number stop [] h p fits = absurd (omega arith)
+  field_parts-packet number stop (x ∷ xs) h p fits =
+      let least : 0 < reach (x ∷ xs) = omega (arith, reach-least (x ∷ xs)) in
+      field_parts-whole limit number stop x xs p fits
+      ∙ ap (λ (ps : List Part). whole_part limit number (stop - suc (length xs)) (x ∷ xs) ∷ ps)
+      (field_parts-skip number stop (pred (reach (x ∷ xs))) xs
+      ∙ ap (field_parts limit number stop 0) (sym (drop-pred (reach (x ∷ xs)) x xs least)))
+
+  unfinished-packet : (o : List ℕ) → 0 < length o → begins_packet limit o ≡ true → reach o ≤ length o → unfinished limit 0 o ≡ unfinished limit 0 (drop (reach o) o)
+  unfinished-packet [] h p fits = absurd (omega arith)
+  unfinished-packet (x ∷ xs) h p fits =
+      let least : 0 < reach (x ∷ xs) = omega (arith, reach-least (x ∷ xs)) in
+      unfinished-whole limit x xs p fits
+      ∙ unfinished-skip (pred (reach (x ∷ xs))) xs
+      ∙ ap (unfinished limit 0) (sym (drop-pred (reach (x ∷ xs)) x xs least))
+
+  -- one packet in a field
+  pub items_from-packet : (seen channel : ℕ) (field : List ℕ) (at r : ℕ) → at < length field → begins_packet limit (drop at field) ≡ true
+      → r ≡ reach (drop at field) → r ≤ length field - at
+      → items_from seen channel field at ≡ Packet seen channel seen at (take r (drop at field)) ∷ items_from seen channel field (at + r)
+  items_from-packet seen channel field at r h p e fits =
+      let o = drop at field in
+      let len : length (drop at field) ≡ length field - at = length-drop at field in
+      let some : 0 < length (drop at field) = omega arith in
+      let inside : reach (drop at field) ≤ length (drop at field) = omega arith in
+      let place : length field - length (drop at field) ≡ at = omega arith in
+      ap (part_items channel) (field_parts-packet seen (length field) o some p inside)
+      ∙ rw (place, ← e, drop-drop r at field) refl
+
+  pub unfinished_from-packet : (field : List ℕ) (at r : ℕ) → at < length field → begins_packet limit (drop at field) ≡ true
+      → r ≡ reach (drop at field) → r ≤ length field - at → unfinished limit 0 (drop at field) ≡ unfinished limit 0 (drop (at + r) field)
+  unfinished_from-packet field at r h p e fits =
+      let len : length (drop at field) ≡ length field - at = length-drop at field in
+      let some : 0 < length (drop at field) = omega arith in
+      let inside : reach (drop at field) ≤ length (drop at field) = omega arith in
+      unfinished-packet (drop at field) some p inside ∙ rw (← e, drop-drop r at field) refl
+
+  -- what the code tests, and what follows
+  pub read_packet : (seen channel : ℕ) (field : List ℕ) (at n : ℕ) (t : List ℕ) → t ≡ take (length field - at) (drop at field)
+      → at < length field → begins_packet limit t ≡ true → n ≡ reach t → n ≤ length t
+      → (items_from seen channel field at ≡ Packet seen channel seen at (take n t) ∷ items_from seen channel field (at + n))
+      × (unfinished limit 0 (drop at field) ≡ unfinished limit 0 (drop (at + n) field))
+  read_packet seen channel field at n t e h p r fits =
+      let len : length (drop at field) ≡ length field - at = length-drop at field in
+      let e' : t ≡ drop at field = e ∙ take_all (length field - at) (drop at field) (omega arith) in
+      let here : drop at field ≡ t = sym e' in
+      let same : length t ≡ length (drop at field) = ap length e' in
+      let p' : begins_packet limit (drop at field) ≡ true = ap (begins_packet limit) here ∙ p in
+      let r' : n ≡ reach (drop at field) = r ∙ ap reach e' in
+      let short : n ≤ length field - at = omega arith in (
+        items_from-packet seen channel field at n h p' r' short
+            ∙ ap (λ (o : List ℕ). Packet seen channel seen at (take n o) ∷ items_from seen channel field (at + n)) here,
+        unfinished_from-packet field at n h p' r' short,
+      )

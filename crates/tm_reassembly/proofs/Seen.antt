@@ -6,10 +6,11 @@ use Rattle.tm_reassembly.specs.declared.items.Reason.{Reason}
 use Rattle.tm_reassembly.specs.State.{Tail}
 use Rattle.tm_reassembly.specs.Item.{Item, seen_of}
 use Rattle.tm_reassembly.specs.Chain.{Member}
-use Rattle.tm_reassembly.specs.Parts.{Part, Fate, Given, Lost, Held, reach, agrees, is_packet, lead, lead_part, front_of}
+use Rattle.tm_reassembly.specs.Parts.{Part, Fate, Given, Lost, Held, reach, agrees, begins_packet, lead, lead_part, front_of}
 use Rattle.tm_reassembly.specs.Field.{stop_of, field_parts, unfinished, parts_in, left_in, tail_at, frame_parts, frame_tail, step_parts, step_tail, ended_parts, chain_parts_at, chain_tail_at}
 use Rattle.tm_reassembly.specs.Items.{part_item, seen_at, held_part}
 use Rattle.tm_reassembly.specs.Sinks.{part_items}
+use Rattle.tm_reassembly.proofs.Long.{begins-longer}
 use Rattle.tm_reassembly.proofs.Fresh.{OpenTail, unfinished-open}
 use Rattle.tm_reassembly.proofs.Chained.{IsTail, IsOpenTail}
 
@@ -76,63 +77,64 @@ held-none n (p ∷ ps) h = one p.fate h.0 (held-none n ps h.1)
     one (Lost reason seen) e k = k
     one Held e k = absurd e
 
-field_parts-at : (number stop skip : ℕ) (o : List ℕ) → AllAt number (field_parts number stop skip o)
-field_parts-at number stop skip [] = tt
-field_parts-at number stop (suc skip) (x ∷ xs) = field_parts-at number stop skip xs
-field_parts-at number stop zero (x ∷ xs) =
-    cond_both (is_packet (x ∷ xs)) _ _ (AllAt number)
-    (λ p. cond_both (leb (reach (x ∷ xs)) (length (x ∷ xs))) _ _ (AllAt number) (λ q. (refl, field_parts-at number stop (pred (reach (x ∷ xs))) xs)) (λ q. tt))
-    (λ p. (refl, tt))
-
-frame_parts-at : (m : Member) → AllAt m.number (frame_parts m)
-frame_parts-at m = elim m.place as (λ v. AllAt m.number (parts_in m.number (stop_of m) v m.field)) [ None ↦ tt | Some place ↦ field_parts-at m.number (stop_of m) place m.field ]
-
 lead_part-at : (m : Member) (reason : Reason) (o : List ℕ) → AllAt m.number (lead_part m reason o)
 lead_part-at m reason [] = tt
 lead_part-at m reason (x ∷ xs) = (refl, tt)
-
-step_parts-at : (tail : Option Tail) (m : Member) → AllAt m.number (step_parts tail m)
-step_parts-at None m = AllAt-append m.number (lead [] m) (frame_parts m) (lead_part-at m _ (front_of m.place m.field)) (frame_parts-at m)
-step_parts-at (Some t) m =
-    cond_both (agrees (reach (t.octets ++ m.field)) (length t.octets) m) _ _ (AllAt m.number)
-    (λ p. cond_both (leb (reach (t.octets ++ m.field)) (length (t.octets ++ m.field))) _ _ (AllAt m.number) (λ q. (refl, frame_parts-at m)) (λ q. tt))
-    (λ p. (refl, AllAt-append m.number _ (frame_parts m) (lead_part-at m _ (front_of m.place m.field)) (frame_parts-at m)))
 
 ended_parts-at : (tail : Option Tail) (reason : Reason) (number : ℕ) → AllAt number (ended_parts tail reason number)
 ended_parts-at None reason number = tt
 ended_parts-at (Some t) reason number = (refl, tt)
 
-pub chain_parts_at-at : (gap vca : Bool) (tail : Option Tail) (m : Member) → AllAt m.number (chain_parts_at gap vca tail m)
-chain_parts_at-at true true tail m = ended_parts-at tail _ m.number
-chain_parts_at-at true false tail m = AllAt-append m.number _ _ (ended_parts-at tail _ m.number) (step_parts-at None m)
-chain_parts_at-at false true tail m = ended_parts-at tail _ m.number
-chain_parts_at-at false false tail m = step_parts-at tail m
+module _ (limit : ℕ) where
+  field_parts-at : (number stop skip : ℕ) (o : List ℕ) → AllAt number (field_parts limit number stop skip o)
+  field_parts-at number stop skip [] = tt
+  field_parts-at number stop (suc skip) (x ∷ xs) = field_parts-at number stop skip xs
+  field_parts-at number stop zero (x ∷ xs) =
+      cond_both (begins_packet limit (x ∷ xs)) _ _ (AllAt number)
+      (λ p. cond_both (leb (reach (x ∷ xs)) (length (x ∷ xs))) _ _ (AllAt number) (λ q. (refl, field_parts-at number stop (pred (reach (x ∷ xs))) xs)) (λ q. tt))
+      (λ p. (refl, tt))
 
--- the tail that a step leaves is open
-tail_at-open : (number stop : ℕ) (u : List ℕ) → OpenTail u → IsOpenTail (tail_at number stop u)
-tail_at-open number stop [] h = tt
-tail_at-open number stop (x ∷ xs) h = h
+  frame_parts-at : (m : Member) → AllAt m.number (frame_parts limit m)
+  frame_parts-at m = elim m.place as (λ v. AllAt m.number (parts_in limit m.number (stop_of m) v m.field)) [ None ↦ tt | Some place ↦ field_parts-at m.number (stop_of m) place m.field ]
 
-frame_tail-open : (m : Member) → IsOpenTail (frame_tail m)
-frame_tail-open m =
-    elim m.place as (λ v. IsOpenTail (tail_at m.number (stop_of m) (left_in v m.field)))
-    [ None ↦ tt | Some place ↦ tail_at-open m.number (stop_of m) (unfinished place m.field) (unfinished-open place m.field) ]
+  step_parts-at : (tail : Option Tail) (m : Member) → AllAt m.number (step_parts limit tail m)
+  step_parts-at None m = AllAt-append m.number (lead limit [] m) (frame_parts limit m) (lead_part-at m _ (front_of m.place m.field)) (frame_parts-at m)
+  step_parts-at (Some t) m =
+      cond_both (agrees limit (reach (t.octets ++ m.field)) (length t.octets) m) _ _ (AllAt m.number)
+      (λ p. cond_both (leb (reach (t.octets ++ m.field)) (length (t.octets ++ m.field))) _ _ (AllAt m.number) (λ q. (refl, frame_parts-at m)) (λ q. tt))
+      (λ p. (refl, AllAt-append m.number _ (frame_parts limit m) (lead_part-at m _ (front_of m.place m.field)) (frame_parts-at m)))
 
-step_tail-open : (tail : Option Tail) (m : Member) → IsOpenTail tail → IsOpenTail (step_tail tail m)
-step_tail-open None m h = frame_tail-open m
-step_tail-open (Some t) m h =
-    cond_both (agrees (reach (t.octets ++ m.field)) (length t.octets) m) _ _ IsOpenTail
-    (λ p.
-    cond_both (leb (reach (t.octets ++ m.field)) (length (t.octets ++ m.field))) _ _ IsOpenTail
-    (λ q. frame_tail-open m)
-    (λ q. longer t.octets h (leb-false (reach (t.octets ++ m.field)) (length (t.octets ++ m.field)) q)))
-    (λ p. frame_tail-open m)
-  where
-    longer : (o : List ℕ) → IsTail o → length (o ++ m.field) < reach (o ++ m.field) → IsTail (o ++ m.field)
-    longer [] h k = absurd h
-    longer (x ∷ xs) h k = (h.0, k)
+  pub chain_parts_at-at : (gap vca : Bool) (tail : Option Tail) (m : Member) → AllAt m.number (chain_parts_at limit gap vca tail m)
+  chain_parts_at-at true true tail m = ended_parts-at tail _ m.number
+  chain_parts_at-at true false tail m = AllAt-append m.number _ _ (ended_parts-at tail _ m.number) (step_parts-at None m)
+  chain_parts_at-at false true tail m = ended_parts-at tail _ m.number
+  chain_parts_at-at false false tail m = step_parts-at tail m
 
-pub chain_tail_at-open : (gap vca : Bool) (tail : Option Tail) (m : Member) → IsOpenTail tail → IsOpenTail (chain_tail_at gap vca tail m)
-chain_tail_at-open gap true tail m h = tt
-chain_tail_at-open true false tail m h = frame_tail-open m
-chain_tail_at-open false false tail m h = step_tail-open tail m h
+  -- the tail that a step leaves is open
+  tail_at-open : (number stop : ℕ) (u : List ℕ) → OpenTail limit u → IsOpenTail limit (tail_at number stop u)
+  tail_at-open number stop [] h = tt
+  tail_at-open number stop (x ∷ xs) h = h
+
+  frame_tail-open : (m : Member) → IsOpenTail limit (frame_tail limit m)
+  frame_tail-open m =
+      elim m.place as (λ v. IsOpenTail limit (tail_at m.number (stop_of m) (left_in limit v m.field)))
+      [ None ↦ tt | Some place ↦ tail_at-open m.number (stop_of m) (unfinished limit place m.field) (unfinished-open limit place m.field) ]
+
+  step_tail-open : (tail : Option Tail) (m : Member) → IsOpenTail limit tail → IsOpenTail limit (step_tail limit tail m)
+  step_tail-open None m h = frame_tail-open m
+  step_tail-open (Some t) m h =
+      cond_both (agrees limit (reach (t.octets ++ m.field)) (length t.octets) m) _ _ (IsOpenTail limit)
+      (λ p.
+      cond_both (leb (reach (t.octets ++ m.field)) (length (t.octets ++ m.field))) _ _ (IsOpenTail limit)
+      (λ q. frame_tail-open m)
+      (λ q. longer t.octets h p (leb-false (reach (t.octets ++ m.field)) (length (t.octets ++ m.field)) q)))
+      (λ p. frame_tail-open m)
+    where
+      longer : (o : List ℕ) → IsTail limit o → agrees limit (reach (o ++ m.field)) (length o) m ≡ true → length (o ++ m.field) < reach (o ++ m.field) → IsTail limit (o ++ m.field)
+      longer [] h a k = absurd h
+      longer (x ∷ xs) h a k = (begins-longer limit x xs m h.0 a, k)
+
+  pub chain_tail_at-open : (gap vca : Bool) (tail : Option Tail) (m : Member) → IsOpenTail limit tail → IsOpenTail limit (chain_tail_at limit gap vca tail m)
+  chain_tail_at-open gap true tail m h = tt
+  chain_tail_at-open true false tail m h = frame_tail-open m
+  chain_tail_at-open false false tail m h = step_tail-open tail m h

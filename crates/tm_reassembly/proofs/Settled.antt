@@ -5,104 +5,126 @@ use Rattle.std.proofs.lemmas.List.Concat.{flat_map-append}
 use Rattle.std.proofs.lemmas.Bool.{cases_lt, lt-ltb, le-leb, lt-leb, and_right}
 use Rattle.tm_reassembly.specs.Valid.{PlacesFit}
 use Rattle.tm_reassembly.specs.Chain.{Member}
-use Rattle.tm_reassembly.specs.Parts.{text, far_end, reach, is_packet, agrees, open_after, breaker}
+use Rattle.tm_reassembly.specs.Parts.{text, far_end, reach, is_long, begins_packet, agrees, open_after, breaker}
 use Rattle.tm_reassembly.specs.Verdict.{is_whole, ends_in}
 use Rattle.tm_reassembly.proofs.Split.{breaker-settled}
-use Rattle.tm_reassembly.proofs.Step.{reach-two, PlaceFits, agrees_far}
+use Rattle.tm_reassembly.proofs.Long.{not-long}
+use Rattle.tm_reassembly.proofs.Step.{reach-two, PlaceFits, agrees_both}
 
--- far beyond the frames between, the number itself doesn't matter
-open_far : (d n a : ℕ) (between : List Member) → PlacesFit between → a + length (text between) < d → a + length (text between) < n
-    → open_after d a between ≡ open_after n a between
-open_far d n a [] fits h k = lt-ltb a d (omega arith) ∙ sym (lt-ltb a n (omega arith))
-open_far d n a (m ∷ between) fits h k =
-    let len : length (text (m ∷ between)) ≡ length m.field + length (text between) = length-append m.field (text between) in
-    let e : agrees d a m ≡ agrees n a m = agrees_far d n a (length m.field) m.place fits.0 (omega arith) (omega arith) in
-    let f : open_after d (a + length m.field) between ≡ open_after n (a + length m.field) between =
-    open_far d n (a + length m.field) between fits.1 (omega arith) (omega arith) in
-    both_same e f
-  where
-    both_same : {a b c e : Bool} → a ≡ c → b ≡ e → (a && b) ≡ (c && e)
-    both_same p q = rw (p, q)
+module _ (limit : ℕ) where
+  -- far beyond the frames between, the number itself doesn't matter
+  open_far : (d n a : ℕ) (between : List Member) → PlacesFit between → a + length (text between) < d → a + length (text between) < n
+      → a + length (text between) < 6 → open_after limit d a between ≡ open_after limit n a between
+  open_far d n a [] fits h k short = lt-ltb a d (omega arith) ∙ sym (lt-ltb a n (omega arith))
+  open_far d n a (m ∷ between) fits h k short =
+      let len : length (text (m ∷ between)) ≡ length m.field + length (text between) = length-append m.field (text between) in
+      let e : agrees limit d a m ≡ agrees limit n a m = agrees_both limit d n a m fits.0 (omega arith) (omega arith) (omega arith) in
+      let f : open_after limit d (a + length m.field) between ≡ open_after limit n (a + length m.field) between =
+      open_far d n (a + length m.field) between fits.1 (omega arith) (omega arith) (omega arith) in
+      both_same e f
+    where
+      both_same : {a b c e : Bool} → a ≡ c → b ≡ e → (a && b) ≡ (c && e)
+      both_same p q = rw (p, q)
 
--- where a packet ends is settled by the frames between and m, or lies beyond m
-far-settled : (start : List ℕ) (between : List Member) (m : Member) (more : List Member)
-    → (far_end start (between ++ m ∷ more) ≡ far_end start (between ++ m ∷ []))
-    ⊎ (((length start + length (text between)) + length m.field < far_end start (between ++ m ∷ more))
-    × ((length start + length (text between)) + length m.field < far_end start (between ++ m ∷ [])))
-far-settled start between m more =
-    let s : List ℕ = start ++ (text between ++ m.field) in
-    let now : start ++ text (between ++ m ∷ []) ≡ start ++ (text between ++ m.field) = simp (flat_map-append, append-nil) in
-    let all : start ++ text (between ++ m ∷ more) ≡ (start ++ (text between ++ m.field)) ++ text more = simp (flat_map-append, append_assoc) in
-    let rnow : reach (start ++ text (between ++ m ∷ [])) ≡ reach (start ++ (text between ++ m.field)) = ap reach now in
-    let rall : reach (start ++ text (between ++ m ∷ more)) ≡ reach ((start ++ (text between ++ m.field)) ++ text more) = ap reach all in
-    let len : length (start ++ (text between ++ m.field)) ≡ length start + (length (text between) + length m.field) = simp (length-append) in
-    ⊎_elim
-    (λ e. inl (rall ∙ e ∙ sym rnow))
-    (λ both. inr (omega (arith, rnow, rall, len, both.1), omega (arith, rnow, rall, len, both.0)))
-    (reach-two s (text more))
+  -- where a packet ends is settled by the frames between and m, or lies beyond m
+  far-settled : (start : List ℕ) (between : List Member) (m : Member) (more : List Member)
+      → (far_end start (between ++ m ∷ more) ≡ far_end start (between ++ m ∷ []))
+      ⊎ (((length start + length (text between)) + length m.field < far_end start (between ++ m ∷ more))
+      × ((length start + length (text between)) + length m.field < far_end start (between ++ m ∷ []))
+      × ((length start + length (text between)) + length m.field < 6))
+  far-settled start between m more =
+      let s : List ℕ = start ++ (text between ++ m.field) in
+      let now : start ++ text (between ++ m ∷ []) ≡ start ++ (text between ++ m.field) = simp (flat_map-append, append-nil) in
+      let all : start ++ text (between ++ m ∷ more) ≡ (start ++ (text between ++ m.field)) ++ text more = simp (flat_map-append, append_assoc) in
+      let rnow : reach (start ++ text (between ++ m ∷ [])) ≡ reach (start ++ (text between ++ m.field)) = ap reach now in
+      let rall : reach (start ++ text (between ++ m ∷ more)) ≡ reach ((start ++ (text between ++ m.field)) ++ text more) = ap reach all in
+      let len : length (start ++ (text between ++ m.field)) ≡ length start + (length (text between) + length m.field) = simp (length-append) in
+      ⊎_elim
+      (λ e. inl (rall ∙ e ∙ sym rnow))
+      (λ both. inr (omega (arith, rnow, rall, len, both.1), omega (arith, rnow, rall, len, both.0), omega (arith, len, both.2)))
+      (reach-two s (text more))
 
-pub open-settled : (start : List ℕ) (between : List Member) (m : Member) (more : List Member) → PlacesFit between
-    → open_after (far_end start (between ++ m ∷ more)) (length start) between ≡ open_after (far_end start (between ++ m ∷ [])) (length start) between
-open-settled start between m more fits =
-    ⊎_elim
-    (λ e. ap (λ (d : ℕ). open_after d (length start) between) e)
-    (λ both. open_far _ _ (length start) between fits (omega (arith, both.0)) (omega (arith, both.1)))
-    (far-settled start between m more)
+  pub open-settled : (start : List ℕ) (between : List Member) (m : Member) (more : List Member) → PlacesFit between
+      → open_after limit (far_end start (between ++ m ∷ more)) (length start) between ≡ open_after limit (far_end start (between ++ m ∷ [])) (length start) between
+  open-settled start between m more fits =
+      ⊎_elim
+      (λ e. ap (λ (d : ℕ). open_after limit d (length start) between) e)
+      (λ both. open_far _ _ (length start) between fits (omega (arith, both.0)) (omega (arith, both.1)) (omega (arith, both.2)))
+      (far-settled start between m more)
 
-pub agreement-settled : (start : List ℕ) (between : List Member) (m : Member) (more : List Member) → PlaceFits m.place (length m.field)
-    → agrees (far_end start (between ++ m ∷ more)) (length start + length (text between)) m
-    ≡ agrees (far_end start (between ++ m ∷ [])) (length start + length (text between)) m
-agreement-settled start between m more fits =
-    ⊎_elim
-    (λ e. ap (λ (d : ℕ). agrees d (length start + length (text between)) m) e)
-    (λ both. agrees_far _ _ (length start + length (text between)) (length m.field) m.place fits both.0 both.1)
-    (far-settled start between m more)
+  pub agreement-settled : (start : List ℕ) (between : List Member) (m : Member) (more : List Member) → PlaceFits m.place (length m.field)
+      → agrees limit (far_end start (between ++ m ∷ more)) (length start + length (text between)) m
+      ≡ agrees limit (far_end start (between ++ m ∷ [])) (length start + length (text between)) m
+  agreement-settled start between m more fits =
+      ⊎_elim
+      (λ e. ap (λ (d : ℕ). agrees limit d (length start + length (text between)) m) e)
+      (λ both. agrees_both limit _ _ (length start + length (text between)) m fits both.0 both.1 both.2)
+      (far-settled start between m more)
 
--- where a packet ends in m or before, the frames after m have no say
-breaker-within : (d a : ℕ) (between : List Member) (m : Member) (more : List Member) → d ≤ (a + length (text between)) + length m.field
-    → breaker d a (between ++ m ∷ more) ≡ breaker d a (between ++ m ∷ [])
-breaker-within d a [] m more h = rw (breaker-settled d (a + length m.field) more (omega arith))
-breaker-within d a (f ∷ between) m more h =
-    let len : length (text (f ∷ between)) ≡ length f.field + length (text between) = length-append f.field (text between) in
-    rw (breaker-within d (a + length f.field) between m more (omega arith))
+  -- whether its packet is long there
+  pub long-settled : (start : List ℕ) (between : List Member) (m : Member) (more : List Member)
+      → is_long limit (far_end start (between ++ m ∷ more)) ((length start + length (text between)) + length m.field)
+      ≡ is_long limit (far_end start (between ++ m ∷ [])) ((length start + length (text between)) + length m.field)
+  long-settled start between m more =
+      ⊎_elim
+      (λ e. ap (λ (d : ℕ). is_long limit d ((length start + length (text between)) + length m.field)) e)
+      (λ both. not-long limit _ _ both.2 ∙ sym (not-long limit _ _ both.2))
+      (far-settled start between m more)
 
-enough-text : (d : ℕ) (start : List ℕ) (between : List Member) (m : Member) (more : List Member) → d ≤ (length start + length (text between)) + length m.field
-    → leb d (length (start ++ text (between ++ m ∷ more))) ≡ true
-enough-text d start between m more h =
-    let len : length (start ++ text (between ++ m ∷ more)) ≡ length start + (length (text between) + (length m.field + length (text more))) =
-    simp (flat_map-append, length-append) in
-    le-leb _ _ (omega arith)
+  -- and in its own frame
+  pub own-long-settled : (start : List ℕ) (later : List Member)
+      → is_long limit (far_end start later) (length start) ≡ is_long limit (reach start) (length start)
+  own-long-settled start later =
+      ⊎_elim
+      (λ e. ap (λ (d : ℕ). is_long limit d (length start)) e)
+      (λ both. not-long limit _ _ both.2 ∙ sym (not-long limit _ _ both.2))
+      (reach-two start (text later))
 
-past : (d a : ℕ) (m : Member) → a + length m.field < d → ends_in d a m ≡ false
-past d a m h = and_right (ltb a d) (leb d (a + length m.field)) (lt-leb d (a + length m.field) h)
+  -- where a packet ends in m or before, the frames after m have no say
+  breaker-within : (d a : ℕ) (between : List Member) (m : Member) (more : List Member) → d ≤ (a + length (text between)) + length m.field
+      → breaker limit d a (between ++ m ∷ more) ≡ breaker limit d a (between ++ m ∷ [])
+  breaker-within d a [] m more h = rw (breaker-settled limit d (a + length m.field) more (omega arith))
+  breaker-within d a (f ∷ between) m more h =
+      let len : length (text (f ∷ between)) ≡ length f.field + length (text between) = length-append f.field (text between) in
+      rw (breaker-within d (a + length f.field) between m more (omega arith))
 
--- whole, with its last octet in m
-pub whole-settled : (start : List ℕ) (between : List Member) (m : Member) (more : List Member)
-    → (is_whole start (between ++ m ∷ more) && ends_in (far_end start (between ++ m ∷ more)) (length start + length (text between)) m)
-    ≡ (is_whole start (between ++ m ∷ []) && ends_in (far_end start (between ++ m ∷ [])) (length start + length (text between)) m)
-whole-settled start between m more =
-    let a : ℕ = length start + length (text between) in
-    let later : ℕ = far_end start (between ++ m ∷ more) in
-    let now : ℕ = far_end start (between ++ m ∷ []) in
-    ⊎_elim
-    (λ e.
-    ⊎_elim
-    (λ beyond.
-    no_say (is_whole start (between ++ m ∷ more)) _ (is_whole start (between ++ m ∷ [])) _
-    (past later a m (omega (arith, e, beyond))) (past now a m beyond))
-    (λ within. at_far later now e within)
-    (cases_lt (a + length m.field) now))
-    (λ both.
-    no_say (is_whole start (between ++ m ∷ more)) _ (is_whole start (between ++ m ∷ [])) _ (past later a m both.0) (past now a m both.1))
-    (far-settled start between m more)
-  where
-    no_say : (a b c d : Bool) → b ≡ false → d ≡ false → (a && b) ≡ (c && d)
-    no_say a b c d p q = rw (p, q) (and_right a false refl ∙ sym (and_right c false refl))
+  enough-text : (d : ℕ) (start : List ℕ) (between : List Member) (m : Member) (more : List Member) → d ≤ (length start + length (text between)) + length m.field
+      → leb d (length (start ++ text (between ++ m ∷ more))) ≡ true
+  enough-text d start between m more h =
+      let len : length (start ++ text (between ++ m ∷ more)) ≡ length start + (length (text between) + (length m.field + length (text more))) =
+      simp (flat_map-append, length-append) in
+      le-leb _ _ (omega arith)
 
-    at_far : (d n : ℕ) → d ≡ n → n ≤ (length start + length (text between)) + length m.field
-        → ((is_packet start && (is_none (breaker d (length start) (between ++ m ∷ more)) && leb d (length (start ++ text (between ++ m ∷ more)))))
-        && ends_in d (length start + length (text between)) m)
-        ≡ ((is_packet start && (is_none (breaker n (length start) (between ++ m ∷ [])) && leb n (length (start ++ text (between ++ m ∷ [])))))
-        && ends_in n (length start + length (text between)) m)
-    at_far d n e h =
-        rw (e, breaker-within n (length start) between m more h, enough-text n start between m more h, enough-text n start between m [] h)
+  past : (d a : ℕ) (m : Member) → a + length m.field < d → ends_in d a m ≡ false
+  past d a m h = and_right (ltb a d) (leb d (a + length m.field)) (lt-leb d (a + length m.field) h)
+
+  -- whole, with its last octet in m
+  pub whole-settled : (start : List ℕ) (between : List Member) (m : Member) (more : List Member)
+      → (is_whole limit start (between ++ m ∷ more) && ends_in (far_end start (between ++ m ∷ more)) (length start + length (text between)) m)
+      ≡ (is_whole limit start (between ++ m ∷ []) && ends_in (far_end start (between ++ m ∷ [])) (length start + length (text between)) m)
+  whole-settled start between m more =
+      let a : ℕ = length start + length (text between) in
+      let later : ℕ = far_end start (between ++ m ∷ more) in
+      let now : ℕ = far_end start (between ++ m ∷ []) in
+      ⊎_elim
+      (λ e.
+      ⊎_elim
+      (λ beyond.
+      no_say (is_whole limit start (between ++ m ∷ more)) _ (is_whole limit start (between ++ m ∷ [])) _
+      (past later a m (omega (arith, e, beyond))) (past now a m beyond))
+      (λ within. at_far later now e within)
+      (cases_lt (a + length m.field) now))
+      (λ both.
+      no_say (is_whole limit start (between ++ m ∷ more)) _ (is_whole limit start (between ++ m ∷ [])) _ (past later a m both.0) (past now a m both.1))
+      (far-settled start between m more)
+    where
+      no_say : (a b c d : Bool) → b ≡ false → d ≡ false → (a && b) ≡ (c && d)
+      no_say a b c d p q = rw (p, q) (and_right a false refl ∙ sym (and_right c false refl))
+
+      at_far : (d n : ℕ) → d ≡ n → n ≤ (length start + length (text between)) + length m.field
+          → ((begins_packet limit start && (is_none (breaker limit d (length start) (between ++ m ∷ more)) && leb d (length (start ++ text (between ++ m ∷ more)))))
+          && ends_in d (length start + length (text between)) m)
+          ≡ ((begins_packet limit start && (is_none (breaker limit n (length start) (between ++ m ∷ [])) && leb n (length (start ++ text (between ++ m ∷ [])))))
+          && ends_in n (length start + length (text between)) m)
+      at_far d n e h =
+          rw (e, breaker-within n (length start) between m more h, enough-text n start between m more h, enough-text n start between m [] h)

@@ -1,5 +1,5 @@
 -- What is read is the spelling of what it is read as.
-use Rattle.std.proofs.Common.{◌≡◌, ℕ, zero, suc, ◌+◌, ◌-◌, ◌*◌, ◌/◌, ◌%◌, ◌<◌, ◌≤◌, Bool, false, not, ◌||◌, Ok, Err, Result, Some, None, List, [], ◌∷◌, ◌++◌, length, take, drop, refl, sym, ap, subst, ◌∙◌, arith, length-drop, ltb, eqb}
+use Rattle.std.proofs.Common.{◌≡◌, ℕ, zero, suc, ◌+◌, ◌-◌, ◌*◌, ◌/◌, ◌%◌, ◌<◌, ◌≤◌, Bool, false, not, ◌||◌, Ok, Err, Result, Some, None, List, [], ◌∷◌, ◌++◌, length, take, drop, refl, sym, ap, subst, ◌∙◌, arith, length-drop, ltb, leb, eqb}
 use Rattle.std.specs.Prelude.{slice_index, slice_range}
 use Rattle.std.specs.List.{flat_map}
 use Rattle.std.proofs.lemmas.Bool.{cond_both, ltb-false, eqb-true, eqb-false, or_parts}
@@ -9,8 +9,9 @@ use Rattle.tm_bits.specs.Bits.{AreOctets}
 use Rattle.tm_bits.proofs.PartLemmas.{octets_behind}
 use Rattle.tm_frame.specs.declared.layout.LayoutParts.{LayoutParts}
 use Rattle.tm_reassembly.specs.declared.fault.StateFault.{StateFault}
+use Rattle.tm_reassembly.specs.Rules.{Rules, chooses}
 use Rattle.tm_reassembly.specs.State.{Tail}
-use Rattle.tm_reassembly.specs.Checkpoint.{two, four, block, spelling, four_at, two_at, Read, ReadAll, Decoded, is_unfinished, block_read, blocks_read, in_front, and_then, with_records, decoding_of}
+use Rattle.tm_reassembly.specs.Checkpoint.{two, four, block, master_octets, spelling, old_spelling, four_at, two_at, Read, ReadAll, Decoded, is_unfinished, block_read, blocks_read, in_front, and_then, ReadMaster, master_read, with_channels, with_master, decoding_of, old_decoding_of}
 
 -- ---- numbers
 
@@ -75,8 +76,8 @@ none_spelled : (xs : List ℕ) → slice_index xs 0 ≡ 0 → 1 ≤ length xs �
 none_spelled (x ∷ more) e long = ap (λ (f : ℕ). f ∷ []) e
 none_spelled [] e long = absurd (omega arith)
 
-module _ (layout : LayoutParts) (records : ℕ) where
-  pub block_spelled : (b : Bool) (xs : List ℕ) → AreOctets xs → IsSpelled xs (block_read layout b records xs)
+module _ (limit : ℕ) (layout : LayoutParts) (records : ℕ) where
+  pub block_spelled : (b : Bool) (xs : List ℕ) → AreOctets xs → IsSpelled xs (block_read limit layout b records xs)
   unfolding block_read IsSpelled
   block_spelled b xs h =
       let flag : ℕ = slice_index xs 0 in
@@ -95,11 +96,11 @@ module _ (layout : LayoutParts) (records : ℕ) where
       (λ t.
       cond_both (not (ltb (four_at xs 2) records) || ltb layout.frame_length (two_at xs 6 + 7)) _ _ (IsSpelled xs) (λ u. tt)
       (λ u.
-      cond_both (eqb size 0 || ltb 65541 size) _ _ (IsSpelled xs) (λ v. tt)
+      cond_both (eqb size 0 || leb limit size) _ _ (IsSpelled xs) (λ v. tt)
       (λ v.
       cond_both (ltb (length xs) (12 + size)) _ _ (IsSpelled xs) (λ w. tt)
       (λ w.
-      cond_both (not (is_unfinished (slice_range xs 12 (12 + size)))) _ _ (IsSpelled xs) (λ x. tt)
+      cond_both (not (is_unfinished limit (slice_range xs 12 (12 + size)))) _ _ (IsSpelled xs) (λ x. tt)
       (λ x.
       let long = ltb-false (length xs) (12 + size) w in
       record { inside = long; same = tail_spelled xs size h (is_two flag q (or_parts _ _ r).1 s) refl long })))))))))
@@ -139,43 +140,120 @@ unfolding AllSpelled IsSpelled
 then_spelled xs (Ok one) others h g = front_spelled xs one (others one.octets) h (g one.octets)
 then_spelled xs (Err found) others h g = tt
 
-blocks_spelled : (layout : LayoutParts) (chosen : ℕ → Bool) (records n c : ℕ) (xs : List ℕ) → AreOctets xs → AllSpelled xs (blocks_read layout chosen records n c xs)
+blocks_spelled : (rules : Rules) (records n c : ℕ) (xs : List ℕ) → AreOctets xs → AllSpelled xs (blocks_read rules records n c xs)
 unfolding blocks_read AllSpelled
-blocks_spelled layout chosen records zero c xs h = record { inside = omega arith; same = refl }
-blocks_spelled layout chosen records (suc n) c xs h =
-    then_spelled xs (block_read layout (chosen c) records xs) (λ used. blocks_read layout chosen records n (c + 1) (drop used xs))
-    (block_spelled layout records (chosen c) xs h)
-    (λ used. blocks_spelled layout chosen records n (c + 1) (drop used xs) (octets_behind used xs h))
+blocks_spelled rules records zero c xs h = record { inside = omega arith; same = refl }
+blocks_spelled rules records (suc n) c xs h =
+    then_spelled xs (block_read rules.max_packet rules.layout (chooses rules c) records xs) (λ used. blocks_read rules records n (c + 1) (drop used xs))
+    (block_spelled rules.max_packet rules.layout records (chooses rules c) xs h)
+    (λ used. blocks_spelled rules records n (c + 1) (drop used xs) (octets_behind used xs h))
 
 -- ---- the state
+
+-- the last master channel count
+record IsMaster (xs : List ℕ) (read : ReadMaster) : Type 0 where
+  inside : read.octets ≤ length xs
+  same : take read.octets xs ≡ master_octets read.count
+
+MasterSpelled : List ℕ → Result ReadMaster StateFault → Type 0
+MasterSpelled xs (Ok read) = IsMaster xs read
+MasterSpelled xs (Err found) = Unit {0}
+
+master_spelled : (xs : List ℕ) → MasterSpelled xs (master_read xs)
+unfolding master_read MasterSpelled
+master_spelled [] = tt
+master_spelled (flag ∷ xs) =
+    cond_both (eqb flag 0) _ _ (MasterSpelled (flag ∷ xs))
+    (λ p. record { inside = omega arith; same = ap (λ (n : ℕ). n ∷ []) (eqb-true flag 0 p) })
+    (λ p.
+    cond_both (ltb 1 flag) _ _ (MasterSpelled (flag ∷ xs)) (λ q. tt)
+    (λ q.
+    cond_both (eqb (length xs) 0) _ _ (MasterSpelled (flag ∷ xs)) (λ r. tt)
+    (λ r.
+    let some = eqb-false (length xs) 0 r in
+    let one : flag ≡ 1 = (let a = eqb-false flag 0 p in let b = ltb-false 1 flag q in omega arith) in
+    record { inside = omega arith; same = counted xs one (omega arith) })))
+  where
+    counted : (ys : List ℕ) → flag ≡ 1 → 0 < length ys → take 2 (flag ∷ ys) ≡ 1 ∷ slice_index ys 0 ∷ []
+    counted [] e h = absurd (omega arith)
+    counted (y ∷ ys) e h = ap (λ (n : ℕ). n ∷ y ∷ []) e
 
 -- the octets at the front are the spelling of what was read
 StateSpelled : List ℕ → Result Decoded StateFault → Type 0
 StateSpelled xs (Ok d) = (d.octets ≤ length xs) × (take d.octets xs ≡ spelling d.state)
 StateSpelled xs (Err found) = Unit {0}
 
-with_spelled : (xs : List ℕ) (x : Result ReadAll StateFault) → AreOctets xs → 4 ≤ length xs → AllSpelled (drop 4 xs) x → StateSpelled xs (with_records (four_at xs 0) x)
+channels_spelled : (xs : List ℕ) (read : ReadMaster) (x : Result ReadAll StateFault) → AreOctets xs → 4 ≤ length xs → IsMaster (drop 4 xs) read
+    → AllSpelled (drop read.octets (drop 4 xs)) x → StateSpelled xs (with_channels (four_at xs 0) read.count (4 + read.octets) x)
 unfolding AllSpelled StateSpelled
-with_spelled (a ∷ b ∷ c ∷ d ∷ more) (Ok all) h long g =
+channels_spelled (a ∷ b ∷ c ∷ d ∷ more) read (Ok all) h long m g =
+    let xs : List ℕ = a ∷ b ∷ c ∷ d ∷ more in
+    let first = m.inside in
+    let later = g.inside in
+    let len = length-drop read.octets more in
+    let n : (4 + read.octets) + all.octets ≡ 4 + (read.octets + all.octets) = omega arith in (
+      omega arith,
+      ap (λ (k : ℕ). take k xs) n
+          ∙ take-add 4 (read.octets + all.octets) xs
+          ∙ ap (λ (l : List ℕ). (a ∷ b ∷ c ∷ d ∷ []) ++ l)
+          (take-add read.octets all.octets more
+          ∙ ap (λ (l : List ℕ). l ++ take all.octets (drop read.octets more)) m.same
+          ∙ ap (λ (l : List ℕ). master_octets read.count ++ l) g.same)
+          ∙ ap (λ (l : List ℕ). l ++ (master_octets read.count ++ flat_map block all.kept))
+          (sym (four_again a b c d (h.below 0) (h.below 1) (h.below 2) (h.below 3))),
+    )
+channels_spelled xs read (Err found) h long m g = tt
+channels_spelled xs read (Ok all) h long m g = absurd (omega arith)
+
+master_then : (rules : Rules) (xs : List ℕ) (x : Result ReadMaster StateFault) → AreOctets xs → 4 ≤ length xs → MasterSpelled (drop 4 xs) x
+    → StateSpelled xs (with_master rules (four_at xs 0) (drop 4 xs) x)
+unfolding StateSpelled MasterSpelled
+master_then rules xs (Ok read) h long m =
+    channels_spelled xs read (blocks_read rules (four_at xs 0) 8 0 (drop read.octets (drop 4 xs))) h long m
+    (blocks_spelled rules (four_at xs 0) 8 0 (drop read.octets (drop 4 xs)) (octets_behind read.octets (drop 4 xs) (octets_behind 4 xs h)))
+master_then rules xs (Err found) h long m = tt
+
+decoding_spelled : (rules : Rules) (xs : List ℕ) → AreOctets xs → StateSpelled xs (decoding_of rules xs)
+unfolding decoding_of StateSpelled
+decoding_spelled rules xs h =
+    cond_both (ltb (length xs) 4) _ _ (StateSpelled xs) (λ p. tt)
+    (λ p. master_then rules xs (master_read (drop 4 xs)) h (ltb-false (length xs) 4 p) (master_spelled (drop 4 xs)))
+
+pub spelled-again : (rules : Rules) (octets : List ℕ) (d : Decoded) → AreOctets octets → decoding_of rules octets ≡ Ok d
+    → (d.octets ≤ length octets) × (take d.octets octets ≡ spelling d.state)
+unfolding StateSpelled
+spelled-again rules octets d h e = subst (StateSpelled octets) e (decoding_spelled rules octets h)
+
+-- ---- the same in the form of versions 1 and 2
+
+OldSpelled : List ℕ → Result Decoded StateFault → Type 0
+OldSpelled xs (Ok d) = (d.octets ≤ length xs) × (take d.octets xs ≡ old_spelling d.state) × (d.state.master ≡ None)
+OldSpelled xs (Err found) = Unit {0}
+
+old_channels_spelled : (xs : List ℕ) (x : Result ReadAll StateFault) → AreOctets xs → 4 ≤ length xs → AllSpelled (drop 4 xs) x
+    → OldSpelled xs (with_channels (four_at xs 0) None 4 x)
+unfolding AllSpelled OldSpelled
+old_channels_spelled (a ∷ b ∷ c ∷ d ∷ more) (Ok all) h long g =
     let xs : List ℕ = a ∷ b ∷ c ∷ d ∷ more in
     let later = g.inside in (
       omega arith,
       take-add 4 all.octets xs
           ∙ ap (λ (l : List ℕ). (a ∷ b ∷ c ∷ d ∷ []) ++ l) g.same
           ∙ ap (λ (l : List ℕ). l ++ flat_map block all.kept) (sym (four_again a b c d (h.below 0) (h.below 1) (h.below 2) (h.below 3))),
+      refl,
     )
-with_spelled xs (Err found) h long g = tt
-with_spelled xs (Ok all) h long g = absurd (omega arith)
+old_channels_spelled xs (Err found) h long g = tt
+old_channels_spelled xs (Ok all) h long g = absurd (omega arith)
 
-decoding_spelled : (layout : LayoutParts) (chosen : ℕ → Bool) (xs : List ℕ) → AreOctets xs → StateSpelled xs (decoding_of layout chosen xs)
-unfolding decoding_of StateSpelled
-decoding_spelled layout chosen xs h =
-    cond_both (ltb (length xs) 4) _ _ (StateSpelled xs) (λ p. tt)
+old_decoding_spelled : (rules : Rules) (xs : List ℕ) → AreOctets xs → OldSpelled xs (old_decoding_of rules xs)
+unfolding old_decoding_of OldSpelled
+old_decoding_spelled rules xs h =
+    cond_both (ltb (length xs) 4) _ _ (OldSpelled xs) (λ p. tt)
     (λ p.
-    with_spelled xs (blocks_read layout chosen (four_at xs 0) 8 0 (drop 4 xs)) h (ltb-false (length xs) 4 p)
-    (blocks_spelled layout chosen (four_at xs 0) 8 0 (drop 4 xs) (octets_behind 4 xs h)))
+    old_channels_spelled xs (blocks_read rules (four_at xs 0) 8 0 (drop 4 xs)) h (ltb-false (length xs) 4 p)
+    (blocks_spelled rules (four_at xs 0) 8 0 (drop 4 xs) (octets_behind 4 xs h)))
 
-pub spelled-again : (layout : LayoutParts) (chosen : ℕ → Bool) (octets : List ℕ) (d : Decoded) → AreOctets octets → decoding_of layout chosen octets ≡ Ok d
-    → (d.octets ≤ length octets) × (take d.octets octets ≡ spelling d.state)
-unfolding StateSpelled
-spelled-again layout chosen octets d h e = subst (StateSpelled octets) e (decoding_spelled layout chosen octets h)
+pub old-spelled-again : (rules : Rules) (octets : List ℕ) (d : Decoded) → AreOctets octets → old_decoding_of rules octets ≡ Ok d
+    → (d.octets ≤ length octets) × (take d.octets octets ≡ old_spelling d.state) × (d.state.master ≡ None)
+unfolding OldSpelled
+old-spelled-again rules octets d h e = subst (OldSpelled octets) e (old_decoding_spelled rules octets h)

@@ -1,16 +1,17 @@
 -- What is spelled is read again.
-use Rattle.std.proofs.Common.{◌≡◌, ℕ, suc, ◌+◌, ◌-◌, ◌*◌, ◌/◌, ◌%◌, ◌<◌, ◌≤◌, Bool, true, false, not, ◌||◌, Ok, Err, Result, Option, Some, None, List, [], ◌∷◌, ◌++◌, length, take, drop, refl, sym, ap, subst, ◌∙◌, ⊎_elim, arith, append_assoc, length-append, ltb, eqb}
+use Rattle.std.proofs.Common.{◌≡◌, ℕ, suc, ◌+◌, ◌-◌, ◌*◌, ◌/◌, ◌%◌, ◌<◌, ◌≤◌, Bool, true, false, not, ◌||◌, Ok, Err, Result, Option, Some, None, List, [], ◌∷◌, ◌++◌, length, take, drop, refl, sym, ap, subst, ◌∙◌, ⊎_elim, arith, append_assoc, length-append, ltb, leb, eqb}
 use Rattle.std.specs.Prelude.{slice_index, slice_range}
 use Rattle.std.specs.List.{slice_get, flat_map}
 use Rattle.std.proofs.Math.Seq.{take-append_seam, drop-append_seam}
-use Rattle.std.proofs.lemmas.Bool.{cases_Bool, cond-false, lt-ltb, le-ltb, ne_eqb, and_from, or_from, true≢false}
+use Rattle.std.proofs.lemmas.Bool.{cases_Bool, cond-false, lt-ltb, lt-leb, le-ltb, ne_eqb, and_from, or_from, true≢false}
 use Rattle.std.proofs.lemmas.Option.{slice_get_within}
 use Rattle.std.proofs.lemmas.List.{append-nil, nil_from_length}
 use Rattle.tm_frame.specs.declared.layout.LayoutParts.{LayoutParts}
 use Rattle.tm_reassembly.specs.declared.fault.StateFault.{StateFault}
+use Rattle.tm_reassembly.specs.Rules.{Rules, chooses}
 use Rattle.tm_reassembly.specs.State.{State, Last, Tail}
-use Rattle.tm_reassembly.specs.Checkpoint.{block, with_tail, spelling, four_at, two_at, Read, ReadAll, Decoded, is_unfinished, tail_read, flagged, block_read, blocks_read, in_front, and_then, with_records, decoding_of}
-use Rattle.tm_reassembly.specs.Parts.{is_packet, reach}
+use Rattle.tm_reassembly.specs.Checkpoint.{block, with_tail, master_octets, spelling, old_spelling, four_at, two_at, Read, ReadAll, Decoded, is_unfinished, tail_read, flagged, block_read, blocks_read, in_front, and_then, master_read, with_channels, with_master, decoding_of, old_decoding_of}
+use Rattle.tm_reassembly.specs.Parts.{begins_packet, reach}
 use Rattle.tm_reassembly.specs.Valid as ok
 use Rattle.tm_reassembly.specs.Valid.{IsState}
 use Rattle.tm_reassembly.proofs.States.{tail-short}
@@ -28,105 +29,106 @@ not_zero n h = ne_eqb n 0 (λ e. omega arith)
 
 -- ---- a block
 
--- what is kept of a channel fits: the channel is chosen if it is anything, and a tail begins in the records and is unfinished
-pub TailFits : LayoutParts → ℕ → Option Tail → Type 0
-TailFits layout records None = Unit {0}
-TailFits layout records (Some t) = (t.first < records) × (t.place + 7 ≤ layout.frame_length) × ok.IsTail t.octets
+module _ (limit : ℕ) where
+  -- what is kept of a channel fits: the channel is chosen if it is anything, and a tail begins in the records and is unfinished
+  pub TailFits : LayoutParts → ℕ → Option Tail → Type 0
+  TailFits layout records None = Unit {0}
+  TailFits layout records (Some t) = (t.first < records) × (t.place + 7 ≤ layout.frame_length) × ok.IsTail limit t.octets × (length t.octets < limit)
 
-pub Fits : LayoutParts → Bool → ℕ → Option Last → Type 0
-Fits layout chosen records None = Unit {0}
-Fits layout chosen records (Some last) = (chosen ≡ true) × TailFits layout records last.tail
+  pub Fits : LayoutParts → Bool → ℕ → Option Last → Type 0
+  Fits layout chosen records None = Unit {0}
+  Fits layout chosen records (Some last) = (chosen ≡ true) × TailFits layout records last.tail
 
-unfinished-is : (octets : List ℕ) → ok.IsTail octets → is_unfinished octets ≡ true
-unfinished-is [] h = absurd h
-unfinished-is (x ∷ xs) h = and_from (is_packet (x ∷ xs)) (ltb (length (x ∷ xs)) (reach (x ∷ xs))) h.0 (lt-ltb (length (x ∷ xs)) (reach (x ∷ xs)) h.1)
+  unfinished-is : (octets : List ℕ) → ok.IsTail limit octets → is_unfinished limit octets ≡ true
+  unfinished-is [] h = absurd h
+  unfinished-is (x ∷ xs) h = and_from (begins_packet limit (x ∷ xs)) (ltb (length (x ∷ xs)) (reach (x ∷ xs))) h.0 (lt-ltb (length (x ∷ xs)) (reach (x ∷ xs)) h.1)
 
-some_octets : (octets : List ℕ) → ok.IsTail octets → 0 < length octets
-some_octets [] h = absurd h
-some_octets (x ∷ xs) h = omega arith
+  some_octets : (octets : List ℕ) → ok.IsTail limit octets → 0 < length octets
+  some_octets [] h = absurd h
+  some_octets (x ∷ xs) h = omega arith
 
--- the octets of a tail, in a block that has them
-cut : (xs octets rest : List ℕ) → drop 12 xs ≡ octets ++ rest → slice_range xs 12 (12 + length octets) ≡ octets
-cut xs octets rest e =
-    let n : 12 + length octets - 12 ≡ length octets = omega arith in
-    ap (λ (k : ℕ). take k (drop 12 xs)) n ∙ ap (take (length octets)) e ∙ take-append_seam octets rest
+  -- the octets of a tail, in a block that has them
+  cut : (xs octets rest : List ℕ) → drop 12 xs ≡ octets ++ rest → slice_range xs 12 (12 + length octets) ≡ octets
+  cut xs octets rest e =
+      let n : 12 + length octets - 12 ≡ length octets = omega arith in
+      ap (λ (k : ℕ). take k (drop 12 xs)) n ∙ ap (take (length octets)) e ∙ take-append_seam octets rest
 
-module _ (layout : LayoutParts) (records : ℕ) where
-  -- the numbers of a tail and its octets
-  tail-again : (xs : List ℕ) (count : ℕ) (t : Tail) (rest : List ℕ) → slice_index xs 1 ≡ count → drop 12 xs ≡ t.octets ++ rest
-      → length xs ≡ 12 + length t.octets + length rest → TailFits layout records (Some t)
-      → tail_read layout records xs t.first t.place (length t.octets)
-      ≡ Ok (record { kept = Some (record { count = count; tail = Some t }); octets = 12 + length t.octets })
-  unfolding TailFits
-  tail-again xs count t rest at_one behind long h =
-      let size : ℕ = length t.octets in
-      let some = some_octets t.octets h.2 in
-      let most = tail-short t.octets h.2 in
-      let octets : slice_range xs 12 (12 + size) ≡ t.octets = cut xs t.octets rest behind in
-      cond-false (not (ltb t.first records) || ltb layout.frame_length (t.place + 7)) _ _
-      (or_from _ _ (ap not (lt-ltb t.first records h.0)) (le-ltb layout.frame_length (t.place + 7) h.1))
-      ∙ cond-false (eqb size 0 || ltb 65541 size) _ _ (or_from _ _ (not_zero size some) (le-ltb 65541 size (omega arith)))
-      ∙ cond-false (ltb (length xs) (12 + size)) _ _ (le-ltb (length xs) (12 + size) (omega arith))
-      ∙ cond-false (not (is_unfinished (slice_range xs 12 (12 + size)))) _ _
-      (ap (λ (o : List ℕ). not (is_unfinished o)) octets ∙ ap not (unfinished-is t.octets h.2))
-      ∙ ap (λ (o : List ℕ). good (record { count = slice_index xs 1; tail = Some (record { first = t.first; place = t.place; octets = o }) }) (12 + size)) octets
-      ∙ ap (λ (n : ℕ). good (record { count = n; tail = Some t }) (12 + size)) at_one
-    where
-      good : Last → ℕ → Result Read StateFault
-      good last octets = Ok (record { kept = Some last; octets = octets })
+  module _ (layout : LayoutParts) (records : ℕ) where
+    -- the numbers of a tail and its octets
+    tail-again : (xs : List ℕ) (count : ℕ) (t : Tail) (rest : List ℕ) → slice_index xs 1 ≡ count → drop 12 xs ≡ t.octets ++ rest
+        → length xs ≡ 12 + length t.octets + length rest → TailFits layout records (Some t)
+        → tail_read limit layout records xs t.first t.place (length t.octets)
+        ≡ Ok (record { kept = Some (record { count = count; tail = Some t }); octets = 12 + length t.octets })
+    unfolding TailFits
+    tail-again xs count t rest at_one behind long h =
+        let size : ℕ = length t.octets in
+        let some = some_octets t.octets h.2 in
+        let most = h.3 in
+        let octets : slice_range xs 12 (12 + size) ≡ t.octets = cut xs t.octets rest behind in
+        cond-false (not (ltb t.first records) || ltb layout.frame_length (t.place + 7)) _ _
+        (or_from _ _ (ap not (lt-ltb t.first records h.0)) (le-ltb layout.frame_length (t.place + 7) h.1))
+        ∙ cond-false (eqb size 0 || leb limit size) _ _ (or_from _ _ (not_zero size some) (lt-leb limit size most))
+        ∙ cond-false (ltb (length xs) (12 + size)) _ _ (le-ltb (length xs) (12 + size) (omega arith))
+        ∙ cond-false (not (is_unfinished limit (slice_range xs 12 (12 + size)))) _ _
+        (ap (λ (o : List ℕ). not (is_unfinished limit o)) octets ∙ ap not (unfinished-is t.octets h.2))
+        ∙ ap (λ (o : List ℕ). good (record { count = slice_index xs 1; tail = Some (record { first = t.first; place = t.place; octets = o }) }) (12 + size)) octets
+        ∙ ap (λ (n : ℕ). good (record { count = n; tail = Some t }) (12 + size)) at_one
+      where
+        good : Last → ℕ → Result Read StateFault
+        good last octets = Ok (record { kept = Some last; octets = octets })
 
-  -- octets that there are, by their first one
-  by_flag : (b : Bool) (xs : List ℕ) → 0 < length xs → block_read layout b records xs ≡ flagged layout b records xs (slice_index xs 0)
-  unfolding block_read
-  by_flag b xs h = cond-false (eqb (length xs) 0) _ _ (not_zero (length xs) h)
+    -- octets that there are, by their first one
+    by_flag : (b : Bool) (xs : List ℕ) → 0 < length xs → block_read limit layout b records xs ≡ flagged limit layout b records xs (slice_index xs 0)
+    unfolding block_read
+    by_flag b xs h = cond-false (eqb (length xs) 0) _ _ (not_zero (length xs) h)
 
-  kept-again : (count : ℕ) (tail : Option Tail) (rest : List ℕ) → TailFits layout records tail
-      → block_read layout true records (with_tail count tail ++ rest)
-      ≡ Ok (record { kept = Some (record { count = count; tail = tail }); octets = length (with_tail count tail) })
-  unfolding TailFits
-  kept-again count None rest h =
-      let xs : List ℕ = with_tail count None ++ rest in
-      by_flag true xs (omega arith) ∙ cond-false (ltb (length xs) 2) _ _ (le-ltb (length xs) 2 (omega arith))
-  kept-again count (Some t) rest h =
-      let xs : List ℕ = with_tail count (Some t) ++ rest in
-      let size : ℕ = length t.octets in
-      let long : length xs ≡ 12 + size + length rest = let l = length-append t.octets rest in omega arith in
-      by_flag true xs (omega arith)
-      ∙ cond-false (ltb (length xs) 12) _ _ (le-ltb (length xs) 12 (omega arith))
-      ∙ ap (λ (n : ℕ). tail_read layout records xs n (two_at xs 6) (four_at xs 8)) (four_digits t.first)
-      ∙ ap (λ (n : ℕ). tail_read layout records xs t.first n (four_at xs 8)) (two_digits t.place)
-      ∙ ap (λ (n : ℕ). tail_read layout records xs t.first t.place n) (four_digits size)
-      ∙ tail-again xs count t rest refl refl long h
-      ∙ ap (λ (n : ℕ). good (record { count = count; tail = Some t }) n) (let z : 12 + size ≡ length (with_tail count (Some t)) = omega arith in z)
-    where
-      good : Last → ℕ → Result Read StateFault
-      good last octets = Ok (record { kept = Some last; octets = octets })
+    kept-again : (count : ℕ) (tail : Option Tail) (rest : List ℕ) → TailFits layout records tail
+        → block_read limit layout true records (with_tail count tail ++ rest)
+        ≡ Ok (record { kept = Some (record { count = count; tail = tail }); octets = length (with_tail count tail) })
+    unfolding TailFits
+    kept-again count None rest h =
+        let xs : List ℕ = with_tail count None ++ rest in
+        by_flag true xs (omega arith) ∙ cond-false (ltb (length xs) 2) _ _ (le-ltb (length xs) 2 (omega arith))
+    kept-again count (Some t) rest h =
+        let xs : List ℕ = with_tail count (Some t) ++ rest in
+        let size : ℕ = length t.octets in
+        let long : length xs ≡ 12 + size + length rest = let l = length-append t.octets rest in omega arith in
+        by_flag true xs (omega arith)
+        ∙ cond-false (ltb (length xs) 12) _ _ (le-ltb (length xs) 12 (omega arith))
+        ∙ ap (λ (n : ℕ). tail_read limit layout records xs n (two_at xs 6) (four_at xs 8)) (four_digits t.first)
+        ∙ ap (λ (n : ℕ). tail_read limit layout records xs t.first n (four_at xs 8)) (two_digits t.place)
+        ∙ ap (λ (n : ℕ). tail_read limit layout records xs t.first t.place n) (four_digits size)
+        ∙ tail-again xs count t rest refl refl long h
+        ∙ ap (λ (n : ℕ). good (record { count = count; tail = Some t }) n) (let z : 12 + size ≡ length (with_tail count (Some t)) = omega arith in z)
+      where
+        good : Last → ℕ → Result Read StateFault
+        good last octets = Ok (record { kept = Some last; octets = octets })
 
-  pub block-again : (b : Bool) (o : Option Last) (rest : List ℕ) → Fits layout b records o
-      → block_read layout b records (block o ++ rest) ≡ Ok (record { kept = o; octets = length (block o) })
-  unfolding Fits
-  block-again b None rest h = by_flag b (0 ∷ rest) (omega arith)
-  block-again false (Some last) rest h = absurd (true≢false (sym h.0))
-  block-again true (Some last) rest h = kept-again last.count last.tail rest h.1
+    pub block-again : (b : Bool) (o : Option Last) (rest : List ℕ) → Fits layout b records o
+        → block_read limit layout b records (block o ++ rest) ≡ Ok (record { kept = o; octets = length (block o) })
+    unfolding Fits
+    block-again b None rest h = by_flag b (0 ∷ rest) (omega arith)
+    block-again false (Some last) rest h = absurd (true≢false (sym h.0))
+    block-again true (Some last) rest h = kept-again last.count last.tail rest h.1
 
 -- ---- the blocks
 
-module _ (layout : LayoutParts) (chosen : ℕ → Bool) (records : ℕ) where
+module _ (rules : Rules) (records : ℕ) where
   -- what is kept of the channels from channel c on fits
   AllFit : ℕ → List (Option Last) → Type 0
   AllFit c [] = Unit {0}
-  AllFit c (o ∷ os) = Fits layout (chosen c) records o × AllFit (c + 1) os
+  AllFit c (o ∷ os) = Fits rules.max_packet rules.layout (chooses rules c) records o × AllFit (c + 1) os
 
   blocks-again : (c : ℕ) (os : List (Option Last)) (rest : List ℕ) → AllFit c os
-      → blocks_read layout chosen records (length os) c (flat_map block os ++ rest) ≡ Ok (record { kept = os; octets = length (flat_map block os) })
+      → blocks_read rules records (length os) c (flat_map block os ++ rest) ≡ Ok (record { kept = os; octets = length (flat_map block os) })
   unfolding AllFit blocks_read
   blocks-again c [] rest h = refl
   blocks-again c (o ∷ os) rest h =
       let xs : List ℕ = block o ++ (flat_map block os ++ rest) in
-      ap (λ (l : List ℕ). blocks_read layout chosen records (length (o ∷ os)) c l) (append_assoc (block o) (flat_map block os) rest)
-      ∙ ap (λ (x : Result Read StateFault). and_then x (λ used. blocks_read layout chosen records (length os) (c + 1) (drop used xs)))
-      (block-again layout records (chosen c) o (flat_map block os ++ rest) h.0)
-      ∙ ap (λ (l : List ℕ). in_front (record { kept = o; octets = length (block o) }) (blocks_read layout chosen records (length os) (c + 1) l))
+      ap (λ (l : List ℕ). blocks_read rules records (length (o ∷ os)) c l) (append_assoc (block o) (flat_map block os) rest)
+      ∙ ap (λ (x : Result Read StateFault). and_then x (λ used. blocks_read rules records (length os) (c + 1) (drop used xs)))
+      (block-again rules.max_packet rules.layout records (chooses rules c) o (flat_map block os ++ rest) h.0)
+      ∙ ap (λ (l : List ℕ). in_front (record { kept = o; octets = length (block o) }) (blocks_read rules records (length os) (c + 1) l))
       (drop-append_seam (block o) (flat_map block os ++ rest))
       ∙ ap (in_front (record { kept = o; octets = length (block o) })) (blocks-again (c + 1) os rest h.1)
       ∙ ap (good (o ∷ os)) (sym (length-append (block o) (flat_map block os)))
@@ -134,54 +136,86 @@ module _ (layout : LayoutParts) (chosen : ℕ → Bool) (records : ℕ) where
       good : List (Option Last) → ℕ → Result ReadAll StateFault
       good kept octets = Ok (record { kept = kept; octets = octets })
 
-  all_fit : (c : ℕ) (os : List (Option Last)) → ((i : ℕ) (o : Option Last) → slice_get os i ≡ Some o → Fits layout (chosen (c + i)) records o) → AllFit c os
+  all_fit : (c : ℕ) (os : List (Option Last)) → ((i : ℕ) (o : Option Last) → slice_get os i ≡ Some o → Fits rules.max_packet rules.layout (chooses rules (c + i)) records o) → AllFit c os
   unfolding AllFit
   all_fit c [] h = tt
   all_fit c (o ∷ os) h =
       let here : c + 0 ≡ c = omega arith in (
-        subst (λ (n : ℕ). Fits layout (chosen n) records o) here (h 0 o refl),
+        subst (λ (n : ℕ). Fits rules.max_packet rules.layout (chooses rules n) records o) here (h 0 o refl),
         all_fit (c + 1) os
-            (λ i p e. let later : c + suc i ≡ c + 1 + i = omega arith in subst (λ (n : ℕ). Fits layout (chosen n) records p) later (h (suc i) p e)),
+            (λ i p e. let later : c + suc i ≡ c + 1 + i = omega arith in subst (λ (n : ℕ). Fits rules.max_packet rules.layout (chooses rules n) records p) later (h (suc i) p e)),
       )
+
+-- ---- the last master channel count
+
+master-again : (master : Option ℕ) (rest : List ℕ)
+    → master_read (master_octets master ++ rest) ≡ Ok (record { count = master; octets = length (master_octets master) })
+unfolding master_read
+master-again None rest = refl
+master-again (Some count) rest = cond-false (eqb (length (count ∷ rest)) 0) _ _ (not_zero (length (count ∷ rest)) (omega arith))
 
 -- ---- the state
 
-module _ (layout : LayoutParts) (chosen : ℕ → Bool) where
-  tail_fits : (s : State) → IsState layout chosen s → (c : ℕ) (last : Last) → slice_get s.channels c ≡ Some (Some last) → (tail : Option Tail) → last.tail ≡ tail
-      → TailFits layout s.records tail
+module _ (rules : Rules) where
+  tail_fits : (s : State) → IsState rules s → (c : ℕ) (last : Last) → slice_get s.channels c ≡ Some (Some last) → (tail : Option Tail) → last.tail ≡ tail
+      → TailFits rules.max_packet rules.layout s.records tail
   unfolding TailFits
   tail_fits s v c last e None f = tt
-  tail_fits s v c last e (Some t) f = let w = v.within c last t e f in (w.first, w.place, v.shape.tails c last t e f)
+  tail_fits s v c last e (Some t) f = let w = v.within c last t e f in (w.first, w.place, v.shape.tails c last t e f, tail-short rules.max_packet t.octets v.limit.least (v.shape.tails c last t e f))
 
-  channel_fits : (s : State) → IsState layout chosen s → (c : ℕ) (o : Option Last) → slice_get s.channels c ≡ Some o → Fits layout (chosen (0 + c)) s.records o
+  channel_fits : (s : State) → IsState rules s → (c : ℕ) (o : Option Last) → slice_get s.channels c ≡ Some o → Fits rules.max_packet rules.layout (chooses rules (0 + c)) s.records o
   unfolding Fits
   channel_fits s v c None e = tt
   channel_fits s v c (Some last) e =
       let zeroth : c ≡ 0 + c = omega arith in
       let eight = v.shape.eight_channels in
       let there = slice_get_within s.channels c (Some last) e in (
-        subst (λ (n : ℕ). chosen n ≡ true) zeroth
-            (⊎_elim (λ p. p) (λ p. absurd (some_none last (sym e ∙ v.shape.only_chosen c p (omega arith)))) (cases_Bool (chosen c))),
+        subst (λ (n : ℕ). chooses rules n ≡ true) zeroth
+            (⊎_elim (λ p. p) (λ p. absurd (some_none last (sym e ∙ v.shape.only_chosen c p (omega arith)))) (cases_Bool (chooses rules c))),
         tail_fits s v c last e last.tail refl,
       )
     where
       some_none : (last : Last) → ◌≡◌ {A = Option (Option Last)} (Some (Some last)) (Some None) → ⊥
       some_none last p = cc
 
-  pub read-again : (s : State) (rest : List ℕ) → IsState layout chosen s → decoding_of layout chosen (spelling s ++ rest) ≡ Ok (record { state = s; octets = length (spelling s) })
+  channels-again : (s : State) (rest : List ℕ) → IsState rules s
+      → blocks_read rules s.records 8 0 (flat_map block s.channels ++ rest) ≡ Ok (record { kept = s.channels; octets = length (flat_map block s.channels) })
+  channels-again s rest v =
+      ap (λ (n : ℕ). blocks_read rules s.records n 0 (flat_map block s.channels ++ rest)) (sym v.shape.eight_channels)
+      ∙ blocks-again rules s.records 0 s.channels rest (all_fit rules s.records 0 s.channels (channel_fits s v))
+
+  pub read-again : (s : State) (rest : List ℕ) → IsState rules s → decoding_of rules (spelling s ++ rest) ≡ Ok (record { state = s; octets = length (spelling s) })
   unfolding decoding_of
   read-again s rest v =
       let xs : List ℕ = spelling s ++ rest in
-      let eight = v.shape.eight_channels in
-      let back = drop 4 xs in
       cond-false (ltb (length xs) 4) _ _ (le-ltb (length xs) 4 (omega arith))
-      ∙ ap (λ (n : ℕ). with_records n (blocks_read layout chosen n 8 0 back)) (four_digits s.records)
-      ∙ ap (λ (n : ℕ). with_records s.records (blocks_read layout chosen s.records n 0 back)) (sym eight)
-      ∙ ap (with_records s.records) (blocks-again layout chosen s.records 0 s.channels rest (all_fit layout chosen s.records 0 s.channels (channel_fits s v)))
-      ∙ ap (λ (n : ℕ). good s n) (let z : 4 + length (flat_map block s.channels) ≡ length (spelling s) = omega arith in z)
+      ∙ ap (λ (n : ℕ). with_master rules n (drop 4 xs) (master_read (drop 4 xs))) (four_digits s.records)
+      ∙ ap (λ (l : List ℕ). with_master rules s.records l (master_read l)) (append_assoc (master_octets s.master) (flat_map block s.channels) rest)
+      ∙ ap (with_master rules s.records (master_octets s.master ++ (flat_map block s.channels ++ rest))) (master-again s.master (flat_map block s.channels ++ rest))
+      ∙ ap (λ (l : List ℕ). with_channels s.records s.master (4 + length (master_octets s.master)) (blocks_read rules s.records 8 0 l))
+      (drop-append_seam (master_octets s.master) (flat_map block s.channels ++ rest))
+      ∙ ap (with_channels s.records s.master (4 + length (master_octets s.master))) (channels-again s rest v)
+      ∙ ap (λ (n : ℕ). good s n)
+      (let l = length-append (master_octets s.master) (flat_map block s.channels) in
+      let z : (4 + length (master_octets s.master)) + length (flat_map block s.channels) ≡ length (spelling s) = omega arith in z)
     where
       good : State → ℕ → Result Decoded StateFault
       good state octets = Ok (record { state = state; octets = octets })
+
+  -- in the form of versions 1 and 2 the state comes back without its last master channel count
+  pub old-read-again : (s : State) (rest : List ℕ) → IsState rules s
+      → old_decoding_of rules (old_spelling s ++ rest)
+      ≡ Ok (record { state = record { records = s.records; master = None; channels = s.channels }; octets = length (old_spelling s) })
+  unfolding old_decoding_of
+  old-read-again s rest v =
+      let xs : List ℕ = old_spelling s ++ rest in
+      cond-false (ltb (length xs) 4) _ _ (le-ltb (length xs) 4 (omega arith))
+      ∙ ap (λ (n : ℕ). with_channels n None 4 (blocks_read rules n 8 0 (drop 4 xs))) (four_digits s.records)
+      ∙ ap (with_channels s.records None 4) (channels-again s rest v)
+      ∙ ap (λ (n : ℕ). good n) (let z : 4 + length (flat_map block s.channels) ≡ length (old_spelling s) = omega arith in z)
+    where
+      good : ℕ → Result Decoded StateFault
+      good octets = Ok (record { state = record { records = s.records; master = None; channels = s.channels }; octets = octets })
 
   state_in : Result Decoded StateFault → State → State
   state_in (Ok d) s = d.state
@@ -192,11 +226,11 @@ module _ (layout : LayoutParts) (chosen : ℕ → Bool) where
   octets_in (Err found) = 0
 
   -- no spelling is a proper prefix of another
-  pub no-prefix : (s t : State) (rest : List ℕ) → IsState layout chosen s → IsState layout chosen t → spelling s ++ rest ≡ spelling t → (s ≡ t) × (rest ≡ [])
+  pub no-prefix : (s t : State) (rest : List ℕ) → IsState rules s → IsState rules t → spelling s ++ rest ≡ spelling t → (s ≡ t) × (rest ≡ [])
   unfolding state_in octets_in
   no-prefix s t rest v w e =
       let same : good s (length (spelling s)) ≡ good t (length (spelling t)) =
-      sym (read-again s rest v) ∙ ap (decoding_of layout chosen) (e ∙ sym (append-nil (spelling t))) ∙ read-again t [] w in
+      sym (read-again s rest v) ∙ ap (decoding_of rules) (e ∙ sym (append-nil (spelling t))) ∙ read-again t [] w in
       let long : length (spelling s) ≡ length (spelling t) = ap octets_in same in
       let sum : length (spelling s) + length rest ≡ length (spelling t) = sym (length-append (spelling s) rest) ∙ ap length e in
       (ap (λ (x : Result Decoded StateFault). state_in x s) same, nil_from_length rest (omega arith))

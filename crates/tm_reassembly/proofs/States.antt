@@ -1,8 +1,8 @@
 -- A record leaves a valid state valid.
-use Rattle.std.proofs.Common.{◌≡◌, ℕ, suc, zero, pred, ◌+◌, ◌^◌, ◌<◌, ◌≤◌, Ok, Err, Bool, true, false, Option, Some, None, List, [], ◌∷◌, ◌++◌, length, set, refl, sym, ap, subst, ◌∙◌, ⊎_elim, arith, leb}
+use Rattle.std.proofs.Common.{◌≡◌, ℕ, suc, zero, pred, ◌+◌, ◌^◌, ◌<◌, ◌≤◌, Ok, Err, Bool, true, false, Option, Some, None, List, [], ◌∷◌, ◌++◌, length, set, refl, sym, ap, subst, ◌∙◌, ⊎_elim, arith, ◌&&◌, leb, ltb}
 use Rattle.std.specs.List.{slice_get}
 use Rattle.std.proofs.lemmas.List.{length-set}
-use Rattle.std.proofs.lemmas.Bool.{cases_Bool, cases_eq, cond_both}
+use Rattle.std.proofs.lemmas.Bool.{cases_Bool, cases_eq, cases_lt, cond_both, le-leb, ltb-false}
 use Rattle.tm_bits.specs.Bits.{AreOctets}
 use Rattle.tm_bits.proofs.PartLemmas.{octets_after}
 use Rattle.tm_frame.specs.declared.layout.LayoutParts.{LayoutParts}
@@ -13,49 +13,24 @@ use Rattle.tm_frame.specs.Frame.{GoodFrame}
 use Rattle.tm_reassembly.specs.Readings.{Reading}
 use Rattle.tm_reassembly.specs.State.{State, Last, Tail}
 use Rattle.tm_reassembly.specs.Chain.{has_gap, member, counted_field, place_of, is_vca_kind}
-use Rattle.tm_reassembly.specs.Parts.{reach, agrees, is_packet}
+use Rattle.tm_reassembly.specs.Parts.{reach, agrees, begins_packet}
 use Rattle.tm_reassembly.specs.Field.{chain_tail_at, step_tail, frame_tail, tail_left, tail_at, left_in, unfinished}
 use Rattle.tm_reassembly.specs.Items.{empty}
 use Rattle.tm_reassembly.specs.Items as read
 use Rattle.tm_reassembly.specs.Recording.{after, readings}
 use Rattle.tm_reassembly.specs.Valid as ok
-use Rattle.tm_reassembly.specs.Valid.{HasShape, IsState, IsWithin, AllOctets}
+use Rattle.tm_reassembly.specs.Valid.{HasShape, IsCount, IsState, IsWithin, AllOctets}
 use Rattle.tm_reassembly.proofs.Chained.{IsOpenTail, IsTail}
 use Rattle.tm_reassembly.proofs.Seen.{chain_tail_at-open}
 use Rattle.tm_reassembly.proofs.Joining.{before_of, tail_of}
 use Rattle.tm_reassembly.proofs.Records.{after-append}
 use Rattle.tm_reassembly.proofs.OneStep.{valid-from, after-nil, after-one, after-bad, after-other, get_set-same, get_set-other}
-use Rattle.tm_reassembly.proofs.Headers.{reach_most}
+use Rattle.tm_reassembly.proofs.Long.{begins-short}
+use Rattle.tm_reassembly.specs.Rules.{Rules, IsLimit, chooses}
 use Rattle.tm_reassembly.proofs.Fits.{IsGood, IsRead, reading-fit, reading-good, octets_append}
-
--- the octets of an unfinished packet are octets of its field
-octets_unfinished : (skip : ℕ) (o : List ℕ) → AreOctets o → AreOctets (unfinished skip o)
-octets_unfinished skip [] h = h
-octets_unfinished zero (x ∷ xs) h =
-    cond_both (is_packet (x ∷ xs)) _ _ AreOctets
-    (λ p. cond_both (leb (reach (x ∷ xs)) (length (x ∷ xs))) _ _ AreOctets (λ q. octets_unfinished _ xs (octets_after x xs h)) (λ q. h))
-    (λ p. record { below = λ i. omega arith })
-octets_unfinished (suc skip) (x ∷ xs) h = octets_unfinished skip xs (octets_after x xs h)
 
 no_octets : AreOctets []
 no_octets = record { below = λ i. omega arith }
-
-octets_left : (place : Option ℕ) (field : List ℕ) → AreOctets field → AreOctets (left_in place field)
-octets_left None field h = no_octets
-octets_left (Some place) field h = octets_unfinished place field h
-
-unfinished_most : (skip : ℕ) (o : List ℕ) → length (unfinished skip o) ≤ length o
-unfinished_most skip [] = omega arith
-unfinished_most zero (x ∷ xs) =
-    cond_both (is_packet (x ∷ xs)) _ _ (λ (l : List ℕ). length l ≤ suc (length xs))
-    (λ p. cond_both (leb (reach (x ∷ xs)) (length (x ∷ xs))) _ _ (λ (l : List ℕ). length l ≤ suc (length xs))
-    (λ q. let n = unfinished_most (pred (reach (x ∷ xs))) xs in omega arith) (λ q. omega arith))
-    (λ p. omega arith)
-unfinished_most (suc skip) (x ∷ xs) = let n = unfinished_most skip xs in omega arith
-
-left_most : (place : Option ℕ) (field : List ℕ) → length (left_in place field) ≤ length field
-left_most None field = omega arith
-left_most (Some place) field = unfinished_most place field
 
 octets_field : (kind : Kind) (field : List ℕ) → AreOctets field → AreOctets (counted_field kind field)
 octets_field (got.Packets place) field h = h
@@ -73,82 +48,10 @@ abbrev Within : LayoutParts → ℕ → Option Tail → Type 0
 Within layout records None = Unit {0}
 Within layout records (Some t) = IsWithin layout records t
 
-module _ (layout : LayoutParts) (records : ℕ) (f : GoodFrame) (good : IsGood layout f) where
-  within-at : (o : List ℕ) → AreOctets o → length o ≤ length (counted_field f.kind f.field) → Within layout (records + 1) (tail_at records (0 + length (counted_field f.kind f.field)) o)
-  within-at [] h less = tt
-  within-at (x ∷ xs) h less =
-      let most = field_most f.kind f.field in
-      let room = good.most (omega arith) in
-      record { first = omega arith; place = omega arith; octets = h }
-
-  within-frame : Within layout (records + 1) (frame_tail (member records f))
-  within-frame =
-      within-at (left_in (place_of f.kind) (counted_field f.kind f.field)) (octets_left (place_of f.kind) (counted_field f.kind f.field) (octets_field f.kind f.field good.octets))
-      (left_most (place_of f.kind) (counted_field f.kind f.field))
-
-  within-left : (t : Tail) (far : ℕ) → IsWithin layout records t → Within layout (records + 1) (tail_left t (member records f) far)
-  within-left t far h =
-      cond_both (agrees far (length t.octets) (member records f)) _ _ (Within layout (records + 1))
-      (λ p.
-      cond_both (leb far (length (t.octets ++ counted_field f.kind f.field))) _ _ (Within layout (records + 1))
-      (λ q. within-frame)
-      (λ q. let w : IsWithin layout (records + 1) (record { first = t.first; place = t.place; octets = t.octets ++ counted_field f.kind f.field }) = record {
-        first = (let e = h.first in omega arith);
-        place = h.place;
-        octets = octets_append t.octets (counted_field f.kind f.field) h.octets (octets_field f.kind f.field good.octets);
-      } in w))
-      (λ p. within-frame)
-
-  within-step : (tail : Option Tail) → Within layout records tail → Within layout (records + 1) (step_tail tail (member records f))
-  within-step None h = within-frame
-  within-step (Some t) h = within-left t (reach (t.octets ++ counted_field f.kind f.field)) h
-
-  within-chain : (gap vca : Bool) (tail : Option Tail) → Within layout records tail → Within layout (records + 1) (chain_tail_at gap vca tail (member records f))
-  within-chain gap true tail h = tt
-  within-chain true false tail h = within-frame
-  within-chain false false tail h = within-step tail h
-
--- what is kept of one channel
-pub record Keeps (layout : LayoutParts) (records : ℕ) (last : Last) : Type 0 where
-  pub count : last.count < 256
-  pub open_tail : IsOpenTail last.tail
-  pub within : Within layout records last.tail
-
 within-more : (layout : LayoutParts) (records : ℕ) (t : Option Tail) → Within layout records t → Within layout (records + 1) t
 within-more layout records None h = tt
 within-more layout records (Some t) h =
     record { first = (let e = h.first in omega arith); place = h.place; octets = h.octets }
-
-pub keeps-at : (layout : LayoutParts) (chosen : ℕ → Bool) (s : State) → IsState layout chosen s → (c : ℕ) (last : Last)
-    → slice_get s.channels c ≡ Some (Some last) → Keeps layout s.records last
-keeps-at layout chosen s v c last e = record {
-  count = v.counts c last e;
-  open_tail = opened last.tail refl;
-  within = inside last.tail refl;
-}
-  where
-    opened : (t : Option Tail) → last.tail ≡ t → IsOpenTail t
-    opened None f = tt
-    opened (Some t) f = v.shape.tails c last t e f
-
-    inside : (t : Option Tail) → last.tail ≡ t → Within layout s.records t
-    inside None f = tt
-    inside (Some t) f = v.within c last t e f
-
--- a state of which each channel keeps what it may
-pub state-from : (layout : LayoutParts) (chosen : ℕ → Bool) (s : State) → s.records < 2 ^ 32 → length s.channels ≡ 8
-    → ((c : ℕ) → chosen c ≡ false → c < 8 → slice_get s.channels c ≡ Some None)
-    → ((c : ℕ) (last : Last) → slice_get s.channels c ≡ Some (Some last) → Keeps layout s.records last)
-    → IsState layout chosen s
-state-from layout chosen s small eight only keeps = record {
-  records = small;
-  shape = record { eight_channels = eight; only_chosen = only; tails = λ c last t e f. tail_is c last t e f };
-  counts = λ c last e. (keeps c last e).count;
-  within = λ c last t e f. subst (Within layout s.records) f (keeps c last e).within;
-}
-  where
-    tail_is : (c : ℕ) (last : Last) (t : Tail) → slice_get s.channels c ≡ Some (Some last) → last.tail ≡ Some t → ok.IsTail t.octets
-    tail_is c last t e f = subst IsOpenTail f (keeps c last e).open_tail
 
 some_last : (x y : Option Last) → ◌≡◌ {A = Option (Option Last)} (Some x) (Some y) → x ≡ y
 some_last x y h = cc
@@ -156,63 +59,164 @@ some_last x y h = cc
 same_last : (x y : Last) → ◌≡◌ {A = Option (Option Last)} (Some (Some x)) (Some (Some y)) → x ≡ y
 same_last x y h = cc
 
-module _ (layout : LayoutParts) (chosen : ℕ → Bool) (s : State) (v : IsState layout chosen s) (more : s.records + 1 < 2 ^ 32) where
-  -- where the channels stay, the state stays valid
-  kept-valid : IsState layout chosen (record { records = s.records + 1; channels = s.channels })
-  kept-valid =
-      state-from layout chosen (record { records = s.records + 1; channels = s.channels }) more v.shape.eight_channels v.shape.only_chosen
-      (λ c last e.
-      let k = keeps-at layout chosen s v c last e in
-      let w : Keeps layout (s.records + 1) last = record { count = k.count; open_tail = k.open_tail; within = within-more layout s.records last.tail k.within } in w)
+module _ (limit : ℕ) where
+  -- the octets of an unfinished packet are octets of its field
+  octets_unfinished : (skip : ℕ) (o : List ℕ) → AreOctets o → AreOctets (unfinished limit skip o)
+  octets_unfinished skip [] h = h
+  octets_unfinished zero (x ∷ xs) h =
+      cond_both (begins_packet limit (x ∷ xs)) _ _ AreOctets
+      (λ p. cond_both (leb (reach (x ∷ xs)) (length (x ∷ xs))) _ _ AreOctets (λ q. octets_unfinished _ xs (octets_after x xs h)) (λ q. h))
+      (λ p. record { below = λ i. omega arith })
+  octets_unfinished (suc skip) (x ∷ xs) h = octets_unfinished skip xs (octets_after x xs h)
 
-  -- where one chosen channel keeps something else that it may
-  set-valid : (channel : ℕ) (kept : Last) → channel < 8 → chosen channel ≡ true → Keeps layout (s.records + 1) kept
-      → IsState layout chosen (record { records = s.records + 1; channels = set s.channels channel (Some kept) })
-  set-valid channel kept small e k =
-      state-from layout chosen (record { records = s.records + 1; channels = set s.channels channel (Some kept) }) more
+  octets_left : (place : Option ℕ) (field : List ℕ) → AreOctets field → AreOctets (left_in limit place field)
+  octets_left None field h = no_octets
+  octets_left (Some place) field h = octets_unfinished place field h
+
+  unfinished_most : (skip : ℕ) (o : List ℕ) → length (unfinished limit skip o) ≤ length o
+  unfinished_most skip [] = omega arith
+  unfinished_most zero (x ∷ xs) =
+      cond_both (begins_packet limit (x ∷ xs)) _ _ (λ (l : List ℕ). length l ≤ suc (length xs))
+      (λ p. cond_both (leb (reach (x ∷ xs)) (length (x ∷ xs))) _ _ (λ (l : List ℕ). length l ≤ suc (length xs))
+      (λ q. let n = unfinished_most (pred (reach (x ∷ xs))) xs in omega arith) (λ q. omega arith))
+      (λ p. omega arith)
+  unfinished_most (suc skip) (x ∷ xs) = let n = unfinished_most skip xs in omega arith
+
+  left_most : (place : Option ℕ) (field : List ℕ) → length (left_in limit place field) ≤ length field
+  left_most None field = omega arith
+  left_most (Some place) field = unfinished_most place field
+
+  module _ (layout : LayoutParts) (records : ℕ) (f : GoodFrame) (good : IsGood layout f) where
+    within-at : (o : List ℕ) → AreOctets o → length o ≤ length (counted_field f.kind f.field) → Within layout (records + 1) (tail_at records (0 + length (counted_field f.kind f.field)) o)
+    within-at [] h less = tt
+    within-at (x ∷ xs) h less =
+        let most = field_most f.kind f.field in
+        let room = good.most (omega arith) in
+        record { first = omega arith; place = omega arith; octets = h }
+
+    within-frame : Within layout (records + 1) (frame_tail limit (member records f))
+    within-frame =
+        within-at (left_in limit (place_of f.kind) (counted_field f.kind f.field)) (octets_left (place_of f.kind) (counted_field f.kind f.field) (octets_field f.kind f.field good.octets))
+        (left_most (place_of f.kind) (counted_field f.kind f.field))
+
+    within-left : (t : Tail) (far : ℕ) → IsWithin layout records t → Within layout (records + 1) (tail_left limit t (member records f) far)
+    within-left t far h =
+        cond_both (agrees limit far (length t.octets) (member records f)) _ _ (Within layout (records + 1))
+        (λ p.
+        cond_both (leb far (length (t.octets ++ counted_field f.kind f.field))) _ _ (Within layout (records + 1))
+        (λ q. within-frame)
+        (λ q. let w : IsWithin layout (records + 1) (record { first = t.first; place = t.place; octets = t.octets ++ counted_field f.kind f.field }) = record {
+          first = (let e = h.first in omega arith);
+          place = h.place;
+          octets = octets_append t.octets (counted_field f.kind f.field) h.octets (octets_field f.kind f.field good.octets);
+        } in w))
+        (λ p. within-frame)
+
+    within-step : (tail : Option Tail) → Within layout records tail → Within layout (records + 1) (step_tail limit tail (member records f))
+    within-step None h = within-frame
+    within-step (Some t) h = within-left t (reach (t.octets ++ counted_field f.kind f.field)) h
+
+    within-chain : (gap vca : Bool) (tail : Option Tail) → Within layout records tail → Within layout (records + 1) (chain_tail_at limit gap vca tail (member records f))
+    within-chain gap true tail h = tt
+    within-chain true false tail h = within-frame
+    within-chain false false tail h = within-step tail h
+
+  -- what is kept of one channel
+  pub record Keeps (layout : LayoutParts) (records : ℕ) (last : Last) : Type 0 where
+    pub count : last.count < 256
+    pub open_tail : IsOpenTail limit last.tail
+    pub within : Within layout records last.tail
+
+pub keeps-at : (rules : Rules) (s : State) → IsState rules s → (c : ℕ) (last : Last)
+    → slice_get s.channels c ≡ Some (Some last) → Keeps rules.max_packet rules.layout s.records last
+keeps-at rules s v c last e = record {
+  count = v.counts c last e;
+  open_tail = opened last.tail refl;
+  within = inside last.tail refl;
+}
+  where
+    opened : (t : Option Tail) → last.tail ≡ t → IsOpenTail rules.max_packet t
+    opened None f = tt
+    opened (Some t) f = v.shape.tails c last t e f
+
+    inside : (t : Option Tail) → last.tail ≡ t → Within rules.layout s.records t
+    inside None f = tt
+    inside (Some t) f = v.within c last t e f
+
+-- a state of which each channel keeps what it may
+pub state-from : (rules : Rules) (s : State) → IsLimit rules.max_packet → s.records < 2 ^ 32 → ok.IsCount s.master → length s.channels ≡ 8
+    → ((c : ℕ) → chooses rules c ≡ false → c < 8 → slice_get s.channels c ≡ Some None)
+    → ((c : ℕ) (last : Last) → slice_get s.channels c ≡ Some (Some last) → Keeps rules.max_packet rules.layout s.records last)
+    → IsState rules s
+state-from rules s range small octet eight only keeps = record {
+  limit = range;
+  records = small;
+  master = octet;
+  shape = record { eight_channels = eight; only_chosen = only; tails = λ c last t e f. tail_is c last t e f };
+  counts = λ c last e. (keeps c last e).count;
+  within = λ c last t e f. subst (Within rules.layout s.records) f (keeps c last e).within;
+}
+  where
+    tail_is : (c : ℕ) (last : Last) (t : Tail) → slice_get s.channels c ≡ Some (Some last) → last.tail ≡ Some t → ok.IsTail rules.max_packet t.octets
+    tail_is c last t e f = subst (IsOpenTail rules.max_packet) f (keeps c last e).open_tail
+
+module _ (rules : Rules) (s : State) (v : IsState rules s) (more : s.records + 1 < 2 ^ 32) where
+  -- where the channels stay, the state stays valid
+  kept-valid : (master : Option ℕ) → ok.IsCount master → IsState rules (record { records = s.records + 1; master = master; channels = s.channels })
+  kept-valid master octet =
+      state-from rules (record { records = s.records + 1; master = master; channels = s.channels }) v.limit more octet v.shape.eight_channels v.shape.only_chosen
+      (λ c last e.
+      let k = keeps-at rules s v c last e in
+      let w : Keeps rules.max_packet rules.layout (s.records + 1) last = record { count = k.count; open_tail = k.open_tail; within = within-more rules.layout s.records last.tail k.within } in w)
+
+  -- where one (chooses rules) channel keeps something else that it may
+  set-valid : (master : Option ℕ) → ok.IsCount master → (channel : ℕ) (kept : Last) → channel < 8 → chooses rules channel ≡ true → Keeps rules.max_packet rules.layout (s.records + 1) kept
+      → IsState rules (record { records = s.records + 1; master = master; channels = set s.channels channel (Some kept) })
+  set-valid master octet channel kept small e k =
+      state-from rules (record { records = s.records + 1; master = master; channels = set s.channels channel (Some kept) }) v.limit more octet
       (length-set s.channels channel (Some kept) ∙ v.shape.eight_channels)
       (λ c n less.
-      get_set-other s.channels channel c (Some kept) (λ z. true_false (sym e ∙ ap chosen (sym z) ∙ n))
+      get_set-other s.channels channel c (Some kept) (λ z. true_false (sym e ∙ ap (chooses rules) (sym z) ∙ n))
       ∙ v.shape.only_chosen c n less)
       (λ c last f. ⊎_elim (at_it c last f) (other c last f) (cases_eq c channel))
     where
       true_false : true ≡ false → ⊥
       true_false h = cc
 
-      at_it : (c : ℕ) (last : Last) → slice_get (set s.channels channel (Some kept)) c ≡ Some (Some last) → c ≡ channel → Keeps layout (s.records + 1) last
+      at_it : (c : ℕ) (last : Last) → slice_get (set s.channels channel (Some kept)) c ≡ Some (Some last) → c ≡ channel → Keeps rules.max_packet rules.layout (s.records + 1) last
       at_it c last f z =
           let there : slice_get (set s.channels channel (Some kept)) channel ≡ Some (Some kept) = get_set-same s.channels channel (Some kept) (rw v.shape.eight_channels small) in
           let same : kept ≡ last = same_last kept last (sym there ∙ ap (λ (k : ℕ). slice_get (set s.channels channel (Some kept)) k) (sym z) ∙ f) in
-          subst (Keeps layout (s.records + 1)) same k
+          subst (Keeps rules.max_packet rules.layout (s.records + 1)) same k
 
-      other : (c : ℕ) (last : Last) → slice_get (set s.channels channel (Some kept)) c ≡ Some (Some last) → (c ≡ channel → ⊥) → Keeps layout (s.records + 1) last
+      other : (c : ℕ) (last : Last) → slice_get (set s.channels channel (Some kept)) c ≡ Some (Some last) → (c ≡ channel → ⊥) → Keeps rules.max_packet rules.layout (s.records + 1) last
       other c last f ne =
-          let q = keeps-at layout chosen s v c last (sym (get_set-other s.channels channel c (Some kept) ne) ∙ f) in
-          record { count = q.count; open_tail = q.open_tail; within = within-more layout s.records last.tail q.within }
+          let q = keeps-at rules s v c last (sym (get_set-other s.channels channel c (Some kept) ne) ∙ f) in
+          record { count = q.count; open_tail = q.open_tail; within = within-more rules.layout s.records last.tail q.within }
 
   -- what the entry of a channel says
-  open_now : (c : ℕ) (x : Option (Option Last)) → slice_get s.channels c ≡ x → IsOpenTail (tail_of x)
+  open_now : (c : ℕ) (x : Option (Option Last)) → slice_get s.channels c ≡ x → IsOpenTail rules.max_packet (tail_of x)
   open_now c None e = tt
   open_now c (Some None) e = tt
-  open_now c (Some (Some last)) e = (keeps-at layout chosen s v c last e).open_tail
+  open_now c (Some (Some last)) e = (keeps-at rules s v c last e).open_tail
 
-  within_now : (c : ℕ) (x : Option (Option Last)) → slice_get s.channels c ≡ x → Within layout s.records (tail_of x)
+  within_now : (c : ℕ) (x : Option (Option Last)) → slice_get s.channels c ≡ x → Within rules.layout s.records (tail_of x)
   within_now c None e = tt
   within_now c (Some None) e = tt
-  within_now c (Some (Some last)) e = (keeps-at layout chosen s v c last e).within
+  within_now c (Some (Some last)) e = (keeps-at rules s v c last e).within
 
-  read-valid : (r : Reading) → IsRead layout r → IsState layout chosen (read.after chosen s (r ∷ []))
-  read-valid (Err fault) h = subst (IsState layout chosen) (sym (after-bad chosen s fault v.shape)) kept-valid
+  read-valid : (r : Reading) → IsRead rules.layout r → IsState rules (read.after rules.max_packet (chooses rules) s (r ∷ []))
+  read-valid (Err fault) h = subst (IsState rules) (sym (after-bad rules.max_packet (chooses rules) s fault v.shape)) (kept-valid s.master v.master)
   read-valid (Ok g) h =
       ⊎_elim
-      (λ e. subst (IsState layout chosen) (sym (after-one chosen s g v.shape h.fits e)) (set-valid g.channel _ h.fits.0 e (next e)))
-      (λ e. subst (IsState layout chosen) (sym (after-other chosen s g v.shape h.fits e)) kept-valid)
-      (cases_Bool (chosen g.channel))
+      (λ e. subst (IsState rules) (sym (after-one rules.max_packet (chooses rules) s g v.shape h.fits e)) (set-valid (Some g.master_count) h.master g.channel _ h.fits.0 e (next e)))
+      (λ e. subst (IsState rules) (sym (after-other rules.max_packet (chooses rules) s g v.shape h.fits e)) (kept-valid (Some g.master_count) h.master))
+      (cases_Bool (chooses rules g.channel))
     where
-      next : chosen g.channel ≡ true → Keeps layout (s.records + 1)
+      next : chooses rules g.channel ≡ true → Keeps rules.max_packet rules.layout (s.records + 1)
           (record {
             count = g.count;
-            tail = chain_tail_at (has_gap (before_of (slice_get s.channels g.channel)) (member s.records g)) (is_vca_kind g.kind)
+            tail = chain_tail_at rules.max_packet (has_gap (before_of (slice_get s.channels g.channel)) (member s.records g)) (is_vca_kind g.kind)
                 (tail_of (slice_get s.channels g.channel)) (member s.records g);
           })
       next e =
@@ -220,14 +224,14 @@ module _ (layout : LayoutParts) (chosen : ℕ → Bool) (s : State) (v : IsState
           let tail = tail_of (slice_get s.channels g.channel) in
           record {
             count = h.count;
-            open_tail = chain_tail_at-open gap (is_vca_kind g.kind) tail (member s.records g) (open_now g.channel (slice_get s.channels g.channel) refl);
-            within = within-chain layout s.records g h gap (is_vca_kind g.kind) tail (within_now g.channel (slice_get s.channels g.channel) refl);
+            open_tail = chain_tail_at-open rules.max_packet gap (is_vca_kind g.kind) tail (member s.records g) (open_now g.channel (slice_get s.channels g.channel) refl);
+            within = within-chain rules.max_packet rules.layout s.records g h gap (is_vca_kind g.kind) tail (within_now g.channel (slice_get s.channels g.channel) refl);
           }
 
 -- the state of no records is valid
-pub empty-valid : (layout : LayoutParts) (chosen : ℕ → Bool) → IsState layout chosen empty
-empty-valid layout chosen =
-    state-from layout chosen empty (omega arith) refl (λ c n less. nothing c less) (λ c last e. absurd (none_kept c last e))
+pub empty-valid : (rules : Rules) → IsLimit rules.max_packet → IsState rules empty
+empty-valid rules range =
+    state-from rules empty range (omega arith) tt refl (λ c n less. nothing c less) (λ c last e. absurd (none_kept c last e))
   where
     nothing : (c : ℕ) → c < 8 → slice_get empty.channels c ≡ Some None
     nothing zero h = refl
@@ -252,28 +256,39 @@ empty-valid layout chosen =
     none_kept (suc (suc (suc (suc (suc (suc (suc (suc c)))))))) last e = cc
 
 -- and so is the state after one record, and after any
-pub record-valid : (layout : LayoutParts) (chosen : ℕ → Bool) (s : State) (octets : List ℕ) → IsState layout chosen s → AreOctets octets
-    → s.records + 1 < 2 ^ 32 → IsState layout chosen (after layout chosen s (octets ∷ []))
+pub record-valid : (rules : Rules) (s : State) (octets : List ℕ) → IsState rules s → AreOctets octets
+    → s.records + 1 < 2 ^ 32 → IsState rules (after rules s (octets ∷ []))
 unfolding after
-record-valid layout chosen s octets v h more = read-valid layout chosen s v more (reading_of layout octets) (reading-good layout octets h)
+record-valid rules s octets v h more = read-valid rules s v more (reading_of rules.layout octets) (reading-good rules.layout octets h)
 
-pub records-valid : (layout : LayoutParts) (chosen : ℕ → Bool) (s : State) (records : List (List ℕ)) → IsState layout chosen s
-    → AllOctets records → s.records + length records < 2 ^ 32 → IsState layout chosen (after layout chosen s records)
+pub records-valid : (rules : Rules) (s : State) (records : List (List ℕ)) → IsState rules s
+    → AllOctets records → s.records + length records < 2 ^ 32 → IsState rules (after rules s records)
 unfolding after
-records-valid layout chosen s [] v h most = subst (IsState layout chosen) (sym (after-nil chosen s v.shape)) v
-records-valid layout chosen s (octets ∷ rest) v h most =
-    let one = record-valid layout chosen s octets v h.0 (omega arith) in
-    subst (IsState layout chosen)
+records-valid rules s [] v h most = subst (IsState rules) (sym (after-nil rules.max_packet (chooses rules) s v.shape)) v
+records-valid rules s (octets ∷ rest) v h most =
+    let one = record-valid rules s octets v h.0 (omega arith) in
+    subst (IsState rules)
     (sym
-    (after-append chosen s (reading_of layout octets ∷ []) (readings layout rest) (valid-from chosen s v.shape) (after-nil chosen s v.shape)
-    (reading-fit layout octets, tt)))
-    (records-valid layout chosen (after layout chosen s (octets ∷ [])) rest one h.1 (omega arith))
+    (after-append rules.max_packet (chooses rules) s (reading_of rules.layout octets ∷ []) (readings rules.layout rest) (valid-from rules.max_packet (chooses rules) s v.shape) (after-nil rules.max_packet (chooses rules) s v.shape)
+    (reading-fit rules.layout octets, tt)))
+    (records-valid rules (after rules s (octets ∷ [])) rest one h.1 (omega arith))
 
--- a tail is shorter than the longest packet
-pub tail-short : (o : List ℕ) → ok.IsTail o → length o < 65542
-tail-short [] h = absurd h
-tail-short (x ∷ xs) h = let less : length (x ∷ xs) < reach (x ∷ xs) = h.1 in let most = reach_most (x ∷ xs) in omega arith
+-- a tail is shorter than the limit
+pub tail-short : (limit : ℕ) (o : List ℕ) → 7 ≤ limit → ok.IsTail limit o → length o < limit
+tail-short limit [] least h = absurd h
+tail-short limit (x ∷ xs) least h =
+    let less : length (x ∷ xs) < reach (x ∷ xs) = h.1 in
+    ⊎_elim
+    (λ short. omega arith)
+    (λ enough.
+    let header : leb 6 (length (x ∷ xs)) ≡ true = le-leb 6 (length (x ∷ xs)) enough in
+    let fits = ltb-false limit (reach (x ∷ xs)) (second (leb 6 (length (x ∷ xs))) (ltb limit (reach (x ∷ xs))) header (begins-short limit (x ∷ xs) h.0)) in omega arith)
+    (cases_lt (length (x ∷ xs)) 6)
+  where
+    second : (a b : Bool) → a ≡ true → (a && b) ≡ false → b ≡ false
+    second true b e f = f
+    second false b e f = absurd (cc)
 
-pub short-tails : (layout : LayoutParts) (chosen : ℕ → Bool) (s : State) → IsState layout chosen s → (c : ℕ) (last : Last) (t : Tail)
-    → slice_get s.channels c ≡ Some (Some last) → last.tail ≡ Some t → length t.octets < 65542
-short-tails layout chosen s v c last t e f = tail-short t.octets (v.shape.tails c last t e f)
+pub short-tails : (rules : Rules) (s : State) → IsState rules s → (c : ℕ) (last : Last) (t : Tail)
+    → slice_get s.channels c ≡ Some (Some last) → last.tail ≡ Some t → length t.octets < rules.max_packet
+short-tails rules s v c last t e f = tail-short rules.max_packet t.octets v.limit.least (v.shape.tails c last t e f)

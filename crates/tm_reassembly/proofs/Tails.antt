@@ -1,10 +1,11 @@
 -- A tail and the field that comes after it.
-use Rattle.std.proofs.Common.{◌≡◌, ℕ, ◌+◌, ◌-◌, ◌<◌, ◌≤◌, Option, Some, None, List, [], ◌∷◌, ◌++◌, length, take, refl, sym, ap, ◌∙◌, arith, length-append, leb, eqb}
+use Rattle.std.proofs.Common.{◌≡◌, ℕ, ◌+◌, true, false, not, ◌&&◌, ◌-◌, ◌<◌, ◌≤◌, Option, Some, None, List, [], ◌∷◌, ◌++◌, length, take, refl, sym, ap, subst, ◌∙◌, arith, length-append, leb, eqb}
 use Rattle.std.proofs.Math.Seq.{take-append-add}
-use Rattle.std.proofs.lemmas.Bool.{le-leb, eq-eqb, cond-true}
+use Rattle.std.proofs.lemmas.Bool.{le-leb, eq-eqb, eqb-true, cond-true}
 use Rattle.tm_reassembly.specs.State.{Tail}
-use Rattle.tm_reassembly.specs.Parts.{Given, reach}
+use Rattle.tm_reassembly.specs.Parts.{Given, agrees_at, reach, is_long}
 use Rattle.tm_reassembly.specs.Field.{step_parts, frame_parts}
+use Rattle.tm_reassembly.proofs.Long.{and_not}
 use Rattle.tm_reassembly.specs.Kept.{tail_of_octets, octets_in, grown, completed, member_at}
 
 -- the first six octets of a tail and a field
@@ -27,15 +28,29 @@ take_longer : (t field : List ℕ) (start : ℕ) → take (length t + start) (t 
 take_longer t field start = take-append-add t field start
 
 -- a packet that ends at the frame's place
-pub step_completed : (tail : Option Tail) (seen start : ℕ) (field : List ℕ) → 0 < length (octets_in tail) → start ≤ length field
+pub step_completed : (limit : ℕ) (tail : Option Tail) (seen start : ℕ) (field : List ℕ) → 0 < length (octets_in tail) → start ≤ length field
     → length (octets_in tail) + start ≡ reach (octets_in tail ++ field)
-    → completed tail (take start field) seen ++ frame_parts (member_at seen (Some start) field) ≡ step_parts tail (member_at seen (Some start) field)
-step_completed None seen start field some inside h = absurd (omega arith)
-step_completed (Some t) seen start field some inside h =
+    → is_long limit (reach (octets_in tail ++ field)) (length (octets_in tail) + length field) ≡ false
+    → completed tail (take start field) seen ++ frame_parts limit (member_at seen (Some start) field) ≡ step_parts limit tail (member_at seen (Some start) field)
+step_completed limit None seen start field some inside h short = absurd (omega arith)
+step_completed limit (Some t) seen start field some inside h short =
     let far : ℕ = reach (t.octets ++ field) in
     let l : length (t.octets ++ field) ≡ length t.octets + length field = length-append t.octets field in
-    ap (λ (o : List ℕ). record { first = t.first; place = t.place; octets = o; fate = Given seen } ∷ frame_parts (member_at seen (Some start) field))
+    ap (λ (o : List ℕ). record { first = t.first; place = t.place; octets = o; fate = Given seen } ∷ frame_parts limit (member_at seen (Some start) field))
     (sym (take_longer t.octets field start) ∙ ap (λ (n : ℕ). take n (t.octets ++ field)) h)
     ∙ sym
-    (cond-true (eqb far (length t.octets + start)) _ _ (eq-eqb far (length t.octets + start) (sym h))
+    (cond-true (eqb far (length t.octets + start) && not (is_long limit far (length t.octets + length field))) _ _
+    (and_not (eqb far (length t.octets + start)) (is_long limit far (length t.octets + length field)) (eq-eqb far (length t.octets + start) (sym h)) short)
     ∙ cond-true (leb far (length (t.octets ++ field))) _ _ (le-leb far (length (t.octets ++ field)) (omega arith)))
+
+-- the same, by what the code tests
+pub step_completed_at : (limit : ℕ) (tail : Option Tail) (seen start : ℕ) (field : List ℕ) (far held : ℕ) (place : Option ℕ) → place ≡ Some start
+    → far ≡ reach (octets_in tail ++ field) → held ≡ length (octets_in tail) → 0 < held → start ≤ length field
+    → agrees_at far held (length field) place ≡ true → is_long limit far (held + length field) ≡ false
+    → completed tail (take start field) seen ++ frame_parts limit (member_at seen (Some start) field) ≡ step_parts limit tail (member_at seen place field)
+step_completed_at limit tail seen start field far held place at e same some inside agree short =
+    let there : agrees_at far held (length field) (Some start) ≡ true = subst (λ (p : Option ℕ). agrees_at far held (length field) p ≡ true) at agree in
+    let stop : far ≡ held + start = eqb-true far (held + start) there in
+    let s : is_long limit (reach (octets_in tail ++ field)) (length (octets_in tail) + length field) ≡ false = rw (← e, ← same) short in
+    step_completed limit tail seen start field (omega (arith, same)) inside (omega (arith, e, same, stop)) s
+    ∙ ap (λ (p : Option ℕ). step_parts limit tail (member_at seen p field)) (sym at)

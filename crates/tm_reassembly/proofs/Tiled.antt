@@ -11,10 +11,10 @@ use Rattle.tm_frame.specs.declared.frame.Kind.{Kind}
 use Rattle.tm_reassembly.specs.Readings.{Reading}
 use Rattle.tm_reassembly.specs.Item as item
 use Rattle.tm_reassembly.specs.Item.{Item}
-use Rattle.tm_reassembly.specs.Chain.{Member, has_gap, member, member_of, is_vca_kind, counted_field}
+use Rattle.tm_reassembly.specs.Chain.{Member, has_gap, member, master_member, member_of, is_vca_kind, counted_field}
 use Rattle.tm_reassembly.specs.Parts.{Part, Fate, Given, Lost, Held}
 use Rattle.tm_reassembly.specs.Field.{chain_parts_at, chain_tail_at}
-use Rattle.tm_reassembly.specs.Items.{items, after, empty, part_item, gap_at, vca_at}
+use Rattle.tm_reassembly.specs.Items.{items, after, empty, part_item, gap_item, master_gap_item, gap_at, vca_at}
 use Rattle.tm_reassembly.specs.Sinks.{part_items}
 use Rattle.tm_reassembly.specs.Valid.{HasShape, IsFit, AllFit}
 use Rattle.tm_reassembly.specs.Tiles.{Spot, field_spots, kind_spots, record_spots, channel_spots, IsHeld, Takes, Tile, is_part_of, parts_of, tail_of, held_tail}
@@ -35,6 +35,7 @@ Takes-more a b more (item.Packet seen channel first place octets) h =
 Takes-more a b more (item.Dropped seen channel first place octets reason) h =
     (h.0, ap (λ (s : List Spot). s ++ more) h.1 ∙ append_assoc h.0 b more, h.2, h.3)
 Takes-more a b more (item.Bad seen fault) h = absurd h
+Takes-more a b more (item.MasterGap seen expected found missing) h = absurd h
 Takes-more a b more (item.Gap seen channel expected found missing) h = absurd h
 Takes-more a b more (item.Vca seen channel) h = absurd h
 Takes-more a b more (item.Short seen octets) h = absurd h
@@ -72,7 +73,7 @@ others-none c own (p ∷ ps) h = one p.fate (others-none c own ps h)
     one (Lost reason seen) k = left (eqb own c) h _ _ k
     one Held k = k
 
-gaps-none : (c own : ℕ) (before : Option ℕ) (m : Member) → parts_of c (gap_at own before m) ≡ []
+gaps-none : (c own : ℕ) (before : Option ℕ) (m : Member) → parts_of c (gap_at (gap_item own) before m) ≡ []
 gaps-none c own None m = refl
 gaps-none c own (Some before) m = cond_both (has_gap (Some before) m) _ _ (λ xs. parts_of c xs ≡ []) (λ p. refl) (λ p. refl)
 
@@ -85,14 +86,14 @@ of-three c a b d e f =
     ∙ ap (λ (xs : List Item). xs ++ parts_of c d)
     (filter-append (λ x. is_part_of c x) a b ∙ ap (λ (xs : List Item). xs ++ parts_of c b) e ∙ f)
 
-member-parts : (c own : ℕ) (before : Option ℕ) (tail : Option Tail) (m : Member)
-    → parts_of c (member_items own before tail m) ≡ parts_of c (part_items own (chain_parts_at (has_gap before m) m.is_vca tail m))
-member-parts c own before tail m =
-    of-three c (gap_at own before m) (vca_at own m) _ (gaps-none c own before m) (vcas-none c own m)
+-- nor do master gaps
+masters-none : (c : ℕ) (before : Option ℕ) (m : Member) → parts_of c (gap_at master_gap_item before m) ≡ []
+masters-none c None m = refl
+masters-none c (Some before) m = cond_both (has_gap (Some before) m) _ _ (λ xs. parts_of c xs ≡ []) (λ p. refl) (λ p. refl)
 
-other-member : (c own : ℕ) (before : Option ℕ) (tail : Option Tail) (m : Member) → eqb own c ≡ false → parts_of c (member_items own before tail m) ≡ []
-other-member c own before tail m h =
-    member-parts c own before tail m ∙ others-none c own (chain_parts_at (has_gap before m) m.is_vca tail m) h
+past-master : (c : ℕ) (before : Option ℕ) (m : Member) (xs : List Item) → parts_of c (gap_at master_gap_item before m ++ xs) ≡ parts_of c xs
+past-master c before m xs =
+    filter-append (λ x. is_part_of c x) (gap_at master_gap_item before m) xs ∙ ap (λ (ys : List Item). ys ++ parts_of c xs) (masters-none c before m)
 
 -- what a frame adds to the fields of its channel
 plain-kind : (k : ℕ) (kind : Kind) (field : List ℕ)
@@ -101,89 +102,6 @@ plain-kind k (got.Packets place) field = refl
 plain-kind k got.NoStart field = refl
 plain-kind k got.Idle field = refl
 plain-kind k got.Vca field = refl
-
--- one record
-abbrev Result : (ℕ → Bool) → State → Reading → ℕ → List Spot → Type 0
-Result chosen s r c h =
-    (middle : List Spot) × Tile (h ++ record_spots c s.records r) (parts_of c (items chosen s (r ∷ []))) middle
-    × IsHeld (held_tail (after chosen s (r ∷ [])) c) middle
-
-quiet : (chosen : ℕ → Bool) (s : State) (r : Reading) (c : ℕ) (h : List Spot) → HasOpenTails chosen s → IsFit r → c < 8 → chosen c ≡ true
-    → IsHeld (held_tail s c) h → parts_of c (items chosen s (r ∷ [])) ≡ [] → record_spots c s.records r ≡ [] → member_of c s.records r ≡ []
-    → Result chosen s r c h
-quiet chosen s r c h valid fit small is_chosen held nothing no_spots no_frame = (
-  h,
-  subst (λ (xs : List Item). Tile (h ++ record_spots c s.records r) xs h) (sym nothing)
-      (ap (λ (z : List Spot). h ++ z) no_spots ∙ append-nil h),
-  subst (λ (t : Option Tail). IsHeld t h) (sym (tail-kept chosen s r valid fit c small is_chosen no_frame)) held,
-)
-
-own-record : (chosen : ℕ → Bool) (s : State) (g : GoodFrame) (h : List Spot) → HasOpenTails chosen s → IsFit (Ok g) → chosen g.channel ≡ true
-    → IsHeld (held_tail s g.channel) h → Result chosen s (Ok g) g.channel h
-own-record chosen s g h valid fit is_chosen held =
-    let c : ℕ = g.channel in
-    let m : Member = member s.records g in
-    let x : Option (Option Last) = slice_get s.channels g.channel in
-    let one : member_of g.channel s.records (Ok g) ≡ member s.records g ∷ [] =
-    cond-true (eqb g.channel g.channel) (member s.records g ∷ []) [] (eq-eqb g.channel g.channel refl) in
-    let lies : Laid (h ++ plain_spots m.is_vca (spots_of m)) (chain_parts_at (has_gap (before_of x) m) m.is_vca (tail_of x) m) (chain_tail_at (has_gap (before_of x) m) m.is_vca (tail_of x) m) =
-    chain_lays (has_gap (before_of x) m) m.is_vca (tail_of x) m h (valid.tails_open c fit.0 is_chosen) held in
-    let spots : record_spots g.channel s.records (Ok g) ≡ plain_spots (is_vca_kind g.kind) (spots_of (member s.records g)) =
-    cond-true (eqb g.channel g.channel) (kind_spots s.records g.kind g.field) [] (eq-eqb g.channel g.channel refl) ∙ plain-kind s.records g.kind g.field in
-    let given : parts_of c (items chosen s (Ok g ∷ [])) ≡ parts_of c (part_items c (chain_parts_at (has_gap (before_of x) m) m.is_vca (tail_of x) m)) =
-    ap (parts_of c) (items-one-valid chosen s g valid fit is_chosen) ∙ member-parts c c (before_of x) (tail_of x) m in (
-      lies.0,
-      subst (λ (xs : List Item). Tile (h ++ record_spots c s.records (Ok g)) xs lies.0) (sym given)
-          (subst (λ (z : List Spot). Tile (h ++ z) (parts_of c (part_items c (chain_parts_at (has_gap (before_of x) m) m.is_vca (tail_of x) m))) lies.0) (sym spots)
-          (tile-parts c m.number _ lies.0 _ (chain_parts_at-at (has_gap (before_of x) m) m.is_vca (tail_of x) m) lies.1)),
-      subst (λ (t : Option Tail). IsHeld t lies.0)
-          (sym (tail-moved chosen s (Ok g) valid fit g.channel fit.0 is_chosen (member s.records g) one fit.1)) lies.2,
-    )
-
-one-record : (chosen : ℕ → Bool) (s : State) (r : Reading) (c : ℕ) (h : List Spot) → HasOpenTails chosen s → IsFit r → c < 8 → chosen c ≡ true
-    → IsHeld (held_tail s c) h → Result chosen s r c h
-one-record chosen s (Err fault) c h valid fit small is_chosen held = quiet chosen s (Err fault) c h valid fit small is_chosen held refl refl refl
-one-record chosen s (Ok g) c h valid fit small is_chosen held =
-    ⊎_elim
-    (λ e.
-    subst (λ (k : ℕ). Result chosen s (Ok g) k h) e
-    (own-record chosen s g h valid fit (ap chosen e ∙ is_chosen) (subst (λ (k : ℕ). IsHeld (held_tail s k) h) (sym e) held)))
-    (λ ne.
-    let other : eqb g.channel c ≡ false = ne_eqb g.channel c ne in
-    quiet chosen s (Ok g) c h valid fit small is_chosen held
-    (⊎_elim
-    (λ e.
-    ap (parts_of c) (items-one-valid chosen s g valid fit e)
-    ∙ other-member c g.channel _ _ (member s.records g) other)
-    (λ e. ap (parts_of c) (items-other chosen s g e))
-    (cases_Bool (chosen g.channel)))
-    (cond-false (eqb g.channel c) _ _ other)
-    (cond-false (eqb g.channel c) _ _ other))
-    (cases_eq g.channel c)
-
--- any records, from any state whose tail has these octets
-pub tiles-from : (chosen : ℕ → Bool) (c : ℕ) → c < 8 → chosen c ≡ true
-    → (rs : List Reading) (s : State) (h : List Spot) → HasOpenTails chosen s → after chosen s [] ≡ s → AllFit rs → IsHeld (held_tail s c) h
-    → (rest : List Spot) × Tile (h ++ channel_spots c s.records rs) (parts_of c (items chosen s rs)) rest
-    × IsHeld (held_tail (after chosen s rs) c) rest
-tiles-from chosen c small is_chosen [] s h valid still fits held =
-    (h, append-nil h, subst (λ (z : State). IsHeld (held_tail z c) h) (sym still) held)
-tiles-from chosen c small is_chosen (r ∷ rs) s h valid still fits held =
-    let one = one-record chosen s r c h valid fits.0 small is_chosen held in
-    let next = tiles-from chosen c small is_chosen rs (after chosen s (r ∷ [])) one.0 (valid-after chosen s r valid fits.0)
-    (sym (after-cons chosen s r valid fits.0 [])) fits.1 one.2 in
-    let given : parts_of c (items chosen s (r ∷ rs)) ≡ parts_of c (items chosen s (r ∷ [])) ++ parts_of c (items chosen (after chosen s (r ∷ [])) rs) =
-    ap (parts_of c) (items-cons chosen s r valid fits.0 rs fits.1)
-    ∙ filter-append (λ x. is_part_of c x) (items chosen s (r ∷ [])) (items chosen (after chosen s (r ∷ [])) rs) in (
-      next.0,
-      subst (λ (xs : List Item). Tile (h ++ (record_spots c s.records r ++ channel_spots c (s.records + 1) rs)) xs next.0) (sym given)
-          (subst (λ (z : List Spot). Tile z (parts_of c (items chosen s (r ∷ [])) ++ parts_of c (items chosen (after chosen s (r ∷ [])) rs)) next.0)
-          (append_assoc h (record_spots c s.records r) (channel_spots c (s.records + 1) rs))
-          (Tile-append _ (one.0 ++ channel_spots c (s.records + 1) rs) next.0 (parts_of c (items chosen s (r ∷ []))) _
-          (Tile-more (h ++ record_spots c s.records r) one.0 (channel_spots c (s.records + 1) rs) (parts_of c (items chosen s (r ∷ []))) one.1)
-          next.1)),
-      subst (λ (z : State). IsHeld (held_tail z c) next.0) (sym (after-cons chosen s r valid fits.0 rs)) next.2,
-    )
 
 -- at the start nothing is kept
 empty-at : (c : ℕ) → (slice_get empty.channels c ≡ Some None) ⊎ ((8 ≤ c) × (slice_get empty.channels c ≡ None))
@@ -200,22 +118,116 @@ empty-at (suc (suc (suc (suc (suc (suc (suc (suc c)))))))) = inr (omega arith, r
 empty-tail : (c : ℕ) → held_tail empty c ≡ None
 empty-tail c = ⊎_elim (λ e. ap tail_of e) (λ e. ap tail_of e.1) (empty-at c)
 
-pub empty-state : (chosen : ℕ → Bool) → HasShape chosen empty
-empty-state chosen =
-    record {
-      eight_channels = refl;
-      only_chosen = λ c e small. ⊎_elim (λ f. f) (λ f. let g = f.0 in absurd (omega arith)) (empty-at c);
-      tails = λ c last t e f. let g = empty-tail c in let k = ap tail_of e in absurd (no_tail (sym g ∙ k ∙ f));
-    }
-  where
-    no_tail : {t : Tail} → ◌≡◌ {A = Option Tail} None (Some t) → ⊥
-    no_tail h = cc
+module _ (limit : ℕ) where
+  member-parts : (c own : ℕ) (before : Option ℕ) (tail : Option Tail) (m : Member)
+      → parts_of c (member_items limit own before tail m) ≡ parts_of c (part_items own (chain_parts_at limit (has_gap before m) m.is_vca tail m))
+  member-parts c own before tail m =
+      of-three c (gap_at (gap_item own) before m) (vca_at own m) _ (gaps-none c own before m) (vcas-none c own m)
 
-pub tiled : (chosen : ℕ → Bool) (channel : ℕ) (records : List Reading) → channel < 8 → chosen channel ≡ true → AllFit records
-    → (rest : List Spot) × Tile (channel_spots channel 0 records) (parts_of channel (items chosen empty records)) rest
-    × IsHeld (held_tail (after chosen empty records) channel) rest
-tiled chosen channel records small is_chosen fits =
-    tiles-from chosen channel small is_chosen records empty []
-    (record { tails_open = λ c k e. subst IsOpenTail (sym (empty-tail c)) tt })
-    (after-nil chosen empty (empty-state chosen)) fits
-    (subst (λ (t : Option Tail). IsHeld t []) (sym (empty-tail channel)) refl)
+  other-member : (c own : ℕ) (before : Option ℕ) (tail : Option Tail) (m : Member) → eqb own c ≡ false → parts_of c (member_items limit own before tail m) ≡ []
+  other-member c own before tail m h =
+      member-parts c own before tail m ∙ others-none c own (chain_parts_at limit (has_gap before m) m.is_vca tail m) h
+
+  -- one record
+  abbrev Result : (ℕ → Bool) → State → Reading → ℕ → List Spot → Type 0
+  Result chosen s r c h =
+      (middle : List Spot) × Tile (h ++ record_spots c s.records r) (parts_of c (items limit chosen s (r ∷ []))) middle
+      × IsHeld (held_tail (after limit chosen s (r ∷ [])) c) middle
+
+  quiet : (chosen : ℕ → Bool) (s : State) (r : Reading) (c : ℕ) (h : List Spot) → HasOpenTails limit chosen s → IsFit r → c < 8 → chosen c ≡ true
+      → IsHeld (held_tail s c) h → parts_of c (items limit chosen s (r ∷ [])) ≡ [] → record_spots c s.records r ≡ [] → member_of c s.records r ≡ []
+      → Result chosen s r c h
+  quiet chosen s r c h valid fit small is_chosen held nothing no_spots no_frame = (
+    h,
+    subst (λ (xs : List Item). Tile (h ++ record_spots c s.records r) xs h) (sym nothing)
+        (ap (λ (z : List Spot). h ++ z) no_spots ∙ append-nil h),
+    subst (λ (t : Option Tail). IsHeld t h) (sym (tail-kept limit chosen s r valid fit c small is_chosen no_frame)) held,
+  )
+
+  own-record : (chosen : ℕ → Bool) (s : State) (g : GoodFrame) (h : List Spot) → HasOpenTails limit chosen s → IsFit (Ok g) → chosen g.channel ≡ true
+      → IsHeld (held_tail s g.channel) h → Result chosen s (Ok g) g.channel h
+  own-record chosen s g h valid fit is_chosen held =
+      let c : ℕ = g.channel in
+      let m : Member = member s.records g in
+      let x : Option (Option Last) = slice_get s.channels g.channel in
+      let one : member_of g.channel s.records (Ok g) ≡ member s.records g ∷ [] =
+      cond-true (eqb g.channel g.channel) (member s.records g ∷ []) [] (eq-eqb g.channel g.channel refl) in
+      let lies : Laid (h ++ plain_spots m.is_vca (spots_of m)) (chain_parts_at limit (has_gap (before_of x) m) m.is_vca (tail_of x) m) (chain_tail_at limit (has_gap (before_of x) m) m.is_vca (tail_of x) m) =
+      chain_lays limit (has_gap (before_of x) m) m.is_vca (tail_of x) m h (valid.tails_open c fit.0 is_chosen) held in
+      let spots : record_spots g.channel s.records (Ok g) ≡ plain_spots (is_vca_kind g.kind) (spots_of (member s.records g)) =
+      cond-true (eqb g.channel g.channel) (kind_spots s.records g.kind g.field) [] (eq-eqb g.channel g.channel refl) ∙ plain-kind s.records g.kind g.field in
+      let given : parts_of c (items limit chosen s (Ok g ∷ [])) ≡ parts_of c (part_items c (chain_parts_at limit (has_gap (before_of x) m) m.is_vca (tail_of x) m)) =
+      ap (parts_of c) (items-one-valid limit chosen s g valid fit is_chosen) ∙ past-master c s.master (master_member s.records g) _ ∙ member-parts c c (before_of x) (tail_of x) m in (
+        lies.0,
+        subst (λ (xs : List Item). Tile (h ++ record_spots c s.records (Ok g)) xs lies.0) (sym given)
+            (subst (λ (z : List Spot). Tile (h ++ z) (parts_of c (part_items c (chain_parts_at limit (has_gap (before_of x) m) m.is_vca (tail_of x) m))) lies.0) (sym spots)
+            (tile-parts c m.number _ lies.0 _ (chain_parts_at-at limit (has_gap (before_of x) m) m.is_vca (tail_of x) m) lies.1)),
+        subst (λ (t : Option Tail). IsHeld t lies.0)
+            (sym (tail-moved limit chosen s (Ok g) valid fit g.channel fit.0 is_chosen (member s.records g) one fit.1)) lies.2,
+      )
+
+  one-record : (chosen : ℕ → Bool) (s : State) (r : Reading) (c : ℕ) (h : List Spot) → HasOpenTails limit chosen s → IsFit r → c < 8 → chosen c ≡ true
+      → IsHeld (held_tail s c) h → Result chosen s r c h
+  one-record chosen s (Err fault) c h valid fit small is_chosen held = quiet chosen s (Err fault) c h valid fit small is_chosen held refl refl refl
+  one-record chosen s (Ok g) c h valid fit small is_chosen held =
+      ⊎_elim
+      (λ e.
+      subst (λ (k : ℕ). Result chosen s (Ok g) k h) e
+      (own-record chosen s g h valid fit (ap chosen e ∙ is_chosen) (subst (λ (k : ℕ). IsHeld (held_tail s k) h) (sym e) held)))
+      (λ ne.
+      let other : eqb g.channel c ≡ false = ne_eqb g.channel c ne in
+      quiet chosen s (Ok g) c h valid fit small is_chosen held
+      (⊎_elim
+      (λ e.
+      ap (parts_of c) (items-one-valid limit chosen s g valid fit e)
+      ∙ past-master c s.master (master_member s.records g) _
+      ∙ other-member c g.channel _ _ (member s.records g) other)
+      (λ e. ap (parts_of c) (items-other limit chosen s g e) ∙ masters-none c s.master (master_member s.records g))
+      (cases_Bool (chosen g.channel)))
+      (cond-false (eqb g.channel c) _ _ other)
+      (cond-false (eqb g.channel c) _ _ other))
+      (cases_eq g.channel c)
+
+  -- any records, from any state whose tail has these octets
+  pub tiles-from : (chosen : ℕ → Bool) (c : ℕ) → c < 8 → chosen c ≡ true
+      → (rs : List Reading) (s : State) (h : List Spot) → HasOpenTails limit chosen s → after limit chosen s [] ≡ s → AllFit rs → IsHeld (held_tail s c) h
+      → (rest : List Spot) × Tile (h ++ channel_spots c s.records rs) (parts_of c (items limit chosen s rs)) rest
+      × IsHeld (held_tail (after limit chosen s rs) c) rest
+  tiles-from chosen c small is_chosen [] s h valid still fits held =
+      (h, append-nil h, subst (λ (z : State). IsHeld (held_tail z c) h) (sym still) held)
+  tiles-from chosen c small is_chosen (r ∷ rs) s h valid still fits held =
+      let one = one-record chosen s r c h valid fits.0 small is_chosen held in
+      let next = tiles-from chosen c small is_chosen rs (after limit chosen s (r ∷ [])) one.0 (valid-after limit chosen s r valid fits.0)
+      (sym (after-cons limit chosen s r valid fits.0 [])) fits.1 one.2 in
+      let given : parts_of c (items limit chosen s (r ∷ rs)) ≡ parts_of c (items limit chosen s (r ∷ [])) ++ parts_of c (items limit chosen (after limit chosen s (r ∷ [])) rs) =
+      ap (parts_of c) (items-cons limit chosen s r valid fits.0 rs fits.1)
+      ∙ filter-append (λ x. is_part_of c x) (items limit chosen s (r ∷ [])) (items limit chosen (after limit chosen s (r ∷ [])) rs) in (
+        next.0,
+        subst (λ (xs : List Item). Tile (h ++ (record_spots c s.records r ++ channel_spots c (s.records + 1) rs)) xs next.0) (sym given)
+            (subst (λ (z : List Spot). Tile z (parts_of c (items limit chosen s (r ∷ [])) ++ parts_of c (items limit chosen (after limit chosen s (r ∷ [])) rs)) next.0)
+            (append_assoc h (record_spots c s.records r) (channel_spots c (s.records + 1) rs))
+            (Tile-append _ (one.0 ++ channel_spots c (s.records + 1) rs) next.0 (parts_of c (items limit chosen s (r ∷ []))) _
+            (Tile-more (h ++ record_spots c s.records r) one.0 (channel_spots c (s.records + 1) rs) (parts_of c (items limit chosen s (r ∷ []))) one.1)
+            next.1)),
+        subst (λ (z : State). IsHeld (held_tail z c) next.0) (sym (after-cons limit chosen s r valid fits.0 rs)) next.2,
+      )
+
+  pub empty-state : (chosen : ℕ → Bool) → HasShape limit chosen empty
+  empty-state chosen =
+      record {
+        eight_channels = refl;
+        only_chosen = λ c e small. ⊎_elim (λ f. f) (λ f. let g = f.0 in absurd (omega arith)) (empty-at c);
+        tails = λ c last t e f. let g = empty-tail c in let k = ap tail_of e in absurd (no_tail (sym g ∙ k ∙ f));
+      }
+    where
+      no_tail : {t : Tail} → ◌≡◌ {A = Option Tail} None (Some t) → ⊥
+      no_tail h = cc
+
+  pub tiled : (chosen : ℕ → Bool) (channel : ℕ) (records : List Reading) → channel < 8 → chosen channel ≡ true → AllFit records
+      → (rest : List Spot) × Tile (channel_spots channel 0 records) (parts_of channel (items limit chosen empty records)) rest
+      × IsHeld (held_tail (after limit chosen empty records) channel) rest
+  tiled chosen channel records small is_chosen fits =
+      tiles-from chosen channel small is_chosen records empty []
+      (record { tails_open = λ c k e. subst (IsOpenTail limit) (sym (empty-tail c)) tt })
+      (after-nil limit chosen empty (empty-state chosen)) fits
+      (subst (λ (t : Option Tail). IsHeld t []) (sym (empty-tail channel)) refl)

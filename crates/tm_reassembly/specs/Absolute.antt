@@ -12,43 +12,54 @@ reach_at t q = if nat_le (q + 6) (length t) then q + ((header_of (take 6 (drop q
 abbrev pub IsVersionZero : List ℕ → ℕ → Type 0
 IsVersionZero t q = version_of (take 1 (drop q t)) ≡ 0
 
--- a frame whose octets begin at `begin` agrees with a packet that ends at `end_of`
+-- by its place a frame whose octets begin at `begin` agrees with a packet that ends at `end_of`
 abbrev pub AgreesAt : ℕ → ℕ → ℕ → Option ℕ → Type 0
 AgreesAt end_of begin len None = begin + len ≤ end_of
 AgreesAt end_of begin len (Some place) = end_of ≡ begin + place
 
-abbrev pub Agrees : ℕ → ℕ → Member → Type 0
-Agrees end_of begin m = AgreesAt end_of begin (length m.field) m.place
+-- All that follows depends on the limit: how many octets a packet may have at most.
+module _ (limit : ℕ) where
+  -- the packet at q has more octets than the limit, and its whole header lies before the place `stop`
+  abbrev pub IsLong : List ℕ → ℕ → ℕ → Type 0
+  IsLong t q stop = (q + limit < reach_at t q) × (q + 6 ≤ stop)
 
--- The frames `front` are those up to and with the start's own, and `between` those from there to the frame in question: the start is of
--- version 0, it reaches past the frame's beginning, and each frame between agrees with it.
-abbrev pub IsOpen : List ℕ → ℕ → List Member → List Member → Type 0
-IsOpen t q front between =
-    IsVersionZero t q × (length (text (front ++ between)) < reach_at t q)
-    × ((earlier later : List Member) (g : Member) → between ≡ earlier ++ g ∷ later → Agrees (reach_at t q) (length (text (front ++ earlier))) g)
+  -- a packet that is read begins at q, in a frame that ends at `stop`: it is of version 0, and not long there
+  abbrev pub BeginsPacket : List ℕ → ℕ → ℕ → Type 0
+  BeginsPacket t q stop = IsVersionZero t q × (IsLong t q stop → ⊥)
 
--- a start of version 0 that the text ends, and each later frame at which it is open agrees with it
-abbrev pub IsWhole : List ℕ → ℕ → List Member → List Member → Type 0
-IsWhole t q front later =
-    IsVersionZero t q × (reach_at t q ≤ length t)
-    × ((between more : List Member) (m : Member) → later ≡ between ++ m ∷ more → IsOpen t q front between
-    → Agrees (reach_at t q) (length (text (front ++ between))) m)
+  -- a frame whose octets begin at `begin` agrees with the packet at q: by its place, and the packet isn't long there
+  abbrev pub Agrees : List ℕ → ℕ → ℕ → Member → Type 0
+  Agrees t q begin m = AgreesAt (reach_at t q) begin (length m.field) m.place × (IsLong t q (begin + length m.field) → ⊥)
+
+  -- The frames `front` are those up to and with the start's own, and `between` those from there to the frame in question: a packet that is
+  -- read begins at the start, it reaches past the frame's beginning, and each frame between agrees with it.
+  abbrev pub IsOpen : List ℕ → ℕ → List Member → List Member → Type 0
+  IsOpen t q front between =
+      BeginsPacket t q (length (text front)) × (length (text (front ++ between)) < reach_at t q)
+      × ((earlier later : List Member) (g : Member) → between ≡ earlier ++ g ∷ later → Agrees t q (length (text (front ++ earlier))) g)
+
+  -- a packet that is read begins at q, the text ends it, and each later frame at which it is open agrees with it
+  abbrev pub IsWhole : List ℕ → ℕ → List Member → List Member → Type 0
+  IsWhole t q front later =
+      BeginsPacket t q (length (text front)) × (reach_at t q ≤ length t)
+      × ((between more : List Member) (m : Member) → later ≡ between ++ m ∷ more → IsOpen t q front between
+      → Agrees t q (length (text (front ++ between))) m)
+
+  -- The starts of a frame whose octets are those of the text from `begin` up to, not with, `stop`: its place, and each place in it
+  -- that a packet reaches that is read at a start.
+  pub data IsStart (t : List ℕ) (begin stop : ℕ) (place : Option ℕ) : ℕ → Type 0 where
+    placed : (p : ℕ) → place ≡ Some p → begin + p < stop → IsStart t begin stop place (begin + p)
+    reached : (q : ℕ) → IsStart t begin stop place q → BeginsPacket t q stop → reach_at t q < stop → IsStart t begin stop place (reach_at t q)
+
+  -- at the frame that follows those of `before`, the start at q of one of them is open
+  abbrev pub IsOpenAt : List ℕ → List Member → ℕ → Type 0
+  IsOpenAt t before q =
+      (earlier : List Member) × (between : List Member) × (f : Member) × (before ≡ earlier ++ f ∷ between)
+      × IsStart t (length (text earlier)) (length (text earlier) + length f.field) f.place q
+      × IsOpen t q (earlier ++ f ∷ []) between
 
 abbrev pub Iff : Type 0 → Type 0 → Type 0
 Iff A B = (A → B) × (B → A)
-
--- The starts of a frame whose octets are those of the text from `begin` up to, not with, `stop`: its place, and each place in it
--- that a start of version 0 reaches.
-pub data IsStart (t : List ℕ) (begin stop : ℕ) (place : Option ℕ) : ℕ → Type 0 where
-  placed : (p : ℕ) → place ≡ Some p → begin + p < stop → IsStart t begin stop place (begin + p)
-  reached : (q : ℕ) → IsStart t begin stop place q → IsVersionZero t q → reach_at t q < stop → IsStart t begin stop place (reach_at t q)
-
--- at the frame that follows those of `before`, the start at q of one of them is open
-abbrev pub IsOpenAt : List ℕ → List Member → ℕ → Type 0
-IsOpenAt t before q =
-    (earlier : List Member) × (between : List Member) × (f : Member) × (before ≡ earlier ++ f ∷ between)
-    × IsStart t (length (text earlier)) (length (text earlier) + length f.field) f.place q
-    × IsOpen t q (earlier ++ f ∷ []) between
 
 abbrev pub IsIn : Start → List Start → Type 0
 IsIn s [] = ⊥

@@ -1,4 +1,4 @@
--- The chain of a channel, its gaps, and its runs (CCSDS 132.0-B-3, 4.1.2.6 and 4.1.2.7).
+-- The chain of a channel, its gaps, and its runs (CCSDS 132.0-B-3, 4.1.2.6 and 4.1.2.7); and the master chain, of all channels.
 use Rattle.std.specs.Prelude.{ℕ, ◌+◌, ◌%◌, ◌==◌, Bool, true, false, not, Option, None, Some, Ok, Err, List, [], ◌∷◌, ◌++◌, slice_get, if◌then◌else◌}
 use Rattle.tm_frame.specs.Frame.{GoodFrame}
 use Rattle.tm_frame.specs.declared.frame.Kind.TheVariants as got
@@ -79,6 +79,30 @@ frames channel number (r ∷ rs) = member_of channel number r ++ frames channel 
 -- the chain of a channel after a state
 abbrev pub chain : State → ℕ → List Reading → List Member
 chain s channel records = stem_of (slice_get s.channels channel) ++ frames channel s.records records
+
+-- A good frame, as a member of the master chain: its count is the one over all channels together (4.1.2.5). Of such a member only the
+-- number and the count say anything.
+abbrev pub master_member : ℕ → GoodFrame → Member
+master_member number f = record (member number f) { count = f.master_count }
+
+-- the member that a record gives, if it is a good frame, of whatever channel
+abbrev pub master_member_of : ℕ → Reading → List Member
+master_member_of number (Err fault) = []
+master_member_of number (Ok f) = master_member number f ∷ []
+
+-- the members among records that are numbered from a number on
+abbrev pub master_frames : ℕ → List Reading → List Member
+master_frames number [] = []
+master_frames number (r ∷ rs) = master_member_of number r ++ master_frames (number + 1) rs
+
+-- the stem of the master chain, where the state has a last master channel count
+abbrev pub master_stem : Option ℕ → List Member
+master_stem None = []
+master_stem (Some count) = stem_with count None ∷ []
+
+-- the master chain after a state: all good frames, whether their channels are chosen or not
+abbrev pub master_chain : State → List Reading → List Member
+master_chain s records = master_stem s.master ++ master_frames s.records records
 
 -- what a member's count should be, after one with this count
 abbrev pub next_count : ℕ → ℕ

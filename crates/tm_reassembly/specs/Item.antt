@@ -5,6 +5,7 @@ use Rattle.tm_reassembly.specs.declared.items.Reason.{Reason}
 
 pub data Item : Type 0 where
   Bad : (seen : ℕ) (fault : FrameFault) → Item
+  MasterGap : (seen expected found missing : ℕ) → Item
   Gap : (seen channel expected found missing : ℕ) → Item
   Vca : (seen channel : ℕ) → Item
   Dropped : (seen channel first place octets : ℕ) (reason : Reason) → Item
@@ -14,6 +15,7 @@ pub data Item : Type 0 where
 -- the record at which the item is given
 abbrev pub seen_of : Item → ℕ
 seen_of (Bad seen fault) = seen
+seen_of (MasterGap seen expected found missing) = seen
 seen_of (Gap seen channel expected found missing) = seen
 seen_of (Vca seen channel) = seen
 seen_of (Dropped seen channel first place octets reason) = seen

@@ -3,25 +3,33 @@ use Rattle.std.specs.Prelude.{ℕ, ◌+◌, ◌-◌, ◌%◌, ◌==◌, nat_lt, 
 use Rattle.std.specs.List.{flat_map}
 use Rattle.tm_reassembly.specs.Readings.{Reading}
 use Rattle.tm_reassembly.specs.declared.items.Reason.TheVariants as why
-use Rattle.tm_reassembly.specs.Item.{Item, Bad, Gap, Vca, Dropped, Packet, Short, seen_of}
+use Rattle.tm_reassembly.specs.Item.{Item, Bad, MasterGap, Gap, Vca, Dropped, Packet, Short, seen_of}
 use Rattle.tm_reassembly.specs.State.{State, Last, Tail}
 use Rattle.tm_reassembly.specs.Channels.{eight}
-use Rattle.tm_reassembly.specs.Chain.{Member, chain, runs, has_gap, next_count}
+use Rattle.tm_reassembly.specs.Chain.{Member, chain, master_chain, runs, has_gap, next_count}
 use Rattle.tm_reassembly.specs.Parts.{Part, Fate, Given, Lost, Held, parts}
 
--- the gap between a count and the one that should have been found
+-- a gap of a channel: the count that should have been found, and the member that has another one
 abbrev pub gap_item : ℕ → ℕ → Member → Item
 gap_item channel expected m = Gap m.number channel expected m.count ((m.count + 256 - expected) % 256)
 
-abbrev pub gap_at : ℕ → Option ℕ → Member → List Item
-gap_at channel None m = []
-gap_at channel (Some before) m =
-    if has_gap (Some before) m then gap_item channel (next_count before) m ∷ [] else []
+-- a gap of the master channel
+abbrev pub master_gap_item : ℕ → Member → Item
+master_gap_item expected m = MasterGap m.number expected m.count ((m.count + 256 - expected) % 256)
+
+-- the gap of a member after one with this count, if it has one: an item of what was expected, and of the member
+abbrev pub gap_at : (ℕ → Member → Item) → Option ℕ → Member → List Item
+gap_at gap None m = []
+gap_at gap (Some before) m = if has_gap (Some before) m then gap (next_count before) m ∷ [] else []
 
 -- the gaps of a chain after a member with this count
-abbrev pub gaps : ℕ → Option ℕ → List Member → List Item
-gaps channel before [] = []
-gaps channel before (m ∷ ms) = gap_at channel before m ++ gaps channel (Some m.count) ms
+abbrev pub gaps : (ℕ → Member → Item) → Option ℕ → List Member → List Item
+gaps gap before [] = []
+gaps gap before (m ∷ ms) = gap_at gap before m ++ gaps gap (Some m.count) ms
+
+-- the gaps of the master chain
+abbrev pub master_items : List Member → List Item
+master_items ms = gaps master_gap_item None ms
 
 abbrev pub vca_at : ℕ → Member → List Item
 vca_at channel m = if m.is_vca then Vca m.number channel ∷ [] else []
@@ -31,31 +39,9 @@ part_item channel p (Given seen) = Packet seen channel p.first p.place p.octets 
 part_item channel p (Lost reason seen) = Dropped seen channel p.first p.place (length p.octets) reason ∷ []
 part_item channel p Held = []
 
--- all parts of a chain, run by run, in the order of the text
-abbrev pub chain_parts : List Member → List Part
-chain_parts ms = flat_map parts (runs ms)
-
--- all items of a channel
-abbrev pub channel_items : ℕ → List Member → List Item
-channel_items channel ms =
-    gaps channel None ms ++ flat_map (vca_at channel) ms ++ flat_map (λ p. part_item channel p p.fate) (chain_parts ms)
-
--- those of them that are seen at a record
+-- those of some items that are seen at a record
 abbrev pub seen_at : ℕ → List Item → List Item
 seen_at number xs = filter (λ x. seen_of x == number) xs
-
-abbrev pub record_items : (ℕ → Bool) → State → List Reading → ℕ → Reading → List Item
-record_items chosen s records number (Err fault) = Bad number fault ∷ []
-record_items chosen s records number (Ok f) =
-    if chosen f.channel then seen_at number (channel_items f.channel (chain s f.channel records)) else []
-
-abbrev pub merged : (ℕ → Bool) → State → List Reading → ℕ → List Reading → List Item
-merged chosen s records number [] = []
-merged chosen s records number (r ∷ rs) = record_items chosen s records number r ++ merged chosen s records (number + 1) rs
-
--- the items of records that come after a state, record by record
-abbrev pub items : (ℕ → Bool) → State → List Reading → List Item
-items chosen s records = merged chosen s records s.records records
 
 -- the tail that a part is, if it is held
 abbrev pub held_part : Part → Fate → List Tail
@@ -67,10 +53,6 @@ abbrev pub first_of : List Tail → Option Tail
 first_of [] = None
 first_of (t ∷ more) = Some t
 
--- the tail that a chain holds at its end (there is at most one)
-abbrev pub held : List Member → Option Tail
-held ms = first_of (flat_map (λ p. held_part p p.fate) (chain_parts ms))
-
 -- the count of the last member of a chain
 abbrev pub last_count : Option ℕ → List Member → Option ℕ
 last_count before [] = before
@@ -80,19 +62,52 @@ abbrev pub last_with : Option Tail → Option ℕ → Option Last
 last_with tail None = None
 last_with tail (Some count) = Some (record { count = count; tail = tail })
 
-abbrev pub channel_after : (ℕ → Bool) → State → List Reading → ℕ → Option Last
-channel_after chosen s records channel =
-    if chosen channel
-    then last_with (held (chain s channel records)) (last_count None (chain s channel records))
-    else None
+module _ (limit : ℕ) where
+  -- all parts of a chain, run by run, in the order of the text
+  abbrev pub chain_parts : List Member → List Part
+  chain_parts ms = flat_map (parts limit) (runs ms)
 
--- the state after more records
-abbrev pub after : (ℕ → Bool) → State → List Reading → State
-after chosen s records =
-    record { records = s.records + length records; channels = map (channel_after chosen s records) eight }
+  -- all items of a channel
+  abbrev pub channel_items : ℕ → List Member → List Item
+  channel_items channel ms =
+      gaps (gap_item channel) None ms ++ flat_map (vca_at channel) ms ++ flat_map (λ p. part_item channel p p.fate) (chain_parts ms)
+
+  -- The items of a record. A good frame gives its master gap first, and nothing else where its channel isn't chosen.
+  abbrev pub record_items : (ℕ → Bool) → State → List Reading → ℕ → Reading → List Item
+  record_items chosen s records number (Err fault) = Bad number fault ∷ []
+  record_items chosen s records number (Ok f) =
+      seen_at number (master_items (master_chain s records))
+      ++ (if chosen f.channel then seen_at number (channel_items f.channel (chain s f.channel records)) else [])
+
+  abbrev pub merged : (ℕ → Bool) → State → List Reading → ℕ → List Reading → List Item
+  merged chosen s records number [] = []
+  merged chosen s records number (r ∷ rs) = record_items chosen s records number r ++ merged chosen s records (number + 1) rs
+
+  -- the items of records that come after a state, record by record
+  abbrev pub items : (ℕ → Bool) → State → List Reading → List Item
+  items chosen s records = merged chosen s records s.records records
+
+  -- the tail that a chain holds at its end (there is at most one)
+  abbrev pub held : List Member → Option Tail
+  held ms = first_of (flat_map (λ p. held_part p p.fate) (chain_parts ms))
+
+  abbrev pub channel_after : (ℕ → Bool) → State → List Reading → ℕ → Option Last
+  channel_after chosen s records channel =
+      if chosen channel
+      then last_with (held (chain s channel records)) (last_count None (chain s channel records))
+      else None
+
+  -- the state after more records
+  abbrev pub after : (ℕ → Bool) → State → List Reading → State
+  after chosen s records =
+      record {
+        records = s.records + length records;
+        master = last_count None (master_chain s records);
+        channels = map (channel_after chosen s records) eight;
+      }
 
 abbrev pub empty : State
-empty = record { records = 0; channels = None ∷ None ∷ None ∷ None ∷ None ∷ None ∷ None ∷ None ∷ [] }
+empty = record { records = 0; master = None; channels = None ∷ None ∷ None ∷ None ∷ None ∷ None ∷ None ∷ None ∷ [] }
 
 abbrev pub close_tail : ℕ → ℕ → Option Tail → List Item
 close_tail number channel None = []

@@ -1,13 +1,37 @@
 -- What the code keeps of a channel, as the state has it, and what a frame makes of it. These stand in private contracts alone, and in
 -- the model of the public type.
-use Rattle.std.specs.Prelude.{ℕ, Option, Some, None, List, [], ◌∷◌, ◌++◌, false}
+use Rattle.std.specs.Prelude.{◌≡◌, ℕ, map, slice_get, Option, Some, None, List, [], ◌∷◌, ◌++◌, false}
 use Rattle.tm_reassembly.specs.Chain.{Member, has_gap}
 use Rattle.tm_reassembly.specs.Field.{chain_parts_at, chain_tail_at}
 use Rattle.tm_reassembly.specs.Item.{Item}
-use Rattle.tm_reassembly.specs.Items.{gap_at, vca_at}
+use Rattle.tm_reassembly.specs.Items.{gap_item, gap_at, vca_at}
 use Rattle.tm_reassembly.specs.Parts.{Part, Given}
 use Rattle.tm_reassembly.specs.Sinks.{part_items}
 use Rattle.tm_reassembly.specs.State.{Last, Tail}
+
+-- what a tail's place is seen as: how many octets a packet may have, for how many octets there is room, and the tail that is held
+pub record Buffer : Type 0 where
+  pub limit : ℕ
+  pub room : ℕ
+  pub tail : Option Tail
+
+-- the same for a channel, of which its last count is kept too
+pub record Slot : Type 0 where
+  pub limit : ℕ
+  pub room : ℕ
+  pub last : Option Last
+
+-- a channel of which nothing is kept, with room for a packet
+abbrev pub unused : ℕ → Slot
+unused limit = record { limit = limit; room = limit; last = None }
+
+-- what is kept of the channels
+abbrev pub lasts : List Slot → List (Option Last)
+lasts slots = map (λ x. x.last) slots
+
+-- in each of them a packet may have so many octets
+abbrev pub HaveLimit : ℕ → List Slot → Type 0
+HaveLimit limit slots = (c : ℕ) (x : Slot) → slice_get slots c ≡ Some x → x.limit ≡ limit
 
 -- octets that are held are a tail, and no octets are none
 abbrev pub tail_of_octets : ℕ → ℕ → List ℕ → Option Tail
@@ -49,12 +73,12 @@ completed (Some t) more seen = record { first = t.first; place = t.place; octets
 
 -- The items of one frame of a channel of which this is kept, with no other frame in view, and what is kept after it. That these are
 -- what the definitions give for a list of one record is proved.
-abbrev pub kept_items : ℕ → Option Last → Member → List Item
-kept_items channel kept m =
-    gap_at channel (count_in kept) m ++ vca_at channel m ++ part_items channel (chain_parts_at (has_gap (count_in kept) m) m.is_vca (tail_in kept) m)
+abbrev pub kept_items : ℕ → ℕ → Option Last → Member → List Item
+kept_items limit channel kept m =
+    gap_at (gap_item channel) (count_in kept) m ++ vca_at channel m ++ part_items channel (chain_parts_at limit (has_gap (count_in kept) m) m.is_vca (tail_in kept) m)
 
-abbrev pub kept_after : Option Last → Member → Option Last
-kept_after kept m = Some (record { count = m.count; tail = chain_tail_at (has_gap (count_in kept) m) m.is_vca (tail_in kept) m })
+abbrev pub kept_after : ℕ → Option Last → Member → Option Last
+kept_after limit kept m = Some (record { count = m.count; tail = chain_tail_at limit (has_gap (count_in kept) m) m.is_vca (tail_in kept) m })
 
 -- a frame of which only the count matters
 abbrev pub counted : ℕ → ℕ → Member

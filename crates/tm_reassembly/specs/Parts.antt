@@ -3,7 +3,7 @@
 --
 -- A place in a run is told by what lies ahead of it: a start is the rest of its frame's field from it on, and with it go the
 -- frames that come later in the run. `reach` is the number of octets from the start to where its packet ends.
-use Rattle.std.specs.Prelude.{ℕ, suc, zero, pred, ◌+◌, ◌==◌, nat_lt, nat_le, Bool, ◌&&◌, Option, None, Some, List, [], ◌∷◌, ◌++◌, length, take, map, if◌then◌else◌}
+use Rattle.std.specs.Prelude.{ℕ, suc, zero, pred, ◌+◌, ◌==◌, nat_lt, nat_le, Bool, not, ◌&&◌, Option, None, Some, List, [], ◌∷◌, ◌++◌, length, take, map, if◌then◌else◌}
 use Rattle.std.specs.List.{flat_map}
 use Rattle.tm_packet.specs.Header.{version_of, header_of}
 use Rattle.tm_reassembly.specs.declared.items.Reason.TheVariants as why
@@ -27,21 +27,6 @@ pub record Start : Type 0 where
   pub place : ℕ
   pub octets : List ℕ
 
--- The starts among octets of which the first is at a place of its record's data field: the first `skip` octets hold none; the next
--- octet is one; and where that has version 0, so is what its packet reaches, if it is among these octets.
-abbrev pub starts : ℕ → ℕ → List ℕ → List Start
-starts place skip [] = []
-starts place zero (x ∷ xs) =
-    record { place = place; octets = x ∷ xs } ∷ (if is_packet (x ∷ xs) then starts (place + 1) (pred (reach (x ∷ xs))) xs else [])
-starts place (suc skip) (x ∷ xs) = starts (place + 1) skip xs
-
-abbrev pub starts_from : ℕ → Option ℕ → List ℕ → List Start
-starts_from base None field = []
-starts_from base (Some place) field = starts base place field
-
-abbrev pub starts_of : Member → List Start
-starts_of m = starts_from m.base m.place m.field
-
 -- Of a start, octets are counted from the start itself: `far` is how many there are to where its packet ends, and `at` how many
 -- there are to a frame's beginning.
 
@@ -49,30 +34,10 @@ starts_of m = starts_from m.base m.place m.field
 abbrev pub far_end : List ℕ → List Member → ℕ
 far_end start later = reach (start ++ text later)
 
--- the frame has no place, and the packet reaches its end; or the packet reaches just its place
+-- by its place a frame agrees with a packet: it has no place, and the packet reaches its end; or the packet reaches just its place
 abbrev pub agrees_at : ℕ → ℕ → ℕ → Option ℕ → Bool
 agrees_at far at len None = nat_le (at + len) far
 agrees_at far at len (Some place) = far == at + place
-
-abbrev pub agrees : ℕ → ℕ → Member → Bool
-agrees far at m = agrees_at far at (length m.field) m.place
-
--- A start reaches past the frames `between`, and each of them agrees with it. Of a start of version 0 this says that it is open at the
--- frame after them.
-abbrev pub open_after : ℕ → ℕ → List Member → Bool
-open_after far at [] = nat_lt at far
-open_after far at (m ∷ between) = agrees far at m && open_after far (at + length m.field) between
-
--- looking ahead, the frames at which a start is open and that agree with it
-abbrev pub joined : ℕ → ℕ → List Member → List Member
-joined far at [] = []
-joined far at (m ∷ later) = if nat_lt at far && agrees far at m then m ∷ joined far (at + length m.field) later else []
-
--- looking ahead, the frame at which a start is open and that doesn't agree with it
-abbrev pub breaker : ℕ → ℕ → List Member → Option Member
-breaker far at [] = None
-breaker far at (m ∷ later) =
-    if nat_lt at far then (if agrees far at m then breaker far (at + length m.field) later else Some m) else None
 
 -- the record that holds a packet's last octet, where the octets before `at` end in the record of this number
 abbrev pub holder : ℕ → ℕ → ℕ → List Member → ℕ
@@ -96,52 +61,10 @@ abbrev pub fate_at : End → Fate
 fate_at Unended = Held
 fate_at (Ended reason seen) = Lost reason seen
 
--- A start of version 0: a tail up to the frame that doesn't agree; else a whole packet, if the text has it; else a tail up to the
--- end of the run.
-abbrev pub packet_part : ℕ → ℕ → List Member → End → List ℕ → ℕ → Option Member → Part
-packet_part first place later end start far (Some broken) =
-    record {
-      first = first;
-      place = place;
-      octets = start ++ text (joined far (length start) later);
-      fate = Lost why.Pointer broken.number;
-    }
-packet_part first place later end start far None =
-    if nat_le far (length (start ++ text later))
-    then record {
-      first = first;
-      place = place;
-      octets = take far (start ++ text later);
-      fate = Given (holder far (length start) first later);
-    }
-    else record { first = first; place = place; octets = start ++ text later; fate = fate_at end }
-
--- of another version: the rest of the frame is unread
-abbrev pub part_from : ℕ → ℕ → List Member → End → List ℕ → Part
-part_from first place later end start =
-    if is_packet start
-    then packet_part first place later end start (far_end start later) (breaker (far_end start later) (length start) later)
-    else record { first = first; place = place; octets = start; fate = Lost why.Version first }
-
-abbrev pub start_part : Member → List Member → End → Start → Part
-start_part m later end start = part_from m.number start.place later end start.octets
-
 -- a start that is open at a frame
 pub record Claim : Type 0 where
   pub far : ℕ
   pub at : ℕ
-
--- what one start claims at the first of `ahead`, where `between` are the frames after its own
-abbrev pub claim : List Member → List Member → Start → List Claim
-claim between ahead start =
-    if is_packet start.octets && open_after (far_end start.octets (between ++ ahead)) (length start.octets) between
-    then record { far = far_end start.octets (between ++ ahead); at = length start.octets + length (text between) } ∷ []
-    else []
-
--- the claims at the first of `ahead`, of the starts in the frames before it
-abbrev pub claims : List Member → List Member → List Claim
-claims [] ahead = []
-claims (f ∷ between) ahead = flat_map (claim between ahead) (starts_of f) ++ claims between ahead
 
 -- the octets before the place, or all of them without one
 abbrev pub front_of : Option ℕ → List ℕ → List ℕ
@@ -152,19 +75,120 @@ abbrev pub lead_part : Member → Reason → List ℕ → List Part
 lead_part m reason [] = []
 lead_part m reason (x ∷ xs) = record { first = m.number; place = m.base; octets = x ∷ xs; fate = Lost reason m.number } ∷ []
 
--- the lead of a frame: lost where no start is open there, or where one is and the frame doesn't agree (there is at most one, which is
--- proved)
-abbrev pub lead : List Claim → Member → List Part
-lead [] m = lead_part m why.NoStart (front_of m.place m.field)
-lead (c ∷ more) m = if agrees c.far c.at m then [] else lead_part m why.Pointer (front_of m.place m.field)
+-- why a frame doesn't agree: only because the packet is long, where its place agrees; else by its place
+abbrev pub reason_at : ℕ → ℕ → Member → Reason
+reason_at far at m = if agrees_at far at (length m.field) m.place then why.Length else why.Pointer
 
--- the parts of a run from a frame on, in the order of the text
-abbrev pub parts_from : List Member → List Member → End → List Part
-parts_from before [] end = []
-parts_from before (m ∷ later) end =
-    lead (claims before (m ∷ later)) m
-    ++ map (start_part m later end) (starts_of m)
-    ++ parts_from (before ++ m ∷ []) later end
+-- why the rest of a frame is unread: the packet that starts there is long, where it is of version 0; else it is of another version
+abbrev pub unread_reason : List ℕ → Reason
+unread_reason start = if is_packet start then why.Length else why.Version
 
-abbrev pub parts : Run → List Part
-parts r = parts_from [] r.members r.end
+-- a tail that a frame breaks off
+abbrev pub broken_part : ℕ → ℕ → List ℕ → ℕ → Member → Part
+broken_part first place octets far broken = record {
+  first = first;
+  place = place;
+  octets = octets;
+  fate = Lost (reason_at far (length octets) broken) broken.number;
+}
+
+-- All that follows depends on the limit: how many octets a packet may have at most.
+module _ (limit : ℕ) where
+  -- A packet is long at a frame: it has more octets than the limit, `far`, and its whole header lies before the frame's end, which is
+  -- `stop` octets from the start.
+  abbrev pub is_long : ℕ → ℕ → Bool
+  is_long far stop = nat_le 6 stop && nat_lt limit far
+
+  -- whether a start begins a packet that is read: it is of version 0, and not long in its own frame
+  abbrev pub begins_packet : List ℕ → Bool
+  begins_packet start = is_packet start && not (is_long (reach start) (length start))
+
+  -- The starts among octets of which the first is at a place of its record's data field: the first `skip` octets hold none; the next
+  -- octet is one; and where that begins a packet that is read, so is what the packet reaches, if it is among these octets.
+  abbrev pub starts : ℕ → ℕ → List ℕ → List Start
+  starts place skip [] = []
+  starts place zero (x ∷ xs) =
+      record { place = place; octets = x ∷ xs } ∷ (if begins_packet (x ∷ xs) then starts (place + 1) (pred (reach (x ∷ xs))) xs else [])
+  starts place (suc skip) (x ∷ xs) = starts (place + 1) skip xs
+
+  abbrev pub starts_from : ℕ → Option ℕ → List ℕ → List Start
+  starts_from base None field = []
+  starts_from base (Some place) field = starts base place field
+
+  abbrev pub starts_of : Member → List Start
+  starts_of m = starts_from m.base m.place m.field
+
+  -- a frame agrees with a packet: by its place, and the packet isn't long there
+  abbrev pub agrees : ℕ → ℕ → Member → Bool
+  agrees far at m = agrees_at far at (length m.field) m.place && not (is_long far (at + length m.field))
+
+  -- A start reaches past the frames `between`, and each of them agrees with it. Of a start that begins a packet that is read this
+  -- says that it is open at the frame after them.
+  abbrev pub open_after : ℕ → ℕ → List Member → Bool
+  open_after far at [] = nat_lt at far
+  open_after far at (m ∷ between) = agrees far at m && open_after far (at + length m.field) between
+
+  -- looking ahead, the frames at which a start is open and that agree with it
+  abbrev pub joined : ℕ → ℕ → List Member → List Member
+  joined far at [] = []
+  joined far at (m ∷ later) = if nat_lt at far && agrees far at m then m ∷ joined far (at + length m.field) later else []
+
+  -- looking ahead, the frame at which a start is open and that doesn't agree with it
+  abbrev pub breaker : ℕ → ℕ → List Member → Option Member
+  breaker far at [] = None
+  breaker far at (m ∷ later) =
+      if nat_lt at far then (if agrees far at m then breaker far (at + length m.field) later else Some m) else None
+
+  -- A start that begins a packet that is read: a tail up to the frame that doesn't agree; else a whole packet, if the text has it; else
+  -- a tail up to the end of the run.
+  abbrev pub packet_part : ℕ → ℕ → List Member → End → List ℕ → ℕ → Option Member → Part
+  packet_part first place later end start far (Some broken) =
+      broken_part first place (start ++ text (joined far (length start) later)) far broken
+  packet_part first place later end start far None =
+      if nat_le far (length (start ++ text later))
+      then record {
+        first = first;
+        place = place;
+        octets = take far (start ++ text later);
+        fate = Given (holder far (length start) first later);
+      }
+      else record { first = first; place = place; octets = start ++ text later; fate = fate_at end }
+
+  -- else the rest of the frame is unread
+  abbrev pub part_from : ℕ → ℕ → List Member → End → List ℕ → Part
+  part_from first place later end start =
+      if begins_packet start
+      then packet_part first place later end start (far_end start later) (breaker (far_end start later) (length start) later)
+      else record { first = first; place = place; octets = start; fate = Lost (unread_reason start) first }
+
+  abbrev pub start_part : Member → List Member → End → Start → Part
+  start_part m later end start = part_from m.number start.place later end start.octets
+
+  -- what one start claims at the first of `ahead`, where `between` are the frames after its own
+  abbrev pub claim : List Member → List Member → Start → List Claim
+  claim between ahead start =
+      if begins_packet start.octets && open_after (far_end start.octets (between ++ ahead)) (length start.octets) between
+      then record { far = far_end start.octets (between ++ ahead); at = length start.octets + length (text between) } ∷ []
+      else []
+
+  -- the claims at the first of `ahead`, of the starts in the frames before it
+  abbrev pub claims : List Member → List Member → List Claim
+  claims [] ahead = []
+  claims (f ∷ between) ahead = flat_map (claim between ahead) (starts_of f) ++ claims between ahead
+
+  -- the lead of a frame: lost where no start is open there, or where one is and the frame doesn't agree (there is at most one, which is
+  -- proved)
+  abbrev pub lead : List Claim → Member → List Part
+  lead [] m = lead_part m why.NoStart (front_of m.place m.field)
+  lead (c ∷ more) m = if agrees c.far c.at m then [] else lead_part m (reason_at c.far c.at m) (front_of m.place m.field)
+
+  -- the parts of a run from a frame on, in the order of the text
+  abbrev pub parts_from : List Member → List Member → End → List Part
+  parts_from before [] end = []
+  parts_from before (m ∷ later) end =
+      lead (claims before (m ∷ later)) m
+      ++ map (start_part m later end) (starts_of m)
+      ++ parts_from (before ++ m ∷ []) later end
+
+  abbrev pub parts : Run → List Part
+  parts r = parts_from [] r.members r.end

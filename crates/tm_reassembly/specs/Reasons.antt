@@ -1,7 +1,7 @@
 -- The word of each reason.
 use Rattle.std.specs.Prelude.{ℕ, List, codes}
 use Rattle.tm_reassembly.specs.declared.items.Reason.{Reason}
-use Rattle.tm_reassembly.specs.declared.items.Reason.TheVariants.{Pointer, Gap, Vca, Close, NoStart, Version}
+use Rattle.tm_reassembly.specs.declared.items.Reason.TheVariants.{Pointer, Gap, Vca, Close, NoStart, Version, Length}
 
 abbrev pub word_of : Reason → List ℕ
 word_of Pointer = codes "pointer"
@@ -10,3 +10,4 @@ word_of Vca = codes "vca"
 word_of Close = codes "end"
 word_of NoStart = codes "no-start"
 word_of Version = codes "version"
+word_of Length = codes "length"

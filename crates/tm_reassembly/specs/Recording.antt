@@ -1,8 +1,9 @@
 -- Raw records: the items that they give, and the state that they leave.
-use Rattle.std.specs.Prelude.{ℕ, Bool, List, map}
+use Rattle.std.specs.Prelude.{ℕ, List, map}
 use Rattle.tm_frame.specs.declared.layout.LayoutParts.{LayoutParts}
 use Rattle.tm_frame.specs.Fault.{reading_of}
 use Rattle.tm_reassembly.specs.Readings.{Reading}
+use Rattle.tm_reassembly.specs.Rules.{Rules, chooses}
 use Rattle.tm_reassembly.specs.Item.{Item}
 use Rattle.tm_reassembly.specs.State.{State}
 use Rattle.tm_reassembly.specs.Items as read
@@ -12,9 +13,9 @@ abbrev pub readings : LayoutParts → List (List ℕ) → List Reading
 readings layout records = map (reading_of layout) records
 
 -- the items of records that come after a state
-unfoldable pub items : LayoutParts → (ℕ → Bool) → State → List (List ℕ) → List Item
-items layout chosen s records = read.items chosen s (readings layout records)
+unfoldable pub items : Rules → State → List (List ℕ) → List Item
+items rules s records = read.items rules.max_packet (chooses rules) s (readings rules.layout records)
 
 -- the state after them
-unfoldable pub after : LayoutParts → (ℕ → Bool) → State → List (List ℕ) → State
-after layout chosen s records = read.after chosen s (readings layout records)
+unfoldable pub after : Rules → State → List (List ℕ) → State
+after rules s records = read.after rules.max_packet (chooses rules) s (readings rules.layout records)

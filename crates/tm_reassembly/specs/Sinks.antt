@@ -3,13 +3,14 @@ use Rattle.std.specs.Prelude.{◌≡◌, ◌⊎◌, ◌<◌, ℕ, true, List, []
 use Rattle.std.specs.List.{flat_map}
 use Rattle.tm_reassembly.specs.declared.items.Item as lent
 use Rattle.tm_reassembly.specs.declared.items.Item.TheVariants as one
-use Rattle.tm_reassembly.specs.Item.{Item, Bad, Gap, Vca, Dropped, Packet, Short}
+use Rattle.tm_reassembly.specs.Item.{Item, Bad, MasterGap, Gap, Vca, Dropped, Packet, Short}
 use Rattle.tm_reassembly.specs.Parts.{Part, is_packet, reach}
 use Rattle.tm_reassembly.specs.Items.{part_item}
 
 -- an item in values: a packet's octets, not where they are lent from
 abbrev pub item_of : lent.Item → Item
 item_of (one.Bad seen fault) = Bad seen fault
+item_of (one.MasterGap seen expected found missing) = MasterGap seen expected found missing
 item_of (one.Gap seen channel expected found missing) = Gap seen channel expected found missing
 item_of (one.Vca seen channel) = Vca seen channel
 item_of (one.Dropped seen channel first place octets reason) = Dropped seen channel first place octets reason
@@ -24,6 +25,7 @@ pub record IsOnePacket (octets : List ℕ) : Type 0 where
 -- what holds of each item that a sink is asked to take: its channel is one of eight, and a packet's octets are one whole packet
 abbrev pub ItemFits : Item → Type 0
 ItemFits (Bad seen fault) = Unit {0}
+ItemFits (MasterGap seen expected found missing) = Unit {0}
 ItemFits (Gap seen channel expected found missing) = channel < 8
 ItemFits (Vca seen channel) = channel < 8
 ItemFits (Dropped seen channel first place octets reason) = channel < 8

@@ -1,25 +1,23 @@
 -- What the code is seen as, and how a step and a closed end may be refused.
 use Rattle.std.specs.Prelude.{◌≡◌, ℕ, ◌-◌, ◌^◌, ◌<◌, Bool, true, false, Option, Some, None, List, [], ◌∷◌, slice_get}
-use Rattle.tm_frame.specs.declared.layout.LayoutParts.{LayoutParts}
 use Rattle.tm_reassembly.specs.declared.fault.StepFault as fault
 use Rattle.tm_reassembly.specs.declared.fault.StepFault.TheVariants.{Sink, Failed, TooMany}
-use Rattle.tm_reassembly.specs.Channels.{is_chosen}
+use Rattle.tm_reassembly.specs.Rules.{Rules}
 use Rattle.tm_reassembly.specs.Item.{Item}
 use Rattle.tm_reassembly.specs.Items.{empty}
 use Rattle.tm_reassembly.specs.Recording.{items, after}
 use Rattle.tm_reassembly.specs.Sinks.{RefusesOne}
 use Rattle.tm_reassembly.specs.State.{State, Last}
 
--- the layout of records, the chosen channels, the state, and whether a sink refused an item
+-- the rules, the state, and whether a sink refused an item
 pub record Progress : Type 0 where
-  pub layout : LayoutParts
-  pub channels : List Bool
+  pub rules : Rules
   pub state : State
   pub failed : Bool
 
 -- before any record
-abbrev pub begun : LayoutParts → List Bool → Progress
-begun layout channels = record { layout = layout; channels = channels; state = empty; failed = false }
+abbrev pub begun : Rules → Progress
+begun rules = record { rules = rules; state = empty; failed = false }
 
 -- the greatest number of records
 abbrev pub most_records : ℕ
@@ -27,15 +25,10 @@ most_records = 2 ^ 32 - 1
 
 -- the items of one more record, and the progress with it
 abbrev pub step_items : Progress → List ℕ → List Item
-step_items p octets = items p.layout (is_chosen p.channels) p.state (octets ∷ [])
+step_items p octets = items p.rules p.state (octets ∷ [])
 
 abbrev pub stepped : Progress → List ℕ → Progress
-stepped p octets = record {
-  layout = p.layout;
-  channels = p.channels;
-  state = after p.layout (is_chosen p.channels) p.state (octets ∷ []);
-  failed = false;
-}
+stepped p octets = record { rules = p.rules; state = after p.rules p.state (octets ∷ []); failed = false }
 
 -- the last count that a state has of a channel
 abbrev pub count_of : Option (Option Last) → Option ℕ
@@ -49,8 +42,7 @@ last_count_of s channel = count_of (slice_get s.channels channel)
 -- given up: nothing is said any more of the channels
 pub record IsGivenUp (old new : Progress) : Type 0 where
   pub failed : new.failed ≡ true
-  pub layout : new.layout ≡ old.layout
-  pub channels : new.channels ≡ old.channels
+  pub rules : new.rules ≡ old.rules
   pub records : new.state.records ≡ old.state.records
 
 module _ {S F : Type 0} (takes : S → Item → S → Type 0) (refuses : S → Item → F → S → Type 0) where

@@ -49,6 +49,7 @@ Takes spots (item.Packet seen channel first place octets) rest =
 Takes spots (item.Dropped seen channel first place octets reason) rest =
     (these : List Spot) × (spots ≡ these ++ rest) × (length these ≡ octets) × BeginsAt first place these
 Takes spots (item.Bad seen fault) rest = ⊥
+Takes spots (item.MasterGap seen expected found missing) rest = ⊥
 Takes spots (item.Gap seen channel expected found missing) rest = ⊥
 Takes spots (item.Vca seen channel) rest = ⊥
 Takes spots (item.Short seen octets) rest = ⊥
@@ -68,6 +69,7 @@ abbrev pub is_part_of : ℕ → Item → Bool
 is_part_of channel (item.Packet seen own first place octets) = own == channel
 is_part_of channel (item.Dropped seen own first place octets reason) = own == channel
 is_part_of channel (item.Bad seen fault) = false
+is_part_of channel (item.MasterGap seen expected found missing) = false
 is_part_of channel (item.Gap seen own expected found missing) = false
 is_part_of channel (item.Vca seen own) = false
 is_part_of channel (item.Short seen octets) = false

@@ -5,7 +5,8 @@ use Rattle.tm_frame.specs.declared.layout.LayoutParts.{LayoutParts}
 use Rattle.tm_reassembly.specs.Readings.{Reading}
 use Rattle.tm_reassembly.specs.State.{State, Last, Tail}
 use Rattle.tm_reassembly.specs.Chain.{Member, place_of, counted_field}
-use Rattle.tm_reassembly.specs.Parts.{is_packet, reach}
+use Rattle.tm_reassembly.specs.Parts.{begins_packet, reach}
+use Rattle.tm_reassembly.specs.Rules.{Rules, IsLimit, chooses}
 
 -- ---- records
 
@@ -34,21 +35,22 @@ AllFit (r ∷ rs) = IsFit r × AllFit rs
 
 -- ---- states
 
--- an unfinished packet: octets that begin a packet of version 0 and don't hold it whole
-abbrev pub IsTail : List ℕ → Type 0
-IsTail [] = ⊥
-IsTail (x ∷ xs) = (is_packet (x ∷ xs) ≡ true) × (length (x ∷ xs) < reach (x ∷ xs))
+module _ (limit : ℕ) where
+  -- an unfinished packet: octets that begin a packet of version 0 that isn't long, and don't hold it whole
+  abbrev pub IsTail : List ℕ → Type 0
+  IsTail [] = ⊥
+  IsTail (x ∷ xs) = (begins_packet limit (x ∷ xs) ≡ true) × (length (x ∷ xs) < reach (x ∷ xs))
 
--- what is held, if anything, is an unfinished packet
-abbrev pub IsOpenTail : Option Tail → Type 0
-IsOpenTail None = Unit {0}
-IsOpenTail (Some t) = IsTail t.octets
+  -- what is held, if anything, is an unfinished packet
+  abbrev pub IsOpenTail : Option Tail → Type 0
+  IsOpenTail None = Unit {0}
+  IsOpenTail (Some t) = IsTail t.octets
 
--- eight channels; nothing is kept of one that isn't chosen; and each tail is an unfinished packet
-pub record HasShape (chosen : ℕ → Bool) (s : State) : Type 0 where
-  pub eight_channels : length s.channels ≡ 8
-  pub only_chosen : (c : ℕ) → chosen c ≡ false → c < 8 → slice_get s.channels c ≡ Some None
-  pub tails : (c : ℕ) (last : Last) (t : Tail) → slice_get s.channels c ≡ Some (Some last) → last.tail ≡ Some t → IsTail t.octets
+  -- eight channels; nothing is kept of one that isn't chosen; and each tail is an unfinished packet
+  pub record HasShape (chosen : ℕ → Bool) (s : State) : Type 0 where
+    pub eight_channels : length s.channels ≡ 8
+    pub only_chosen : (c : ℕ) → chosen c ≡ false → c < 8 → slice_get s.channels c ≡ Some None
+    pub tails : (c : ℕ) (last : Last) (t : Tail) → slice_get s.channels c ≡ Some (Some last) → last.tail ≡ Some t → IsTail t.octets
 
 -- a tail begins in a record that is done, at a place at which a packet can start in the longest data field of this frame length
 pub record IsWithin (layout : LayoutParts) (records : ℕ) (t : Tail) : Type 0 where
@@ -56,10 +58,17 @@ pub record IsWithin (layout : LayoutParts) (records : ℕ) (t : Tail) : Type 0 w
   pub place : t.place + 7 ≤ layout.frame_length
   pub octets : AreOctets t.octets
 
+-- a master channel count, if there is one, is one octet
+abbrev pub IsCount : Option ℕ → Type 0
+IsCount None = Unit {0}
+IsCount (Some count) = count < 256
+
 -- A valid state: what the checks of a checkpoint ask. Some valid states are left by no recording.
-pub record IsState (layout : LayoutParts) (chosen : ℕ → Bool) (s : State) : Type 0 where
+pub record IsState (rules : Rules) (s : State) : Type 0 where
+  pub limit : IsLimit rules.max_packet
   pub records : s.records < 2 ^ 32
-  pub shape : HasShape chosen s
+  pub master : IsCount s.master
+  pub shape : HasShape rules.max_packet (chooses rules) s
   pub counts : (c : ℕ) (last : Last) → slice_get s.channels c ≡ Some (Some last) → last.count < 256
   pub within : (c : ℕ) (last : Last) (t : Tail) → slice_get s.channels c ≡ Some (Some last) → last.tail ≡ Some t
-      → IsWithin layout s.records t
+      → IsWithin rules.layout s.records t

@@ -1,37 +1,41 @@
 -- What is said of a start at a later frame of its run, and how runs grow.
 use Rattle.std.specs.Prelude.{◌≡◌, ℕ, ◌+◌, nat_lt, nat_le, Bool, ◌&&◌, is_none, List, [], ◌∷◌, ◌++◌, length}
 use Rattle.tm_reassembly.specs.Chain.{Member, Run, Unended}
-use Rattle.tm_reassembly.specs.Parts.{text, far_end, is_packet, open_after, agrees, breaker}
-
--- whether a start is whole: of version 0, ended by its text, and each later frame at which it is open agrees with it
-abbrev pub is_whole : List ℕ → List Member → Bool
-is_whole start later =
-    is_packet start
-    && (is_none (breaker (far_end start later) (length start) later) && nat_le (far_end start later) (length (start ++ text later)))
+use Rattle.tm_reassembly.specs.Parts.{text, far_end, is_long, begins_packet, open_after, agrees, breaker}
 
 -- whether a packet ends in a frame that it reaches into
 abbrev pub ends_in : ℕ → ℕ → Member → Bool
 ends_in far at m = nat_lt at far && nat_le far (at + length m.field)
 
--- whether the start is open at the frame, whether the frame agrees with it, and whether it is whole with its last octet there
+-- whether the start is open at the frame, whether the frame agrees with it, whether its packet is long there, and whether it is whole
+-- with its last octet there
 pub record Verdict : Type 0 where
   pub opened : Bool
   pub agreed : Bool
+  pub long : Bool
   pub completed : Bool
 
--- of a start, by the frames between its own and m, by m, and by the frames after m
-abbrev pub verdict : List ℕ → List Member → Member → List Member → Verdict
-verdict start between m later =
-    record {
-      opened = is_packet start && open_after (far_end start (between ++ m ∷ later)) (length start) between;
-      agreed = agrees (far_end start (between ++ m ∷ later)) (length start + length (text between)) m;
-      completed = is_whole start (between ++ m ∷ later)
-          && ends_in (far_end start (between ++ m ∷ later)) (length start + length (text between)) m;
-    }
+module _ (limit : ℕ) where
+  -- whether a start is whole: it begins a packet that is read, its text ends it, and each later frame at which it is open agrees with it
+  abbrev pub is_whole : List ℕ → List Member → Bool
+  is_whole start later =
+      begins_packet limit start
+      && (is_none (breaker limit (far_end start later) (length start) later) && nat_le (far_end start later) (length (start ++ text later)))
 
--- whether the start is whole with its last octet in its own frame
-abbrev pub completed_at_once : List ℕ → List Member → Bool
-completed_at_once start later = is_whole start later && nat_le (far_end start later) (length start)
+  -- of a start, by the frames between its own and m, by m, and by the frames after m
+  abbrev pub verdict : List ℕ → List Member → Member → List Member → Verdict
+  verdict start between m later =
+      record {
+        opened = begins_packet limit start && open_after limit (far_end start (between ++ m ∷ later)) (length start) between;
+        agreed = agrees limit (far_end start (between ++ m ∷ later)) (length start + length (text between)) m;
+        long = is_long limit (far_end start (between ++ m ∷ later)) ((length start + length (text between)) + length m.field);
+        completed = is_whole start (between ++ m ∷ later)
+            && ends_in (far_end start (between ++ m ∷ later)) (length start + length (text between)) m;
+      }
+
+  -- whether the start is whole with its last octet in its own frame
+  abbrev pub completed_at_once : List ℕ → List Member → Bool
+  completed_at_once start later = is_whole start later && nat_le (far_end start later) (length start)
 
 -- the first of these runs goes on from a run that nothing ended
 abbrev pub GoesOn : Run → List Run → Type 0

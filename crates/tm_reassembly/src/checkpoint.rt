@@ -1,13 +1,15 @@
 //! The block of a channel in a checkpoint.
 
 ghost use Rattle.std.specs.Prelude.{◌≡◌, ◌+◌, ◌<◌, ◌≤◌, ◌++◌, None, Some, Ok, Err, true, length, slice_index, vec_len, vec_capacity, IfOk, IfErr};
-ghost use Rattle.tm_reassembly.specs.Checkpoint.{two, four, two_at, four_at, is_unfinished, tail_read, flagged, block_read};
+ghost use Rattle.tm_reassembly.specs.Checkpoint.{two, four, two_at, four_at, is_unfinished, master_octets, master_read, tail_read, flagged, block_read};
 ghost use Rattle.tm_reassembly.specs.Blocks.{kept_of};
+ghost use Rattle.tm_reassembly.specs.Rules.{chooses};
+ghost use Rattle.tm_reassembly.specs.Valid.{IsCount};
 ghost use Rattle.tm_reassembly.specs.declared.fault.StateFault.TheVariants as found;
 
 use crate::fault::StateFault;
-use crate::packets::{is_packet, reach};
-use tm_frame::LayoutParts;
+use crate::packets::measure;
+use crate::rules::Rules;
 
 /// What is spelled of a channel: the last count, if there is one, and the tail, whose octets are lent from the checkpoint.
 #[derive(Clone, Copy)]
@@ -77,12 +79,61 @@ pub fn four_at(octets: &[u8], at: usize) -> u32
     u32::from_be_bytes([octets[at], octets[at + 1], octets[at + 2], octets[at + 3]])
 }
 
-// Octets begin a packet of version 0, and don't hold it whole.
-fn is_unfinished(octets: &[u8]) -> bool
+// Octets begin a packet that is read, and don't hold it whole.
+fn is_unfinished(limit: usize, octets: &[u8]) -> bool
     requires { 0 < length octets.now }
-    ensures { result ≡ is_unfinished octets.now }
+    ensures { result ≡ is_unfinished limit octets.now }
 {
-    is_packet(octets) && octets.len() < reach(octets)
+    match measure(limit, octets) {
+        Ok(far) => octets.len() < far,
+        Err(_) => false,
+    }
+}
+
+/// How many octets spell the last master channel count.
+pub fn master_length(master: Option<u8>) -> usize
+    ensures value { result ≡ length (master_octets master) }
+    ensures most { result ≤ 2 }
+{
+    match master {
+        None => 1,
+        Some(_) => 2,
+    }
+}
+
+/// Appends the last master channel count, for which there is room: 0 where there is none, else 1 and the count.
+pub fn push_master(out: &mut Vec<u8>, master: Option<u8>)
+    requires { vec_len out.old + length (master_octets master) ≤ vec_capacity out.old }
+    ensures items { out.new.items ≡ out.old.items ++ master_octets master }
+    ensures len { vec_len out.new ≡ vec_len out.old + length (master_octets master) }
+    ensures room { vec_capacity out.old ≤ vec_capacity out.new }
+{
+    match master {
+        None => push(out, &[0]),
+        Some(count) => push(out, &[1, count]),
+    }
+}
+
+/// Reads the last master channel count at the front of octets: the count, if there is one, and how many octets spell it.
+///
+/// # Errors
+///
+/// `Short` where octets are wanting; `Flag` where the first is over 1.
+#[tactic(auto, unfolding(crate::specs::Checkpoint::master_read))]
+pub fn read_master(octets: &[u8]) -> Result<(Option<u8>, usize), StateFault>
+    ensures ok { IfOk result (λ found. master_read octets.now ≡ Ok (record { count = found.0; octets = found.1 })) }
+    ensures count { IfOk result (λ found. IsCount found.0) }
+    ensures inside { IfOk result (λ found. found.1 ≤ length octets.now) }
+    ensures most { IfOk result (λ found. found.1 ≤ 2) }
+    ensures refused { IfErr result (λ fault. master_read octets.now ≡ Err fault) }
+{
+    match octets {
+        [] => Err(StateFault::Short),
+        [0, ..] => Ok((None, 1)),
+        [1, count, ..] => Ok((Some(*count), 2)),
+        [1] => Err(StateFault::Short),
+        _ => Err(StateFault::Flag),
+    }
 }
 
 /// Reads the block of a channel at the front of octets: what it says, and how many octets it has.
@@ -92,15 +143,15 @@ fn is_unfinished(octets: &[u8]) -> bool
 /// The first fault of the block.
 #[tactic(auto, unfolding(crate::specs::Checkpoint::block_read))]
 pub fn read_block<'a>(
-    layout: &LayoutParts,
-    chosen: bool,
+    rules: &Rules,
+    channel: u8,
     records: u32,
     octets: &'a [u8],
 ) -> Result<(Block<'a>, usize), StateFault>
-    ensures ok { IfOk result (λ found. block_read layout.now chosen records octets.now ≡ Ok (record { kept = kept_of found.0; octets = found.1 })) }
+    ensures ok { IfOk result (λ found. block_read rules.now.max_packet rules.now.layout (chooses rules.now channel) records octets.now ≡ Ok (record { kept = kept_of found.0; octets = found.1 })) }
     ensures inside { IfOk result (λ found. found.1 ≤ length octets.now) }
-    ensures most { IfOk result (λ found. length found.0.tail.now ≤ 65541) }
-    ensures refused { IfErr result (λ fault. block_read layout.now chosen records octets.now ≡ Err fault) }
+    ensures most { IfOk result (λ found. length found.0.tail.now ≤ rules.now.max_packet) }
+    ensures refused { IfErr result (λ fault. block_read rules.now.max_packet rules.now.layout (chooses rules.now channel) records octets.now ≡ Err fault) }
 {
     if octets.is_empty() {
         return Err(StateFault::Short);
@@ -109,7 +160,7 @@ pub fn read_block<'a>(
     if flag == 0 {
         return Ok((Block::NONE, 1));
     }
-    if !chosen || flag > 2 {
+    if !rules.channels.has(channel) || flag > 2 {
         return Err(StateFault::Flag);
     }
     if flag == 1 {
@@ -118,7 +169,7 @@ pub fn read_block<'a>(
     if octets.len() < 12 {
         return Err(StateFault::Short);
     }
-    read_tail(layout, records, octets)
+    read_tail(rules, records, octets)
 }
 
 // Reads the block of a channel without a tail, whose flag is there.
@@ -138,31 +189,32 @@ fn read_count<'a>(octets: &'a [u8]) -> Result<(Block<'a>, usize), StateFault>
 
 // Reads the block of a channel with a tail, whose fixed parts are there.
 fn read_tail<'a>(
-    layout: &LayoutParts,
+    rules: &Rules,
     records: u32,
     octets: &'a [u8],
 ) -> Result<(Block<'a>, usize), StateFault>
     requires { 12 ≤ length octets.now }
-    ensures ok { IfOk result (λ found. tail_read layout.now records octets.now (four_at octets.now 2) (two_at octets.now 6) (four_at octets.now 8)
+    ensures ok { IfOk result (λ found. tail_read rules.now.max_packet rules.now.layout records octets.now (four_at octets.now 2) (two_at octets.now 6) (four_at octets.now 8)
         ≡ Ok (record { kept = kept_of found.0; octets = found.1 })) }
     ensures inside { IfOk result (λ found. found.1 ≤ length octets.now) }
-    ensures most { IfOk result (λ found. length found.0.tail.now ≤ 65541) }
-    ensures refused { IfErr result (λ fault. tail_read layout.now records octets.now (four_at octets.now 2) (two_at octets.now 6) (four_at octets.now 8) ≡ Err fault) }
+    ensures most { IfOk result (λ found. length found.0.tail.now ≤ rules.now.max_packet) }
+    ensures refused { IfErr result (λ fault. tail_read rules.now.max_packet rules.now.layout records octets.now (four_at octets.now 2) (two_at octets.now 6) (four_at octets.now 8) ≡ Err fault) }
 {
     let first = four_at(octets, 2);
     let place = two_at(octets, 6);
     let length = four_at(octets, 8) as usize;
-    if first >= records || layout.frame_length < u32::from(place) + 7 {
+    let limit = rules.max_packet as usize;
+    if first >= records || rules.layout.parts().frame_length < u32::from(place) + 7 {
         return Err(StateFault::Place);
     }
-    if length == 0 || length > 65541 {
+    if length == 0 || length >= limit {
         return Err(StateFault::Tail);
     }
     if octets.len() < 12 + length {
         return Err(StateFault::Short);
     }
     let tail = &octets[12..12 + length];
-    if !is_unfinished(tail) {
+    if !is_unfinished(limit, tail) {
         return Err(StateFault::Tail);
     }
     let block = Block {

@@ -22,6 +22,8 @@ pub enum Reason {
     NoStart,
     /// The packet is not of version 0.
     Version,
+    /// The packet has more octets than the limit.
+    Length,
 }
 
 impl Reason {
@@ -36,6 +38,7 @@ impl Reason {
             Reason::Close => "end",
             Reason::NoStart => "no-start",
             Reason::Version => "version",
+            Reason::Length => "length",
         }
     }
 }
@@ -49,6 +52,14 @@ pub enum Item<'a> {
     Bad {
         seen: u32,
         fault: FrameFault,
+    },
+    /// The master channel frame counts of the good frames, of whatever channel, have a gap before this record: the count that was
+    /// expected and the one that was found, and how many are missing, modulo 256 (CCSDS 132.0-B-3, 4.1.2.5).
+    MasterGap {
+        seen: u32,
+        expected: u8,
+        found: u8,
+        missing: u8,
     },
     /// The counts of the channel's frames have a gap before this record: the virtual channel frame count that was expected and the one that was
     /// found, and how many are missing, modulo 256 (CCSDS 132.0-B-3, 4.1.2.6).
@@ -73,7 +84,7 @@ pub enum Item<'a> {
         octets: u32,
         reason: Reason,
     },
-    /// A whole packet, 7 to 65,542 octets.
+    /// A whole packet, 7 octets up to the limit.
     Packet {
         seen: u32,
         channel: u8,

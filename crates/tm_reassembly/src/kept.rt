@@ -5,9 +5,10 @@ ghost use Rattle.tm_reassembly.specs.Blocks.{kept_of};
 ghost use Rattle.tm_reassembly.specs.Checkpoint.{block};
 ghost use Rattle.tm_reassembly.specs.Chain.{member, has_gap, is_vca_kind};
 ghost use Rattle.tm_reassembly.specs.Field.{chain_parts_at, chain_tail_at, ended_parts, step_parts, step_tail};
-ghost use Rattle.tm_reassembly.specs.Items.{gap_at, vca_at, close_last};
+ghost use Rattle.tm_reassembly.specs.Items.{gap_item, master_gap_item, gap_at, vca_at, close_last};
 ghost use Rattle.tm_reassembly.specs.Item as value;
-ghost use Rattle.tm_reassembly.specs.Kept.{last_of, octets_in, count_in, tail_in, kept_items, kept_after, counted, member_at};
+ghost use Rattle.tm_reassembly.specs.Kept.{Slot, last_of, octets_in, count_in, tail_in, kept_items, kept_after, counted, member_at};
+ghost use Rattle.tm_reassembly.specs.Rules.{IsLimit};
 ghost use Rattle.tm_reassembly.specs.Sinks.{TakesAll, RefusesOne, part_items};
 ghost use Rattle.tm_reassembly.specs.State.{Last};
 ghost use Rattle.tm_reassembly.specs.Valid.{PlaceFits, IsOpenTail};
@@ -27,34 +28,35 @@ pub struct Kept {
 }
 
 impl Model for Kept {
-    ghost Value = { Option Last };
+    ghost Value = { Slot };
 
-    ghost view = { λ k. last_of k.count k.tail };
+    ghost view = { λ k. record { limit = k.tail.limit; room = k.tail.room; last = last_of k.count k.tail.tail } };
 
-    ghost invariant = { λ k. k.count ≡ None → k.tail ≡ None };
+    ghost invariant = { λ k. k.count ≡ None → k.tail.tail ≡ None };
 }
 
 impl Kept {
     /// Of a channel that had no frame, with room for a tail.
-    pub fn new(alloc: Global) -> Result<Kept, AllocError>
-        ensures { IfOk result (λ kept. kept ≡ None) }
+    pub fn new(alloc: Global, limit: usize) -> Result<Kept, AllocError>
+        requires { IsLimit limit }
+        ensures { IfOk result (λ kept. kept ≡ record { limit = limit; room = limit; last = None }) }
     {
         Ok(Kept {
             count: None,
-            tail: Tail::new(alloc)?,
+            tail: Tail::new(alloc, limit)?,
         })
     }
 
     /// The last count.
     pub fn count(&self) -> Option<u8>
-        ensures { result ≡ count_in self.now }
+        ensures { result ≡ count_in self.now.last }
     {
         self.count
     }
 
     /// The octets of the tail.
     pub fn octets(&self) -> &[u8]
-        ensures { result.now ≡ octets_in (tail_in self.now) }
+        ensures { result.now ≡ octets_in (tail_in self.now.last) }
     {
         self.tail.octets()
     }
@@ -68,10 +70,11 @@ impl Kept {
         sink: &mut S,
     ) -> Result<(), S::Fault>
         requires channel { channel < 8 }
-        requires open { IsOpenTail (tail_in self.old) }
-        ensures taken { OnOk result (TakesAll S.takes sink.old (kept_items channel self.old (member seen frame.now)) sink.new) }
-        ensures left { OnOk result (self.new ≡ kept_after self.old (member seen frame.now)) }
-        ensures refused { IfErr result (λ fault. RefusesOne S.takes S.refuses sink.old (kept_items channel self.old (member seen frame.now)) fault sink.new) }
+        requires open { IsOpenTail self.old.limit (tail_in self.old.last) }
+        ensures taken { OnOk result (TakesAll S.takes sink.old (kept_items self.old.limit channel self.old.last (member seen frame.now)) sink.new) }
+        ensures left { OnOk result (self.new.last ≡ kept_after self.old.limit self.old.last (member seen frame.now)) }
+        ensures limit { self.new.limit ≡ self.old.limit }
+        ensures refused { IfErr result (λ fault. RefusesOne S.takes S.refuses sink.old (kept_items self.old.limit channel self.old.last (member seen frame.now)) fault sink.new) }
     {
         let count = frame.count();
         match give_gap(seen, channel, self.count, count, sink) {
@@ -93,16 +96,17 @@ impl Kept {
         sink: &mut S,
     ) -> Result<(), S::Fault>
         requires channel { channel < 8 }
-        requires open { IsOpenTail (tail_in self.old) }
-        requires counted { count_in self.old ≡ Some frame.now.count }
+        requires open { IsOpenTail self.old.limit (tail_in self.old.last) }
+        requires counted { count_in self.old.last ≡ Some frame.now.count }
         ensures taken { OnOk result (TakesAll S.takes sink.old
-            (vca_at channel (member seen frame.now) ++ part_items channel (chain_parts_at gap (is_vca_kind frame.now.kind) (tail_in self.old) (member seen frame.now))) sink.new) }
-        ensures left { OnOk result (self.new ≡ Some (record {
+            (vca_at channel (member seen frame.now) ++ part_items channel (chain_parts_at self.old.limit gap (is_vca_kind frame.now.kind) (tail_in self.old.last) (member seen frame.now))) sink.new) }
+        ensures left { OnOk result (self.new.last ≡ Some (record {
           count = frame.now.count;
-          tail = chain_tail_at gap (is_vca_kind frame.now.kind) (tail_in self.old) (member seen frame.now);
+          tail = chain_tail_at self.old.limit gap (is_vca_kind frame.now.kind) (tail_in self.old.last) (member seen frame.now);
         })) }
+        ensures limit { self.new.limit ≡ self.old.limit }
         ensures refused { IfErr result (λ fault. RefusesOne S.takes S.refuses sink.old
-            (vca_at channel (member seen frame.now) ++ part_items channel (chain_parts_at gap (is_vca_kind frame.now.kind) (tail_in self.old) (member seen frame.now))) fault sink.new) }
+            (vca_at channel (member seen frame.now) ++ part_items channel (chain_parts_at self.old.limit gap (is_vca_kind frame.now.kind) (tail_in self.old.last) (member seen frame.now))) fault sink.new) }
     {
         match frame.kind() {
             Kind::Vca => self.take_vca(seen, channel, gap, sink),
@@ -124,10 +128,11 @@ impl Kept {
     ) -> Result<(), S::Fault>
         requires { channel < 8 }
         ensures taken { OnOk result (TakesAll S.takes sink.old
-            (value.Vca seen channel ∷ part_items channel (chain_parts_at gap true (tail_in self.old) (counted seen 0))) sink.new) }
-        ensures left { OnOk result (self.new ≡ last_of (count_in self.old) None) }
+            (value.Vca seen channel ∷ part_items channel (chain_parts_at self.old.limit gap true (tail_in self.old.last) (counted seen 0))) sink.new) }
+        ensures left { OnOk result (self.new.last ≡ last_of (count_in self.old.last) None) }
+        ensures limit { self.new.limit ≡ self.old.limit }
         ensures refused { IfErr result (λ fault. RefusesOne S.takes S.refuses sink.old
-            (value.Vca seen channel ∷ part_items channel (chain_parts_at gap true (tail_in self.old) (counted seen 0))) fault sink.new) }
+            (value.Vca seen channel ∷ part_items channel (chain_parts_at self.old.limit gap true (tail_in self.old.last) (counted seen 0))) fault sink.new) }
     {
         let reason = if gap { Reason::Gap } else { Reason::Vca };
         match sink.take(Item::Vca { seen, channel }) {
@@ -149,11 +154,12 @@ impl Kept {
         requires channel { channel < 8 }
         requires most { length field.now ≤ 2042 }
         requires place { PlaceFits place (length field.now) }
-        requires open { IsOpenTail (tail_in self.old) }
-        requires counted { IsSome (count_in self.old) }
-        ensures taken { OnOk result (TakesAll S.takes sink.old (part_items channel (chain_parts_at gap false (tail_in self.old) (member_at seen place field.now))) sink.new) }
-        ensures left { OnOk result (self.new ≡ last_of (count_in self.old) (chain_tail_at gap false (tail_in self.old) (member_at seen place field.now))) }
-        ensures refused { IfErr result (λ fault. RefusesOne S.takes S.refuses sink.old (part_items channel (chain_parts_at gap false (tail_in self.old) (member_at seen place field.now))) fault sink.new) }
+        requires open { IsOpenTail self.old.limit (tail_in self.old.last) }
+        requires counted { IsSome (count_in self.old.last) }
+        ensures taken { OnOk result (TakesAll S.takes sink.old (part_items channel (chain_parts_at self.old.limit gap false (tail_in self.old.last) (member_at seen place field.now))) sink.new) }
+        ensures left { OnOk result (self.new.last ≡ last_of (count_in self.old.last) (chain_tail_at self.old.limit gap false (tail_in self.old.last) (member_at seen place field.now))) }
+        ensures limit { self.new.limit ≡ self.old.limit }
+        ensures refused { IfErr result (λ fault. RefusesOne S.takes S.refuses sink.old (part_items channel (chain_parts_at self.old.limit gap false (tail_in self.old.last) (member_at seen place field.now))) fault sink.new) }
     {
         if !gap {
             return self.tail.take_field(seen, channel, place, field, sink);
@@ -169,8 +175,8 @@ impl Kept {
     /// Gives the tail that is held, as lost by the closed end.
     pub fn close<S: Sink>(&self, seen: u32, channel: u8, sink: &mut S) -> Result<(), S::Fault>
         requires { channel < 8 }
-        ensures taken { OnOk result (TakesAll S.takes sink.old (close_last seen channel self.now) sink.new) }
-        ensures refused { IfErr result (λ fault. RefusesOne S.takes S.refuses sink.old (close_last seen channel self.now) fault sink.new) }
+        ensures taken { OnOk result (TakesAll S.takes sink.old (close_last seen channel self.now.last) sink.new) }
+        ensures refused { IfErr result (λ fault. RefusesOne S.takes S.refuses sink.old (close_last seen channel self.now.last) fault sink.new) }
     {
         match self.tail.give_lost(seen, channel, Reason::Close, sink) {
             Ok(()) => Ok(()),
@@ -180,7 +186,7 @@ impl Kept {
 
     /// How many octets spell the channel in a checkpoint.
     pub fn spelled_length(&self) -> usize
-        ensures value { result ≡ length (block self.now) }
+        ensures value { result ≡ length (block self.now.last) }
         ensures most { result ≤ 65554 }
     {
         if self.count.is_none() {
@@ -194,9 +200,9 @@ impl Kept {
 
     /// Appends the spelling of the channel, for which there is room.
     pub fn push(&self, out: &mut Vec<u8>)
-        requires { vec_len out.old + length (block self.now) ≤ vec_capacity out.old }
-        ensures items { out.new.items ≡ out.old.items ++ block self.now }
-        ensures len { vec_len out.new ≡ vec_len out.old + length (block self.now) }
+        requires { vec_len out.old + length (block self.now.last) ≤ vec_capacity out.old }
+        ensures items { out.new.items ≡ out.old.items ++ block self.now.last }
+        ensures len { vec_len out.new ≡ vec_len out.old + length (block self.now.last) }
         ensures room { vec_capacity out.old ≤ vec_capacity out.new }
     {
         let Some(count) = self.count else {
@@ -213,8 +219,9 @@ impl Kept {
 
     /// Keeps what a checkpoint says of the channel.
     pub fn restore(&mut self, read: &Block<'_>)
-        requires { length read.now.tail.now ≤ 65542 }
-        ensures { self.new ≡ kept_of read.now }
+        requires { length read.now.tail.now ≤ self.old.limit }
+        ensures last { self.new.last ≡ kept_of read.now }
+        ensures limit { self.new.limit ≡ self.old.limit }
     {
         let tail = if read.count.is_some() { read.tail } else { &[] };
         self.count = read.count;
@@ -231,9 +238,9 @@ fn give_gap<S: Sink>(
     sink: &mut S,
 ) -> Result<bool, S::Fault>
     requires { channel < 8 }
-    ensures taken { OnOk result (TakesAll S.takes sink.old (gap_at channel before (counted seen found)) sink.new) }
+    ensures taken { OnOk result (TakesAll S.takes sink.old (gap_at (gap_item channel) before (counted seen found)) sink.new) }
     ensures answer { IfOk result (λ gap. gap ≡ has_gap before (counted seen found)) }
-    ensures refused { IfErr result (λ fault. RefusesOne S.takes S.refuses sink.old (gap_at channel before (counted seen found)) fault sink.new) }
+    ensures refused { IfErr result (λ fault. RefusesOne S.takes S.refuses sink.old (gap_at (gap_item channel) before (counted seen found)) fault sink.new) }
 {
     let Some(before) = before else {
         return Ok(false);
@@ -251,6 +258,35 @@ fn give_gap<S: Sink>(
     };
     match sink.take(gap) {
         Ok(()) => Ok(true),
+        Err(fault) => Err(fault),
+    }
+}
+
+/// Gives the gap of the master channel between a count and the one before it, if there is one.
+pub fn give_master_gap<S: Sink>(
+    seen: u32,
+    before: Option<u8>,
+    found: u8,
+    sink: &mut S,
+) -> Result<(), S::Fault>
+    ensures taken { OnOk result (TakesAll S.takes sink.old (gap_at master_gap_item before (counted seen found)) sink.new) }
+    ensures refused { IfErr result (λ fault. RefusesOne S.takes S.refuses sink.old (gap_at master_gap_item before (counted seen found)) fault sink.new) }
+{
+    let Some(before) = before else {
+        return Ok(());
+    };
+    let expected = before.wrapping_add(1);
+    if found == expected {
+        return Ok(());
+    }
+    let gap = Item::MasterGap {
+        seen,
+        expected,
+        found,
+        missing: found.wrapping_sub(expected),
+    };
+    match sink.take(gap) {
+        Ok(()) => Ok(()),
         Err(fault) => Err(fault),
     }
 }

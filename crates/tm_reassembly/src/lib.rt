@@ -9,6 +9,7 @@ mod kept;
 pub mod laws;
 mod packets;
 mod reassembly;
+mod rules;
 mod tail;
 
 pub use channels::Channels;

@@ -1,10 +1,11 @@
 //! The packets that begin in one data field.
 
-ghost use Rattle.std.specs.Prelude.{◌≡◌, ◌+◌, ◌<◌, ◌≤◌, ◌==◌, true, length, take, drop, None, Some, ◌++◌, IfOk, IfErr, OnOk};
+ghost use Rattle.std.specs.Prelude.{◌≡◌, ◌+◌, ◌^◌, ◌<◌, ◌≤◌, ◌==◌, true, false, length, take, drop, None, Some, ◌++◌, IfOk, IfErr, OnOk};
 ghost use Rattle.tm_reassembly.specs.Field.{field_parts, unfinished, left_in, frame_parts};
 ghost use Rattle.tm_reassembly.specs.Kept.{member_at};
 ghost use Rattle.tm_reassembly.specs.Parts as model;
-ghost use Rattle.tm_reassembly.specs.Parts.{lead_part, front_of};
+ghost use Rattle.tm_reassembly.specs.Parts.{begins_packet, unread_reason, lead_part, front_of};
+ghost use Rattle.tm_reassembly.specs.Rules.{IsLimit};
 ghost use Rattle.tm_reassembly.specs.Sinks.{TakesAll, RefusesOne, part_items};
 ghost use Rattle.tm_reassembly.specs.Valid.{PlaceFits};
 
@@ -33,7 +34,50 @@ pub fn reach(octets: &[u8]) -> usize
     }
 }
 
-/// The same for a text of which the first octets are a tail, and the others a field.
+/// Whether a packet of `far` octets is long at a frame that ends `stop` octets behind its start: it has more octets than the limit, and its
+/// whole header is there.
+pub fn is_long(limit: usize, far: usize, stop: usize) -> bool
+    ensures { result ≡ model.is_long limit far stop }
+{
+    stop >= 6 && limit < far
+}
+
+/// Whether a frame of which the field has `len` octets, and begins `at` octets behind a packet's start, agrees by its place with the packet
+/// having `far` octets: it has no place, and the packet reaches its end; or the packet reaches just its place.
+pub fn agrees_at(far: usize, at: usize, len: usize, place: Option<u16>) -> bool
+    requires { at + len < 2 ^ 64 }
+    ensures { result ≡ model.agrees_at far at len place }
+{
+    match place {
+        None => at + len <= far,
+        Some(start) => at.checked_add(start as usize) == Some(far),
+    }
+}
+
+/// How many octets the packet has that begins here, and is read.
+///
+/// # Errors
+///
+/// Why what begins here isn't read: it is of another version, or a packet that is long where these octets end.
+pub fn measure(limit: usize, octets: &[u8]) -> Result<usize, Reason>
+    requires { 0 < length octets.now }
+    ensures ok { IfOk result (λ far. (begins_packet limit octets.now ≡ true) × (far ≡ model.reach octets.now)) }
+    ensures packet { OnOk result (model.is_packet octets.now ≡ true) }
+    ensures most { IfOk result (λ far. far ≤ 65542) }
+    ensures short { IfOk result (λ far. 6 ≤ length octets.now → far ≤ limit) }
+    ensures unread { IfErr result (λ reason. (begins_packet limit octets.now ≡ false) × (reason ≡ unread_reason octets.now)) }
+{
+    if !is_packet(octets) {
+        return Err(Reason::Version);
+    }
+    let far = reach(octets);
+    if is_long(limit, far, octets.len()) {
+        return Err(Reason::Length);
+    }
+    Ok(far)
+}
+
+/// How many octets the packet has that begins with a tail and goes on with a field, as `reach` says.
 pub fn reach_over(tail: &[u8], field: &[u8]) -> usize
     requires some { 0 < length tail.now }
     requires packet { model.is_packet tail.now ≡ true }
@@ -97,8 +141,10 @@ pub fn give_lead<S: Sink>(
     }
 }
 
-/// Gives the packets that lie whole in a field from `place` on, and its unread part. Answers where its unfinished packet begins.
+/// Gives the packets that lie whole in a field from `place` on, and its unread part. Answers where its unfinished packet begins, of which
+/// there are fewer octets than a packet may have.
 pub fn read_field<S: Sink>(
+    limit: usize,
     seen: u32,
     channel: u8,
     field: &[u8],
@@ -108,31 +154,35 @@ pub fn read_field<S: Sink>(
     requires channel { channel < 8 }
     requires most { length field.now ≤ 2042 }
     requires inside { place ≤ length field.now }
+    requires limit { IsLimit limit }
     ensures taken { OnOk result (TakesAll S.takes sink.old
-        (part_items channel (field_parts seen (length field.now) place field.now)) sink.new) }
-    ensures rest { IfOk result (λ at. drop at field.now ≡ unfinished place field.now) }
+        (part_items channel (field_parts limit seen (length field.now) place field.now)) sink.new) }
+    ensures rest { IfOk result (λ at. drop at field.now ≡ unfinished limit place field.now) }
     ensures inside { IfOk result (λ at. at ≤ length field.now) }
+    ensures short { IfOk result (λ at. length field.now < at + limit) }
     ensures refused { IfErr result (λ fault. RefusesOne S.takes S.refuses sink.old
-        (part_items channel (field_parts seen (length field.now) place field.now)) fault sink.new) }
+        (part_items channel (field_parts limit seen (length field.now) place field.now)) fault sink.new) }
 {
     let mut at = place;
     while at < field.len() {
         let rest = &field[at..];
-        if !is_packet(rest) {
-            let unread = Item::Dropped {
-                seen,
-                channel,
-                first: seen,
-                place: at as u16,
-                octets: rest.len() as u32,
-                reason: Reason::Version,
-            };
-            return match sink.take(unread) {
-                Ok(()) => Ok(field.len()),
-                Err(fault) => Err(fault),
-            };
-        }
-        let end = reach(rest);
+        let end = match measure(limit, rest) {
+            Ok(end) => end,
+            Err(reason) => {
+                let unread = Item::Dropped {
+                    seen,
+                    channel,
+                    first: seen,
+                    place: at as u16,
+                    octets: rest.len() as u32,
+                    reason,
+                };
+                return match sink.take(unread) {
+                    Ok(()) => Ok(field.len()),
+                    Err(fault) => Err(fault),
+                };
+            }
+        };
         if end > rest.len() {
             return Ok(at);
         }
@@ -152,8 +202,9 @@ pub fn read_field<S: Sink>(
 }
 
 /// Gives what a field has where no packet is open: what stands before its place is lost for this reason, and then come its packets
-/// and its unread part. Answers where its unfinished packet begins.
+/// and its unread part. Answers where its unfinished packet begins, as `read_field` does.
 pub fn give_field<S: Sink>(
+    limit: usize,
     seen: u32,
     channel: u8,
     reason: Reason,
@@ -164,12 +215,14 @@ pub fn give_field<S: Sink>(
     requires channel { channel < 8 }
     requires most { length field.now ≤ 2042 }
     requires place { PlaceFits place (length field.now) }
+    requires limit { IsLimit limit }
     ensures taken { OnOk result (TakesAll S.takes sink.old
-        (part_items channel (lead_part (member_at seen place field.now) reason (front_of place field.now) ++ frame_parts (member_at seen place field.now))) sink.new) }
-    ensures rest { IfOk result (λ at. drop at field.now ≡ left_in place field.now) }
+        (part_items channel (lead_part (member_at seen place field.now) reason (front_of place field.now) ++ frame_parts limit (member_at seen place field.now))) sink.new) }
+    ensures rest { IfOk result (λ at. drop at field.now ≡ left_in limit place field.now) }
     ensures inside { IfOk result (λ at. at ≤ length field.now) }
+    ensures short { IfOk result (λ at. length field.now < at + limit) }
     ensures refused { IfErr result (λ fault. RefusesOne S.takes S.refuses sink.old
-        (part_items channel (lead_part (member_at seen place field.now) reason (front_of place field.now) ++ frame_parts (member_at seen place field.now))) fault sink.new) }
+        (part_items channel (lead_part (member_at seen place field.now) reason (front_of place field.now) ++ frame_parts limit (member_at seen place field.now))) fault sink.new) }
 {
     match place {
         None => match give_lead(seen, channel, reason, field, sink) {
@@ -181,7 +234,7 @@ pub fn give_field<S: Sink>(
             if let Err(fault) = give_lead(seen, channel, reason, &field[..start], sink) {
                 return Err(fault);
             }
-            match read_field(seen, channel, field, start, sink) {
+            match read_field(limit, seen, channel, field, start, sink) {
                 Ok(at) => Ok(at),
                 Err(fault) => Err(fault),
             }

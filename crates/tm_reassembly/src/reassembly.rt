@@ -1,35 +1,36 @@
 //! The reassembly of packets, record by record.
 
-ghost use Rattle.std.specs.Prelude.{◌≡◌, ◌⊎◌, ◌+◌, ◌*◌, ◌<◌, ◌≤◌, ◌++◌, IfOk, IfErr, OnOk, OnErr, IsOk, Ok, Err, vec_len, vec_capacity, List, Option, None, Some, true, false, [], ◌∷◌, length};
+ghost use Rattle.std.specs.Prelude.{◌≡◌, ◌⊎◌, ◌+◌, ◌*◌, ◌<◌, ◌≤◌, ◌++◌, IfOk, IfErr, OnOk, OnErr, IsOk, Ok, Err, vec_len, vec_capacity, replicate, List, Option, None, Some, true, false, [], ◌∷◌, length};
 ghost use Rattle.std.specs.List.{flat_map};
 ghost use Rattle.tm_frame.specs.Layout.{record_length_of};
-ghost use Rattle.tm_reassembly.specs.Channels.{is_chosen};
-ghost use Rattle.tm_reassembly.specs.Checkpoint.{block, spelling, blocks_read, decoding_of};
+ghost use Rattle.tm_reassembly.specs.Checkpoint.{block, spelling, blocks_read, with_channels, decoding_of, old_decoding_of};
 ghost use Rattle.tm_reassembly.specs.declared.fault.StateFault.TheVariants as found;
 ghost use Rattle.tm_reassembly.specs.Items.{closing, close_channels};
-ghost use Rattle.tm_reassembly.specs.Kept.{octets_in};
+ghost use Rattle.tm_reassembly.specs.Kept.{HaveLimit, lasts, octets_in, unused};
 ghost use Rattle.tm_reassembly.specs.Recording.{items, after};
+ghost use Rattle.tm_reassembly.specs.Rules.{IsLimit, chooses};
 ghost use Rattle.tm_reassembly.specs.Sinks.{TakesAll, RefusesOne};
 ghost use Rattle.tm_reassembly.specs.State.{State, Last};
 ghost use Rattle.tm_reassembly.specs.Steps.{Progress, begun, most_records, step_items, stepped, StepRefused, CloseRefused, last_count_of};
 ghost use Rattle.tm_reassembly.specs.Tiles.{held_tail};
-ghost use Rattle.tm_reassembly.specs.Valid.{IsState};
+ghost use Rattle.tm_reassembly.specs.Valid.{IsCount, IsState};
 
 use crate::channels::Channels;
-use crate::checkpoint::{four_at, push_four, read_block};
+use crate::checkpoint::{four_at, master_length, push_four, push_master, read_block, read_master};
 use crate::fault::{NoMemory, StateFault, StepFault};
 use crate::items::{Item, Sink};
-use crate::kept::Kept;
+use crate::kept::{Kept, give_master_gap};
+use crate::rules::Rules;
 use std::alloc::{AllocError, Global};
 use std::marker::Model;
-use tm_frame::{Layout, LayoutParts, read};
+use tm_frame::{Layout, read};
 
 /// Takes the records of a recording one by one, and gives the packets of the chosen channels and what is lost of them.
 #[derive(Drop)]
 pub struct Reassembly {
-    layout: Layout,
-    channels: Channels,
+    rules: Rules,
     records: u32,
+    master: Option<u8>,
     failed: bool,
     kept: [Kept; 8],
 }
@@ -38,30 +39,40 @@ impl Model for Reassembly {
     ghost Value = { Progress };
 
     ghost view = { λ r. record {
-      layout = r.layout;
-      channels = r.channels;
-      state = record { records = r.records; channels = r.kept };
+      rules = r.rules;
+      state = record { records = r.records; master = r.master; channels = lasts r.kept };
       failed = r.failed;
     } };
 
-    ghost invariant = { λ r. r.failed ≡ false → IsState r.layout (is_chosen r.channels) (record { records = r.records; channels = r.kept }) };
+    ghost invariant = { λ r. r.failed ≡ false → IsState r.rules (record { records = r.records; master = r.master; channels = lasts r.kept })
+        × HaveLimit r.rules.max_packet r.kept };
 }
 
 impl Reassembly {
-    /// Before any record. Room for the greatest packet, 65,542 octets, is reserved for each of the eight channels; no later call takes
-    /// memory.
+    /// Before any record. No packet has more than `max_packet` octets, 7 to 65,542. Room for so many is reserved for each of the eight channels;
+    /// no later call takes memory.
     ///
     /// # Errors
     ///
     /// `NoMemory` where that room can't be had.
-    pub fn new(alloc: Global, layout: Layout, channels: Channels) -> Result<Reassembly, NoMemory>
-        ensures { IfOk result (λ reassembly. reassembly ≡ begun layout channels) }
+    pub fn new(
+        alloc: Global,
+        layout: Layout,
+        channels: Channels,
+        max_packet: u32,
+    ) -> Result<Reassembly, NoMemory>
+        requires { IsLimit max_packet }
+        ensures { IfOk result (λ reassembly. reassembly ≡ begun (record { layout = layout; channels = channels; max_packet = max_packet })) }
     {
-        match eight(alloc) {
+        match eight(alloc, max_packet as usize) {
             Ok(kept) => Ok(Reassembly {
-                layout,
-                channels,
+                rules: Rules {
+                    layout,
+                    channels,
+                    max_packet,
+                },
                 records: 0,
+                master: None,
                 failed: false,
                 kept,
             }),
@@ -77,7 +88,7 @@ impl Reassembly {
     /// `Sink` where the sink refused an item: it then has taken the items before that one, each later step is `Failed`, and the number of
     /// records stays.
     pub fn step<S: Sink>(&mut self, octets: &[u8], sink: &mut S) -> Result<(), StepFault<S::Fault>>
-        requires { length octets.now ≡ record_length_of self.old.layout }
+        requires { length octets.now ≡ record_length_of self.old.rules.layout }
         ensures taken { OnOk result (TakesAll S.takes sink.old (step_items self.old octets.now) sink.new) }
         ensures left { OnOk result (self.new ≡ stepped self.old octets.now) }
         ensures asked { OnOk result ((self.old.failed ≡ false) × (self.old.state.records < most_records)) }
@@ -90,9 +101,9 @@ impl Reassembly {
             return Err(StepFault::TooMany);
         }
         match take_record(
-            &self.layout,
-            self.channels,
+            &self.rules,
             self.records,
+            &mut self.master,
             &mut self.kept,
             octets,
             sink,
@@ -115,12 +126,12 @@ impl Reassembly {
     ///
     /// `Failed` where a step was refused by its sink; else `Sink` where the sink refused an item, having taken those before it.
     pub fn finish<S: Sink>(self, rest: usize, sink: &mut S) -> Result<(), StepFault<S::Fault>>
-        requires { rest < record_length_of self.layout }
+        requires { rest < record_length_of self.rules.layout }
         ensures taken { OnOk result (TakesAll S.takes sink.old (closing self.state rest) sink.new) }
         ensures asked { OnOk result (self.failed ≡ false) }
         ensures refused { IfErr result (CloseRefused S.takes S.refuses self sink.old sink.new (closing self.state rest)) }
     {
-        prove!(rest < self.layout.record_length());
+        prove!(rest < self.rules.layout.record_length());
         if self.failed {
             return Err(StepFault::Failed);
         }
@@ -133,23 +144,30 @@ impl Reassembly {
     /// Whether a step was refused by its sink. As long as none was, the state is a valid one.
     pub fn failed(&self) -> bool
         ensures value { result ≡ self.now.failed }
-        ensures valid { self.now.failed ≡ false → IsState self.now.layout (is_chosen self.now.channels) self.now.state }
+        ensures valid { self.now.failed ≡ false → IsState self.now.rules self.now.state }
     {
         self.failed
     }
 
     /// How a record is laid out.
     pub fn layout(&self) -> Layout
-        ensures { result ≡ self.now.layout }
+        ensures { result ≡ self.now.rules.layout }
     {
-        self.layout
+        self.rules.layout
     }
 
     /// The chosen channels.
     pub fn channels(&self) -> Channels
-        ensures { result ≡ self.now.channels }
+        ensures { result ≡ self.now.rules.channels }
     {
-        self.channels
+        self.rules.channels
+    }
+
+    /// How many octets a packet may have at most.
+    pub fn max_packet(&self) -> u32
+        ensures { result ≡ self.now.rules.max_packet }
+    {
+        self.rules.max_packet
     }
 
     /// The number of records that are done: of steps that were not refused, those before a checkpoint included.
@@ -159,14 +177,14 @@ impl Reassembly {
         self.records
     }
 
-    /// The octets so far of the packet of a channel that is not whole, fewer than 65,542; none where nothing is held, as of a channel that
-    /// isn't chosen. No step was refused.
+    /// The octets so far of the packet of a channel that is not whole, fewer than a packet may have; none where nothing is held, as of a channel
+    /// that isn't chosen. No step was refused.
     pub fn held(&self, channel: u8) -> &[u8]
         requires channel { channel < 8 }
         requires done { self.now.failed ≡ false }
         ensures value { result.now ≡ octets_in (held_tail self.now.state channel) }
-        ensures short { length result.now < 65542 }
-        ensures other { is_chosen self.now.channels channel ≡ false → result.now ≡ [] }
+        ensures short { length result.now < self.now.rules.max_packet }
+        ensures other { chooses self.now.rules channel ≡ false → result.now ≡ [] }
     {
         self.kept[channel as usize].octets()
     }
@@ -176,13 +194,22 @@ impl Reassembly {
         requires channel { channel < 8 }
         requires done { self.now.failed ≡ false }
         ensures value { result ≡ last_count_of self.now.state channel }
-        ensures other { is_chosen self.now.channels channel ≡ false → result ≡ None }
+        ensures other { chooses self.now.rules channel ≡ false → result ≡ None }
     {
         self.kept[channel as usize].count()
     }
 
-    /// Appends the spelling of the state: the number of records in four octets, the most significant first, and for each of the eight
-    /// channels its block. The block is 0 where nothing is kept; 1 and the last count where no tail is held; else 2, the last count, and the
+    /// The master channel frame count of the last good frame, of whatever channel, if there was one and it is known. It isn't known where the state
+    /// was read by `decode_old` and no good frame came since. No step was refused.
+    pub fn last_master(&self) -> Option<u8>
+        requires { self.now.failed ≡ false }
+        ensures { result ≡ self.now.state.master }
+    {
+        self.master
+    }
+
+    /// Appends the spelling of the state: the number of records in four octets, the most significant first; the last master channel frame count,
+    /// 0 where there is none, else 1 and the count; and for each of the eight channels its block. The block is 0 where nothing is kept; 1 and the last count where no tail is held; else 2, the last count, and the
     /// tail: the record in which it begins in four octets, its place there in two, the number of its octets in four, and these. No step was
     /// refused.
     ///
@@ -195,11 +222,12 @@ impl Reassembly {
         ensures full { OnErr result (vec_capacity out.old < vec_len out.old + length (spelling self.now.state)) }
         ensures unchanged { OnErr result (out.new.items ≡ out.old.items) }
     {
-        match out.try_reserve(4 + spelled_length(&self.kept)) {
+        match out.try_reserve(4 + master_length(self.master) + spelled_length(&self.kept)) {
             Ok(()) => {}
             Err(_) => return Err(NoMemory),
         }
         push_four(out, self.records);
+        push_master(out, self.master);
         push_channels(out, &self.kept);
         Ok(())
     }
@@ -209,88 +237,178 @@ impl Reassembly {
     ///
     /// # Errors
     ///
-    /// What is wrong first, in the order of the octets. `Short` where octets are wanting; `Flag` where a channel's flag is over 2, or not 0
-    /// for a channel that isn't chosen; `Place` where a tail begins in a record that isn't done, or at a place over the frame length less 7;
-    /// `Tail` where its length is 0 or over 65,541, its version is not 0, or it holds the whole packet. `NoMemory` only after all of these.
-    #[tactic(auto, using(crate::proofs::Decoding::decoding_short, crate::proofs::Decoding::decoding_fault, crate::proofs::Decoding::decoding_ok, crate::proofs::Decoding::decoding_all))]
+    /// What is wrong first, in the order of the octets. `Short` where octets are wanting; `Flag` where the flag of the master channel's count is
+    /// over 1, or a channel's flag is over 2, or not 0 for a channel that isn't chosen; `Place` where a tail begins in a record that isn't done, or
+    /// at a place over the frame length less 7; `Tail` where its length is 0 or not less than `max_packet`, its version is not 0, it holds the whole
+    /// packet, or its header gives a packet that is longer than `max_packet`. `NoMemory` only after all of these.
+    #[tactic(auto, using(crate::proofs::Decoding::decoding_short))]
     pub fn decode(
         alloc: Global,
         layout: Layout,
         channels: Channels,
+        max_packet: u32,
         octets: &[u8],
     ) -> Result<(Reassembly, usize), StateFault>
-        ensures ok { IfOk result (λ read. decoding_of layout (is_chosen channels) octets.now ≡ Ok (record { state = read.0.state; octets = read.1 })) }
-        ensures same { IfOk result (λ read. read.0 ≡ record { layout = layout; channels = channels; state = read.0.state; failed = false }) }
-        ensures refused { IfErr result (λ fault. (decoding_of layout (is_chosen channels) octets.now ≡ Err fault)
-            ⊎ ((fault ≡ found.NoMemory) × IsOk (decoding_of layout (is_chosen channels) octets.now))) }
+        requires { IsLimit max_packet }
+        ensures ok { IfOk result (λ read. decoding_of (record { layout = layout; channels = channels; max_packet = max_packet }) octets.now
+            ≡ Ok (record { state = read.0.state; octets = read.1 })) }
+        ensures same { IfOk result (λ read. read.0
+            ≡ record { rules = record { layout = layout; channels = channels; max_packet = max_packet }; state = read.0.state; failed = false }) }
+        ensures refused { IfErr result (λ fault. (decoding_of (record { layout = layout; channels = channels; max_packet = max_packet }) octets.now ≡ Err fault)
+            ⊎ ((fault ≡ found.NoMemory) × IsOk (decoding_of (record { layout = layout; channels = channels; max_packet = max_packet }) octets.now))) }
     {
+        let rules = Rules {
+            layout,
+            channels,
+            max_packet,
+        };
         if octets.len() < 4 {
             return Err(StateFault::Short);
         }
         let records = four_at(octets, 0);
-        let parts = layout.parts();
-        let blocks = &octets[4..];
-        if let Err(fault) = check(&parts, channels, records, blocks) {
-            return Err(fault);
-        }
-        let Ok(mut kept) = eight(alloc) else {
-            return Err(StateFault::NoMemory);
-        };
-        match restore(&parts, channels, records, blocks, &mut kept) {
-            Ok(used) => {
-                let reassembly = Reassembly {
-                    layout,
-                    channels,
-                    records,
-                    failed: false,
-                    kept,
-                };
-                Ok((reassembly, 4 + used))
+        match read_master(&octets[4..]) {
+            Ok((master, used)) => {
+                restored(alloc, rules, records, master, 4 + used, &octets[4 + used..])
             }
             Err(fault) => Err(fault),
         }
     }
+
+    /// Reads the older form of the spelling, which has no last master channel count: the state that is read has none. All else is as
+    /// `decode` says.
+    ///
+    /// # Errors
+    ///
+    /// As `decode`.
+    #[tactic(auto, using(crate::proofs::Decoding::old_decoding_short))]
+    pub fn decode_old(
+        alloc: Global,
+        layout: Layout,
+        channels: Channels,
+        max_packet: u32,
+        octets: &[u8],
+    ) -> Result<(Reassembly, usize), StateFault>
+        requires { IsLimit max_packet }
+        ensures ok { IfOk result (λ read. old_decoding_of (record { layout = layout; channels = channels; max_packet = max_packet }) octets.now
+            ≡ Ok (record { state = read.0.state; octets = read.1 })) }
+        ensures same { IfOk result (λ read. read.0
+            ≡ record { rules = record { layout = layout; channels = channels; max_packet = max_packet }; state = read.0.state; failed = false }) }
+        ensures refused { IfErr result (λ fault. (old_decoding_of (record { layout = layout; channels = channels; max_packet = max_packet }) octets.now ≡ Err fault)
+            ⊎ ((fault ≡ found.NoMemory) × IsOk (old_decoding_of (record { layout = layout; channels = channels; max_packet = max_packet }) octets.now))) }
+    {
+        let rules = Rules {
+            layout,
+            channels,
+            max_packet,
+        };
+        if octets.len() < 4 {
+            return Err(StateFault::Short);
+        }
+        restored(alloc, rules, four_at(octets, 0), None, 4, &octets[4..])
+    }
 }
 
-// Eight channels of which nothing is kept.
-fn eight(alloc: Global) -> Result<[Kept; 8], AllocError>
-    ensures { IfOk result (λ kept. kept ≡ None ∷ None ∷ None ∷ None ∷ None ∷ None ∷ None ∷ None ∷ []) }
+// The reassembly of which so much is read, and whose channels these octets spell; `before` octets were read before them.
+fn restored(
+    alloc: Global,
+    rules: Rules,
+    records: u32,
+    master: Option<u8>,
+    before: usize,
+    octets: &[u8],
+) -> Result<(Reassembly, usize), StateFault>
+    requires limit { IsLimit rules.max_packet }
+    requires count { IsCount master }
+    requires before { before ≤ 6 }
+    ensures ok { IfOk result (λ read. with_channels records master before (blocks_read rules records 8 0 octets.now)
+        ≡ Ok (record { state = read.0.state; octets = read.1 })) }
+    ensures same { IfOk result (λ read. read.0 ≡ record { rules = rules; state = read.0.state; failed = false }) }
+    ensures refused { IfErr result (λ fault. (with_channels records master before (blocks_read rules records 8 0 octets.now) ≡ Err fault)
+        ⊎ ((fault ≡ found.NoMemory) × IsOk (with_channels records master before (blocks_read rules records 8 0 octets.now)))) }
 {
-    Ok([
-        Kept::new(alloc)?,
-        Kept::new(alloc)?,
-        Kept::new(alloc)?,
-        Kept::new(alloc)?,
-        Kept::new(alloc)?,
-        Kept::new(alloc)?,
-        Kept::new(alloc)?,
-        Kept::new(alloc)?,
-    ])
+    if let Err(fault) = check(&rules, records, octets) {
+        return Err(fault);
+    }
+    let Ok(mut kept) = eight(alloc, rules.max_packet as usize) else {
+        return Err(StateFault::NoMemory);
+    };
+    match restore(&rules, records, octets, &mut kept) {
+        Ok(used) => {
+            let reassembly = Reassembly {
+                rules,
+                records,
+                master,
+                failed: false,
+                kept,
+            };
+            Ok((reassembly, before + used))
+        }
+        Err(fault) => Err(fault),
+    }
+}
+
+// Two channels of which nothing is kept, with room for a packet of so many octets each.
+fn two(alloc: Global, limit: usize) -> Result<(Kept, Kept), AllocError>
+    requires { IsLimit limit }
+    ensures { IfOk result (λ two. (two.0 ≡ unused limit) × (two.1 ≡ unused limit)) }
+{
+    Ok((Kept::new(alloc, limit)?, Kept::new(alloc, limit)?))
+}
+
+// Four of them.
+fn four(alloc: Global, limit: usize) -> Result<((Kept, Kept), (Kept, Kept)), AllocError>
+    requires { IsLimit limit }
+    ensures { IfOk result (λ four. (four.0.0 ≡ unused limit) × (four.0.1 ≡ unused limit) × (four.1.0 ≡ unused limit) × (four.1.1 ≡ unused limit)) }
+{
+    Ok((two(alloc, limit)?, two(alloc, limit)?))
+}
+
+// The channels in a row.
+fn in_a_row(low: ((Kept, Kept), (Kept, Kept)), high: ((Kept, Kept), (Kept, Kept))) -> [Kept; 8]
+    ensures { result ≡ low.0.0 ∷ low.0.1 ∷ low.1.0 ∷ low.1.1 ∷ high.0.0 ∷ high.0.1 ∷ high.1.0 ∷ high.1.1 ∷ [] }
+{
+    let ((a, b), (c, d)) = low;
+    let ((e, f), (g, h)) = high;
+    [a, b, c, d, e, f, g, h]
+}
+
+// All eight.
+fn eight(alloc: Global, limit: usize) -> Result<[Kept; 8], AllocError>
+    requires { IsLimit limit }
+    ensures { IfOk result (λ kept. kept ≡ replicate 8 (unused limit)) }
+{
+    Ok(in_a_row(four(alloc, limit)?, four(alloc, limit)?))
 }
 
 // Takes a record, of which so many were done before.
-#[tactic(auto, using(crate::proofs::OneRecord::items_bad_record, crate::proofs::OneRecord::after_bad_record, crate::proofs::OneRecord::items_other_record, crate::proofs::OneRecord::after_other_record, crate::proofs::OneRecord::items_one_record, crate::proofs::OneRecord::after_one_record, crate::proofs::OneRecord::open_entry))]
 fn take_record<S: Sink>(
-    layout: &Layout,
-    channels: Channels,
+    rules: &Rules,
     seen: u32,
+    master: &mut Option<u8>,
     kept: &mut [Kept; 8],
     octets: &[u8],
     sink: &mut S,
 ) -> Result<(), S::Fault>
-    requires record { length octets.now ≡ record_length_of layout.now }
-    requires state { IsState layout.now (is_chosen channels) (record { records = seen; channels = kept.old }) }
+    requires record { length octets.now ≡ record_length_of rules.now.layout }
+    requires state { IsState rules.now (record { records = seen; master = master.old; channels = lasts kept.old }) }
+    requires limit { HaveLimit rules.now.max_packet kept.old }
     ensures taken { OnOk result (TakesAll S.takes sink.old
-        (items layout.now (is_chosen channels) (record { records = seen; channels = kept.old }) (octets.now ∷ [])) sink.new) }
-    ensures left { OnOk result (record { records = seen + 1; channels = kept.new }
-        ≡ after layout.now (is_chosen channels) (record { records = seen; channels = kept.old }) (octets.now ∷ [])) }
+        (items rules.now (record { records = seen; master = master.old; channels = lasts kept.old }) (octets.now ∷ [])) sink.new) }
+    ensures left { OnOk result (record { records = seen + 1; master = master.new; channels = lasts kept.new }
+        ≡ after rules.now (record { records = seen; master = master.old; channels = lasts kept.old }) (octets.now ∷ [])) }
+    ensures limit { OnOk result (HaveLimit rules.now.max_packet kept.new) }
     ensures refused { IfErr result (λ fault. RefusesOne S.takes S.refuses sink.old
-        (items layout.now (is_chosen channels) (record { records = seen; channels = kept.old }) (octets.now ∷ [])) fault sink.new) }
+        (items rules.now (record { records = seen; master = master.old; channels = lasts kept.old }) (octets.now ∷ [])) fault sink.new) }
 {
-    match read(layout, octets) {
+    match read(&rules.layout, octets) {
         Ok(frame) => {
+            let count = frame.master_count();
+            if let Err(fault) = give_master_gap(seen, *master, count, sink) {
+                return Err(fault);
+            }
+            *master = Some(count);
             let channel = frame.channel();
-            if channels.has(channel) {
+            if rules.channels.has(channel) {
                 kept[channel as usize].take_frame(seen, channel, &frame, sink)
             } else {
                 Ok(())
@@ -305,8 +423,8 @@ fn take_record<S: Sink>(
 
 // The items of a closed end: of the rest, and of the tails.
 fn close<S: Sink>(seen: u32, rest: u32, kept: &[Kept; 8], sink: &mut S) -> Result<(), S::Fault>
-    ensures taken { OnOk result (TakesAll S.takes sink.old (closing (record { records = seen; channels = kept.now }) rest) sink.new) }
-    ensures refused { IfErr result (λ fault. RefusesOne S.takes S.refuses sink.old (closing (record { records = seen; channels = kept.now }) rest) fault sink.new) }
+    ensures taken { OnOk result (TakesAll S.takes sink.old (closing (record { records = seen; master = None; channels = lasts kept.now }) rest) sink.new) }
+    ensures refused { IfErr result (λ fault. RefusesOne S.takes S.refuses sink.old (closing (record { records = seen; master = None; channels = lasts kept.now }) rest) fault sink.new) }
 {
     if rest > 0 {
         if let Err(fault) = sink.take(Item::Short { seen, octets: rest }) {
@@ -317,9 +435,10 @@ fn close<S: Sink>(seen: u32, rest: u32, kept: &[Kept; 8], sink: &mut S) -> Resul
 }
 
 // The tails that are held, by rising channel.
+#[tactic(auto, using(crate::proofs::Slots::close_more))]
 fn close_channels<S: Sink>(seen: u32, kept: &[Kept; 8], sink: &mut S) -> Result<(), S::Fault>
-    ensures taken { OnOk result (TakesAll S.takes sink.old (close_channels seen 0 kept.now) sink.new) }
-    ensures refused { IfErr result (λ fault. RefusesOne S.takes S.refuses sink.old (close_channels seen 0 kept.now) fault sink.new) }
+    ensures taken { OnOk result (TakesAll S.takes sink.old (close_channels seen 0 (lasts kept.now)) sink.new) }
+    ensures refused { IfErr result (λ fault. RefusesOne S.takes S.refuses sink.old (close_channels seen 0 (lasts kept.now)) fault sink.new) }
 {
     for channel in 0..8 {
         if let Err(fault) = kept[channel].close(seen, channel as u8, sink) {
@@ -330,9 +449,9 @@ fn close_channels<S: Sink>(seen: u32, kept: &[Kept; 8], sink: &mut S) -> Result<
 }
 
 // How many octets spell the channels.
-#[tactic(auto, using(crate::proofs::Blocks::spelled_more))]
+#[tactic(auto, using(crate::proofs::Slots::spelled_more))]
 fn spelled_length(kept: &[Kept; 8]) -> usize
-    ensures value { result ≡ length (flat_map block kept.now) }
+    ensures value { result ≡ length (flat_map block (lasts kept.now)) }
     ensures most { result ≤ 8 * 65554 }
 {
     let mut length = 0;
@@ -343,10 +462,10 @@ fn spelled_length(kept: &[Kept; 8]) -> usize
 }
 
 // Appends the spelling of the channels, for which there is room.
-#[tactic(auto, using(crate::proofs::Blocks::spelled_rest))]
+#[tactic(auto, using(crate::proofs::Slots::spelled_rest))]
 fn push_channels(out: &mut Vec<u8>, kept: &[Kept; 8])
-    requires { vec_len out.old + length (flat_map block kept.now) ≤ vec_capacity out.old }
-    ensures { out.new.items ≡ out.old.items ++ flat_map block kept.now }
+    requires { vec_len out.old + length (flat_map block (lasts kept.now)) ≤ vec_capacity out.old }
+    ensures { out.new.items ≡ out.old.items ++ flat_map block (lasts kept.now) }
 {
     for channel in 0..8 {
         kept[channel].push(out);
@@ -355,18 +474,13 @@ fn push_channels(out: &mut Vec<u8>, kept: &[Kept; 8])
 
 // The first fault of the channels' blocks, if there is one.
 #[tactic(auto, using(crate::proofs::Blocks::some_none, crate::proofs::Blocks::some_more, crate::proofs::Blocks::some_fault, crate::proofs::Blocks::some_all))]
-fn check(
-    layout: &LayoutParts,
-    channels: Channels,
-    records: u32,
-    octets: &[u8],
-) -> Result<(), StateFault>
-    ensures ok { OnOk result (IsOk (blocks_read layout.now (is_chosen channels) records 8 0 octets.now)) }
-    ensures refused { IfErr result (λ fault. blocks_read layout.now (is_chosen channels) records 8 0 octets.now ≡ Err fault) }
+fn check(rules: &Rules, records: u32, octets: &[u8]) -> Result<(), StateFault>
+    ensures ok { OnOk result (IsOk (blocks_read rules.now records 8 0 octets.now)) }
+    ensures refused { IfErr result (λ fault. blocks_read rules.now records 8 0 octets.now ≡ Err fault) }
 {
     let mut at = 0;
     for channel in 0..8u8 {
-        match read_block(layout, channels.has(channel), records, &octets[at..]) {
+        match read_block(rules, channel, records, &octets[at..]) {
             Ok((_, used)) => at += used,
             Err(fault) => return Err(fault),
         }
@@ -377,19 +491,20 @@ fn check(
 // Keeps what the blocks say of the channels. Answers how many octets they have.
 #[tactic(auto, using(crate::proofs::Blocks::reads_none, crate::proofs::Blocks::kept_more, crate::proofs::Blocks::kept_fault, crate::proofs::Blocks::kept_all))]
 fn restore(
-    layout: &LayoutParts,
-    channels: Channels,
+    rules: &Rules,
     records: u32,
     octets: &[u8],
     kept: &mut [Kept; 8],
 ) -> Result<usize, StateFault>
-    ensures ok { IfOk result (λ used. blocks_read layout.now (is_chosen channels) records 8 0 octets.now ≡ Ok (record { kept = kept.new; octets = used })) }
+    requires { HaveLimit rules.now.max_packet kept.old }
+    ensures ok { IfOk result (λ used. blocks_read rules.now records 8 0 octets.now ≡ Ok (record { kept = lasts kept.new; octets = used })) }
+    ensures limit { OnOk result (HaveLimit rules.now.max_packet kept.new) }
     ensures inside { IfOk result (λ used. used ≤ length octets.now) }
-    ensures refused { IfErr result (λ fault. blocks_read layout.now (is_chosen channels) records 8 0 octets.now ≡ Err fault) }
+    ensures refused { IfErr result (λ fault. blocks_read rules.now records 8 0 octets.now ≡ Err fault) }
 {
     let mut at = 0;
     for channel in 0..8 {
-        match read_block(layout, channels.has(channel as u8), records, &octets[at..]) {
+        match read_block(rules, channel as u8, records, &octets[at..]) {
             Ok((block, used)) => {
                 kept[channel].restore(&block);
                 at += used;

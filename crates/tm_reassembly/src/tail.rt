@@ -3,71 +3,77 @@
 ghost use Rattle.std.specs.Prelude.{◌≡◌, ◌+◌, ◌<◌, ◌≤◌, ◌++◌, length, take, IfOk, IfErr, OnOk, Option, None, Some, is_some, true, vec_len, vec_capacity};
 ghost use Rattle.tm_reassembly.specs.Blocks.{spelled_tail};
 ghost use Rattle.tm_reassembly.specs.declared.items.Reason.TheVariants as why;
-ghost use Rattle.tm_reassembly.specs.Field.{step_parts, step_tail, ended_parts, frame_parts, frame_tail, tail_at};
+ghost use Rattle.tm_reassembly.specs.Field.{step_parts, step_tail, ended_parts, frame_parts, frame_tail};
 ghost use Rattle.tm_reassembly.specs.Item as value;
-ghost use Rattle.tm_reassembly.specs.Kept.{tail_of_octets, octets_in, grown, completed, member_at};
+ghost use Rattle.tm_reassembly.specs.Kept.{Buffer, tail_of_octets, octets_in, grown, completed, member_at};
 ghost use Rattle.tm_reassembly.specs.Parts as model;
-ghost use Rattle.tm_reassembly.specs.Parts.{lead_part, front_of, agrees_at};
+ghost use Rattle.tm_reassembly.specs.Parts.{lead_part, front_of};
+ghost use Rattle.tm_reassembly.specs.Rules.{IsLimit};
 ghost use Rattle.tm_reassembly.specs.Sinks.{IsOnePacket, TakesAll, RefusesOne, part_items};
 ghost use Rattle.tm_reassembly.specs.State as state;
 ghost use Rattle.tm_reassembly.specs.Valid.{PlaceFits, IsOpenTail};
 
 use crate::checkpoint::{push, push_four, push_two};
 use crate::items::{Item, Reason, Sink};
-use crate::packets::{give_field, reach_over, read_field};
+use crate::packets::{agrees_at, give_field, is_long, reach_over, read_field};
 use std::alloc::{AllocError, Global};
 use std::marker::Model;
 
-/// The octets of the greatest packet: a header of 6, and a data field of 65,536.
-pub const GREATEST: usize = 65542;
-
-/// The tail that is held, if its octets are not empty, and the record and place where it begins. There is room for the greatest
-/// packet.
+/// The tail that is held, if its octets are not empty, and the record and place where it begins. A packet has at most `limit` octets, for
+/// which there is room.
 #[derive(Drop)]
 pub struct Tail {
+    limit: usize,
     first: u32,
     place: u16,
     octets: Vec<u8>,
 }
 
 impl Model for Tail {
-    ghost Value = { Option state.Tail };
+    ghost Value = { Buffer };
 
-    ghost view = { λ t. tail_of_octets t.first t.place t.octets.items };
+    ghost view = { λ t. record {
+      limit = t.limit;
+      room = vec_capacity t.octets;
+      tail = tail_of_octets t.first t.place t.octets.items;
+    } };
 
-    ghost invariant = { λ t. (65542 ≤ vec_capacity t.octets) × (length t.octets.items ≤ 65542) };
+    ghost invariant = { λ t. IsLimit t.limit × (t.limit ≤ vec_capacity t.octets) × (length t.octets.items ≤ t.limit) };
 }
 
 impl Tail {
     /// No tail, with its room.
-    pub fn new(alloc: Global) -> Result<Tail, AllocError>
-        ensures { IfOk result (λ tail. tail ≡ None) }
+    pub fn new(alloc: Global, limit: usize) -> Result<Tail, AllocError>
+        requires { IsLimit limit }
+        ensures { IfOk result (λ tail. tail ≡ record { limit = limit; room = limit; tail = None }) }
     {
         Ok(Tail {
+            limit,
             first: 0,
             place: 0,
-            octets: Vec::with_capacity(alloc, GREATEST)?,
+            octets: Vec::with_capacity(alloc, limit)?,
         })
     }
 
     /// The octets that are held.
     pub fn octets(&self) -> &[u8]
-        ensures { result.now ≡ octets_in self.now }
+        ensures { result.now ≡ octets_in self.now.tail }
     {
         self.octets.as_slice()
     }
 
     /// Whether a tail is held.
     pub fn is_held(&self) -> bool
-        ensures { result ≡ is_some self.now }
+        ensures { result ≡ is_some self.now.tail }
     {
         !self.octets.is_empty()
     }
 
     /// Holds these octets in place of what was held.
     pub fn hold(&mut self, first: u32, place: u16, octets: &[u8])
-        requires { length octets.now ≤ 65542 }
-        ensures { self.new ≡ tail_of_octets first place octets.now }
+        requires { length octets.now ≤ self.old.limit }
+        ensures tail { self.new.tail ≡ tail_of_octets first place octets.now }
+        ensures limit { self.new.limit ≡ self.old.limit }
     {
         self.octets.clear();
         match self.octets.extend_from_slice(octets) {
@@ -87,8 +93,8 @@ impl Tail {
         sink: &mut S,
     ) -> Result<(), S::Fault>
         requires { channel < 8 }
-        ensures taken { OnOk result (TakesAll S.takes sink.old (part_items channel (ended_parts self.now reason seen)) sink.new) }
-        ensures refused { IfErr result (λ fault. RefusesOne S.takes S.refuses sink.old (part_items channel (ended_parts self.now reason seen)) fault sink.new) }
+        ensures taken { OnOk result (TakesAll S.takes sink.old (part_items channel (ended_parts self.now.tail reason seen)) sink.new) }
+        ensures refused { IfErr result (λ fault. RefusesOne S.takes S.refuses sink.old (part_items channel (ended_parts self.now.tail reason seen)) fault sink.new) }
     {
         if self.octets.is_empty() {
             return Ok(());
@@ -116,9 +122,10 @@ impl Tail {
         sink: &mut S,
     ) -> Result<(), S::Fault>
         requires { channel < 8 }
-        ensures taken { OnOk result (TakesAll S.takes sink.old (part_items channel (ended_parts self.old reason seen)) sink.new) }
-        ensures left { OnOk result (self.new ≡ None) }
-        ensures refused { IfErr result (λ fault. RefusesOne S.takes S.refuses sink.old (part_items channel (ended_parts self.old reason seen)) fault sink.new) }
+        ensures taken { OnOk result (TakesAll S.takes sink.old (part_items channel (ended_parts self.old.tail reason seen)) sink.new) }
+        ensures left { OnOk result (self.new.tail ≡ None) }
+        ensures limit { self.new.limit ≡ self.old.limit }
+        ensures refused { IfErr result (λ fault. RefusesOne S.takes S.refuses sink.old (part_items channel (ended_parts self.old.tail reason seen)) fault sink.new) }
     {
         match self.give_lost(seen, channel, reason, sink) {
             Ok(()) => {
@@ -144,12 +151,13 @@ impl Tail {
         requires most { length field.now ≤ 2042 }
         requires place { PlaceFits place (length field.now) }
         ensures taken { OnOk result (TakesAll S.takes sink.old
-            (part_items channel (lead_part (member_at seen place field.now) reason (front_of place field.now) ++ frame_parts (member_at seen place field.now))) sink.new) }
-        ensures left { OnOk result (self.new ≡ frame_tail (member_at seen place field.now)) }
+            (part_items channel (lead_part (member_at seen place field.now) reason (front_of place field.now) ++ frame_parts self.old.limit (member_at seen place field.now))) sink.new) }
+        ensures left { OnOk result (self.new.tail ≡ frame_tail self.old.limit (member_at seen place field.now)) }
+        ensures limit { self.new.limit ≡ self.old.limit }
         ensures refused { IfErr result (λ fault. RefusesOne S.takes S.refuses sink.old
-            (part_items channel (lead_part (member_at seen place field.now) reason (front_of place field.now) ++ frame_parts (member_at seen place field.now))) fault sink.new) }
+            (part_items channel (lead_part (member_at seen place field.now) reason (front_of place field.now) ++ frame_parts self.old.limit (member_at seen place field.now))) fault sink.new) }
     {
-        match give_field(seen, channel, reason, place, field, sink) {
+        match give_field(self.limit, seen, channel, reason, place, field, sink) {
             Ok(at) => {
                 self.hold(seen, at as u16, &field[at..]);
                 Ok(())
@@ -159,7 +167,6 @@ impl Tail {
     }
 
     /// Takes a frame's field, by what is held and by the place of the first packet that starts in it.
-    #[tactic(auto, using(crate::proofs::Tails::step_completed))]
     pub fn take_field<S: Sink>(
         &mut self,
         seen: u32,
@@ -171,35 +178,40 @@ impl Tail {
         requires channel { channel < 8 }
         requires most { length field.now ≤ 2042 }
         requires place { PlaceFits place (length field.now) }
-        requires open { IsOpenTail self.old }
-        ensures taken { OnOk result (TakesAll S.takes sink.old (part_items channel (step_parts self.old (member_at seen place field.now))) sink.new) }
-        ensures left { OnOk result (self.new ≡ step_tail self.old (member_at seen place field.now)) }
-        ensures refused { IfErr result (λ fault. RefusesOne S.takes S.refuses sink.old (part_items channel (step_parts self.old (member_at seen place field.now))) fault sink.new) }
+        requires open { IsOpenTail self.old.limit self.old.tail }
+        ensures taken { OnOk result (TakesAll S.takes sink.old (part_items channel (step_parts self.old.limit self.old.tail (member_at seen place field.now))) sink.new) }
+        ensures left { OnOk result (self.new.tail ≡ step_tail self.old.limit self.old.tail (member_at seen place field.now)) }
+        ensures limit { self.new.limit ≡ self.old.limit }
+        ensures refused { IfErr result (λ fault. RefusesOne S.takes S.refuses sink.old (part_items channel (step_parts self.old.limit self.old.tail (member_at seen place field.now))) fault sink.new) }
     {
         if self.octets.is_empty() {
             return self.begin(seen, channel, Reason::NoStart, place, field, sink);
         }
         let held = self.octets.len();
         let reach = reach_over(self.octets.as_slice(), field);
+        if !agrees_at(reach, held, field.len(), place) {
+            return self.break_off(seen, channel, Reason::Pointer, place, field, sink);
+        }
+        if is_long(self.limit, reach, held + field.len()) {
+            return self.break_off(seen, channel, Reason::Length, place, field, sink);
+        }
         match place {
             None if held + field.len() < reach => {
                 self.grow(field);
                 Ok(())
             }
-            None if held + field.len() == reach => self.complete(seen, channel, field, sink),
-            Some(start) if held + start as usize == reach => {
-                self.complete_in(seen, channel, start, field, sink)
-            }
-            _ => self.break_off(seen, channel, place, field, sink),
+            None => self.complete(seen, channel, field, sink),
+            Some(start) => self.complete_in(seen, channel, start, field, sink),
         }
     }
 
     // Holds more octets of the packet.
     #[tactic(auto, using(crate::proofs::Tails::grown_octets, crate::proofs::Tails::octets_again))]
     fn grow(&mut self, more: &[u8])
-        requires some { 0 < length (octets_in self.old) }
-        requires most { length (octets_in self.old) + length more.now ≤ 65542 }
-        ensures { self.new ≡ grown self.old more.now }
+        requires some { 0 < length (octets_in self.old.tail) }
+        requires most { length (octets_in self.old.tail) + length more.now ≤ self.old.limit }
+        ensures tail { self.new.tail ≡ grown self.old.tail more.now }
+        ensures limit { self.new.limit ≡ self.old.limit }
     {
         match self.octets.extend_from_slice(more) {
             Ok(()) => {}
@@ -216,12 +228,13 @@ impl Tail {
         sink: &mut S,
     ) -> Result<(), S::Fault>
         requires channel { channel < 8 }
-        requires most { length (octets_in self.old) + length last.now ≤ 65542 }
-        requires some { 0 < length (octets_in self.old) }
-        requires whole { IsOnePacket (octets_in self.old ++ last.now) }
-        ensures taken { OnOk result (TakesAll S.takes sink.old (part_items channel (completed self.old last.now seen)) sink.new) }
-        ensures left { OnOk result (self.new ≡ None) }
-        ensures refused { IfErr result (λ fault. RefusesOne S.takes S.refuses sink.old (part_items channel (completed self.old last.now seen)) fault sink.new) }
+        requires most { length (octets_in self.old.tail) + length last.now ≤ self.old.limit }
+        requires some { 0 < length (octets_in self.old.tail) }
+        requires whole { IsOnePacket (octets_in self.old.tail ++ last.now) }
+        ensures taken { OnOk result (TakesAll S.takes sink.old (part_items channel (completed self.old.tail last.now seen)) sink.new) }
+        ensures left { OnOk result (self.new.tail ≡ None) }
+        ensures limit { self.new.limit ≡ self.old.limit }
+        ensures refused { IfErr result (λ fault. RefusesOne S.takes S.refuses sink.old (part_items channel (completed self.old.tail last.now seen)) fault sink.new) }
     {
         self.grow(last);
         let packet = Item::Packet {
@@ -250,20 +263,21 @@ impl Tail {
         requires channel { channel < 8 }
         requires most { length field.now ≤ 2042 }
         requires start { start ≤ length field.now }
-        requires some { 0 < length (octets_in self.old) }
-        requires whole { IsOnePacket (octets_in self.old ++ take start field.now) }
-        requires room { length (octets_in self.old) + start ≤ 65542 }
+        requires some { 0 < length (octets_in self.old.tail) }
+        requires whole { IsOnePacket (octets_in self.old.tail ++ take start field.now) }
+        requires room { length (octets_in self.old.tail) + start ≤ self.old.limit }
         ensures taken { OnOk result (TakesAll S.takes sink.old
-            (part_items channel (completed self.old (take start field.now) seen ++ frame_parts (member_at seen (Some start) field.now))) sink.new) }
-        ensures left { OnOk result (self.new ≡ frame_tail (member_at seen (Some start) field.now)) }
+            (part_items channel (completed self.old.tail (take start field.now) seen ++ frame_parts self.old.limit (member_at seen (Some start) field.now))) sink.new) }
+        ensures left { OnOk result (self.new.tail ≡ frame_tail self.old.limit (member_at seen (Some start) field.now)) }
+        ensures limit { self.new.limit ≡ self.old.limit }
         ensures refused { IfErr result (λ fault. RefusesOne S.takes S.refuses sink.old
-            (part_items channel (completed self.old (take start field.now) seen ++ frame_parts (member_at seen (Some start) field.now))) fault sink.new) }
+            (part_items channel (completed self.old.tail (take start field.now) seen ++ frame_parts self.old.limit (member_at seen (Some start) field.now))) fault sink.new) }
     {
         let start = start as usize;
         if let Err(fault) = self.complete(seen, channel, &field[..start], sink) {
             return Err(fault);
         }
-        match read_field(seen, channel, field, start, sink) {
+        match read_field(self.limit, seen, channel, field, start, sink) {
             Ok(at) => {
                 self.hold(seen, at as u16, &field[at..]);
                 Ok(())
@@ -272,11 +286,12 @@ impl Tail {
         }
     }
 
-    // The frame doesn't agree: the tail is lost, and so is what stands before the frame's place.
+    // The frame doesn't agree: the tail is lost for this reason, and so is what stands before the frame's place.
     fn break_off<S: Sink>(
         &mut self,
         seen: u32,
         channel: u8,
+        reason: Reason,
         place: Option<u16>,
         field: &[u8],
         sink: &mut S,
@@ -285,15 +300,16 @@ impl Tail {
         requires most { length field.now ≤ 2042 }
         requires place { PlaceFits place (length field.now) }
         ensures taken { OnOk result (TakesAll S.takes sink.old
-            (part_items channel (ended_parts self.old why.Pointer seen ++ lead_part (member_at seen place field.now) why.Pointer (front_of place field.now) ++ frame_parts (member_at seen place field.now))) sink.new) }
-        ensures left { OnOk result (self.new ≡ frame_tail (member_at seen place field.now)) }
+            (part_items channel (ended_parts self.old.tail reason seen ++ lead_part (member_at seen place field.now) reason (front_of place field.now) ++ frame_parts self.old.limit (member_at seen place field.now))) sink.new) }
+        ensures left { OnOk result (self.new.tail ≡ frame_tail self.old.limit (member_at seen place field.now)) }
+        ensures limit { self.new.limit ≡ self.old.limit }
         ensures refused { IfErr result (λ fault. RefusesOne S.takes S.refuses sink.old
-            (part_items channel (ended_parts self.old why.Pointer seen ++ lead_part (member_at seen place field.now) why.Pointer (front_of place field.now) ++ frame_parts (member_at seen place field.now))) fault sink.new) }
+            (part_items channel (ended_parts self.old.tail reason seen ++ lead_part (member_at seen place field.now) reason (front_of place field.now) ++ frame_parts self.old.limit (member_at seen place field.now))) fault sink.new) }
     {
-        if let Err(fault) = self.end(seen, channel, Reason::Pointer, sink) {
+        if let Err(fault) = self.end(seen, channel, reason, sink) {
             return Err(fault);
         }
-        match self.begin(seen, channel, Reason::Pointer, place, field, sink) {
+        match self.begin(seen, channel, reason, place, field, sink) {
             Ok(()) => Ok(()),
             Err(fault) => Err(fault),
         }
@@ -301,7 +317,7 @@ impl Tail {
 
     /// How many octets spell the tail in a checkpoint, where one is held.
     pub fn spelled_length(&self) -> usize
-        ensures value { result ≡ 10 + length (octets_in self.now) }
+        ensures value { result ≡ 10 + length (octets_in self.now.tail) }
         ensures most { result ≤ 65552 }
     {
         10 + self.octets.len()
@@ -309,10 +325,10 @@ impl Tail {
 
     /// Appends the spelling of the tail that is held, for which there is room.
     pub fn push(&self, out: &mut Vec<u8>)
-        requires held { is_some self.now ≡ true }
-        requires room { vec_len out.old + (10 + length (octets_in self.now)) ≤ vec_capacity out.old }
-        ensures items { out.new.items ≡ out.old.items ++ spelled_tail self.now }
-        ensures len { vec_len out.new ≡ vec_len out.old + (10 + length (octets_in self.now)) }
+        requires held { is_some self.now.tail ≡ true }
+        requires room { vec_len out.old + (10 + length (octets_in self.now.tail)) ≤ vec_capacity out.old }
+        ensures items { out.new.items ≡ out.old.items ++ spelled_tail self.now.tail }
+        ensures len { vec_len out.new ≡ vec_len out.old + (10 + length (octets_in self.now.tail)) }
         ensures room { vec_capacity out.old ≤ vec_capacity out.new }
     {
         push_four(out, self.first);

@@ -1,3 +1,4 @@
+use Rattle.tm_reassembly.proofs.Settled.{own-long-settled}
 use Rattle.tm_reassembly.proofs.Extension.{at-once-settled}
 use Rattle.tm_reassembly.proofs.Raw.{raw-runs-grow, raw-verdicts-stay}
 use Rattle.tm_reassembly.proofs.laws.settled_verdict.Goals as goal
@@ -10,3 +11,6 @@ returns-clause-later_frame c = raw-verdicts-stay
 
 pub returns-clause-own_frame : goal.returns-clause-own_frame
 returns-clause-own_frame c = at-once-settled
+
+pub returns-clause-own_long : goal.returns-clause-own_long
+returns-clause-own_long c = own-long-settled

@@ -1,5 +1,5 @@
-use Rattle.tm_reassembly.proofs.Spelled.{spelled-again}
-use Rattle.tm_reassembly.proofs.Spelling.{read-again, no-prefix}
+use Rattle.tm_reassembly.proofs.Spelled.{spelled-again, old-spelled-again}
+use Rattle.tm_reassembly.proofs.Spelling.{read-again, old-read-again, no-prefix}
 use Rattle.tm_reassembly.proofs.laws.spellings.Goals as goal
 
 pub returns-clause-read_again : goal.returns-clause-read_again
@@ -10,3 +10,9 @@ returns-clause-no_prefix c = no-prefix
 
 pub returns-clause-spelled_again : goal.returns-clause-spelled_again
 returns-clause-spelled_again c = spelled-again
+
+pub returns-clause-old_read_again : goal.returns-clause-old_read_again
+returns-clause-old_read_again c = old-read-again
+
+pub returns-clause-old_spelled_again : goal.returns-clause-old_spelled_again
+returns-clause-old_spelled_again c = old-spelled-again

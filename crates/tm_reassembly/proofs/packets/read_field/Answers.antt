@@ -5,13 +5,13 @@ use Rattle.tm_reassembly.proofs.packets.read_field.Goals as goal
 
 pub loop-at-init : goal.loop-at-init
 loop-at-init g c = (
-  leads_start _ _ _ (ap (part_items c.args.channel) (field_parts-skip c.args.seen (length c.args.field.now) c.args.place c.args.field.now)),
-  sym (unfinished-skip c.args.place c.args.field.now),
+  leads_start _ _ _ (ap (part_items c.args.channel) (field_parts-skip c.args.limit c.args.seen (length c.args.field.now) c.args.place c.args.field.now)),
+  sym (unfinished-skip c.args.limit c.args.place c.args.field.now),
   c.requires.inside,
 )
 
 pub loop-at-preserved : goal.loop-at-preserved
 loop-at-preserved g c =
-    let s = read_packet c.args.seen c.args.channel c.args.field.now c.loop-at.at c.reach-end.result _ refl
-    c.loop-at-test.true (sym c.if-not-is_packet.ensures) c.reach-end.ensures.value (omega (arith, c.if-end-rest.false)) in
+    let s = read_packet c.args.limit c.args.seen c.args.channel c.args.field.now c.loop-at.at c.in-Ok.end _ refl
+    c.loop-at-test.true c.in-Ok.ensures.ok.0 c.in-Ok.ensures.ok.1 (omega (arith, c.if-end-rest.false)) in
     (leads_take c.loop-at.invariant.0 _ _ _ s.0 c.in_default.ensures.taken, sym s.1 ∙ c.loop-at.invariant.1, omega arith)

@@ -1,26 +1,21 @@
-use Rattle.std.proofs.Common.{◌≡◌, ◌+◌, Ok, subst, arith}
-use Rattle.tm_bits.specs.Bits.{AreOctets}
-use Rattle.tm_bits.proofs.PartLemmas.{octets_behind}
-use Rattle.tm_frame.specs.declared.layout.LayoutParts.{LayoutParts}
-use Rattle.tm_reassembly.specs.Checkpoint.{decoding_of}
-use Rattle.tm_reassembly.specs.Channels.{is_chosen}
-use Rattle.tm_reassembly.specs.Valid.{IsState}
-use Rattle.tm_reassembly.proofs.Decoding.{blocks_valid, decoding_all}
-use Rattle.tm_reassembly.proofs.Fits.{octets_front}
+use Rattle.std.proofs.Common.{◌≡◌, ◌+◌, ◌≤◌, length, inl, ◌∙◌, sym, rules}
+use Rattle.tm_reassembly.proofs.Decoding.{decoding_behind, decoding_master}
 use Rattle.tm_reassembly.proofs.reassembly.Reassembly.decode.Goals as goal
 
-pub invariant_of-reassembly : goal.invariant_of-reassembly
-invariant_of-reassembly c = λ failed.
-    let octets : AreOctets c.args.octets.now = record { below = λ i. omega (arith, c.type_inv.octets i) } in
-    subst (λ (l : LayoutParts). IsState l (is_chosen c.args.channels) (record { records = c.four_at-records.result; channels = c.restore.new.kept }))
-    c.parts-parts.ensures.value
-    (blocks_valid _ _ _ _ _ _ (octets_front _ _ (octets_behind 4 c.args.octets.now octets)) (omega arith) c.in-Ok-restore.ensures.ok)
+pub returns-in-Ok-clause-ok : goal.returns-in-Ok-clause-ok
+returns-in-Ok-clause-ok c =
+    let inside : 4 + c.in-Ok.used ≤ length c.args.octets.now = search rules in
+    let e = decoding_behind (record { layout = c.args.layout; channels = c.args.channels; max_packet = c.args.max_packet }) c.args.octets.now c.four_at-records.result c.in-Ok.used c.in-Ok.master
+    c.if-octets-lt4.false c.four_at-records.ensures c.in-Ok.ensures.ok inside in
+    rw (← e) c.restored.ensures.ok
 
-pub returns-in-Ok-restore-clause-ok : goal.returns-in-Ok-restore-clause-ok
-returns-in-Ok-restore-clause-ok c =
-    subst
-    (λ (l : LayoutParts).
-    decoding_of l (is_chosen c.args.channels) c.args.octets.now
-    ≡ Ok (record { state = record { records = c.four_at-records.result; channels = c.restore.new.kept }; octets = 4 + c.in-Ok-restore.used }))
-    c.parts-parts.ensures.value
-    (decoding_all _ _ _ _ _ _ (omega (arith, c.if-octets-lt4.false)) c.four_at-records.ensures c.in-Ok-restore.ensures.ok)
+pub returns-in-Ok-clause-refused : goal.returns-in-Ok-clause-refused
+returns-in-Ok-clause-refused c =
+    let inside : 4 + c.in-Ok.used ≤ length c.args.octets.now = search rules in
+    let e = decoding_behind (record { layout = c.args.layout; channels = c.args.channels; max_packet = c.args.max_packet }) c.args.octets.now c.four_at-records.result c.in-Ok.used c.in-Ok.master
+    c.if-octets-lt4.false c.four_at-records.ensures c.in-Ok.ensures.ok inside in
+    rw (← e) c.restored.ensures.refused
+
+pub returns-in-Err-clause-refused : goal.returns-in-Err-clause-refused
+returns-in-Err-clause-refused c =
+    inl (decoding_master (record { layout = c.args.layout; channels = c.args.channels; max_packet = c.args.max_packet }) c.args.octets.now c.in-Err.fault c.if-octets-lt4.false c.in-Err.ensures.refused)

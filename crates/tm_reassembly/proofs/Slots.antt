@@ -1,0 +1,85 @@
+-- The slots of the channels: what is kept in each, and its limit.
+use Rattle.std.proofs.Common.{◌≡◌, ℕ, suc, zero, ◌+◌, ◌<◌, Option, Some, None, List, [], ◌∷◌, ◌++◌, length, take, drop, refl, sym, ap, subst, ◌∙◌, arith}
+use Rattle.std.specs.Prelude.{slice_index_or, slice_set, replicate}
+use Rattle.std.specs.List.{flat_map, slice_get}
+use Rattle.std.proofs.lemmas.List.{append-nil, length-map}
+use Rattle.std.proofs.lemmas.List.Concat.{flat_map-append}
+use Rattle.std.proofs.Math.Seq.{take-suc}
+use Rattle.tm_reassembly.specs.Checkpoint.{block}
+use Rattle.tm_reassembly.specs.Items.{close_last, close_channels}
+use Rattle.tm_reassembly.specs.Kept.{Slot, HaveLimit, lasts, unused}
+use Rattle.tm_reassembly.specs.State.{Last}
+
+-- what is kept in a slot
+pub last_at : (slots : List Slot) (c : ℕ) (d : Slot) → slice_index_or (lasts slots) c d.last ≡ (slice_index_or slots c d).last
+last_at [] c d = refl
+last_at (x ∷ xs) zero d = refl
+last_at (x ∷ xs) (suc c) d = last_at xs c d
+
+pub lasts_set : (slots : List Slot) (c : ℕ) (x : Slot) → lasts (slice_set slots c x) ≡ slice_set (lasts slots) c x.last
+lasts_set [] c x = refl
+lasts_set (y ∷ ys) zero x = refl
+lasts_set (y ∷ ys) (suc c) x = ap (λ (l : List (Option Last)). y.last ∷ l) (lasts_set ys c x)
+
+pub lasts_length : (slots : List Slot) → length (lasts slots) ≡ length slots
+lasts_length slots = length-map slots (λ x. x.last)
+
+-- the limits
+there : (slots : List Slot) (c : ℕ) (d : Slot) → c < length slots → slice_get slots c ≡ Some (slice_index_or slots c d)
+there [] c d h = absurd (omega arith)
+there (x ∷ xs) zero d h = refl
+there (x ∷ xs) (suc c) d h = there xs c d (omega arith)
+
+pub limit_at : (limit : ℕ) (slots : List Slot) (c : ℕ) (d : Slot) → HaveLimit limit slots → c < length slots → (slice_index_or slots c d).limit ≡ limit
+limit_at limit slots c d h inside = h c (slice_index_or slots c d) (there slots c d inside)
+
+pub limit_set : (limit : ℕ) (slots : List Slot) (c : ℕ) (x : Slot) → HaveLimit limit slots → x.limit ≡ limit → HaveLimit limit (slice_set slots c x)
+limit_set limit slots c x h e = λ i y f. at slots c i y (λ y f. h i y f) f
+  where
+    at : (slots : List Slot) (c i : ℕ) (y : Slot) → ((z : Slot) → slice_get slots i ≡ Some z → z.limit ≡ limit) → slice_get (slice_set slots c x) i ≡ Some y → y.limit ≡ limit
+    at [] c i y k f = k y f
+    at (z ∷ zs) zero zero y k f = let same : x ≡ y = cc in ap (λ (s : Slot). s.limit) (sym same) ∙ e
+    at (z ∷ zs) zero (suc i) y k f = k y f
+    at (z ∷ zs) (suc c) zero y k f = k y f
+    at (z ∷ zs) (suc c) (suc i) y k f = at zs c i y k f
+
+-- before any record
+pub limit_unused : (limit : ℕ) → HaveLimit limit (replicate 8 (unused limit))
+limit_unused limit = λ c x e. at 8 c x e
+  where
+    at : (n c : ℕ) (x : Slot) → slice_get (replicate n (unused limit)) c ≡ Some x → x.limit ≡ limit
+    at zero c x e = absurd (cc)
+    at (suc n) zero x e = let same : unused limit ≡ x = cc in ap (λ (s : Slot). s.limit) (sym same)
+    at (suc n) (suc c) x e = at n c x e
+
+drop_at : (xs : List (Option Last)) (n : ℕ) (d : Option Last) → n < length xs → drop n xs ≡ slice_index_or xs n d ∷ drop (suc n) xs
+drop_at [] n d h = absurd (omega arith)
+drop_at (x ∷ xs) zero d h = refl
+drop_at (x ∷ xs) (suc n) d h = drop_at xs n d (omega arith)
+
+drop_last : (slots : List Slot) (c : ℕ) (d : Slot) → c < length slots → drop c (lasts slots) ≡ (slice_index_or slots c d).last ∷ drop (c + 1) (lasts slots)
+drop_last slots c d h =
+    let one : suc c ≡ c + 1 = omega arith in
+    drop_at (lasts slots) c d.last (omega (arith, lasts_length slots))
+    ∙ ap (λ (x : Option Last). x ∷ drop (suc c) (lasts slots)) (last_at slots c d)
+    ∙ ap (λ (n : ℕ). (slice_index_or slots c d).last ∷ drop n (lasts slots)) one
+
+-- closed one by one
+pub close_more : (seen i : ℕ) (slots : List Slot) (d : Slot) → i < length slots
+    → close_channels seen i (drop i (lasts slots)) ≡ close_last seen i (slice_index_or slots i d).last ++ close_channels seen (i + 1) (drop (i + 1) (lasts slots))
+close_more seen i slots d h = ap (close_channels seen i) (drop_last slots i d h)
+
+-- spelled one by one
+pub spelled_more : (slots : List Slot) (c : ℕ) (d : Slot) → c < length slots
+    → flat_map block (take (c + 1) (lasts slots)) ≡ flat_map block (take c (lasts slots)) ++ block (slice_index_or slots c d).last
+spelled_more slots c d h =
+    let one : c + 1 ≡ suc c = omega arith in
+    ap (λ (n : ℕ). flat_map block (take n (lasts slots))) one
+    ∙ ap (flat_map block) (take-suc (lasts slots) c d.last (omega (arith, lasts_length slots)))
+    ∙ flat_map-append block (take c (lasts slots)) (slice_index_or (lasts slots) c d.last ∷ [])
+    ∙ ap (λ (l : List ℕ). flat_map block (take c (lasts slots)) ++ l) (append-nil (block (slice_index_or (lasts slots) c d.last)))
+    ∙ ap (λ (x : Option Last). flat_map block (take c (lasts slots)) ++ block x) (last_at slots c d)
+
+pub spelled_rest : (slots : List Slot) (c : ℕ) (d : Slot) → c < length slots
+    → flat_map block (drop c (lasts slots)) ≡ block (slice_index_or slots c d).last ++ flat_map block (drop (c + 1) (lasts slots))
+spelled_rest slots c d h = ap (flat_map block) (drop_last slots c d h)

@@ -1,0 +1,23 @@
+use Rattle.std.proofs.Common.{◌+◌, drop, arith}
+use Rattle.std.specs.Prelude.{slice_index_or}
+use Rattle.tm_reassembly.specs.Items.{close_last, close_channels}
+use Rattle.tm_reassembly.specs.Kept.{lasts}
+use Rattle.tm_reassembly.proofs.ReadField.{leads_all, leads_refused}
+use Rattle.tm_reassembly.proofs.Slots.{close_more}
+use Rattle.tm_reassembly.proofs.reassembly.close_channels.Goals as goal
+
+pub returns-in-Err-clause-refused : goal.returns-in-Err-clause-refused
+returns-in-Err-clause-refused g c =
+    leads_refused c.loop-channel.invariant _ _
+    (close_last c.args.seen c.loop-channel.channel (slice_index_or c.args.kept.now c.loop-channel.channel c.index-kept-channel.result).last)
+    (close_channels c.args.seen (c.loop-channel.channel + 1) (drop (c.loop-channel.channel + 1) (lasts c.args.kept.now)))
+    (close_more c.args.seen c.loop-channel.channel c.args.kept.now c.index-kept-channel.result (omega (arith, c.loop-channel-test.true)))
+    c.in-Err.ensures.refused
+
+pub loop-channel-preserved : goal.loop-channel-preserved
+loop-channel-preserved g c =
+    leads_all c.loop-channel.invariant _
+    (close_last c.args.seen c.loop-channel.channel (slice_index_or c.args.kept.now c.loop-channel.channel c.index-kept-channel.result).last)
+    (close_channels c.args.seen (c.loop-channel.channel + 1) (drop (c.loop-channel.channel + 1) (lasts c.args.kept.now)))
+    (close_more c.args.seen c.loop-channel.channel c.args.kept.now c.index-kept-channel.result (omega (arith, c.loop-channel-test.true)))
+    c.in_default.ensures.taken

@@ -1,0 +1,10 @@
+use Rattle.std.proofs.Common.{arith}
+use Rattle.tm_reassembly.proofs.Decoding.{blocks_valid}
+use Rattle.tm_reassembly.proofs.reassembly.restored.Goals as goal
+
+pub invariant_of-reassembly : goal.invariant_of-reassembly
+invariant_of-reassembly c = λ failed. (
+  blocks_valid c.args.rules c.args.records _ _ c.args.octets.now (record { below = λ i. omega (arith, c.type_inv.octets i) }) (omega arith) c.in-Ok-restore.ensures.ok
+      c.requires.limit c.args.master c.requires.count,
+  c.in-Ok-restore.ensures.limit,
+)

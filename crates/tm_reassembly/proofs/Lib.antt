@@ -29,6 +29,7 @@ pub mod ReadField
 pub mod Tails
 pub mod PartsInText
 pub mod LeadsInText
+pub mod Gaps
 pub mod Slots
 pub mod OneRecord
 pub mod ChannelSets

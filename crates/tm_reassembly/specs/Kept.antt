@@ -1,7 +1,7 @@
 -- What the code keeps of a channel, as the state has it, and what a frame makes of it. These stand in private contracts alone, and in
 -- the model of the public type.
-use Rattle.std.specs.Prelude.{◌≡◌, ℕ, map, slice_get, Option, Some, None, List, [], ◌∷◌, ◌++◌, false}
-use Rattle.tm_reassembly.specs.Chain.{Member, has_gap}
+use Rattle.std.specs.Prelude.{◌≡◌, ℕ, ◌==◌, if◌then◌else◌, map, slice_get, Option, Some, None, List, [], ◌∷◌, ◌++◌, false}
+use Rattle.tm_reassembly.specs.Chain.{Member, has_gap, next_count}
 use Rattle.tm_reassembly.specs.Field.{chain_parts_at, chain_tail_at}
 use Rattle.tm_reassembly.specs.Item.{Item}
 use Rattle.tm_reassembly.specs.Items.{gap_item, gap_at, vca_at}
@@ -79,6 +79,11 @@ kept_items limit channel kept m =
 
 abbrev pub kept_after : ℕ → Option Last → Member → Option Last
 kept_after limit kept m = Some (record { count = m.count; tail = chain_tail_at limit (has_gap (count_in kept) m) m.is_vca (tail_in kept) m })
+
+-- the count that should have been found after another, where it isn't the one that was
+abbrev pub missed : Option ℕ → ℕ → Option ℕ
+missed None found = None
+missed (Some before) found = if found == next_count before then None else Some (next_count before)
 
 -- a frame of which only the count matters
 abbrev pub counted : ℕ → ℕ → Member

@@ -7,7 +7,7 @@ ghost use Rattle.tm_reassembly.specs.Chain.{member, has_gap, is_vca_kind};
 ghost use Rattle.tm_reassembly.specs.Field.{chain_parts_at, chain_tail_at, ended_parts, step_parts, step_tail};
 ghost use Rattle.tm_reassembly.specs.Items.{gap_item, master_gap_item, gap_at, vca_at, close_last};
 ghost use Rattle.tm_reassembly.specs.Item as value;
-ghost use Rattle.tm_reassembly.specs.Kept.{Slot, last_of, octets_in, count_in, tail_in, kept_items, kept_after, counted, member_at};
+ghost use Rattle.tm_reassembly.specs.Kept.{Slot, last_of, octets_in, count_in, tail_in, kept_items, kept_after, counted, missed, member_at};
 ghost use Rattle.tm_reassembly.specs.Rules.{IsLimit};
 ghost use Rattle.tm_reassembly.specs.Sinks.{TakesAll, RefusesOne, part_items};
 ghost use Rattle.tm_reassembly.specs.State.{Last};
@@ -229,7 +229,23 @@ impl Kept {
     }
 }
 
+// The count that should have been found, where it isn't the one that was.
+fn missed(before: Option<u8>, found: u8) -> Option<u8>
+    ensures { result ≡ missed before found }
+{
+    let Some(before) = before else {
+        return None;
+    };
+    let expected = before.wrapping_add(1);
+    if found == expected {
+        None
+    } else {
+        Some(expected)
+    }
+}
+
 // Gives the gap between a count and the one before it, if there is one; answers whether there is.
+#[tactic(auto, using(crate::proofs::Gaps::none_missed, crate::proofs::Gaps::one_missed, crate::proofs::Gaps::no_gap, crate::proofs::Gaps::the_gap))]
 fn give_gap<S: Sink>(
     seen: u32,
     channel: u8,
@@ -242,13 +258,9 @@ fn give_gap<S: Sink>(
     ensures answer { IfOk result (λ gap. gap ≡ has_gap before (counted seen found)) }
     ensures refused { IfErr result (λ fault. RefusesOne S.takes S.refuses sink.old (gap_at (gap_item channel) before (counted seen found)) fault sink.new) }
 {
-    let Some(before) = before else {
+    let Some(expected) = missed(before, found) else {
         return Ok(false);
     };
-    let expected = before.wrapping_add(1);
-    if found == expected {
-        return Ok(false);
-    }
     let gap = Item::Gap {
         seen,
         channel,
@@ -263,6 +275,7 @@ fn give_gap<S: Sink>(
 }
 
 /// Gives the gap of the master channel between a count and the one before it, if there is one.
+#[tactic(auto, using(crate::proofs::Gaps::no_gap, crate::proofs::Gaps::the_gap))]
 pub fn give_master_gap<S: Sink>(
     seen: u32,
     before: Option<u8>,
@@ -272,13 +285,9 @@ pub fn give_master_gap<S: Sink>(
     ensures taken { OnOk result (TakesAll S.takes sink.old (gap_at master_gap_item before (counted seen found)) sink.new) }
     ensures refused { IfErr result (λ fault. RefusesOne S.takes S.refuses sink.old (gap_at master_gap_item before (counted seen found)) fault sink.new) }
 {
-    let Some(before) = before else {
+    let Some(expected) = missed(before, found) else {
         return Ok(());
     };
-    let expected = before.wrapping_add(1);
-    if found == expected {
-        return Ok(());
-    }
     let gap = Item::MasterGap {
         seen,
         expected,

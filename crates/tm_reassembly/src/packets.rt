@@ -45,12 +45,13 @@ pub fn is_long(limit: usize, far: usize, stop: usize) -> bool
 /// Whether a frame of which the field has `len` octets, and begins `at` octets behind a packet's start, agrees by its place with the packet
 /// having `far` octets: it has no place, and the packet reaches its end; or the packet reaches just its place.
 pub fn agrees_at(far: usize, at: usize, len: usize, place: Option<u16>) -> bool
-    requires { at + len < 2 ^ 64 }
+    requires room { at + len < 2 ^ 64 }
+    requires place { PlaceFits place len }
     ensures { result ≡ model.agrees_at far at len place }
 {
     match place {
         None => at + len <= far,
-        Some(start) => at.checked_add(start as usize) == Some(far),
+        Some(start) => far == at + start as usize,
     }
 }
 

@@ -1,0 +1,37 @@
+-- The gap between two counts, by the count that should have been found.
+use Rattle.std.proofs.Common.{◌≡◌, ℕ, Bool, true, false, not, cond, Option, Some, None, List, [], ◌∷◌, refl, sym, ap, ◌∙◌, ⊎_elim, eqb}
+use Rattle.std.proofs.lemmas.Bool.{cases_Bool, cond-true, cond-false}
+use Rattle.tm_reassembly.specs.Chain.{Member, has_gap, next_count}
+use Rattle.tm_reassembly.specs.Item.{Item}
+use Rattle.tm_reassembly.specs.Items.{gap_at}
+use Rattle.tm_reassembly.specs.Kept.{counted, missed}
+
+same_test : (t : Bool) (n : ℕ) → cond t None (Some n) ≡ None → t ≡ true
+same_test true n e = refl
+same_test false n e = absurd (cc)
+
+other_test : (t : Bool) (n m : ℕ) → cond t None (Some n) ≡ Some m → (t ≡ false) × (n ≡ m)
+other_test true n m e = absurd (cc)
+other_test false n m e = (refl, same e)
+  where
+    same : ◌≡◌ {A = Option ℕ} (Some n) (Some m) → n ≡ m
+    same h = cc
+
+pub none_missed : (before : Option ℕ) (seen found : ℕ) → missed before found ≡ None → has_gap before (counted seen found) ≡ false
+none_missed None seen found e = refl
+none_missed (Some before) seen found e = ap not (same_test (eqb found (next_count before)) (next_count before) e)
+
+pub one_missed : (before : Option ℕ) (seen found expected : ℕ) → missed before found ≡ Some expected → has_gap before (counted seen found) ≡ true
+one_missed None seen found expected e = absurd (cc)
+one_missed (Some before) seen found expected e = ap not (other_test (eqb found (next_count before)) (next_count before) expected e).0
+
+pub no_gap : (gap : ℕ → Member → Item) (before : Option ℕ) (seen found : ℕ) → missed before found ≡ None → gap_at gap before (counted seen found) ≡ []
+no_gap gap None seen found e = refl
+no_gap gap (Some before) seen found e = cond-false (not (eqb found (next_count before))) _ _ (none_missed (Some before) seen found e)
+
+pub the_gap : (gap : ℕ → Member → Item) (before : Option ℕ) (seen found expected : ℕ) → missed before found ≡ Some expected
+    → gap_at gap before (counted seen found) ≡ gap expected (counted seen found) ∷ []
+the_gap gap None seen found expected e = absurd (cc)
+the_gap gap (Some before) seen found expected e =
+    let test = other_test (eqb found (next_count before)) (next_count before) expected e in
+    cond-true (not (eqb found (next_count before))) _ _ (ap not test.0) ∙ ap (λ (n : ℕ). gap n (counted seen found) ∷ []) test.1

@@ -36,7 +36,9 @@ pub mod ChannelSets
 pub mod Blocks
 pub mod OneHeld
 pub mod Merged
+pub mod MasterItems
 pub mod ItemChannels
 pub mod Decoding
 pub mod Spelling
 pub mod Spelled
+pub mod OlderForms

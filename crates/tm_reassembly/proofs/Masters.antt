@@ -16,7 +16,7 @@ master_after before (Err fault) = before
 master_after before (Ok g) = Some g.master_count
 
 -- the gaps of members behind a stem with this count, or behind none
-masters-is : (before : Option ℕ) (ms : List Member) → master_items (master_stem before ++ ms) ≡ gaps master_gap_item before ms
+pub masters-is : (before : Option ℕ) (ms : List Member) → master_items (master_stem before ++ ms) ≡ gaps master_gap_item before ms
 masters-is None ms = refl
 masters-is (Some count) ms = refl
 

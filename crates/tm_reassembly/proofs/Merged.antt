@@ -97,7 +97,7 @@ among-all n x (y ∷ ys) a =
     first f (inr b) = inr (f b)
 
 -- the items of a channel are of it
-abbrev AllOf : ℕ → List Item → Type 0
+abbrev pub AllOf : ℕ → List Item → Type 0
 AllOf c [] = Unit {0}
 AllOf c (x ∷ xs) = (is_of c x ≡ true) × AllOf c xs
 
@@ -191,7 +191,7 @@ of-seen P c [] h = tt
 of-seen P c (x ∷ xs) h =
     cond_both (is_of c x) (x ∷ of_channel c xs) (of_channel c xs) (AllSeen P) (λ e. (h.0, of-seen P c xs h.1)) (λ e. of-seen P c xs h.1)
 
-seen-of : (c n : ℕ) (xs : List Item) → AllOf c xs → AllOf c (seen_at n xs)
+pub seen-of : (c n : ℕ) (xs : List Item) → AllOf c xs → AllOf c (seen_at n xs)
 seen-of c n [] h = tt
 seen-of c n (x ∷ xs) h =
     cond_both (eqb (seen_of x) n) (x ∷ seen_at n xs) (seen_at n xs) (AllOf c) (λ e. (h.0, seen-of c n xs h.1)) (λ e. seen-of c n xs h.1)
@@ -275,7 +275,7 @@ seen-in_time rules s records v c x a =
     (omega arith, omega arith)
 
 module _ (limit : ℕ) where
-  channel-of : (c : ℕ) (ms : List Member) → AllOf c (channel_items limit c ms)
+  pub channel-of : (c : ℕ) (ms : List Member) → AllOf c (channel_items limit c ms)
   channel-of c ms =
       AllOf-append c (gaps (gap_item c) None ms ++ flat_map (vca_at c) ms) (part_items c (chain_parts limit ms))
       (AllOf-append c (gaps (gap_item c) None ms) (flat_map (vca_at c) ms) (gaps-of c None ms) (vcas-of c ms))

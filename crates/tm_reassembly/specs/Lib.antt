@@ -12,6 +12,7 @@ pub mod Sinks
 pub mod Reasons
 pub mod Steps
 pub mod Checkpoint
+pub mod OlderForms
 pub mod Blocks
 pub mod Valid
 pub mod Kept

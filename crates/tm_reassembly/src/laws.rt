@@ -1,6 +1,6 @@
 //! Laws of the definitions. These functions make no calls: their contracts are the laws.
 
-ghost use Rattle.std.specs.Prelude.{◌≡◌, ℕ, ◌+◌, ◌^◌, ◌<◌, ◌≤◌, nat_le, Bool, true, false, ◌&&◌, Some, None, Ok, slice_get, List, [], ◌∷◌, ◌++◌, length, take};
+ghost use Rattle.std.specs.Prelude.{◌≡◌, ◌⊎◌, ℕ, ◌+◌, ◌^◌, ◌<◌, ◌≤◌, nat_le, Bool, true, false, ◌&&◌, Some, None, Ok, slice_get, List, [], ◌∷◌, ◌++◌, length, take};
 ghost use Rattle.std.specs.List.{flat_map, filter};
 ghost use Rattle.tm_bits.specs.Bits.{AreOctets};
 ghost use Rattle.tm_frame.specs.declared.layout.LayoutParts.{LayoutParts};
@@ -8,12 +8,13 @@ ghost use Rattle.tm_reassembly.specs.Rules.{Rules, IsLimit, chooses};
 ghost use Rattle.tm_reassembly.specs.State.{State, Last, Tail};
 ghost use Rattle.tm_reassembly.specs.Valid.{IsState, AllOctets};
 ghost use Rattle.tm_reassembly.specs.Checkpoint.{spelling, old_spelling, Decoded, decoding_of, old_decoding_of};
-ghost use Rattle.tm_reassembly.specs.Items.{empty, held_part, chain_parts, channel_items, seen_at};
+ghost use Rattle.tm_reassembly.specs.OlderForms.{LacksAtMostOneMasterGap, one_octet_more, without_master};
+ghost use Rattle.tm_reassembly.specs.Items.{empty, held_part, chain_parts, channel_items, master_items, seen_at};
 ghost use Rattle.tm_reassembly.specs.Item.{Item, seen_of};
-ghost use Rattle.tm_reassembly.specs.Among.{Among, is_of};
+ghost use Rattle.tm_reassembly.specs.Among.{Among, is_of, is_master_gap};
 ghost use Rattle.tm_reassembly.specs.Recording.{readings, items, after};
 ghost use Rattle.tm_reassembly.specs.declared.items.Reason.TheVariants as why;
-ghost use Rattle.tm_reassembly.specs.Chain.{Member, Run, End, runs, chain};
+ghost use Rattle.tm_reassembly.specs.Chain.{Member, Run, End, runs, chain, master_chain};
 ghost use Rattle.tm_reassembly.specs.Parts.{Start, starts_of, text, far_end, is_packet, is_long, begins_packet, reach, agrees, open_after, claims, holder, breaker, joined};
 ghost use Rattle.tm_reassembly.specs.Parts.{Given, Lost, fate_at, front_of, lead, lead_part, start_part};
 ghost use Rattle.tm_reassembly.specs.Absolute.{reach_at, IsVersionZero, IsLong, BeginsPacket, AgreesAt, Agrees, IsOpen, IsOpenAt, IsWhole, Iff, IsStart, IsIn, LiesAfter, part_at};
@@ -40,8 +41,8 @@ pub fn valid_states()
 {}
 
 /// Spellings: what is spelled is read again as the same state, whatever follows, and no spelling is a proper prefix of another.
-/// Octets that are read as a state begin with its spelling, which is the octets that were read. In the form of versions 1 and 2 this holds
-/// too, but that the last master channel count is lost.
+/// Octets that are read as a state begin with its spelling, which is the octets that were read. In the older form this holds too, but that the
+/// last master channel count is lost; with a 0 put in behind the number of records the newer form reads what the older one reads without it.
 pub fn spellings()
     ensures read_again { (rules : Rules) (s : State) (rest : List ℕ) → IsState rules s →
         decoding_of rules (spelling s ++ rest) ≡ Ok (record { state = s; octets = length (spelling s) }) }
@@ -50,10 +51,22 @@ pub fn spellings()
     ensures spelled_again { (rules : Rules) (octets : List ℕ) (d : Decoded) → AreOctets octets →
         decoding_of rules octets ≡ Ok d → (d.octets ≤ length octets) × (take d.octets octets ≡ spelling d.state) }
     ensures old_read_again { (rules : Rules) (s : State) (rest : List ℕ) → IsState rules s →
-        old_decoding_of rules (old_spelling s ++ rest)
-        ≡ Ok (record { state = record { records = s.records; master = None; channels = s.channels }; octets = length (old_spelling s) }) }
+        old_decoding_of rules (old_spelling s ++ rest) ≡ Ok (record { state = without_master s; octets = length (old_spelling s) }) }
     ensures old_spelled_again { (rules : Rules) (octets : List ℕ) (d : Decoded) → AreOctets octets → old_decoding_of rules octets ≡ Ok d →
         (d.octets ≤ length octets) × (take d.octets octets ≡ old_spelling d.state) × (d.state.master ≡ None) }
+    ensures old_no_prefix { (rules : Rules) (s t : State) (rest : List ℕ) → IsState rules s → IsState rules t →
+        old_spelling s ++ rest ≡ old_spelling t → (without_master s ≡ without_master t) × (rest ≡ []) }
+    ensures one_form { (rules : Rules) (a b : List ℕ) → length a ≡ 4 → decoding_of rules (a ++ 0 ∷ b) ≡ one_octet_more (old_decoding_of rules (a ++ b)) }
+{}
+
+/// The last master channel count forgotten: of the items of records at most one is lacking then, a gap of the master channel. The states that
+/// the records leave are the same; or no good frame came, and then all items are there and the count is still not known.
+pub fn forgotten_count()
+    ensures items_lack { (rules : Rules) (s : State) (records : List (List ℕ)) → IsState rules s →
+        LacksAtMostOneMasterGap (items rules s records) (items rules (without_master s) records) }
+    ensures states_meet { (rules : Rules) (s : State) (records : List (List ℕ)) → IsState rules s →
+        (after rules (without_master s) records ≡ after rules s records)
+        ⊎ ((after rules (without_master s) records ≡ without_master (after rules s records)) × (items rules (without_master s) records ≡ items rules s records)) }
 {}
 
 /// Settled verdicts: whether a start is open at a frame, whether the frame agrees with it, whether its packet is long there, and whether
@@ -77,7 +90,8 @@ pub fn settled_verdict()
 
 /// Merged by record nothing is lost, and nothing is added. From a valid state, each item of a channel is seen at one of the records; if
 /// the channel is chosen it is among the items of the records; and at each record these have just the channel's items that are seen
-/// there, in the same order. Each packet, dropped part, gap and VCA frame among the items of the records is one of its channel's items.
+/// there, in the same order. Each packet, dropped part, gap and VCA frame among the items of the records is one of its channel's items. The gaps of
+/// the master channel among them are just those of the master chain, the list of all good frames, in its order.
 pub fn nothing_is_lost()
     ensures in_time { (rules : Rules) (s : State) (records : List (List ℕ)) → IsState rules s →
         (c : ℕ) (x : Item) → Among x (channel_items rules.max_packet c (chain s c (readings rules.layout records))) →
@@ -92,6 +106,8 @@ pub fn nothing_is_lost()
     ensures nothing_added { (rules : Rules) (s : State) (records : List (List ℕ)) →
         (c : ℕ) (x : Item) → is_of c x ≡ true → Among x (items rules s records) →
         (chooses rules c ≡ true) × Among x (channel_items rules.max_packet c (chain s c (readings rules.layout records))) }
+    ensures masters { (rules : Rules) (s : State) (records : List (List ℕ)) → IsState rules s →
+        filter (λ x. is_master_gap x) (items rules s records) ≡ master_items (master_chain s (readings rules.layout records)) }
 {}
 
 /// Tiling: from no records, the packets and dropped parts of a chosen channel in the order given, and then its held tail, begin at

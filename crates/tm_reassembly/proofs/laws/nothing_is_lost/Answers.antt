@@ -1,3 +1,4 @@
+use Rattle.tm_reassembly.proofs.MasterItems.{masters-told}
 use Rattle.tm_reassembly.proofs.Merged.{seen-in_time, channel-told, channel-in_order, told-channel}
 use Rattle.tm_reassembly.proofs.laws.nothing_is_lost.Goals as goal
 
@@ -12,3 +13,6 @@ returns-clause-in_order c = channel-in_order
 
 pub returns-clause-nothing_added : goal.returns-clause-nothing_added
 returns-clause-nothing_added c = told-channel
+
+pub returns-clause-masters : goal.returns-clause-masters
+returns-clause-masters c = masters-told

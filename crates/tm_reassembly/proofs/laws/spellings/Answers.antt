@@ -1,3 +1,4 @@
+use Rattle.tm_reassembly.proofs.OlderForms.{old-no-prefix, one-form}
 use Rattle.tm_reassembly.proofs.Spelled.{spelled-again, old-spelled-again}
 use Rattle.tm_reassembly.proofs.Spelling.{read-again, old-read-again, no-prefix}
 use Rattle.tm_reassembly.proofs.laws.spellings.Goals as goal
@@ -16,3 +17,9 @@ returns-clause-old_read_again c = old-read-again
 
 pub returns-clause-old_spelled_again : goal.returns-clause-old_spelled_again
 returns-clause-old_spelled_again c = old-spelled-again
+
+pub returns-clause-old_no_prefix : goal.returns-clause-old_no_prefix
+returns-clause-old_no_prefix c = old-no-prefix
+
+pub returns-clause-one_form : goal.returns-clause-one_form
+returns-clause-one_form c = one-form

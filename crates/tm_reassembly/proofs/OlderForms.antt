@@ -1,0 +1,198 @@
+-- The older form of a spelling, and what is lost with the last master channel count.
+use Rattle.std.proofs.Common.{◌≡◌, ◌⊎◌, Ok, Err, Result, ℕ, suc, zero, ◌+◌, ◌≤◌, Bool, true, false, Option, Some, None, List, [], ◌∷◌, ◌++◌, length, drop, refl, sym, ap, subst, ◌∙◌, inl, inr, ⊎_elim, arith, append_assoc, length-append, ltb}
+use Rattle.std.proofs.lemmas.List.{append-nil}
+use Rattle.std.proofs.lemmas.Bool.{cases_Bool, cond-true, cond-false, le-ltb}
+use Rattle.tm_frame.specs.Frame.{GoodFrame}
+use Rattle.tm_reassembly.specs.declared.fault.StateFault.{StateFault}
+use Rattle.tm_reassembly.specs.Readings.{Reading}
+use Rattle.tm_reassembly.specs.State.{State}
+use Rattle.tm_reassembly.specs.Chain.{Member, has_gap, next_count, member, master_member}
+use Rattle.tm_reassembly.specs.Checkpoint.{ReadAll, Decoded, four_at, blocks_read, master_read, with_channels, with_master, decoding_of, old_decoding_of, old_spelling}
+use Rattle.tm_reassembly.specs.Item.{Item, MasterGap}
+use Rattle.tm_reassembly.specs.Items.{master_gap_item, gap_at, items, after}
+use Rattle.tm_reassembly.specs.OlderForms.{without_master, LacksAtMostOneMasterGap, lacks_none, lacks_one, one_octet_more}
+use Rattle.tm_reassembly.specs.Recording as raw
+use Rattle.tm_reassembly.specs.Rules.{Rules, chooses}
+use Rattle.tm_reassembly.specs.Valid.{HasShape, IsFit, AllFit, IsState}
+use Rattle.tm_reassembly.proofs.Fits.{readings-fit}
+use Rattle.tm_reassembly.proofs.Joining.{before_of, tail_of, member_items}
+use Rattle.tm_reassembly.proofs.OneStep.{valid-from, after-nil, items-one, after-one, after-bad, items-other, after-other}
+use Rattle.tm_reassembly.proofs.Records.{items-cons, after-cons}
+use Rattle.tm_reassembly.proofs.Spelling.{old-read-again}
+use Rattle.std.specs.List.{slice_get}
+
+-- ---- reading
+
+one-more : (records : ℕ) (x : Result ReadAll StateFault) → with_channels records None 5 x ≡ one_octet_more (with_channels records None 4 x)
+one-more records (Ok all) =
+    let more : 5 + all.octets ≡ (4 + all.octets) + 1 = omega arith in
+    ap (λ (n : ℕ). Ok (record { state = record { records = records; master = None; channels = all.kept }; octets = n })) more
+one-more records (Err found) = refl
+
+new-form : (rules : Rules) (w x y z : ℕ) (b : List ℕ) → decoding_of rules (w ∷ x ∷ y ∷ z ∷ 0 ∷ b)
+    ≡ with_channels (four_at (w ∷ x ∷ y ∷ z ∷ b) 0) None 5 (blocks_read rules (four_at (w ∷ x ∷ y ∷ z ∷ b) 0) 8 0 b)
+unfolding decoding_of master_read
+new-form rules w x y z b = cond-false (ltb (length (w ∷ x ∷ y ∷ z ∷ 0 ∷ b)) 4) _ _ (le-ltb (length (w ∷ x ∷ y ∷ z ∷ 0 ∷ b)) 4 (omega arith))
+
+old-form : (rules : Rules) (w x y z : ℕ) (b : List ℕ) → old_decoding_of rules (w ∷ x ∷ y ∷ z ∷ b)
+    ≡ with_channels (four_at (w ∷ x ∷ y ∷ z ∷ b) 0) None 4 (blocks_read rules (four_at (w ∷ x ∷ y ∷ z ∷ b) 0) 8 0 b)
+unfolding old_decoding_of
+old-form rules w x y z b = cond-false (ltb (length (w ∷ x ∷ y ∷ z ∷ b)) 4) _ _ (le-ltb (length (w ∷ x ∷ y ∷ z ∷ b)) 4 (omega arith))
+
+-- with a 0 put in behind the number of records, the newer form reads what the older one reads without
+pub one-form : (rules : Rules) (a b : List ℕ) → length a ≡ 4 → decoding_of rules (a ++ 0 ∷ b) ≡ one_octet_more (old_decoding_of rules (a ++ b))
+one-form rules [] b h = absurd (omega arith)
+one-form rules (w ∷ []) b h = absurd (omega arith)
+one-form rules (w ∷ x ∷ []) b h = absurd (omega arith)
+one-form rules (w ∷ x ∷ y ∷ []) b h = absurd (omega arith)
+one-form rules (w ∷ x ∷ y ∷ z ∷ []) b h =
+    new-form rules w x y z b ∙ one-more (four_at (w ∷ x ∷ y ∷ z ∷ b) 0) _ ∙ sym (ap one_octet_more (old-form rules w x y z b))
+one-form rules (w ∷ x ∷ y ∷ z ∷ v ∷ a) b h = absurd (omega arith)
+
+-- no spelling in the older form begins another
+unfoldable old-state : Result Decoded StateFault → State → State
+old-state (Ok d) other = d.state
+old-state (Err found) other = other
+
+unfoldable old-octets : Result Decoded StateFault → ℕ
+old-octets (Ok d) = d.octets
+old-octets (Err found) = 0
+
+pub old-no-prefix : (rules : Rules) (s t : State) (rest : List ℕ) → IsState rules s → IsState rules t → old_spelling s ++ rest ≡ old_spelling t
+    → (without_master s ≡ without_master t) × (rest ≡ [])
+unfolding old-state old-octets
+old-no-prefix rules s t rest v w e =
+    let good : State → ℕ → Result Decoded StateFault = λ state n. Ok (record { state = state; octets = n }) in
+    let same : good (without_master s) (length (old_spelling s)) ≡ good (without_master t) (length (old_spelling t)) =
+    sym (old-read-again rules s rest v) ∙ ap (old_decoding_of rules) (e ∙ sym (append-nil (old_spelling t))) ∙ old-read-again rules t [] w in
+    let long : length (old_spelling s) ≡ length (old_spelling t) = ap old-octets same in
+    let sum : length (old_spelling s) + length rest ≡ length (old_spelling t) = sym (length-append (old_spelling s) rest) ∙ ap length e in
+    (ap (λ (x : Result Decoded StateFault). old-state x s) same, nil rest (omega arith))
+  where
+    nil : (xs : List ℕ) → length xs ≡ 0 → xs ≡ []
+    nil [] h = refl
+    nil (x ∷ xs) h = absurd (omega arith)
+
+-- ---- items
+
+shape-of : (limit : ℕ) (chosen : ℕ → Bool) (s t : State) → t.channels ≡ s.channels → HasShape limit chosen s → HasShape limit chosen t
+shape-of limit chosen s t e v = record {
+  eight_channels = rw e v.eight_channels;
+  only_chosen = λ c n small. rw e (v.only_chosen c n small);
+  tails = λ c last tail f g. v.tails c last tail (rw (← e) f) g;
+}
+
+-- a gap is one item, or none
+gap-lacks : (before : Option ℕ) (m : Member) (xs : List Item) → LacksAtMostOneMasterGap (gap_at master_gap_item before m ++ xs) xs
+gap-lacks None m xs = lacks_none refl
+gap-lacks (Some before) m xs =
+    ⊎_elim
+    (λ e.
+    lacks_one [] xs m.number (next_count before) m.count _
+    (ap (λ (ys : List Item). ys ++ xs) (cond-true (has_gap (Some before) m) _ _ e)) refl)
+    (λ e. lacks_none (sym (ap (λ (ys : List Item). ys ++ xs) (cond-false (has_gap (Some before) m) _ _ e))))
+    (cases_Bool (has_gap (Some before) m))
+
+lacks-behind : (xs all fewer : List Item) → LacksAtMostOneMasterGap all fewer → LacksAtMostOneMasterGap (xs ++ all) (xs ++ fewer)
+lacks-behind xs all fewer (lacks_none e) = lacks_none (ap (λ (ys : List Item). xs ++ ys) e)
+lacks-behind xs all fewer (lacks_one front back seen expected found missing e f) =
+    lacks_one (xs ++ front) back seen expected found missing
+    (ap (λ (ys : List Item). xs ++ ys) e ∙ sym (append_assoc xs front (MasterGap seen expected found missing ∷ back)))
+    (ap (λ (ys : List Item). xs ++ ys) f ∙ sym (append_assoc xs front back))
+
+lacks-same : (a b c d : List Item) → a ≡ b → c ≡ d → LacksAtMostOneMasterGap a c → LacksAtMostOneMasterGap b d
+lacks-same a b c d e f h = subst (λ (ys : List Item). LacksAtMostOneMasterGap ys d) e (subst (λ (ys : List Item). LacksAtMostOneMasterGap a ys) f h)
+
+module _ (limit : ℕ) (chosen : ℕ → Bool) where
+  -- the states after records: the same, or different in the master channel count alone, no good frame having come
+  abbrev StatesMeet : State → State → List Item → List Item → Type 0
+  StatesMeet a b all fewer = (b ≡ a) ⊎ ((b ≡ without_master a) × (fewer ≡ all))
+
+  record Meet (s : State) (rs : List Reading) : Type 0 where
+    the_items : LacksAtMostOneMasterGap (items limit chosen s rs) (items limit chosen (without_master s) rs)
+    the_states : StatesMeet (after limit chosen s rs) (after limit chosen (without_master s) rs) (items limit chosen s rs) (items limit chosen (without_master s) rs)
+
+  -- one good frame: its own items but for the gap, and the same state
+  good-state : (s : State) (g : GoodFrame) → HasShape limit chosen s → IsFit (Ok g)
+      → after limit chosen (without_master s) (Ok g ∷ []) ≡ after limit chosen s (Ok g ∷ [])
+  good-state s g v fit =
+      let w : HasShape limit chosen (without_master s) = shape-of limit chosen s (without_master s) refl v in
+      ⊎_elim
+      (λ e. after-one limit chosen (without_master s) g w fit e ∙ sym (after-one limit chosen s g v fit e))
+      (λ e. after-other limit chosen (without_master s) g w fit e ∙ sym (after-other limit chosen s g v fit e))
+      (cases_Bool (chosen g.channel))
+
+  good-items : (s : State) (g : GoodFrame) (xs : List Item) → HasShape limit chosen s → IsFit (Ok g)
+      → LacksAtMostOneMasterGap (items limit chosen s (Ok g ∷ []) ++ xs) (items limit chosen (without_master s) (Ok g ∷ []) ++ xs)
+  good-items s g xs v fit =
+      let w : HasShape limit chosen (without_master s) = shape-of limit chosen s (without_master s) refl v in
+      ⊎_elim
+      (λ e.
+      let own : List Item = member_items limit g.channel (before_of (slice_get s.channels g.channel)) (tail_of (slice_get s.channels g.channel)) (member s.records g) in
+      lacks-same (gap_at master_gap_item s.master (master_member s.records g) ++ (own ++ xs)) _ (own ++ xs) _
+      (sym (append_assoc (gap_at master_gap_item s.master (master_member s.records g)) own xs) ∙ ap (λ (ys : List Item). ys ++ xs) (sym (items-one limit chosen s g v fit e)))
+      (ap (λ (ys : List Item). ys ++ xs) (sym (items-one limit chosen (without_master s) g w fit e)))
+      (gap-lacks s.master (master_member s.records g) (own ++ xs)))
+      (λ e.
+      lacks-same (gap_at master_gap_item s.master (master_member s.records g) ++ xs) _ xs _
+      (ap (λ (ys : List Item). ys ++ xs) (sym (items-other limit chosen s g e)))
+      (ap (λ (ys : List Item). ys ++ xs) (sym (items-other limit chosen (without_master s) g e)))
+      (gap-lacks s.master (master_member s.records g) xs))
+      (cases_Bool (chosen g.channel))
+
+  meet : (s : State) (rs : List Reading) → HasShape limit chosen s → AllFit rs → Meet s rs
+  meet s [] v fits =
+      let w : HasShape limit chosen (without_master s) = shape-of limit chosen s (without_master s) refl v in
+      record {
+        the_items = lacks_none refl;
+        the_states = inr (after-nil limit chosen (without_master s) w ∙ ap without_master (sym (after-nil limit chosen s v)), refl);
+      }
+  meet s (Err fault ∷ rs) v fits =
+      let next : State = record { records = s.records + 1; master = s.master; channels = s.channels } in
+      let w : HasShape limit chosen (without_master s) = shape-of limit chosen s (without_master s) refl v in
+      let rest : Meet (record { records = s.records + 1; master = s.master; channels = s.channels }) rs =
+      meet (record { records = s.records + 1; master = s.master; channels = s.channels }) rs (shape-of limit chosen s _ refl v) fits.1 in
+      let a : items limit chosen s (Err fault ∷ rs) ≡ items limit chosen s (Err fault ∷ []) ++ items limit chosen next rs =
+      items-cons limit chosen s (Err fault) (valid-from limit chosen s v) tt rs fits.1
+      ∙ ap (λ (z : State). items limit chosen s (Err fault ∷ []) ++ items limit chosen z rs) (after-bad limit chosen s fault v) in
+      let b : items limit chosen (without_master s) (Err fault ∷ rs) ≡ items limit chosen s (Err fault ∷ []) ++ items limit chosen (without_master next) rs =
+      items-cons limit chosen (without_master s) (Err fault) (valid-from limit chosen (without_master s) w) tt rs fits.1
+      ∙ ap (λ (z : State). items limit chosen s (Err fault ∷ []) ++ items limit chosen z rs) (after-bad limit chosen (without_master s) fault w) in
+      let x : after limit chosen s (Err fault ∷ rs) ≡ after limit chosen next rs =
+      after-cons limit chosen s (Err fault) (valid-from limit chosen s v) tt rs ∙ ap (λ (z : State). after limit chosen z rs) (after-bad limit chosen s fault v) in
+      let y : after limit chosen (without_master s) (Err fault ∷ rs) ≡ after limit chosen (without_master next) rs =
+      after-cons limit chosen (without_master s) (Err fault) (valid-from limit chosen (without_master s) w) tt rs
+      ∙ ap (λ (z : State). after limit chosen z rs) (after-bad limit chosen (without_master s) fault w) in
+      record {
+        the_items = lacks-same _ _ _ _ (sym a) (sym b) (lacks-behind (items limit chosen s (Err fault ∷ [])) _ _ rest.the_items);
+        the_states =
+            ⊎_elim (λ e. inl (y ∙ e ∙ sym x))
+            (λ h. inr (y ∙ h.0 ∙ ap without_master (sym x), b ∙ ap (λ (xs : List Item). items limit chosen s (Err fault ∷ []) ++ xs) h.1 ∙ sym a)) rest.the_states;
+      }
+  meet s (Ok g ∷ rs) v fits =
+      let w : HasShape limit chosen (without_master s) = shape-of limit chosen s (without_master s) refl v in
+      let same = good-state s g v fits.0 in
+      let a = items-cons limit chosen s (Ok g) (valid-from limit chosen s v) fits.0 rs fits.1 in
+      let b : items limit chosen (without_master s) (Ok g ∷ rs) ≡ items limit chosen (without_master s) (Ok g ∷ []) ++ items limit chosen (after limit chosen s (Ok g ∷ [])) rs =
+      items-cons limit chosen (without_master s) (Ok g) (valid-from limit chosen (without_master s) w) fits.0 rs fits.1
+      ∙ ap (λ (z : State). items limit chosen (without_master s) (Ok g ∷ []) ++ items limit chosen z rs) same in
+      record {
+        the_items = lacks-same _ _ _ _ (sym a) (sym b) (good-items s g (items limit chosen (after limit chosen s (Ok g ∷ [])) rs) v fits.0);
+        the_states =
+            inl
+            (after-cons limit chosen (without_master s) (Ok g) (valid-from limit chosen (without_master s) w) fits.0 rs
+            ∙ ap (λ (z : State). after limit chosen z rs) same
+            ∙ sym (after-cons limit chosen s (Ok g) (valid-from limit chosen s v) fits.0 rs));
+      }
+
+-- the same of raw records
+pub items-lack : (rules : Rules) (s : State) (records : List (List ℕ)) → IsState rules s
+    → LacksAtMostOneMasterGap (raw.items rules s records) (raw.items rules (without_master s) records)
+unfolding raw.items
+items-lack rules s records v = (meet rules.max_packet (chooses rules) s (raw.readings rules.layout records) v.shape (readings-fit rules.layout records)).the_items
+
+pub states-meet : (rules : Rules) (s : State) (records : List (List ℕ)) → IsState rules s
+    → (raw.after rules (without_master s) records ≡ raw.after rules s records)
+    ⊎ ((raw.after rules (without_master s) records ≡ without_master (raw.after rules s records)) × (raw.items rules (without_master s) records ≡ raw.items rules s records))
+unfolding raw.items raw.after
+states-meet rules s records v = (meet rules.max_packet (chooses rules) s (raw.readings rules.layout records) v.shape (readings-fit rules.layout records)).the_states

@@ -37,6 +37,7 @@ pub mod Blocks
 pub mod OneHeld
 pub mod Merged
 pub mod MasterItems
+pub mod Limited
 pub mod ItemChannels
 pub mod Decoding
 pub mod Spelling

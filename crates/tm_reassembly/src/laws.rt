@@ -10,7 +10,7 @@ ghost use Rattle.tm_reassembly.specs.Valid.{IsState, AllOctets};
 ghost use Rattle.tm_reassembly.specs.Checkpoint.{spelling, old_spelling, Decoded, decoding_of, old_decoding_of};
 ghost use Rattle.tm_reassembly.specs.OlderForms.{LacksAtMostOneMasterGap, one_octet_more, without_master};
 ghost use Rattle.tm_reassembly.specs.Items.{empty, held_part, chain_parts, channel_items, master_items, seen_at};
-ghost use Rattle.tm_reassembly.specs.Item.{Item, seen_of};
+ghost use Rattle.tm_reassembly.specs.Item.{Item, Packet, seen_of};
 ghost use Rattle.tm_reassembly.specs.Among.{Among, is_of, is_master_gap};
 ghost use Rattle.tm_reassembly.specs.Recording.{readings, items, after};
 ghost use Rattle.tm_reassembly.specs.declared.items.Reason.TheVariants as why;
@@ -108,6 +108,13 @@ pub fn nothing_is_lost()
         (chooses rules c ≡ true) × Among x (channel_items rules.max_packet c (chain s c (readings rules.layout records))) }
     ensures masters { (rules : Rules) (s : State) (records : List (List ℕ)) → IsState rules s →
         filter (λ x. is_master_gap x) (items rules s records) ≡ master_items (master_chain s (readings rules.layout records)) }
+{}
+
+/// No packet is longer than the limit: each packet among the items of records has at most so many octets.
+pub fn limited_packets()
+    ensures limited { (rules : Rules) (s : State) (records : List (List ℕ)) → IsState rules s →
+        (seen channel first place : ℕ) (octets : List ℕ) → Among (Packet seen channel first place octets) (items rules s records) →
+        length octets ≤ rules.max_packet }
 {}
 
 /// Tiling: from no records, the packets and dropped parts of a chosen channel in the order given, and then its held tail, begin at

@@ -181,6 +181,24 @@ master_gap_unchosen : items (base channel_1 65542) empty
 unfolding items after base layout channel_1 fifty_fives packet cut fault_of part number bits_of low_bits
 master_gap_unchosen = refl
 
+-- a frame of another channel is lost between two of the chosen one, whose counts follow
+loss_in_another_channel : items (base channel_1 65542) empty
+    ((0x02 ∷ 0xA2 ∷ 0x00 ∷ 0x00 ∷ 0x18 ∷ 0x00 ∷ packet 18 0)
+    ∷ (0x02 ∷ 0xA0 ∷ 0x02 ∷ 0x01 ∷ 0x18 ∷ 0x00 ∷ packet 18 0)
+    ∷ (0x02 ∷ 0xA2 ∷ 0x03 ∷ 0x01 ∷ 0x18 ∷ 0x00 ∷ packet 18 1) ∷ [])
+    ≡ Packet 0 1 0 0 (packet 18 0) ∷ MasterGap 1 1 2 1 ∷ Packet 2 1 2 0 (packet 18 1) ∷ []
+unfolding items after base layout channel_1 fifty_fives packet cut fault_of part number bits_of low_bits
+loss_in_another_channel = refl
+
+-- 256 frames of channel 0 are lost while one of channel 1 comes between: only the master channel shows it
+loss_of_256_frames : items (base all_channels 65542) empty
+    ((0x02 ∷ 0xA0 ∷ 0x00 ∷ 0x00 ∷ 0x18 ∷ 0x00 ∷ (packet 10 0 ++ cut 0 8 (packet 14 1)))
+    ∷ (0x02 ∷ 0xA2 ∷ 0x65 ∷ 0x00 ∷ 0x18 ∷ 0x00 ∷ packet 18 0)
+    ∷ (0x02 ∷ 0xA0 ∷ 0x02 ∷ 0x01 ∷ 0x18 ∷ 0x06 ∷ (fifty_fives 6 ++ packet 12 2)) ∷ [])
+    ≡ Packet 0 0 0 0 (packet 10 0) ∷ MasterGap 1 1 101 100 ∷ Packet 1 1 1 0 (packet 18 0) ∷ MasterGap 2 102 2 156 ∷ Packet 2 0 0 10 (packet 14 1) ∷ Packet 2 0 2 6 (packet 12 2) ∷ []
+unfolding items after base layout channel_1 fifty_fives packet cut fault_of part number bits_of low_bits
+loss_of_256_frames = refl
+
 -- ---- two channels, and the same in two parts, with the state between them
 
 records_of_two_channels : List (List ℕ)

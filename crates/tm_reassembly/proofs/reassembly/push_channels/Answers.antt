@@ -10,16 +10,16 @@ pub push-requires : goal.push-requires
 push-requires c =
     let e = spelled_rest c.args.kept.now c.loop-channel.channel c.index-kept-channel.result (omega (arith, c.loop-channel-test.true)) in
     let l : length (flat_map block (drop c.loop-channel.channel (lasts c.args.kept.now)))
-        ≡ length (block (slice_index_or c.args.kept.now c.loop-channel.channel c.index-kept-channel.result).last)
-        + length (flat_map block (drop (c.loop-channel.channel + 1) (lasts c.args.kept.now))) = ap length e ∙ length-append _ _ in
+    ≡ length (block (slice_index_or c.args.kept.now c.loop-channel.channel c.index-kept-channel.result).last)
+    + length (flat_map block (drop (c.loop-channel.channel + 1) (lasts c.args.kept.now))) = ap length e ∙ length-append _ _ in
     omega (arith, l, c.loop-channel.invariant.1)
 
 pub loop-channel-preserved : goal.loop-channel-preserved
 loop-channel-preserved c =
     let e = spelled_rest c.args.kept.now c.loop-channel.channel c.index-kept-channel.result (omega (arith, c.loop-channel-test.true)) in
     let l : length (flat_map block (drop c.loop-channel.channel (lasts c.args.kept.now)))
-        ≡ length (block (slice_index_or c.args.kept.now c.loop-channel.channel c.index-kept-channel.result).last)
-        + length (flat_map block (drop (c.loop-channel.channel + 1) (lasts c.args.kept.now))) = ap length e ∙ length-append _ _ in (
+    ≡ length (block (slice_index_or c.args.kept.now c.loop-channel.channel c.index-kept-channel.result).last)
+    + length (flat_map block (drop (c.loop-channel.channel + 1) (lasts c.args.kept.now))) = ap length e ∙ length-append _ _ in (
       rw c.push.ensures.items (append_assoc c.loop-channel.out.items (block (slice_index_or c.args.kept.now c.loop-channel.channel c.index-kept-channel.result).last) (flat_map block (drop (c.loop-channel.channel + 1) (lasts c.args.kept.now)))
           ∙ ap (λ (l : List ℕ). c.loop-channel.out.items ++ l) (sym e) ∙ c.loop-channel.invariant.0),
       omega (arith, l, c.loop-channel.invariant.1, c.push.ensures.len, c.push.ensures.room),

@@ -10,8 +10,8 @@ pub loop-channel-preserved : goal.loop-channel-preserved
 loop-channel-preserved c =
     let e = spelled_more c.args.kept.now c.loop-channel.channel c.index-kept-channel.result (omega (arith, c.loop-channel-test.true)) in
     let l : length (flat_map block (take (c.loop-channel.channel + 1) (lasts c.args.kept.now)))
-        ≡ length (flat_map block (take c.loop-channel.channel (lasts c.args.kept.now)))
-        + length (block (slice_index_or c.args.kept.now c.loop-channel.channel c.index-kept-channel.result).last) = ap length e ∙ length-append _ _ in (
+    ≡ length (flat_map block (take c.loop-channel.channel (lasts c.args.kept.now)))
+    + length (block (slice_index_or c.args.kept.now c.loop-channel.channel c.index-kept-channel.result).last) = ap length e ∙ length-append _ _ in (
       omega (arith, l, c.loop-channel.invariant.0, c.spelled_length-length.ensures.value),
       omega (arith, c.loop-channel.invariant.1, c.spelled_length-length.ensures.most),
     )

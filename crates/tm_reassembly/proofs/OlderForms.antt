@@ -1,5 +1,5 @@
 -- The older form of a spelling, and what is lost with the last master channel count.
-use Rattle.std.proofs.Common.{◌≡◌, ◌⊎◌, Ok, Err, Result, ℕ, suc, zero, ◌+◌, ◌≤◌, Bool, true, false, Option, Some, None, List, [], ◌∷◌, ◌++◌, length, drop, refl, sym, ap, subst, ◌∙◌, inl, inr, ⊎_elim, arith, append_assoc, length-append, ltb}
+use Rattle.std.proofs.Common.{◌≡◌, ◌⊎◌, Ok, Err, Result, ℕ, suc, zero, ◌+◌, ◌-◌, ◌%◌, ◌≤◌, Bool, true, false, Option, Some, None, List, [], ◌∷◌, ◌++◌, length, drop, refl, sym, ap, subst, ◌∙◌, inl, inr, ⊎_elim, arith, append_assoc, length-append, ltb}
 use Rattle.std.proofs.lemmas.List.{append-nil}
 use Rattle.std.proofs.lemmas.Bool.{cases_Bool, cond-true, cond-false, le-ltb}
 use Rattle.tm_frame.specs.Frame.{GoodFrame}
@@ -10,7 +10,7 @@ use Rattle.tm_reassembly.specs.Chain.{Member, has_gap, next_count, member, maste
 use Rattle.tm_reassembly.specs.Checkpoint.{ReadAll, Decoded, four_at, blocks_read, master_read, with_channels, with_master, decoding_of, old_decoding_of, old_spelling}
 use Rattle.tm_reassembly.specs.Item.{Item, MasterGap}
 use Rattle.tm_reassembly.specs.Items.{master_gap_item, gap_at, items, after}
-use Rattle.tm_reassembly.specs.OlderForms.{without_master, LacksAtMostOneMasterGap, lacks_none, lacks_one, one_octet_more}
+use Rattle.tm_reassembly.specs.OlderForms.{without_master, IsMasterGapAtMost, LacksMasterGap, one_octet_more}
 use Rattle.tm_reassembly.specs.Recording as raw
 use Rattle.tm_reassembly.specs.Rules.{Rules, chooses}
 use Rattle.tm_reassembly.specs.Valid.{HasShape, IsFit, AllFit, IsState}
@@ -83,25 +83,33 @@ shape-of limit chosen s t e v = record {
 }
 
 -- a gap is one item, or none
-gap-lacks : (before : Option ℕ) (m : Member) (xs : List Item) → LacksAtMostOneMasterGap (gap_at master_gap_item before m ++ xs) xs
-gap-lacks None m xs = lacks_none refl
-gap-lacks (Some before) m xs =
+gap-is : (before : Option ℕ) (m : Member) → IsMasterGapAtMost (gap_at master_gap_item before m)
+gap-is None m = inl refl
+gap-is (Some before) m =
     ⊎_elim
-    (λ e.
-    lacks_one [] xs m.number (next_count before) m.count _
-    (ap (λ (ys : List Item). ys ++ xs) (cond-true (has_gap (Some before) m) _ _ e)) refl)
-    (λ e. lacks_none (sym (ap (λ (ys : List Item). ys ++ xs) (cond-false (has_gap (Some before) m) _ _ e))))
+    (λ e. inr (m.number, next_count before, m.count, (m.count + 256 - next_count before) % 256, cond-true (has_gap (Some before) m) _ _ e))
+    (λ e. inl (cond-false (has_gap (Some before) m) _ _ e))
     (cases_Bool (has_gap (Some before) m))
 
-lacks-behind : (xs all fewer : List Item) → LacksAtMostOneMasterGap all fewer → LacksAtMostOneMasterGap (xs ++ all) (xs ++ fewer)
-lacks-behind xs all fewer (lacks_none e) = lacks_none (ap (λ (ys : List Item). xs ++ ys) e)
-lacks-behind xs all fewer (lacks_one front back seen expected found missing e f) =
-    lacks_one (xs ++ front) back seen expected found missing
-    (ap (λ (ys : List Item). xs ++ ys) e ∙ sym (append_assoc xs front (MasterGap seen expected found missing ∷ back)))
-    (ap (λ (ys : List Item). xs ++ ys) f ∙ sym (append_assoc xs front back))
+gap-lacks : (before : Option ℕ) (m : Member) (xs : List Item) → LacksMasterGap (gap_at master_gap_item before m ++ xs) xs
+gap-lacks before m xs =
+    record { front = []; gap = gap_at master_gap_item before m; back = xs; all_is = refl; fewer_is = refl; gap_is = gap-is before m }
 
-lacks-same : (a b c d : List Item) → a ≡ b → c ≡ d → LacksAtMostOneMasterGap a c → LacksAtMostOneMasterGap b d
-lacks-same a b c d e f h = subst (λ (ys : List Item). LacksAtMostOneMasterGap ys d) e (subst (λ (ys : List Item). LacksAtMostOneMasterGap a ys) f h)
+same-lacks : (xs : List Item) → LacksMasterGap xs xs
+same-lacks xs = record { front = []; gap = []; back = xs; all_is = refl; fewer_is = refl; gap_is = inl refl }
+
+lacks-behind : (xs all fewer : List Item) → LacksMasterGap all fewer → LacksMasterGap (xs ++ all) (xs ++ fewer)
+lacks-behind xs all fewer h = record {
+  front = xs ++ h.front;
+  gap = h.gap;
+  back = h.back;
+  all_is = ap (λ (ys : List Item). xs ++ ys) h.all_is ∙ sym (append_assoc xs h.front (h.gap ++ h.back));
+  fewer_is = ap (λ (ys : List Item). xs ++ ys) h.fewer_is ∙ sym (append_assoc xs h.front h.back);
+  gap_is = h.gap_is;
+}
+
+lacks-same : (a b c d : List Item) → a ≡ b → c ≡ d → LacksMasterGap a c → LacksMasterGap b d
+lacks-same a b c d e f h = subst (λ (ys : List Item). LacksMasterGap ys d) e (subst (λ (ys : List Item). LacksMasterGap a ys) f h)
 
 module _ (limit : ℕ) (chosen : ℕ → Bool) where
   -- the states after records: the same, or different in the master channel count alone, no good frame having come
@@ -109,7 +117,7 @@ module _ (limit : ℕ) (chosen : ℕ → Bool) where
   StatesMeet a b all fewer = (b ≡ a) ⊎ ((b ≡ without_master a) × (fewer ≡ all))
 
   record Meet (s : State) (rs : List Reading) : Type 0 where
-    the_items : LacksAtMostOneMasterGap (items limit chosen s rs) (items limit chosen (without_master s) rs)
+    the_items : LacksMasterGap (items limit chosen s rs) (items limit chosen (without_master s) rs)
     the_states : StatesMeet (after limit chosen s rs) (after limit chosen (without_master s) rs) (items limit chosen s rs) (items limit chosen (without_master s) rs)
 
   -- one good frame: its own items but for the gap, and the same state
@@ -123,7 +131,7 @@ module _ (limit : ℕ) (chosen : ℕ → Bool) where
       (cases_Bool (chosen g.channel))
 
   good-items : (s : State) (g : GoodFrame) (xs : List Item) → HasShape limit chosen s → IsFit (Ok g)
-      → LacksAtMostOneMasterGap (items limit chosen s (Ok g ∷ []) ++ xs) (items limit chosen (without_master s) (Ok g ∷ []) ++ xs)
+      → LacksMasterGap (items limit chosen s (Ok g ∷ []) ++ xs) (items limit chosen (without_master s) (Ok g ∷ []) ++ xs)
   good-items s g xs v fit =
       let w : HasShape limit chosen (without_master s) = shape-of limit chosen s (without_master s) refl v in
       ⊎_elim
@@ -144,7 +152,7 @@ module _ (limit : ℕ) (chosen : ℕ → Bool) where
   meet s [] v fits =
       let w : HasShape limit chosen (without_master s) = shape-of limit chosen s (without_master s) refl v in
       record {
-        the_items = lacks_none refl;
+        the_items = same-lacks [];
         the_states = inr (after-nil limit chosen (without_master s) w ∙ ap without_master (sym (after-nil limit chosen s v)), refl);
       }
   meet s (Err fault ∷ rs) v fits =
@@ -187,7 +195,7 @@ module _ (limit : ℕ) (chosen : ℕ → Bool) where
 
 -- the same of raw records
 pub items-lack : (rules : Rules) (s : State) (records : List (List ℕ)) → IsState rules s
-    → LacksAtMostOneMasterGap (raw.items rules s records) (raw.items rules (without_master s) records)
+    → LacksMasterGap (raw.items rules s records) (raw.items rules (without_master s) records)
 unfolding raw.items
 items-lack rules s records v = (meet rules.max_packet (chooses rules) s (raw.readings rules.layout records) v.shape (readings-fit rules.layout records)).the_items
 

@@ -1,5 +1,5 @@
 -- What is lost with the last master channel count, which the older forms of a checkpoint don't have.
-use Rattle.std.specs.Prelude.{◌≡◌, ℕ, ◌+◌, None, Result, Ok, Err, List, ◌∷◌, ◌++◌}
+use Rattle.std.specs.Prelude.{◌≡◌, ◌⊎◌, ℕ, ◌+◌, None, Result, Ok, Err, List, [], ◌∷◌, ◌++◌}
 use Rattle.tm_reassembly.specs.declared.fault.StateFault.{StateFault}
 use Rattle.tm_reassembly.specs.Checkpoint.{Decoded}
 use Rattle.tm_reassembly.specs.Item.{Item, MasterGap}
@@ -9,11 +9,18 @@ use Rattle.tm_reassembly.specs.State.{State}
 abbrev pub without_master : State → State
 without_master s = record { records = s.records; master = None; channels = s.channels }
 
--- the same items, or all but one gap of the master channel
-pub data LacksAtMostOneMasterGap (all fewer : List Item) : Type 0 where
-  lacks_none : fewer ≡ all → LacksAtMostOneMasterGap all fewer
-  lacks_one : (front back : List Item) (seen expected found missing : ℕ) → all ≡ front ++ MasterGap seen expected found missing ∷ back
-      → fewer ≡ front ++ back → LacksAtMostOneMasterGap all fewer
+-- nothing, or one gap of the master channel
+abbrev pub IsMasterGapAtMost : List Item → Type 0
+IsMasterGapAtMost xs = (xs ≡ []) ⊎ ((seen expected found missing : ℕ) × (xs ≡ MasterGap seen expected found missing ∷ []))
+
+-- the fewer items are all of them, in their order, but for at most one gap of the master channel
+pub record LacksMasterGap (all fewer : List Item) : Type 0 where
+  pub front : List Item
+  pub gap : List Item
+  pub back : List Item
+  pub all_is : all ≡ front ++ (gap ++ back)
+  pub fewer_is : fewer ≡ front ++ back
+  pub gap_is : IsMasterGapAtMost gap
 
 -- the same answer, one octet more being read
 abbrev pub one_octet_more : Result Decoded StateFault → Result Decoded StateFault

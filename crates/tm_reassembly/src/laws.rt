@@ -8,7 +8,7 @@ ghost use Rattle.tm_reassembly.specs.Rules.{Rules, IsLimit, chooses};
 ghost use Rattle.tm_reassembly.specs.State.{State, Last, Tail};
 ghost use Rattle.tm_reassembly.specs.Valid.{IsState, AllOctets};
 ghost use Rattle.tm_reassembly.specs.Checkpoint.{spelling, old_spelling, Decoded, decoding_of, old_decoding_of};
-ghost use Rattle.tm_reassembly.specs.OlderForms.{LacksAtMostOneMasterGap, one_octet_more, without_master};
+ghost use Rattle.tm_reassembly.specs.OlderForms.{LacksMasterGap, one_octet_more, without_master};
 ghost use Rattle.tm_reassembly.specs.Items.{empty, held_part, chain_parts, channel_items, master_items, seen_at};
 ghost use Rattle.tm_reassembly.specs.Item.{Item, Packet, seen_of};
 ghost use Rattle.tm_reassembly.specs.Among.{Among, is_of, is_master_gap};
@@ -63,7 +63,7 @@ pub fn spellings()
 /// the records leave are the same; or no good frame came, and then all items are there and the count is still not known.
 pub fn forgotten_count()
     ensures items_lack { (rules : Rules) (s : State) (records : List (List ℕ)) → IsState rules s →
-        LacksAtMostOneMasterGap (items rules s records) (items rules (without_master s) records) }
+        LacksMasterGap (items rules s records) (items rules (without_master s) records) }
     ensures states_meet { (rules : Rules) (s : State) (records : List (List ℕ)) → IsState rules s →
         (after rules (without_master s) records ≡ after rules s records)
         ⊎ ((after rules (without_master s) records ≡ without_master (after rules s records)) × (items rules (without_master s) records ≡ items rules s records)) }

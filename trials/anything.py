@@ -3,7 +3,8 @@
 
     anything.py TMX DEFINITION SECONDS SEED
 
-DEFINITION is fields.csv.  Works in the current folder, until so many seconds are over.  Prints how much was compared, and
+DEFINITION is fields.csv.  Works in the current folder, until so many seconds are over.  The checkpoints of the steps are
+compared too, and some steps go on from the same job as an older version spells it.  Prints how much was compared, and
 which seeds show a difference; the status is 1 then.
 """
 
@@ -11,11 +12,13 @@ import random
 import subprocess
 import sys
 import time
+from pathlib import Path
 
 import reference
 
 LENGTHS = (9, 10, 11, 12, 13, 14, 16, 18, 20, 24, 30, 40, 64, 100, 256, 300, 1115, 2047, 2048)
 PARTS = ("flag", "always", "never")
+LIMITS = (7, 8, 9, 12, 20, 50, 100, 200, 300, 1000, 3000, 65541, reference.LONGEST_PACKET)
 
 
 def make_settings(chance):
@@ -30,6 +33,8 @@ def make_settings(chance):
     )
     if chance.random() < 0.4:
         text += f"channels = {chance.sample(range(8), chance.randrange(1, 8))}\n"
+    if chance.random() < 0.7:
+        text += f"max_packet = {chance.choice(LIMITS)}\n"
     with open("settings", "w", encoding="ascii") as file:
         file.write(text)
     return reference.Settings("settings")
@@ -66,15 +71,25 @@ def run(words):
     return ran.returncode, ran.stdout, ran.stderr
 
 
-def run_in_steps(chance, words, records):
+def make_stops(chance, settings, records):
+    """After which records a job is stopped, and of which version the checkpoint is that it goes on from."""
+    versions = (1, 2, 3, 3) if settings.max_packet == reference.LONGEST_PACKET else (2, 3, 3)
+    stops, done = {}, 0
+    while done < records:
+        done = min(records, done + chance.randrange(1, max(2, records // 2)))
+        stops[done] = chance.choice(versions)
+    return stops
+
+
+def run_in_steps(words, kept):
     """The status of the last run, and what all runs gave, joined."""
     out, report, done, resume = b"", b"", 0, []
-    while done < records:
-        step = chance.randrange(1, max(2, records // 2))
-        status, *found = run([*words, *resume, "--checkpoint", "chk", "--stop-after", str(step)])
-        if status:
-            return status, *found
-        out, report, done, resume = out + found[0], report + found[1], done + step, ["--resume", "chk"]
+    for records, (written, resumed) in kept.items():
+        status, *found = run([*words, *resume, "--checkpoint", "chk", "--stop-after", str(records - done)])
+        if status or Path("chk").read_bytes() != written:
+            return status, f"the checkpoint after {records} records", *found
+        Path("chk").write_bytes(resumed)
+        out, report, done, resume = out + found[0], report + found[1], records, ["--resume", "chk"]
     status, *found = run([*words, *resume])
     return status, out + found[0], report + found[1]
 
@@ -85,15 +100,19 @@ def compare(tmx, definition, seed):
     settings = make_settings(chance)
     recording = make_recording(chance, seed, settings)
     application, number, wrong = chance.choice((0, 5, 100, 2046, 2047)), 0, []
-    for command, both in wanted(reference.read_recording(settings, recording), application).items():
+    stops = make_stops(chance, settings, len(recording) // settings.record)
+    reader, _ = reference.read_recording(settings, recording)
+    stopped, kept = reference.read_recording(settings, recording, stops)
+    in_steps = wanted(stopped, application)
+    for command, both in wanted(reader, application).items():
         words = [tmx, command, "--settings", "settings"]
         if command == "fields":
             words += ["--definition", definition, "--apid", str(application)]
-        found = [run(words)]
+        differs = run(words) != (0, *both)
         if command != "frames":
-            found.append(run_in_steps(chance, words, len(recording) // settings.record))
-        number += len(found)
-        if any(it != (0, *both) for it in found):
+            differs |= run_in_steps(words, kept) != (0, *in_steps[command])
+        number += 1 if command == "frames" else 2
+        if differs:
             wrong.append(f"seed {seed}: {command}")
     return number, wrong
 

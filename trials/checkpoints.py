@@ -3,13 +3,16 @@
 
     checkpoints.py TMX SETTINGS RECORDING CHECKPOINT
 
-Each single bit is flipped, and the checkpoint is cut after each octet.  Prints how many were refused, and what is wrong.
+Each single bit is flipped, the version becomes each other one, those that are read too, and the checkpoint is cut after each
+octet.  Prints how many were refused, and what is wrong.
 """
 
 import os
 import subprocess
 import sys
 from concurrent.futures import ThreadPoolExecutor
+
+LEAST = {1: 33, 2: 36, 3: 37}  # octets of a checkpoint, by version
 
 
 def refusal(words, number, octets):
@@ -27,29 +30,39 @@ def refusal(words, number, octets):
     return f"{ran.stderr.decode()}{ran.returncode}"
 
 
-def flipped(whole):
+def fault_of(octets):
+    """Of a checkpoint that was altered so that its check no longer holds, wherever it is read as far as that."""
+    if len(octets) < 33:
+        return "short"
+    if octets[:4] != b"TMXC":
+        return "magic"
+    if octets[4] not in LEAST:
+        return "version"
+    return "short" if len(octets) < LEAST[octets[4]] else "check"
+
+
+def altered(whole):
     for bit in range(len(whole) * 8):
         octets = bytearray(whole)
         octets[bit // 8] ^= 1 << bit % 8
-        wanted = "magic" if bit < 32 else "version" if bit < 40 else "check"
-        yield bytes(octets), wanted
-
-
-def cut(whole):
+        yield bytes(octets)
+    for version in range(256):
+        if version != whole[4]:
+            yield whole[:4] + bytes([version]) + whole[5:]
     for length in range(len(whole)):
-        yield whole[:length], "short" if length < 33 else "check"
+        yield whole[:length]
 
 
 def main(words):
     with open(words[3], "rb") as file:
         whole = file.read()
-    trials = [*flipped(whole), *cut(whole)]
+    trials = list(altered(whole))
     with ThreadPoolExecutor(4) as pool:
-        found = pool.map(lambda it: refusal(words[:3], it[0], it[1][0]), enumerate(trials))
+        found = pool.map(lambda it: refusal(words[:3], *it), enumerate(trials))
         wrong = [
-            f"{number}: {said!r}, wanted {wanted}"
-            for number, ((_, wanted), said) in enumerate(zip(trials, found))
-            if said != f"tmx: checkpoint: {wanted}\n2"
+            f"{number}: {said!r}, wanted {fault_of(octets)}"
+            for number, (octets, said) in enumerate(zip(trials, found))
+            if said != f"tmx: checkpoint: {fault_of(octets)}\n2"
         ]
     print(f"{len(trials)} altered checkpoints, {len(wrong)} not refused as they have to be")
     if wrong:

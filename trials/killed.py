@@ -96,7 +96,7 @@ class Steps:
         return False
 
     def records(self):
-        return int.from_bytes(self.held()[17:21], "big")
+        return int.from_bytes(self.held()[20:24], "big")
 
     def all_steps(self, records):
         self.folder = fresh("steps")

@@ -4,6 +4,8 @@
     reference.py make random SEED OCTETS              writes so many octets to standard output
     reference.py make likely SEED OCTETS SETTINGS     writes a recording of mostly good frames to standard output
     reference.py expect SETTINGS RECORDING FOLDER     writes what each command has to give of the recording to the folder
+    reference.py keep SETTINGS RECORDING RECORDS VERSION
+                                                      writes the checkpoint of this version after so many records to standard output
     reference.py tiles SETTINGS FRAMES PACKETS REPORT says whether packets and dropped parts come to the data fields' octets
 
 Nothing of tmx is used here but its documents.  Python 3.11 or later, for its reader of TOML.
@@ -18,6 +20,7 @@ from binascii import crc_hqx
 from collections import Counter
 
 IDLE_DATA_ONLY, NO_PACKET_STARTS = 2046, 2047
+LONGEST_PACKET = 65542
 FLAGS = ("continuation", "first", "last", "unsegmented")
 
 # The definition of fields of the trials: name, type, bits, first bit.  fields.csv beside this script says the same.
@@ -45,6 +48,7 @@ class Settings:
         self.ocf = found.get("ocf", "flag")
         self.error_control = found["error_control"]
         self.channels = sorted(found.get("channels", range(8)))
+        self.max_packet = found.get("max_packet", LONGEST_PACKET)
         self.record = self.before + self.length + self.after
 
 
@@ -109,7 +113,8 @@ def frame_line(number, found):
 
 
 def length_of(packet):
-    return int.from_bytes(packet[4:6], "big") + 7
+    """What the header says; nothing while it isn't all there."""
+    return int.from_bytes(packet[4:6], "big") + 7 if len(packet) >= 6 else None
 
 
 class Channel:
@@ -124,6 +129,7 @@ class Reader:
     def __init__(self, settings):
         self.settings = settings
         self.channels = {number: Channel() for number in settings.channels}
+        self.master = None  # the last master count
         self.sequences = {}  # channel and application: last count, first count of the open group
         self.frames, self.packets, self.report = [], [], []
 
@@ -132,8 +138,18 @@ class Reader:
         self.frames.append(frame_line(number, found))
         if isinstance(found, str):
             self.report.append(self.frames[-1])
-        elif found["channel"] in self.channels:
+            return
+        self.take_master(number, found["master"])
+        if found["channel"] in self.channels:
             self.take_good(number, found["channel"], found)
+
+    def take_master(self, number, count):
+        """Of each good frame, whatever its channel."""
+        expected = count if self.master is None else (self.master + 1) % 256
+        self.master = count
+        if count != expected:
+            missing = (count - expected) % 256
+            self.report.append(f"mastergap record={number} expected={expected} found={count} missing={missing}")
 
     def take_good(self, number, name, found):
         channel, count, field = self.channels[name], found["count"], found["field"]
@@ -160,10 +176,12 @@ class Reader:
             self.drop(number, name, number, 0, len(field), "no-start")
             return
         whole, first, place = channel.tail[0] + field, *channel.tail[1:]
-        if len(whole) >= 6 and length_of(whole) < len(whole):
-            self.drop_tail(number, name, "pointer")
-            self.drop(number, name, number, 0, len(field), "pointer")
-        elif len(whole) >= 6 and length_of(whole) == len(whole):
+        length = length_of(whole)
+        if length is not None and (length < len(whole) or length > self.settings.max_packet):
+            reason = "pointer" if length < len(whole) else "length"
+            self.drop_tail(number, name, reason)
+            self.drop(number, name, number, 0, len(field), reason)
+        elif length == len(whole):
             channel.tail = None
             self.give(number, name, first, place, whole)
         else:
@@ -173,25 +191,31 @@ class Reader:
         channel, reason = self.channels[name], "no-start"
         if channel.tail is not None:
             whole, first, place = channel.tail[0] + field[:at], *channel.tail[1:]
-            if len(whole) >= 6 and length_of(whole) == len(whole):
+            if length_of(whole) != len(whole):
+                reason = "pointer"
+            elif len(whole) > self.settings.max_packet:
+                reason = "length"
+            else:
+                reason = None
                 channel.tail = None
                 self.give(number, name, first, place, whole)
-                reason = None
-            else:
-                self.drop_tail(number, name, "pointer")
-                reason = "pointer"
+            self.drop_tail(number, name, reason)
         if reason:
             self.drop(number, name, number, 0, at, reason)
         while at < len(field):
             rest = field[at:]
+            length = length_of(rest)
             if rest[0] >> 5:
                 self.drop(number, name, number, at, len(rest), "version")
                 return
-            if len(rest) < 6 or length_of(rest) > len(rest):
+            if length is not None and length > self.settings.max_packet:
+                self.drop(number, name, number, at, len(rest), "length")
+                return
+            if length is None or length > len(rest):
                 channel.tail = (rest, number, at)
                 return
-            self.give(number, name, number, at, rest[: length_of(rest)])
-            at += length_of(rest)
+            self.give(number, name, number, at, rest[:length])
+            at += length
 
     def drop(self, number, name, first, place, octets, reason):
         if octets:
@@ -265,15 +289,77 @@ class Reader:
                 yield line[1]
 
 
-def read_recording(settings, octets):
-    reader = Reader(settings)
-    number = 0
-    while (number + 1) * settings.record <= len(octets):
+def records_of(settings, octets):
+    """The numbers and the frames of the whole records."""
+    for number in range(len(octets) // settings.record):
         at = number * settings.record + settings.before
-        reader.take(number, octets[at : at + settings.length])
-        number += 1
-    reader.close(number, len(octets) - number * settings.record)
-    return reader
+        yield number, octets[at : at + settings.length]
+
+
+def read_recording(settings, octets, stops=()):
+    """What all runs give, where they stop after the records that `stops` has, and go on from checkpoints of its versions.
+
+    Also the checkpoints of these stops: that which is written, and that which is gone on from.
+    """
+    reader, stops, kept = Reader(settings), dict(stops), {}
+    for number, frame in records_of(settings, octets):
+        reader.take(number, frame)
+        if number + 1 in stops:
+            version = stops[number + 1]
+            kept[number + 1] = [checkpoint(reader, number + 1, it) for it in (VERSION, version)]
+            if version < VERSION:
+                reader.master = None
+    reader.close(*divmod(len(octets), settings.record))
+    return reader, kept
+
+
+# Checkpoints.
+
+VERSION = 3  # the one that is written
+
+
+def number_in(octets, *numbers):
+    return b"".join(it.to_bytes(octets, "big") for it in numbers)
+
+
+def settings_block(settings, version):
+    words = ("flag", "always", "never")
+    found = number_in(2, settings.spacecraft, settings.length, settings.before, settings.after)
+    found += number_in(1, words.index(settings.secondary), words.index(settings.ocf), settings.error_control)
+    found += number_in(1, sum(1 << it for it in settings.channels))
+    return found if version == 1 else found + number_in(3, settings.max_packet)
+
+
+def channel_block(channel):
+    if channel is None or channel.last is None:
+        return b"\0"
+    if channel.tail is None:
+        return number_in(1, 1, channel.last)
+    octets, first, place = channel.tail
+    found = number_in(1, 2, channel.last) + number_in(4, first) + number_in(2, place)
+    return found + number_in(4, len(octets)) + octets
+
+
+def checkpoint(reader, records, version):
+    """The reader's state after so many records."""
+    found = b"TMXC" + number_in(1, version) + settings_block(reader.settings, version) + number_in(4, records)
+    if version == VERSION:
+        found += b"\0" if reader.master is None else number_in(1, 1, reader.master)
+    found += b"".join(channel_block(reader.channels.get(it)) for it in range(8))
+    found += number_in(2, len(reader.sequences))
+    for (name, application), (last, opened) in sorted(reader.sequences.items()):
+        found += number_in(2, 2048 * name + application, last, 0xFFFF if opened is None else opened)
+    return found + number_in(2, crc_hqx(found, 0xFFFF))
+
+
+def keep(settings, recording, records, version):
+    with open(recording, "rb") as file:
+        octets = file.read()
+    settings = Settings(settings)
+    reader = Reader(settings)
+    for number, frame in records_of(settings, octets[: int(records) * settings.record]):
+        reader.take(number, frame)
+    sys.stdout.buffer.write(checkpoint(reader, int(records), int(version)))
 
 
 # Fields.
@@ -318,7 +404,7 @@ def write_lines(name, lines):
 
 def expect(settings, recording, folder):
     with open(recording, "rb") as file:
-        reader = read_recording(Settings(settings), file.read())
+        reader, _ = read_recording(Settings(settings), file.read())
     wanted = Counter(it[0] for it in reader.packets).most_common(1)
     wanted = wanted[0][0] if wanted else 0
     os.makedirs(f"{folder}/split", exist_ok=True)
@@ -376,6 +462,8 @@ class Sender:
         head |= chance.choice((0, 0, 1, 2, 3)) << 30 | self.counts[application] % 16384 << 16 | length - 1
         if chance.random() < 0.01:
             head |= chance.randrange(1, 8) << 45
+        if chance.random() < 0.02:
+            head ^= 1 << chance.randrange(16)
         return head.to_bytes(6, "big") + chance.randbytes(length)
 
     def field(self, octets):
@@ -403,7 +491,7 @@ def likely_frame(chance, settings, sender, number, master):
         pointer = chance.randrange(2048)
     elif unlike < 0.04:
         pointer = IDLE_DATA_ONLY
-    sender.count += 1 if chance.random() < 0.98 else chance.randrange(256)
+    sender.count += 1 if chance.random() < 0.99 else chance.randrange(256)
     head = settings.spacecraft << 36 | number << 33 | ocf << 32 | master % 256 << 24 | sender.count % 256 << 16
     head |= secondary << 15 | (chance.random() < 0.01) << 14 | chance.randrange(8) << 11 | pointer
     frame = head.to_bytes(6, "big")
@@ -419,14 +507,26 @@ def likely_frame(chance, settings, sender, number, master):
     return bytes(frame)
 
 
+def sending(chance, settings):
+    """Three channels: one that is chosen, one that isn't, if there is one, and any others."""
+    first = [chance.choice(settings.channels)]
+    others = [it for it in range(8) if it not in settings.channels]
+    first += [chance.choice(others)] if others else []
+    return first + chance.sample([it for it in range(8) if it not in first], 3 - len(first))
+
+
 def likely(seed, octets, settings):
     chance = random.Random(seed)
-    senders = {it: Sender(chance) for it in chance.sample(range(8), 3)}
-    records = []
-    for number in range(octets // settings.record + 1):
+    senders = {it: Sender(chance) for it in sending(chance, settings)}
+    records, master = [], 0
+    while len(records) <= octets // settings.record:
         name = chance.choice(list(senders))
-        frame = likely_frame(chance, settings, senders[name], name, number)
-        records.append(chance.randbytes(settings.before) + frame + chance.randbytes(settings.after))
+        frame = likely_frame(chance, settings, senders[name], name, master)
+        master += 1
+        if chance.random() < 0.005:  # frames of channels that nobody sees
+            master += chance.randrange(256)
+        if chance.random() < 0.98:  # else it is lost
+            records.append(chance.randbytes(settings.before) + frame + chance.randbytes(settings.after))
     return b"".join(records)[:octets]
 
 
@@ -444,6 +544,8 @@ def main(words):
         make(*words)
     elif what == "expect":
         expect(*words)
+    elif what == "keep":
+        keep(*words)
     elif what == "tiles":
         return 0 if tiles(*words) else 1
     return 0

@@ -81,6 +81,10 @@ settings_faults() {
     settings_fault 'range channels' "${good}channels = []\n"
     settings_fault 'range channels' "${good}channels = [1, 1]\n"
     settings_fault 'range channels' "${good}channels = [8]\n"
+    settings_fault 'kind max_packet' "${good}max_packet = \"1100\"\n"
+    settings_fault 'range max_packet' "${good}max_packet = 6\n"
+    settings_fault 'range max_packet' "${good}max_packet = 65543\n"
+    settings_fault 'range channels' "${good}max_packet = 6\nchannels = []\n"
 }
 
 definition_fault() {
@@ -109,29 +113,56 @@ definition_faults() {
     definition_fault 'too many' "$head$(for n in $(seq 1001); do printf 'N%s,uint,1,\\n' "$n"; done)"
 }
 
+# The refusal that is wanted, the checkpoint, and perhaps other settings than the example's.
 checkpoint_fault() {
     forged bad "$2"
-    gives "checkpoint: $1" 2 "tmx: checkpoint: $1" "$packets --resume bad --report r $rec"
+    gives "checkpoint: $1" 2 "tmx: checkpoint: $1" "$tmx packets --settings ${3:-$s} --resume bad --report r $rec"
+}
+
+# A checkpoint before any record: a name, the octets, and perhaps other settings than the example's.
+checkpoint_good() {
+    forged good "$2"
+    rm -f r
+    gives "a forged checkpoint $1" 0 "" "$tmx packets --settings ${3:-$s} --resume good --report r $rec"
+    tell "a forged checkpoint $1 gives all" "$(cmp out expected/packets 2>&1; cmp r expected/report 2>&1)"
 }
 
 checkpoint_faults() {
-    local head=544d584301 mine=002a010000000000020001 channels=0000000000000000
-    forged good "$head${mine}0b00000000${channels}0000"
-    gives "a forged checkpoint before any record" 0 "" "$packets --resume good --report r $rec"
-    tell "a forged checkpoint before any record gives all" "$(cmp out expected/packets 2>&1)"
-    checkpoint_fault settings "$head${mine}0f00000000${channels}0000"
-    checkpoint_fault settings "${head}002b0100000000000200010b00000000${channels}0000"
-    checkpoint_fault state "$head${mine}0b00000001000001000000000000000000"
-    checkpoint_fault state "$head${mine}0b00000001030000000000000000000000"
-    checkpoint_fault state "$head${mine}0b0000000102010000000100000000000100000000000000000000"
-    checkpoint_fault state "$head${mine}0b00000001${channels}000100004000ffff"
-    checkpoint_fault state "$head${mine}0b00000001${channels}000107ff0000ffff"
-    checkpoint_fault state "$head${mine}0b00000001${channels}ffff"
-    checkpoint_fault trailing "$head${mine}0b00000000${channels}000000"
-    forged later "$head${mine}0b0000012d${channels}0000"
+    local magic=544d5843 mine="002a 0100 0000 0000 02 00 01" limit=000370 none=0000000000000000 seven=00000000000000 head
+    grep -v '^max_packet' "$s" >plain.toml
+    head="$magic 03 $mine 0b $limit"
+    checkpoint_good "before any record" "$head 00000000 00 $none 0000"
+    checkpoint_good "of version 2" "$magic 02 $mine 0b $limit 00000000 $none 0000"
+    checkpoint_good "of version 1" "$magic 01 $mine 0b 00000000 $none 0000" plain.toml
+    checkpoint_fault version "$magic 00 $mine 0b $limit 00000000 00 $none 0000"
+    checkpoint_fault version "$magic 04 $mine 0b $limit 00000000 00 $none 0000"
+    checkpoint_fault short "$head 00000000 00 $none"
+    checkpoint_fault short "$magic 02 $mine 0b $limit 00000000 $none"
+    checkpoint_fault short "$magic 01 $mine 0b 00000000 $none" plain.toml
+    checkpoint_fault settings "$magic 03 $mine 0f $limit 00000000 00 $none 0000"
+    checkpoint_fault settings "$magic 03 002b 0100 0000 0000 02 00 01 0b $limit 00000000 00 $none 0000"
+    checkpoint_fault settings "$magic 03 $mine 0b 000371 00000000 00 $none 0000"
+    checkpoint_fault settings "$magic 02 $mine 0b 010006 00000000 $none 0000"
+    checkpoint_fault settings "$magic 01 $mine 0b 00000000 $none 0000"
+    checkpoint_fault settings "$head 00000000 00 $none 0000" plain.toml
+    checkpoint_fault state "$head 00000001 02 $none 0000"
+    checkpoint_fault state "$head 00000001 00 0000010000000000 00 0000"
+    checkpoint_fault state "$head 00000001 00 0300000000000000 0000"
+    checkpoint_fault state "$head 00000001 00 0201 00000001 0000 00000001 00 $seven 0000"
+    checkpoint_fault state "$head 00000001 00 0201 00000000 0000 00000370 $(printf '00%.0s' $(seq 880)) $seven 0000"
+    checkpoint_fault state "$head 00000001 00 0201 00000000 0000 00000006 0064c000036a $seven 0000"
+    checkpoint_fault state "$head 00000001 00 $none 0001 0000 4000 ffff"
+    checkpoint_fault state "$head 00000001 00 $none 0001 07ff 0000 ffff"
+    checkpoint_fault state "$head 00000001 00 $none ffff"
+    checkpoint_fault state "$head 00000001 0105 $seven 0000"
+    checkpoint_fault trailing "$head 00000000 00 $none 000000"
+    checkpoint_fault trailing "$magic 02 $mine 0b $limit 00000000 00 $none 0000"
+    forged longest "$head 00000001 00 0201 00000000 0000 00000006 0064c0000369 $seven 0000"
+    gives "a checkpoint with a part of the longest packet" 0 "" "$packets --resume longest --report r $rec"
+    forged later "$head 0000012d 00 $none 0000"
     gives "a recording that is shorter than the checkpoint" 2 "tmx: recording is shorter than the checkpoint" "$packets --resume later --report r $rec"
     gives "an empty recording behind a checkpoint" 2 "tmx: recording is shorter than the checkpoint" "$packets --resume later --report r /dev/null"
-    forged last "$head${mine}0bffffffff${channels}0000"
+    forged last "$head ffffffff 00 $none 0000"
     gives "a checkpoint after 2^32 - 1 records" 2 "tmx: recording is shorter than the checkpoint" "$packets --resume last --report r $rec"
 }
 
@@ -217,7 +248,7 @@ many() {
     names
     settings nine 42 9 false
     truncate -s $((9 * 4294967296)) sparse
-    forged last 544d584301002a000900000000000000ffffffffff00000000000000000000
+    forged last "544d5843 03 002a 0009 0000 0000 00 00 00 ff 010006 ffffffff 00 0000000000000000 0000"
     gives "2^32 records" 1 "tmx: too many records" "$tmx packets --settings nine --report r --resume last sparse"
     rm sparse
 }

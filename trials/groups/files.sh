@@ -95,9 +95,23 @@ END
 }
 
 altered_checkpoints() {
-    local said records
+    local records version
     for records in 150 190; do
         gives "a checkpoint after $records records" 0 "" "$packets --report r --checkpoint c --stop-after $records $rec"
-        if said=$(python3 "$here/checkpoints.py" "$tmx" "$s" "$rec" c 2>&1); then ok "after $records records: $said"; else no "after $records records: $said"; fi
+        python3 "$here/reference.py" keep "$s" "$rec" $records 3 >c3
+        tell "a checkpoint after $records records: the known octets" "$(cmp c c3 2>&1)"
+        altered_checkpoint $records "$s" c
     done
+    grep -v '^max_packet' "$s" >plain.toml
+    for version in 1 2; do
+        python3 "$here/reference.py" keep plain.toml "$rec" 150 $version >c
+        gives "a checkpoint of version $version" 0 "" "$tmx packets --settings plain.toml --resume c --report r $rec"
+        altered_checkpoint "150, version $version" plain.toml c
+    done
+}
+
+# The records, the settings and the checkpoint.
+altered_checkpoint() {
+    local said
+    if said=$(python3 "$here/checkpoints.py" "$tmx" "$2" "$rec" "$3" 2>&1); then ok "after $1 records: $said"; else no "after $1 records: $said"; fi
 }

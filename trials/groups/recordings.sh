@@ -7,8 +7,9 @@ at="record=$number channel=[0-7]"
 frame_line="^(frame $at master=$number count=$number kind=(packets place=$number|(nostart|idle|vca) place=-)"
 frame_line+=" secondary=$number ocf=(yes|no) order=[01] segment=[0-3] octets=$number|bad record=$number fault=$fault"
 frame_line+="|short record=$number octets=$number)\$"
-report_line="^(bad record=$number fault=$fault|gap $at expected=$number found=$number missing=$number|vca $at"
-report_line+="|drop $at from=$number at=$number octets=$number reason=(pointer|gap|vca|end|no-start|version)"
+report_line="^(bad record=$number fault=$fault|mastergap record=$number expected=$number found=$number missing=$number"
+report_line+="|gap $at expected=$number found=$number missing=$number|vca $at"
+report_line+="|drop $at from=$number at=$number octets=$number reason=(pointer|gap|vca|end|no-start|version|length)"
 report_line+="|short record=$number octets=$number|seqgap $at apid=$number expected=$number found=$number missing=$number"
 report_line+="|broken $at apid=$number first=$number last=$number reason=(gap|first|unsegmented|end)"
 report_line+="|group $at apid=$number first=$number last=$number|stray $at apid=$number count=$number flag=(continuation|last)"
@@ -90,13 +91,13 @@ trial() {
 
 make_settings() {
     settings s9 5 9 false
-    settings s9e 5 9 true 'ocf = "never"'
+    settings s9e 5 9 true 'ocf = "never"' 'max_packet = 40'
     settings s24 5 24 false 'secondary = "always"' 'ocf = "never"' 'skip_before = 4'
-    settings s24o 5 24 true 'secondary = "never"' 'ocf = "always"' 'skip_after = 1'
+    settings s24o 5 24 true 'secondary = "never"' 'ocf = "always"' 'skip_after = 1' 'max_packet = 7'
     settings s1115 5 1115 true 'skip_before = 4' 'skip_after = 160'
-    settings s1115n 5 1115 false 'channels = [6, 1, 2, 4]'
+    settings s1115n 5 1115 false 'channels = [6, 1, 2, 4]' 'max_packet = 1100'
     settings s2048 5 2048 false 'skip_before = 1024' 'skip_after = 1024' 'secondary = "always"' 'ocf = "always"'
-    settings s2048e 5 2048 true 'secondary = "never"' 'ocf = "never"'
+    settings s2048e 5 2048 true 'secondary = "never"' 'ocf = "never"' 'channels = [3]' 'max_packet = 300'
 }
 
 record_length() {
@@ -122,6 +123,16 @@ random() {
     done
     head -c 1048576 /dev/urandom >recording
     trial "1048576 octets of /dev/urandom" s24 recording
+    damaged_lengths
+}
+
+damaged_lengths() {
+    local name
+    python3 "$here/lengths.py" . | sed 's/^/note /'
+    for name in lengths[0-9].*; do
+        trial "damaged lengths of packets, settings $name" "$name" "${name%.*}"
+    done
+    rm -f lengths*
 }
 
 zero() {

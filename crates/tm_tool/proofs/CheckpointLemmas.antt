@@ -1,8 +1,8 @@
 -- What is written is read again, and what is read is what was written.
-use Rattle.std.proofs.Common.{◌≡◌, ℕ, ◌+◌, ◌-◌, ◌*◌, ◌/◌, ◌%◌, ◌<◌, ◌≤◌, Bool, true, false, not, Ok, Err, Result, Option, Some, None, List, [], ◌∷◌, ◌++◌, length, take, drop, refl, sym, ap, subst, ◌∙◌, arith, length-append, length-drop, append_assoc, ltb, eqb}
-use Rattle.std.specs.Prelude.{slice_index, slice_range, if◌then◌else◌, ◌≢◌, IfOk, IfErr}
+use Rattle.std.proofs.Common.{◌≡◌, ℕ, suc, ◌+◌, ◌-◌, ◌*◌, ◌/◌, ◌%◌, ◌<◌, ◌≤◌, Bool, true, false, not, ◌&&◌, Ok, Err, Result, Option, Some, None, List, [], ◌∷◌, ◌++◌, length, take, drop, refl, sym, ap, ap₂, subst, ◌∙◌, arith, length-append, length-drop, append_assoc, ltb, eqb}
+use Rattle.std.specs.Prelude.{slice_index, slice_range, if◌then◌else◌, ◌≢◌, IfOk, IfErr, IsOk}
 use Rattle.std.specs.Str.{bytes_eq}
-use Rattle.std.proofs.lemmas.Bool.{cond-false, le-ltb, ltb-false, eqb-true, eq-eqb}
+use Rattle.std.proofs.lemmas.Bool.{and_parts, cond-false, le-ltb, ltb-false, eqb-true, eq-eqb}
 use Rattle.std.proofs.lemmas.List.{append-nil, get_or-drop, take_all, take-append-drop}
 use Rattle.std.proofs.lemmas.Slice.Eq.{bytes_eq-Decides}
 use Rattle.std.proofs.Math.Seq.{take-add, drop-cons, take-append_seam, drop-append_seam}
@@ -16,105 +16,134 @@ use Rattle.tm_packet.proofs.ReadValid as entries_valid
 use Rattle.tm_packet.proofs.Spelled as sequence_read
 use Rattle.tm_packet.proofs.SpellingLemmas as sequence_written
 use Rattle.tm_reassembly.specs.declared.fault.StateFault.{StateFault}
-use Rattle.tm_reassembly.specs.Channels.{is_chosen}
 use Rattle.tm_reassembly.specs.Checkpoint as reassembly
 use Rattle.tm_reassembly.specs.Checkpoint.{two, two_at}
+use Rattle.tm_reassembly.specs.Rules.{Rules, IsLimit}
 use Rattle.tm_reassembly.specs.State.{State}
 use Rattle.tm_reassembly.specs.Valid.{IsState}
 use Rattle.tm_reassembly.proofs.Fits.{octets_front}
-use Rattle.tm_reassembly.proofs.Spelled as state_read
-use Rattle.tm_reassembly.proofs.Spelling as state_written
 use Rattle.tm_tool.specs.declared.fault.CheckpointFault.{CheckpointFault}
 use Rattle.tm_tool.specs.declared.fault.CheckpointFault.TheVariants as fault
-use Rattle.tm_tool.specs.Checkpoints.{settings_of, IsWork, magic, version, settings_octets, head_octets, with_check, checkpoint_of, check_holds, fault_around, inner, job_of, with_entries, with_state, state_in, unless, resumed}
+use Rattle.tm_tool.specs.declared.version.Version.{Version}
+use Rattle.tm_tool.specs.declared.version.Version.TheVariants.{One, Two, Three}
+use Rattle.tm_tool.specs.Checkpoints.{AsksMemory, IsWork, form_of, version_of, tells, kept_state, kept_in, magic, settings_in, head_octets, state_octets, with_check, spelled_in, checkpoint_of, check_holds, says_settings, framed_as, framed, inner, job_of, with_entries, with_state, state_in, resumed_as, resumed}
 use Rattle.tm_tool.specs.Jobs.{JobState}
 use Rattle.tm_tool.specs.Pieces.{Entries, Work}
-use Rattle.tm_tool.specs.Settings.{Choices}
-use Rattle.tm_tool.proofs.ReadValid as read_valid
 use Rattle.tm_tool.proofs.CheckpointLength.{state_most, state_least, sequence_most, sequence_least}
+use Rattle.tm_tool.proofs.ReadValid.{state_valid}
+use Rattle.tm_tool.proofs.VersionLemmas.{named, own_octet, around_fits, length-head, state_again, state_spelled}
 
 -- ---- the octets around
 
--- nothing is wrong around the state
-pub record IsFramed (s : Choices) (octets : List ℕ) : Type 0 where
-  pub long : 33 ≤ length octets
+-- nothing is wrong around the state, in a version
+pub record IsFramed (v : Version) (s : Rules) (octets : List ℕ) : Type 0 where
+  pub long : (form_of v).least ≤ length octets
   pub magic_is : take 4 octets ≡ magic
-  pub version_is : slice_index octets 4 ≡ version
+  pub version_is : slice_index octets 4 ≡ (form_of v).octet
   pub check_is : check_holds octets ≡ true
-  pub settings_are : slice_range octets 5 17 ≡ settings_octets s
+  pub told : tells v s ≡ true
+  pub settings_are : slice_range octets 5 (5 + (form_of v).settings) ≡ settings_in v s
 
-passed : (b : Bool) (found : CheckpointFault) (rest : Option CheckpointFault) → (if b then Some found else rest) ≡ None → (b ≡ false) × (rest ≡ None)
-passed true found rest e = cc
-passed false found rest e = (refl, e)
+passed : (b : Bool) (found : CheckpointFault) (rest : Result Version CheckpointFault) (v : Version) → (if b then Err found else rest) ≡ Ok v → (b ≡ false) × (rest ≡ Ok v)
+passed true found rest v e = cc
+passed false found rest v e = (refl, e)
 
 true_of : (b : Bool) → not b ≡ false → b ≡ true
 true_of true e = refl
 true_of false e = cc
 
-pub framed : (s : Choices) (octets : List ℕ) → fault_around s octets ≡ None → IsFramed s octets
-unfolding fault_around
-framed s octets e =
-    let five : Option CheckpointFault = if not (bytes_eq (slice_range octets 5 17) (settings_octets s)) then Some fault.Settings else None in
-    let four : Option CheckpointFault = if not (check_holds octets) then Some fault.Check else five in
-    let three : Option CheckpointFault = if not (eqb (slice_index octets 4) version) then Some fault.Version else four in
-    let two : Option CheckpointFault = if not (bytes_eq (take 4 octets) magic) then Some fault.Magic else three in
-    let a = passed (ltb (length octets) 33) fault.Short two e in
-    let b = passed (not (bytes_eq (take 4 octets) magic)) fault.Magic three a.1 in
-    let c = passed (not (eqb (slice_index octets 4) version)) fault.Version four b.1 in
-    let d = passed (not (check_holds octets)) fault.Check five c.1 in
-    let f = passed (not (bytes_eq (slice_range octets 5 17) (settings_octets s))) fault.Settings None d.1 in
-    record {
-      long = ltb-false (length octets) 33 a.0;
-      magic_is = (bytes_eq-Decides (take 4 octets) magic).0 (true_of _ b.0);
-      version_is = eqb-true (slice_index octets 4) version (true_of _ c.0);
-      check_is = true_of _ d.0;
-      settings_are = (bytes_eq-Decides (slice_range octets 5 17) (settings_octets s)).0 (true_of _ f.0);
-    }
+both : (a b : Bool) → a ≡ true → b ≡ true → (a && b) ≡ true
+both true true p q = refl
+both true false p q = q
+both false b p q = p
 
-pub unframed : (s : Choices) (octets : List ℕ) → IsFramed s octets → fault_around s octets ≡ None
-unfolding fault_around
-unframed s octets h =
+version_in : Result Version CheckpointFault → Version → Version
+version_in (Ok v) other = v
+version_in (Err found) other = other
+
+framed_in : (s : Rules) (octets : List ℕ) (x : Option Version) (v : Version) → take 4 octets ≡ magic → version_of (slice_index octets 4) ≡ x → framed_as s octets x ≡ Ok v
+    → IsFramed v s octets
+unfolding version_in
+framed_in s octets None v first is e = cc
+framed_in s octets (Some u) v first is e =
+    let says : Bool = says_settings u s octets in
+    let three : Result Version CheckpointFault = Ok u in
+    let two : Result Version CheckpointFault = if not says then Err fault.Settings else three in
+    let one : Result Version CheckpointFault = if not (check_holds octets) then Err fault.Check else two in
+    let a = passed (ltb (length octets) (form_of u).least) fault.Short one v e in
+    let b = passed (not (check_holds octets)) fault.Check two v a.1 in
+    let c = passed (not says) fault.Settings three v b.1 in
+    let same : u ≡ v = ap (λ (r : Result Version CheckpointFault). version_in r v) c.1 in
+    let both_are = and_parts (tells u s) (bytes_eq (slice_range octets 5 (5 + (form_of u).settings)) (settings_in u s)) (true_of says c.0) in
+    subst (λ (w : Version). IsFramed w s octets) same
+    (record {
+      long = ltb-false (length octets) (form_of u).least a.0;
+      magic_is = first;
+      version_is = own_octet (slice_index octets 4) u is;
+      check_is = true_of _ b.0;
+      told = both_are.0;
+      settings_are = (bytes_eq-Decides (slice_range octets 5 (5 + (form_of u).settings)) (settings_in u s)).0 both_are.1;
+    })
+
+pub is_framed : (s : Rules) (octets : List ℕ) (v : Version) → framed s octets ≡ Ok v → IsFramed v s octets
+unfolding framed
+is_framed s octets v e =
+    let two : Result Version CheckpointFault = framed_as s octets (version_of (slice_index octets 4)) in
+    let one : Result Version CheckpointFault = if not (bytes_eq (take 4 octets) magic) then Err fault.Magic else two in
+    let a = passed (ltb (length octets) 33) fault.Short one v e in
+    let b = passed (not (bytes_eq (take 4 octets) magic)) fault.Magic two v a.1 in
+    framed_in s octets (version_of (slice_index octets 4)) v ((bytes_eq-Decides (take 4 octets) magic).0 (true_of _ b.0)) refl b.1
+
+pub framed_again : (s : Rules) (octets : List ℕ) (v : Version) → IsFramed v s octets → framed s octets ≡ Ok v
+unfolding framed
+framed_again s octets v h =
     let magic_there : bytes_eq (take 4 octets) magic ≡ true = (bytes_eq-Decides (take 4 octets) magic).1 h.magic_is in
-    let version_there : eqb (slice_index octets 4) version ≡ true = eq-eqb (slice_index octets 4) version h.version_is in
-    let settings_there : bytes_eq (slice_range octets 5 17) (settings_octets s) ≡ true = (bytes_eq-Decides (slice_range octets 5 17) (settings_octets s)).1 h.settings_are in
-    cond-false (ltb (length octets) 33) _ _ (le-ltb (length octets) 33 h.long)
+    let settings_there : bytes_eq (slice_range octets 5 (5 + (form_of v).settings)) (settings_in v s) ≡ true =
+    (bytes_eq-Decides (slice_range octets 5 (5 + (form_of v).settings)) (settings_in v s)).1 h.settings_are in
+    let version_there : version_of (slice_index octets 4) ≡ Some v = ap version_of h.version_is ∙ named v in
+    let fits = (around_fits v).1 in
+    let long = h.long in
+    cond-false (ltb (length octets) 33) _ _ (le-ltb (length octets) 33 (omega arith))
     ∙ cond-false (not (bytes_eq (take 4 octets) magic)) _ _ (ap not magic_there)
-    ∙ cond-false (not (eqb (slice_index octets 4) version)) _ _ (ap not version_there)
+    ∙ ap (framed_as s octets) version_there
+    ∙ cond-false (ltb (length octets) (form_of v).least) _ _ (le-ltb (length octets) (form_of v).least long)
     ∙ cond-false (not (check_holds octets)) _ _ (ap not h.check_is)
-    ∙ cond-false (not (bytes_eq (slice_range octets 5 17) (settings_octets s))) _ _ (ap not settings_there)
+    ∙ cond-false (not (says_settings v s octets)) _ _ (ap not (both (tells v s) _ h.told settings_there))
 
 -- ---- written
 
-abbrev body : Work → List ℕ
-body w = reassembly.spelling w.state ++ sequence.spelling w.entries
+abbrev pub body : Version → Work → List ℕ
+body v w = state_octets v w.state ++ sequence.spelling w.entries
 
-abbrev checked : Work → List ℕ
-checked w = head_octets (settings_of w) ++ body w
+abbrev pub checked : Version → Work → List ℕ
+checked v w = head_octets v w.rules ++ body v w
 
-body_least : (w : Work) → IsWork w → 14 ≤ length (body w)
-body_least w h =
-    let a = state_least w.layout (is_chosen w.channels) w.state h.state in
-    let b = sequence_least w.entries in
-    let c = length-append (reassembly.spelling w.state) (sequence.spelling w.entries) in
+-- so many octets before, and two behind
+checked_length : (head inside : List ℕ) (k : ℕ) → length head ≡ 5 + k → length (with_check (head ++ inside)) ≡ length inside + (7 + k)
+checked_length head inside k e =
+    length-append (head ++ inside) (two (error_control_of (head ++ inside)))
+    ∙ ap (λ (n : ℕ). n + 2) (length-append head inside ∙ ap (λ (n : ℕ). n + length inside) e)
+    ∙ omega arith
+
+spelled_is : (v : Version) (w : Work) → spelled_in v w ≡ with_check (checked v w)
+unfolding spelled_in
+spelled_is One w = refl
+spelled_is Two w = refl
+spelled_is Three w = refl
+
+length-spelled : (v : Version) (w : Work) → length (spelled_in v w) ≡ length (body v w) + (7 + (form_of v).settings)
+length-spelled v w = ap length (spelled_is v w) ∙ checked_length (head_octets v w.rules) (body v w) (form_of v).settings (length-head v w.rules)
+
+pub bound : (w : Work) → IsWork w → length (checkpoint_of w) ≤ 98374 + 8 * w.rules.max_packet
+bound w h =
+    let a = length-spelled Three w in
+    let b = state_most w.rules w.state h.state in
+    let c = sequence_most w.entries h.entries in
+    let d = length-append (reassembly.spelling w.state) (sequence.spelling w.entries) in
     omega arith
 
-body_most : (w : Work) → IsWork w → length (body w) ≤ 622686
-body_most w h =
-    let a = state_most w.layout (is_chosen w.channels) w.state h.state in
-    let b = sequence_most w.entries h.entries in
-    let c = length-append (reassembly.spelling w.state) (sequence.spelling w.entries) in
-    omega arith
-
--- seventeen octets before, and two behind
-length-checkpoint : (w : Work) → length (checkpoint_of w) ≡ length (body w) + 19
-unfolding checkpoint_of
-length-checkpoint w =
-    let a = length-append (checked w) (two (error_control_of (checked w))) in
-    let b = length-append (head_octets (settings_of w)) (body w) in
-    omega arith
-
-pub bound : (w : Work) → IsWork w → length (checkpoint_of w) ≤ 622705
-bound w h = let a = length-checkpoint w in let b = body_most w h in omega arith
+pub most : (w : Work) → IsWork w → length (checkpoint_of w) ≤ 622710
+most w h = let a = bound w h in let b = h.state.limit.most in omega arith
 
 at_seam : (xs ys : List ℕ) (i : ℕ) → slice_index (xs ++ ys) (length xs + i) ≡ slice_index ys i
 at_seam xs ys i = sym (get_or-drop (length xs) (xs ++ ys) i 0) ∙ ap (λ (l : List ℕ). slice_index l i) (drop-append_seam xs ys)
@@ -140,23 +169,54 @@ check_behind xs =
     ∙ ap (λ (l : List ℕ). eqb (two_at (with_check xs) (length xs)) (error_control_of l)) front
     ∙ eq-eqb (two_at (with_check xs) (length xs)) (error_control_of xs) (number_behind xs (error_control_of xs))
 
-framed_checkpoint : (w : Work) → IsWork w → IsFramed (settings_of w) (checkpoint_of w)
-unfolding checkpoint_of
-framed_checkpoint w h =
+-- what stands at the front of a checkpoint
+record HasFront (v : Version) (w : Work) (octets : List ℕ) : Type 0 where
+  magic_is : take 4 octets ≡ magic
+  version_is : slice_index octets 4 ≡ (form_of v).octet
+  settings_are : slice_range octets 5 (5 + (form_of v).settings) ≡ settings_in v w.rules
+
+has_front : (v : Version) (w : Work) → HasFront v w (spelled_in v w)
+unfolding spelled_in
+has_front One w = record { magic_is = refl; version_is = refl; settings_are = refl }
+has_front Two w = record { magic_is = refl; version_is = refl; settings_are = refl }
+has_front Three w = record { magic_is = refl; version_is = refl; settings_are = refl }
+
+framed_spelled : (v : Version) (w : Work) → IsWork w → tells v w.rules ≡ true → IsFramed v w.rules (spelled_in v w)
+framed_spelled v w h told =
+    let front = has_front v w in
     record {
-      long = let a = length-checkpoint w in let b = body_least w h in omega arith;
-      magic_is = refl;
-      version_is = refl;
-      check_is = check_behind (checked w);
-      settings_are = refl;
+      long =
+          let a = length-spelled v w in
+          let b = state_least v w.rules w.state h.state in
+          let c = sequence_least w.entries in
+          let d = length-append (state_octets v w.state) (sequence.spelling w.entries) in
+          omega arith;
+      magic_is = front.magic_is;
+      version_is = front.version_is;
+      check_is = ap check_holds (spelled_is v w) ∙ check_behind (checked v w);
+      told = told;
+      settings_are = front.settings_are;
     }
 
-inner_checkpoint : (w : Work) → inner (checkpoint_of w) ≡ body w
-unfolding checkpoint_of
-inner_checkpoint w =
-    let len : length (checkpoint_of w) - 2 - 17 ≡ length (body w) = let a = length-checkpoint w in omega arith in
-    ap (λ (n : ℕ). take n (body w ++ two (error_control_of (checked w)))) len
-    ∙ take-append_seam (body w) (two (error_control_of (checked w)))
+abbrev pub check : Version → Work → List ℕ
+check v w = two (error_control_of (checked v w))
+
+-- the octets behind the settings, whatever follows
+pub behind_head : (v : Version) (w : Work) (rest : List ℕ) → drop (5 + (form_of v).settings) (spelled_in v w ++ rest) ≡ (body v w ++ check v w) ++ rest
+unfolding spelled_in
+behind_head One w rest = refl
+behind_head Two w rest = refl
+behind_head Three w rest = refl
+
+inner_spelled : (v : Version) (w : Work) → inner v (spelled_in v w) ≡ body v w
+inner_spelled v w =
+    let k : ℕ = 5 + (form_of v).settings in
+    let len : length (spelled_in v w) - 2 - k ≡ length (body v w) = let a = length-spelled v w in omega arith in
+    let rest : drop k (spelled_in v w) ≡ body v w ++ check v w =
+    ap (drop k) (sym (append-nil (spelled_in v w))) ∙ behind_head v w [] ∙ append-nil (body v w ++ check v w) in
+    ap (take (length (spelled_in v w) - 2 - k)) rest
+    ∙ ap (λ (n : ℕ). take n (body v w ++ check v w)) len
+    ∙ take-append_seam (body v w) (check v w)
 
 abbrev state_is : State → ℕ → Result reassembly.Decoded StateFault
 state_is state octets = Ok (record { state = state; octets = octets })
@@ -164,7 +224,7 @@ state_is state octets = Ok (record { state = state; octets = octets })
 abbrev entries_are : Entries → ℕ → Result sequence.Decoded TrackerFault
 entries_are entries octets = Ok (record { entries = entries; octets = octets })
 
-entries_again : (s : Choices) (state : State) (entries : Entries) → valid.IsState entries
+entries_again : (s : Rules) (state : State) (entries : Entries) → valid.IsState entries
     → with_entries s state (length (sequence.spelling entries)) (sequence.decoding_of (sequence.spelling entries)) ≡ Ok (job_of s state entries)
 entries_again s state entries h =
     let spelled : List ℕ = sequence.spelling entries in
@@ -173,84 +233,100 @@ entries_again s state entries h =
     ap (λ (r : Result sequence.Decoded TrackerFault). with_entries s state (length spelled) r) read
     ∙ cond-false (ltb (length spelled) (length spelled)) _ _ (le-ltb (length spelled) (length spelled) (omega arith))
 
-body_again : (w : Work) → IsWork w
-    → with_state (settings_of w) (body w) (reassembly.decoding_of w.layout (is_chosen w.channels) (body w)) ≡ Ok (job_of (settings_of w) w.state w.entries)
-body_again w h =
-    let spelled : List ℕ = reassembly.spelling w.state in
+body_again : (v : Version) (w : Work) → IsWork w
+    → with_state w.rules (body v w) (state_in v w.rules (body v w)) ≡ Ok (job_of w.rules (kept_state v w.state) w.entries)
+body_again v w h =
+    let spelled : List ℕ = state_octets v w.state in
     let rest : List ℕ = sequence.spelling w.entries in
-    let read : reassembly.decoding_of w.layout (is_chosen w.channels) (body w) ≡ state_is w.state (length spelled) =
-    state_written.read-again w.layout (is_chosen w.channels) w.state rest h.state in
-    ap (λ (r : Result reassembly.Decoded StateFault). with_state (settings_of w) (body w) r) read
-    ∙ ap (λ (l : List ℕ). with_entries (settings_of w) w.state (length l) (sequence.decoding_of l)) (drop-append_seam spelled rest)
-    ∙ entries_again (settings_of w) w.state w.entries h.entries
+    let kept : State = kept_state v w.state in
+    let read : state_in v w.rules (body v w) ≡ state_is kept (length spelled) = state_again v w.rules w.state rest h.state in
+    ap (λ (r : Result reassembly.Decoded StateFault). with_state w.rules (body v w) r) read
+    ∙ ap (λ (l : List ℕ). with_entries w.rules kept (length l) (sequence.decoding_of l)) (drop-append_seam spelled rest)
+    ∙ entries_again w.rules kept w.entries h.entries
 
-pub read_again : (w : Work) → IsWork w → resumed (settings_of w) (checkpoint_of w) ≡ Ok (record { work = w; fresh = false })
+pub older_again : (v : Version) (w : Work) → IsWork w → tells v w.rules ≡ true → resumed w.rules (spelled_in v w) ≡ Ok (record { work = kept_in v w; fresh = false })
 unfolding resumed
-read_again w h =
-    let s : Choices = settings_of w in
-    let octets : List ℕ = checkpoint_of w in
-    ap (λ (f : Option CheckpointFault). unless f (with_state s (inner octets) (state_in s octets))) (unframed s octets (framed_checkpoint w h))
-    ∙ ap (λ (l : List ℕ). with_state s l (reassembly.decoding_of s.layout (is_chosen s.channels) l)) (inner_checkpoint w)
-    ∙ body_again w h
+older_again v w h told =
+    let s : Rules = w.rules in
+    let octets : List ℕ = spelled_in v w in
+    ap (resumed_as s octets) (framed_again s octets v (framed_spelled v w h told))
+    ∙ ap (λ (l : List ℕ). with_state s l (state_in v s l)) (inner_spelled v w)
+    ∙ body_again v w h
+
+pub read_again : (w : Work) → IsWork w → resumed w.rules (checkpoint_of w) ≡ Ok (record { work = w; fresh = false })
+read_again w h = older_again Three w h refl
 
 -- the parts of a checkpoint, one behind the other
-pub joined : (w : Work) (a b c d : List ℕ) → a ≡ head_octets (settings_of w) → b ≡ a ++ reassembly.spelling w.state
+pub joined : (w : Work) (a b c d : List ℕ) → a ≡ head_octets Three w.rules → b ≡ a ++ reassembly.spelling w.state
     → c ≡ b ++ sequence.spelling w.entries → d ≡ with_check c → d ≡ checkpoint_of w
-unfolding checkpoint_of
+unfolding spelled_in
 joined w a b c d first second third last =
     last
     ∙ ap with_check
     (third
     ∙ ap (λ (l : List ℕ). l ++ sequence.spelling w.entries) (second ∙ ap (λ (l : List ℕ). l ++ reassembly.spelling w.state) first)
-    ∙ append_assoc (head_octets (settings_of w)) (reassembly.spelling w.state) (sequence.spelling w.entries))
+    ∙ append_assoc (head_octets Three w.rules) (reassembly.spelling w.state) (sequence.spelling w.entries))
 
 -- ---- read
 
-pub refused_around : (s : Choices) (octets : List ℕ) (found : CheckpointFault) → fault_around s octets ≡ Some found → resumed s octets ≡ Err found
+pub refused_around : (s : Rules) (octets : List ℕ) (found : CheckpointFault) → framed s octets ≡ Err found → resumed s octets ≡ Err found
 unfolding resumed
-refused_around s octets found e = ap (λ (f : Option CheckpointFault). unless f (with_state s (inner octets) (state_in s octets))) e
+refused_around s octets found e = ap (resumed_as s octets) e
 
-pub resumed_as : (s : Choices) (octets : List ℕ) (r : Result JobState CheckpointFault) → fault_around s octets ≡ None
-    → with_state s (inner octets) (state_in s octets) ≡ r → resumed s octets ≡ r
+pub resumed_in : (s : Rules) (octets : List ℕ) (v : Version) (between : List ℕ) (r : Result JobState CheckpointFault) → framed s octets ≡ Ok v → between ≡ inner v octets
+    → with_state s between (state_in v s between) ≡ r → resumed s octets ≡ r
 unfolding resumed
-resumed_as s octets r none e = ap (λ (f : Option CheckpointFault). unless f (with_state s (inner octets) (state_in s octets))) none ∙ e
+resumed_in s octets v between r around is e =
+    ap (resumed_as s octets) around ∙ ap (λ (l : List ℕ). with_state s l (state_in v s l)) (sym is) ∙ e
 
 -- where the state is read, what is said of the octets behind it decides
-pub resumed_behind : (s : Choices) (octets rest : List ℕ) (state : State) (read : ℕ) (r : Result JobState CheckpointFault) → fault_around s octets ≡ None
-    → state_in s octets ≡ Ok (record { state = state; octets = read }) → rest ≡ drop read (inner octets)
+pub resumed_behind : (s : Rules) (octets : List ℕ) (v : Version) (between rest : List ℕ) (state : State) (read : ℕ) (r : Result JobState CheckpointFault) → framed s octets ≡ Ok v
+    → between ≡ inner v octets → state_in v s between ≡ Ok (record { state = state; octets = read }) → rest ≡ drop read between
     → with_entries s state (length rest) (sequence.decoding_of rest) ≡ r → resumed s octets ≡ r
-resumed_behind s octets rest state read r none there behind e =
-    resumed_as s octets r none
-    (ap (λ (d : Result reassembly.Decoded StateFault). with_state s (inner octets) d) there
+resumed_behind s octets v between rest state read r around is there behind e =
+    resumed_in s octets v between r around is
+    (ap (λ (d : Result reassembly.Decoded StateFault). with_state s between d) there
     ∙ ap (λ (l : List ℕ). with_entries s state (length l) (sequence.decoding_of l)) (sym behind)
     ∙ e)
 
+-- memory was asked for
+pub asks_memory : (s : Rules) (octets : List ℕ) (v : Version) (between : List ℕ) → framed s octets ≡ Ok v → between ≡ inner v octets → IsOk (state_in v s between)
+    → AsksMemory s octets
+asks_memory s octets v between around is state =
+    record { version = v; around = around; state = subst (λ (l : List ℕ). IsOk (state_in v s l)) is state }
+
 -- a job that is made, or want of memory
-pub made_job : (s : Choices) (octets : List ℕ) (made : JobState) (r : Result JobState CheckpointFault) → resumed s octets ≡ Ok made
+pub made_job : (s : Rules) (octets : List ℕ) (made : JobState) (r : Result JobState CheckpointFault) → resumed s octets ≡ Ok made
     → IfOk r (λ job. job ≡ made) → IfOk r (λ job. resumed s octets ≡ Ok job)
 made_job s octets made (Ok job) e h = e ∙ ap Ok (sym h)
 made_job s octets made (Err found) e h = tt
 
-pub wanting : (s : Choices) (octets : List ℕ) (r : Result JobState CheckpointFault) → IfErr r (λ found. found ≡ fault.NoMemory)
+pub wanting : (s : Rules) (octets : List ℕ) (r : Result JobState CheckpointFault) → IfErr r (λ found. found ≡ fault.NoMemory)
     → IfErr r (λ found. found ≢ fault.NoMemory → resumed s octets ≡ Err found)
 wanting s octets (Ok job) h = tt
 wanting s octets (Err found) h = λ other. absurd (other h)
 
-no_fault : (found : Option CheckpointFault) (read : Result JobState CheckpointFault) (job : JobState) → unless found read ≡ Ok job → (found ≡ None) × (read ≡ Ok job)
-no_fault None read job e = (refl, e)
-no_fault (Some found) read job e = cc
+-- octets that are accepted have a version
+record IsResumed (s : Rules) (octets : List ℕ) (job : JobState) : Type 0 where
+  version : Version
+  around : framed s octets ≡ Ok version
+  inside : with_state s (inner version octets) (state_in version s (inner version octets)) ≡ Ok job
+
+by_version : (s : Rules) (octets : List ℕ) (job : JobState) (x : Result Version CheckpointFault) → framed s octets ≡ x → resumed_as s octets x ≡ Ok job → IsResumed s octets job
+by_version s octets job (Ok v) is e = record { version = v; around = is; inside = e }
+by_version s octets job (Err found) is e = cc
 
 none_left : (b : Bool) (found : CheckpointFault) (made job : JobState) → (if b then Err found else Ok made) ≡ Ok job → (b ≡ false) × (made ≡ job)
 none_left true found made job e = cc
 none_left false found made job e = (refl, cc)
 
 -- these octets are the entries of the job, which has these settings and this state
-record AreEntries (s : Choices) (state : State) (octets : List ℕ) (job : JobState) : Type 0 where
+record AreEntries (s : Rules) (state : State) (octets : List ℕ) (job : JobState) : Type 0 where
   spelled : octets ≡ sequence.spelling job.work.entries
   same : job_of s state job.work.entries ≡ job
   fit : valid.IsState job.work.entries
 
-entries_read : (s : Choices) (state : State) (octets : List ℕ) (job : JobState) (r : Result sequence.Decoded TrackerFault) → AreOctets octets
+entries_read : (s : Rules) (state : State) (octets : List ℕ) (job : JobState) (r : Result sequence.Decoded TrackerFault) → AreOctets octets
     → sequence.decoding_of octets ≡ r → with_entries s state (length octets) r ≡ Ok job → AreEntries s state octets job
 entries_read s state octets job (Err found) h read e = cc
 entries_read s state octets job (Ok d) h read e =
@@ -264,32 +340,34 @@ entries_read s state octets job (Ok d) h read e =
       fit = subst valid.IsState entries (entries_valid.entries_read octets d read);
     }
 
--- these octets are the body of the job, which has these settings
-record IsBody (s : Choices) (octets : List ℕ) (job : JobState) : Type 0 where
-  spelled : octets ≡ body job.work
-  settings : settings_of job.work ≡ s
+-- these octets are the body of the job, which has these settings and what the version keeps
+record IsBody (v : Version) (s : Rules) (octets : List ℕ) (job : JobState) : Type 0 where
+  spelled : octets ≡ body v job.work
+  settings : job.work.rules ≡ s
   stale : job.fresh ≡ false
-  state : IsState job.work.layout (is_chosen job.work.channels) job.work.state
+  kept : kept_in v job.work ≡ job.work
+  state : IsLimit s.max_packet → IsState job.work.rules job.work.state
   entries : valid.IsState job.work.entries
 
-body_read : (s : Choices) (octets : List ℕ) (job : JobState) (r : Result reassembly.Decoded StateFault) → AreOctets octets
-    → reassembly.decoding_of s.layout (is_chosen s.channels) octets ≡ r → with_state s octets r ≡ Ok job → IsBody s octets job
-body_read s octets job (Err found) h read e = cc
-body_read s octets job (Ok d) h read e =
+body_read : (v : Version) (s : Rules) (octets : List ℕ) (job : JobState) (r : Result reassembly.Decoded StateFault) → AreOctets octets
+    → state_in v s octets ≡ r → with_state s octets r ≡ Ok job → IsBody v s octets job
+body_read v s octets job (Err found) h read e = cc
+body_read v s octets job (Ok d) h read e =
     let rest : List ℕ = drop d.octets octets in
     let entries = entries_read s d.state rest job (sequence.decoding_of rest) (octets_behind d.octets octets h) refl e in
-    let spelled = state_read.spelled-again s.layout (is_chosen s.channels) octets d h read in
+    let spelled = state_spelled v s octets d h read in
     let state : d.state ≡ job.work.state = ap (λ (j : JobState). j.work.state) entries.same in
     record {
       spelled =
           sym (take-append-drop d.octets octets)
-          ∙ ap (λ (l : List ℕ). l ++ rest) (spelled.1 ∙ ap reassembly.spelling state)
-          ∙ ap (λ (l : List ℕ). reassembly.spelling job.work.state ++ l) entries.spelled;
-      settings = ap (λ (j : JobState). settings_of j.work) (sym entries.same);
+          ∙ ap (λ (l : List ℕ). l ++ rest) (spelled.same ∙ ap (state_octets v) state)
+          ∙ ap (λ (l : List ℕ). state_octets v job.work.state ++ l) entries.spelled;
+      settings = ap (λ (j : JobState). j.work.rules) (sym entries.same);
       stale = ap (λ (j : JobState). j.fresh) (sym entries.same);
-      state =
-          subst (λ (j : JobState). IsState j.work.layout (is_chosen j.work.channels) j.work.state) entries.same
-          (read_valid.state_read s.layout (is_chosen s.channels) octets d h read);
+      kept =
+          ap (λ (t : State). record { rules = job.work.rules; state = t; entries = job.work.entries })
+          (ap (kept_state v) (sym state) ∙ spelled.kept ∙ state);
+      state = λ range. subst (λ (j : JobState). IsState j.work.rules j.work.state) entries.same (state_valid s range v octets d h read);
       entries = entries.fit;
     }
 
@@ -320,53 +398,76 @@ check_again octets h long e =
     sym (take-append-drop n octets)
     ∙ ap (λ (l : List ℕ). take n octets ++ l) (sym (last_two ys (octets_behind n octets h) len) ∙ ap two number)
 
--- the seventeen octets in front
-head_again : (s : Choices) (octets : List ℕ) → IsFramed s octets → take 17 octets ≡ head_octets s
-head_again s octets h =
-    let long = h.long in
+-- octets behind a front of four and one more
+front_again : (k : ℕ) (octets first written : List ℕ) (v : ℕ) → 5 ≤ length octets → take 4 octets ≡ first → slice_index octets 4 ≡ v
+    → slice_range octets 5 (5 + k) ≡ written → take (5 + k) octets ≡ first ++ v ∷ written
+front_again k octets first written v long fore named behind =
+    let n : 5 + k ≡ 4 + suc k = omega arith in
+    let m : 5 + k - 5 ≡ k = omega arith in
     let one : drop 4 octets ≡ slice_index octets 4 ∷ drop 5 octets = drop-cons octets 4 0 (omega arith) in
-    take-add 4 13 octets
-    ∙ ap (λ (l : List ℕ). l ++ take 13 (drop 4 octets)) h.magic_is
-    ∙ ap (λ (l : List ℕ). magic ++ take 13 l) one
-    ∙ ap (λ (v : ℕ). magic ++ v ∷ take 12 (drop 5 octets)) h.version_is
-    ∙ ap (λ (l : List ℕ). magic ++ version ∷ l) h.settings_are
+    ap (λ (i : ℕ). take i octets) n
+    ∙ take-add 4 (suc k) octets
+    ∙ ap (λ (l : List ℕ). l ++ take (suc k) (drop 4 octets)) fore
+    ∙ ap (λ (l : List ℕ). first ++ take (suc k) l) one
+    ∙ ap (λ (i : ℕ). first ++ i ∷ take k (drop 5 octets)) named
+    ∙ ap (λ (i : ℕ). first ++ v ∷ take i (drop 5 octets)) (sym m)
+    ∙ ap (λ (l : List ℕ). first ++ v ∷ l) behind
 
 -- what is before the check: the octets in front, and those between
-before_check : (s : Choices) (octets : List ℕ) → IsFramed s octets → take (length octets - 2) octets ≡ head_octets s ++ inner octets
-before_check s octets h =
+before_check : (v : Version) (s : Rules) (octets : List ℕ) → IsFramed v s octets → take (length octets - 2) octets ≡ head_octets v s ++ inner v octets
+before_check v s octets h =
     let long = h.long in
-    let n : length octets - 2 ≡ 17 + (length octets - 2 - 17) = omega arith in
-    ap (λ (k : ℕ). take k octets) n
-    ∙ take-add 17 (length octets - 2 - 17) octets
-    ∙ ap (λ (l : List ℕ). l ++ inner octets) (head_again s octets h)
+    let fits = (around_fits v).0 in
+    let k : ℕ = 5 + (form_of v).settings in
+    let n : length octets - 2 ≡ k + (length octets - 2 - k) = omega arith in
+    ap (λ (i : ℕ). take i octets) n
+    ∙ take-add k (length octets - 2 - k) octets
+    ∙ ap (λ (l : List ℕ). l ++ inner v octets)
+    (front_again (form_of v).settings octets magic (settings_in v s) (form_of v).octet (omega arith) h.magic_is h.version_is h.settings_are)
 
 -- octets that are accepted
-accepted : (s : Choices) (octets : List ℕ) (job : JobState) → AreOctets octets → resumed s octets ≡ Ok job
-    → IsFramed s octets × IsBody s (inner octets) job
+record IsAccepted (s : Rules) (octets : List ℕ) (job : JobState) : Type 0 where
+  version : Version
+  around : IsFramed version s octets
+  read : IsBody version s (inner version octets) job
+
+accepted : (s : Rules) (octets : List ℕ) (job : JobState) → AreOctets octets → resumed s octets ≡ Ok job → IsAccepted s octets job
 unfolding resumed
 accepted s octets job h e =
-    let none = no_fault (fault_around s octets) (with_state s (inner octets) (state_in s octets)) job e in
-    let within : AreOctets (inner octets) = octets_front (length octets - 2 - 17) (drop 17 octets) (octets_behind 17 octets h) in
-    (framed s octets none.0, body_read s (inner octets) job (state_in s octets) within refl none.1)
+    let found = by_version s octets job (framed s octets) refl e in
+    let v : Version = found.version in
+    let k : ℕ = 5 + (form_of v).settings in
+    let within : AreOctets (inner v octets) = octets_front (length octets - 2 - k) (drop k octets) (octets_behind k octets h) in
+    record {
+      version = v;
+      around = is_framed s octets v found.around;
+      read = body_read v s (inner v octets) job (state_in v s (inner v octets)) within refl found.inside;
+    }
 
-pub written_again : (s : Choices) (octets : List ℕ) (job : JobState) → AreOctets octets → resumed s octets ≡ Ok job
-    → (octets ≡ checkpoint_of job.work) × (settings_of job.work ≡ s) × (job.fresh ≡ false)
-unfolding checkpoint_of
+spelled_by : (v : Version) (w : Work) (octets front : List ℕ) → octets ≡ with_check front → front ≡ checked v w → octets ≡ spelled_in v w
+spelled_by v w octets front is e = is ∙ ap with_check e ∙ sym (spelled_is v w)
+
+pub written_again : (s : Rules) (octets : List ℕ) (job : JobState) → AreOctets octets → resumed s octets ≡ Ok job
+    → (v : Version) × (octets ≡ spelled_in v job.work) × (tells v s ≡ true) × (kept_in v job.work ≡ job.work) × (job.work.rules ≡ s) × (job.fresh ≡ false)
 written_again s octets job h e =
     let all = accepted s octets job h e in
-    let around = all.0 in
-    let read = all.1 in
-    let long = around.long in (
-      check_again octets h (omega arith) around.check_is
-          ∙ ap with_check
-          (before_check s octets around
-          ∙ ap (λ (t : Choices). head_octets t ++ inner octets) (sym read.settings)
-          ∙ ap (λ (l : List ℕ). head_octets (settings_of job.work) ++ l) read.spelled),
+    let v : Version = all.version in
+    let around = all.around in
+    let read = all.read in
+    let long = around.long in
+    let fits = (around_fits v).1 in (
+      v,
+      spelled_by v job.work octets (take (length octets - 2) octets) (check_again octets h (omega arith) around.check_is)
+          (before_check v s octets around
+          ∙ ap (λ (t : Rules). head_octets v t ++ inner v octets) (sym read.settings)
+          ∙ ap (λ (l : List ℕ). head_octets v job.work.rules ++ l) read.spelled),
+      around.told,
+      read.kept,
       read.settings,
       read.stale,
     )
 
-pub valid_again : (s : Choices) (octets : List ℕ) (job : JobState) → length s.channels ≡ 8 → AreOctets octets → resumed s octets ≡ Ok job → IsWork job.work
-valid_again s octets job eight h e =
-    let read = (accepted s octets job h e).1 in
-    record { eight = ap (λ (t : Choices). length t.channels) read.settings ∙ eight; state = read.state; entries = read.entries }
+pub valid_again : (s : Rules) (octets : List ℕ) (job : JobState) → length s.channels ≡ 8 → IsLimit s.max_packet → AreOctets octets → resumed s octets ≡ Ok job → IsWork job.work
+valid_again s octets job eight range h e =
+    let read = (accepted s octets job h e).read in
+    record { eight = ap (λ (t : Rules). length t.channels) read.settings ∙ eight; state = read.state range; entries = read.entries }

@@ -3,14 +3,17 @@ use Rattle.std.proofs.Common.{◌≡◌, ℕ, zero, suc, ◌+◌, ◌*◌, ◌<�
 use Rattle.std.specs.List.{flat_map, slice_get}
 use Rattle.std.proofs.lemmas.List.{get_or-drop, length-take-le, take-append-drop}
 use Rattle.std.proofs.Math.Seq.{drop-cons}
-use Rattle.tm_frame.specs.declared.layout.LayoutParts.{LayoutParts}
 use Rattle.tm_packet.specs.declared.tracker.Last as counted
 use Rattle.tm_packet.specs.Spelling as sequence
 use Rattle.tm_packet.specs.Valid as valid
-use Rattle.tm_reassembly.specs.Checkpoint.{block, with_tail, spelling}
+use Rattle.tm_reassembly.specs.Checkpoint.{block, with_tail, master_octets, spelling}
+use Rattle.tm_reassembly.specs.Rules.{Rules}
 use Rattle.tm_reassembly.specs.State.{State, Last, Tail}
 use Rattle.tm_reassembly.specs.Valid.{IsState}
 use Rattle.tm_reassembly.proofs.States.{short-tails}
+use Rattle.tm_tool.specs.declared.version.Version.{Version}
+use Rattle.tm_tool.specs.declared.version.Version.TheVariants.{One, Two, Three}
+use Rattle.tm_tool.specs.Checkpoints.{form_of, state_octets}
 
 -- ---- entries
 
@@ -78,23 +81,25 @@ sequence_least s = omega arith
 
 -- ---- the state
 
-block_most : (x : Option Last) → ((last : Last) (t : Tail) → x ≡ Some last → last.tail ≡ Some t → length t.octets < 65542) → length (block x) ≤ 65553
-block_most None h = omega arith
-block_most (Some last) h = by_tail last.tail refl
-  where
-    by_tail : (t : Option Tail) → last.tail ≡ t → length (with_tail last.count t) ≤ 65553
-    by_tail None e = omega arith
-    by_tail (Some t) e = let short = h last t refl e in omega arith
+module _ (limit : ℕ) where
+  block_most : (x : Option Last) → ((last : Last) (t : Tail) → x ≡ Some last → last.tail ≡ Some t → length t.octets < limit) → length (block x) ≤ 11 + limit
+  block_most None h = omega arith
+  block_most (Some last) h = by_tail last.tail refl
+    where
+      by_tail : (t : Option Tail) → last.tail ≡ t → length (with_tail last.count t) ≤ 11 + limit
+      by_tail None e = omega arith
+      by_tail (Some t) e = let short = h last t refl e in omega arith
 
-blocks_most : (xs : List (Option Last))
-    → ((c : ℕ) (last : Last) (t : Tail) → slice_get xs c ≡ Some (Some last) → last.tail ≡ Some t → length t.octets < 65542)
-    → length (flat_map block xs) ≤ 65553 * length xs
-blocks_most [] h = omega arith
-blocks_most (x ∷ xs) h =
-    let one = block_most x (λ last t e f. h 0 last t (ap Some e) f) in
-    let more = blocks_most xs (λ c last t e f. h (suc c) last t e f) in
-    let sum = length-append (block x) (flat_map block xs) in
-    omega arith
+  blocks_most : (xs : List (Option Last))
+      → ((c : ℕ) (last : Last) (t : Tail) → slice_get xs c ≡ Some (Some last) → last.tail ≡ Some t → length t.octets < limit)
+      → length (flat_map block xs) ≤ (11 + limit) * length xs
+  blocks_most [] h = omega arith
+  blocks_most (x ∷ xs) h =
+      let one = block_most x (λ last t e f. h 0 last t (ap Some e) f) in
+      let more = blocks_most xs (λ c last t e f. h (suc c) last t e f) in
+      let sum = length-append (block x) (flat_map block xs) in
+      let product : (11 + limit) * length (x ∷ xs) ≡ (11 + limit) + (11 + limit) * length xs = omega arith in
+      omega arith
 
 block_least : (x : Option Last) → 1 ≤ length (block x)
 block_least None = omega arith
@@ -112,14 +117,26 @@ blocks_least (x ∷ xs) =
     let sum = length-append (block x) (flat_map block xs) in
     omega arith
 
-pub state_most : (layout : LayoutParts) (chosen : ℕ → Bool) (s : State) → IsState layout chosen s → length (spelling s) ≤ 524428
-state_most layout chosen s h =
-    let eight = h.shape.eight_channels in
-    let blocks = blocks_most s.channels (short-tails layout chosen s h) in
+master_length : (master : Option ℕ) → (1 ≤ length (master_octets master)) × (length (master_octets master) ≤ 2)
+master_length None = (omega arith, omega arith)
+master_length (Some count) = (omega arith, omega arith)
+
+pub state_most : (rules : Rules) (s : State) → IsState rules s → length (spelling s) ≤ 94 + 8 * rules.max_packet
+state_most rules s h =
+    let master = (master_length s.master).1 in
+    let blocks = blocks_most rules.max_packet s.channels (short-tails rules s h) in
+    let eight : (11 + rules.max_packet) * length s.channels ≡ 88 + 8 * rules.max_packet =
+    ap (λ (n : ℕ). (11 + rules.max_packet) * n) h.shape.eight_channels ∙ omega arith in
+    let sum = length-append (master_octets s.master) (flat_map block s.channels) in
     omega arith
 
-pub state_least : (layout : LayoutParts) (chosen : ℕ → Bool) (s : State) → IsState layout chosen s → 12 ≤ length (spelling s)
-state_least layout chosen s h =
+-- the fewest octets of a state in a version: one more where the last master channel count stands
+pub state_least : (v : Version) (rules : Rules) (s : State) → IsState rules s → (form_of v).least ≤ length (state_octets v s) + (9 + (form_of v).settings)
+state_least One rules s h = let eight = h.shape.eight_channels in let blocks = blocks_least s.channels in omega arith
+state_least Two rules s h = let eight = h.shape.eight_channels in let blocks = blocks_least s.channels in omega arith
+state_least Three rules s h =
     let eight = h.shape.eight_channels in
     let blocks = blocks_least s.channels in
+    let master = (master_length s.master).0 in
+    let sum = length-append (master_octets s.master) (flat_map block s.channels) in
     omega arith

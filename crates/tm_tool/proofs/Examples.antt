@@ -1,6 +1,7 @@
 -- Worked examples: what the definitions say is written of known recordings.
 use Rattle.std.proofs.Common.{◌≡◌, ℕ, ◌-◌, ◌/◌, ◌%◌, true, false, List, [], ◌∷◌, ◌++◌, take, drop, refl, codes}
 use Rattle.std.specs.Fmt.{digits}
+use Rattle.std.specs.List.{concat}
 use Rattle.std.specs.Prelude.{replicate}
 use Rattle.tm_bits.specs.Bits.{bits_of, low_bits, number, part}
 use Rattle.tm_fields.specs.declared.field.DataType.TheVariants.{Uint, Int, Float, Str, Fill}
@@ -19,20 +20,21 @@ use Rattle.tm_reassembly.specs.Channels.{all_channels}
 use Rattle.tm_reassembly.specs.Recording.{items, after}
 use Rattle.tm_tool.specs.declared.job.Command.TheVariants.{Extract, Packets}
 use Rattle.tm_tool.specs.declared.job.Ending.TheVariants.{Close}
+use Rattle.tm_tool.specs.Checkpoints.{without_master}
 use Rattle.tm_tool.specs.FieldRows.{tabled, too_short}
 use Rattle.tm_tool.specs.Jobs.{begun, rows_head}
-use Rattle.tm_tool.specs.Lines.{drop_line, note_line, packet_line, short_line, short_packet_line}
+use Rattle.tm_tool.specs.Lines.{drop_line, gap_line, master_gap_line, note_line, packet_line, short_line, short_packet_line}
 use Rattle.tm_tool.specs.Outputs.{outs, reports}
-use Rattle.tm_tool.specs.Pieces.{Work, line_of, listed, noted, notes_of, octets_of, pieces, report_of, rows_text, text_of, unclosed_piece}
+use Rattle.tm_tool.specs.Pieces.{Work, line_of, listed, noted, notes_of, octets_of, pieces, report_of, rows_text, text_of, unclosed_piece, worked}
 use Rattle.tm_tool.specs.Records.{records, rest_of}
 
 -- frames of so many octets of spacecraft 42: a data field has six fewer
 layout : ℕ → LayoutParts
 layout n = record { frame_length = n; skip_before = 0; skip_after = 0; spacecraft = 42; secondary = Flag; ocf = Flag; error_control = false }
 
--- a job before any record, of all channels
+-- a job before any record, of all channels and of packets of any length
 job : ℕ → Work
-job n = (begun (record { layout = layout n; channels = all_channels })).work
+job n = (begun (record { layout = layout n; channels = all_channels; max_packet = 65542 })).work
 
 fifty_fives : ℕ → List ℕ
 fifty_fives n = replicate n 0x55
@@ -66,6 +68,32 @@ pointer_drop_and_sequence_gap : reports (pieces (text_of Extract) Close (job 24)
     ≡ drop_line 1 0 0 10 8 reason.Pointer ++ (drop_line 1 0 1 0 8 reason.Pointer ++ ((note_line 1 0 100 (note.Gap 1 2 1) ++ []) ++ []))
 unfolding pieces records rest_of items after octets_of listed report_of line_of drop_line note_line short_line digits noted notes_of no_entries unclosed_piece layout job fifty_fives packet cut fault_of part number bits_of low_bits
 pointer_drop_and_sequence_gap = refl
+
+-- a frame is missing: of the master channel, and of its own
+before_gap : List (List ℕ)
+before_gap =
+    (0x02 ∷ 0xA0 ∷ 0xFE ∷ 0xFE ∷ 0x18 ∷ 0x00 ∷ packet 18 0) ∷ (0x02 ∷ 0xA0 ∷ 0xFF ∷ 0xFF ∷ 0x18 ∷ 0x00 ∷ packet 18 1)
+    ∷ (0x02 ∷ 0xA0 ∷ 0x00 ∷ 0x00 ∷ 0x18 ∷ 0x00 ∷ (packet 10 2 ++ cut 0 8 (packet 14 3))) ∷ []
+
+with_gap : List ℕ
+with_gap = concat before_gap ++ (0x02 ∷ 0xA0 ∷ 0x02 ∷ 0x02 ∷ 0x18 ∷ 0x06 ∷ (fifty_fives 6 ++ packet 12 4))
+
+-- what is reported of it behind the line of the master channel
+behind_master : List ℕ
+behind_master = gap_line 3 0 1 2 1 ++ (drop_line 3 0 2 10 8 reason.Gap ++ (drop_line 3 0 3 0 6 reason.NoStart ++ note_line 3 0 100 (note.Gap 3 4 1)))
+
+frame_gap : reports (pieces (text_of Extract) Close (job 24) with_gap) ≡ master_gap_line 3 1 2 1 ++ behind_master
+unfolding pieces records rest_of items after octets_of listed report_of line_of master_gap_line gap_line drop_line note_line short_line digits noted notes_of no_entries unclosed_piece layout job fifty_fives packet cut before_gap with_gap behind_master fault_of part number bits_of low_bits
+frame_gap = refl
+
+-- from before that frame: all of it; and without the last master channel count, as from an older checkpoint, all but the line of the master channel
+gap_resumed : reports (pieces (text_of Extract) Close (worked (job 24) before_gap) with_gap) ≡ master_gap_line 3 1 2 1 ++ behind_master
+unfolding pieces records rest_of items after octets_of listed report_of line_of master_gap_line gap_line drop_line note_line short_line digits noted notes_of no_entries unclosed_piece layout job fifty_fives packet cut before_gap with_gap behind_master fault_of part number bits_of low_bits
+gap_resumed = refl
+
+gap_resumed_without : reports (pieces (text_of Extract) Close (without_master (worked (job 24) before_gap)) with_gap) ≡ behind_master
+unfolding pieces records rest_of items after octets_of listed report_of line_of master_gap_line gap_line drop_line note_line short_line digits noted notes_of no_entries unclosed_piece layout job fifty_fives packet cut before_gap with_gap behind_master fault_of part number bits_of low_bits
+gap_resumed_without = refl
 
 groups : reports (pieces (text_of Extract) Close (job 27)
     ((0x02 ∷ 0xA0 ∷ 0x00 ∷ 0x00 ∷ 0x18 ∷ 0x00

@@ -25,7 +25,7 @@ module _ {A K : Type 0} (grows : K → K → List A → Type 0) (grows-nil : (k 
       → IsHeadedStop grows rows text ending w [] first next old new fault
   unheaded_stop first next old new fault h = inr (record { mid = old; headed = took_none grows grows-nil grows-trans old; stopped = h })
 
-  module _ (head : List (Piece A)) (valid : IsValid w) (some : 0 < record_length_of w.layout) (first next : Option (List ℕ)) (old new : View K) where
+  module _ (head : List (Piece A)) (valid : IsValid w) (some : 0 < record_length_of w.rules.layout) (first next : Option (List ℕ)) (old new : View K) where
     pub headed_told : (count : ℕ) (kept : Option Work) → IsHeadedRun grows rows text ending w head first next old new count kept
         → IfSome first (λ octets. Took grows old new (head ++ pieces text ending w octets)
         × (count ≡ w.state.records + length (chosen ending (further w octets)))
@@ -61,11 +61,11 @@ module _ {A K : Type 0} (grows : K → K → List A → Type 0) (grows-nil : (k 
         (run_memory grows grows-nil grows-trans rows text ending w valid some first next h.mid new h.stopped)
 
     pub headed_many : IsHeadedStop grows rows text ending w head first next old new TooMany
-        → IfSome first (λ octets. 2 ^ 32 - 1 < record_count (record_length_of w.layout) octets)
+        → IfSome first (λ octets. 2 ^ 32 - 1 < record_count (record_length_of w.rules.layout) octets)
     headed_many (inl h) = absurd h.stopped.cause
     headed_many (inr h) = run_many grows grows-nil grows-trans rows text ending w valid some first next h.mid new h.stopped
 
     pub headed_short : IsHeadedStop grows rows text ending w head first next old new ShortRecording
-        → IfSome first (λ octets. record_count (record_length_of w.layout) octets < w.state.records)
+        → IfSome first (λ octets. record_count (record_length_of w.rules.layout) octets < w.state.records)
     headed_short (inl h) = absurd h.stopped.cause
     headed_short (inr h) = run_short grows grows-nil grows-trans rows text ending w valid some first next h.mid new h.stopped

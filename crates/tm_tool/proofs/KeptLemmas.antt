@@ -12,9 +12,9 @@ use Rattle.tm_tool.specs.Runs.{kept_of}
 none_kept : {P : Type 0} (k : Work) → ◌≡◌ {A = Option Work} (Some k) None → P
 none_kept k e = cc
 
-pub kept_exact : (kept : Option Kept) (ending : Ending) (w : Work) (size : ℕ) → kept_work kept ≡ kept_of ending w → size ≡ record_length_of w.layout
-    → IfSome kept (λ k. size ≡ record_length_of k.reassembly.layout)
+pub kept_exact : (kept : Option Kept) (ending : Ending) (w : Work) (size : ℕ) → kept_work kept ≡ kept_of ending w → size ≡ record_length_of w.rules.layout
+    → IfSome kept (λ k. size ≡ record_length_of k.reassembly.rules.layout)
 kept_exact None ending w size is exact = tt
 kept_exact (Some k) Close w size is exact = none_kept _ is
-kept_exact (Some k) Keep w size is exact = exact ∙ sym (ap (λ (x : Work). record_length_of x.layout) (same_Some _ _ is))
-kept_exact (Some k) (StopAfter n) w size is exact = exact ∙ sym (ap (λ (x : Work). record_length_of x.layout) (same_Some _ _ is))
+kept_exact (Some k) Keep w size is exact = exact ∙ sym (ap (λ (x : Work). record_length_of x.rules.layout) (same_Some _ _ is))
+kept_exact (Some k) (StopAfter n) w size is exact = exact ∙ sym (ap (λ (x : Work). record_length_of x.rules.layout) (same_Some _ _ is))

@@ -20,6 +20,7 @@ pub mod RowLemmas
 pub mod Examples
 pub mod ShelfLemmas
 pub mod CheckpointLength
+pub mod VersionLemmas
 pub mod ReadValid
 pub mod CheckpointLemmas
 pub mod NoPrefix
@@ -27,3 +28,4 @@ pub mod Resumption
 pub mod StateFaults
 pub mod CheckpointExamples
 pub mod WorkValid
+pub mod ForgottenCount

@@ -6,7 +6,7 @@ use Rattle.tm_packet.specs.declared.notes.Note.{Note}
 use Rattle.tm_packet.specs.declared.notes.Note.TheVariants.{Gap, Broken, Whole, Stray}
 use Rattle.tm_reassembly.specs.declared.items.Reason.{Reason}
 use Rattle.tm_tool.proofs.ListingLemmas.{concat-append, concat-one}
-use Rattle.tm_tool.specs.Lines.{bad_line, drop_line, gap_line, note_line, short_line, short_packet_line, vca_line}
+use Rattle.tm_tool.specs.Lines.{bad_line, drop_line, gap_line, master_gap_line, note_line, short_line, short_packet_line, vca_line}
 
 pub some_bad : (seen : ℕ) (fault : FrameFault) → bad_line seen fault ≢ []
 unfolding bad_line
@@ -15,6 +15,10 @@ some_bad seen fault e = cc
 pub some_gap : (seen channel expected found missing : ℕ) → gap_line seen channel expected found missing ≢ []
 unfolding gap_line
 some_gap seen channel expected found missing e = cc
+
+pub some_master_gap : (seen expected found missing : ℕ) → master_gap_line seen expected found missing ≢ []
+unfolding master_gap_line
+some_master_gap seen expected found missing e = cc
 
 pub some_vca : (seen channel : ℕ) → vca_line seen channel ≢ []
 unfolding vca_line

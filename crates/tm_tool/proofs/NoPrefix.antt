@@ -1,26 +1,27 @@
 -- No checkpoint begins another.
 use Rattle.std.proofs.Common.{◌≡◌, ℕ, suc, ◌+◌, ◌*◌, ◌^◌, ◌/◌, ◌%◌, Bool, true, false, Ok, Result, List, [], ◌∷◌, ◌++◌, length, take, drop, refl, sym, ap, subst, ◌∙◌, arith, length-append, append_assoc}
-use Rattle.std.specs.Prelude.{if◌then◌else◌}
+use Rattle.std.specs.Prelude.{if◌then◌else◌, slice_index}
+use Rattle.std.proofs.lemmas.Bool.{eqb-true}
 use Rattle.std.proofs.lemmas.List.{append-nil, nil_from_length}
 use Rattle.std.proofs.Math.Seq.{drop-append_seam}
-use Rattle.tm_frame.specs.declared.layout.LayoutParts.{LayoutParts}
 use Rattle.tm_frame.specs.declared.layout.Presence.{Presence}
 use Rattle.tm_frame.specs.declared.layout.Presence.TheVariants.{Flag, Always, Never}
-use Rattle.tm_frame.specs.ErrorControl.{error_control_of}
 use Rattle.tm_packet.specs.declared.tracker.TrackerFault.{TrackerFault}
 use Rattle.tm_packet.specs.Spelling as sequence
 use Rattle.tm_packet.specs.Valid as valid
 use Rattle.tm_packet.proofs.SpellingLemmas as sequence_written
 use Rattle.tm_reassembly.specs.declared.fault.StateFault.{StateFault}
-use Rattle.tm_reassembly.specs.Channels.{is_chosen, mask_from, mask_of}
+use Rattle.tm_reassembly.specs.Channels.{mask_from, mask_of}
 use Rattle.tm_reassembly.specs.Checkpoint as reassembly
-use Rattle.tm_reassembly.specs.Checkpoint.{two}
+use Rattle.tm_reassembly.specs.Rules.{Rules}
 use Rattle.tm_reassembly.specs.State.{State}
 use Rattle.tm_reassembly.specs.Valid.{IsState}
-use Rattle.tm_reassembly.proofs.Spelling as state_written
-use Rattle.tm_tool.specs.Checkpoints.{settings_of, IsWork, presence_octet, head_octets, checkpoint_of}
+use Rattle.tm_tool.specs.declared.version.Version.{Version}
+use Rattle.tm_tool.specs.declared.version.Version.TheVariants.{One, Two, Three}
+use Rattle.tm_tool.specs.Checkpoints.{IsWork, form_of, tells, kept_state, kept_in, presence_octet, three, settings_octets, head_octets, state_octets, spelled_in, state_in}
 use Rattle.tm_tool.specs.Pieces.{Entries, Work}
-use Rattle.tm_tool.specs.Settings.{Choices}
+use Rattle.tm_tool.proofs.CheckpointLemmas.{body, check, behind_head}
+use Rattle.tm_tool.proofs.VersionLemmas.{told_apart, kept_spelled, state_again}
 
 -- ---- the settings are told by their octets
 
@@ -64,8 +65,11 @@ mask_told (false ∷ xs) (true ∷ ys) l e = let a = mask_twice 0 xs in let b = 
 number_told : (a b : ℕ) → a / 256 ≡ b / 256 → a % 256 ≡ b % 256 → a ≡ b
 number_told a b e f = omega arith
 
-abbrev made : ℕ → ℕ → ℕ → ℕ → Presence → Presence → Bool → List Bool → Choices
-made spacecraft frame_length skip_before skip_after secondary ocf error_control channels = record {
+three_told : (a b : ℕ) → a / 65536 ≡ b / 65536 → (a % 65536) / 256 ≡ (b % 65536) / 256 → (a % 65536) % 256 ≡ (b % 65536) % 256 → a ≡ b
+three_told a b e f g = omega arith
+
+abbrev made : ℕ → ℕ → ℕ → ℕ → Presence → Presence → Bool → List Bool → ℕ → Rules
+made spacecraft frame_length skip_before skip_after secondary ocf error_control channels max_packet = record {
   layout = record {
     frame_length = frame_length;
     skip_before = skip_before;
@@ -76,10 +80,12 @@ made spacecraft frame_length skip_before skip_after secondary ocf error_control 
     error_control = error_control;
   };
   channels = channels;
+  max_packet = max_packet;
 }
 
-settings_told : (s t : Choices) → length s.channels ≡ length t.channels → head_octets s ≡ head_octets t → s ≡ t
-settings_told s t l e =
+-- the first twelve octets tell all but the limit on packets
+twelve_told : (s t : Rules) → length s.channels ≡ length t.channels → take 12 (settings_octets s) ≡ take 12 (settings_octets t) → s.max_packet ≡ t.max_packet → s ≡ t
+twelve_told s t l e limit =
     let a0 : s.layout.spacecraft / 256 ≡ t.layout.spacecraft / 256 = cc in
     let a1 : s.layout.spacecraft % 256 ≡ t.layout.spacecraft % 256 = cc in
     let b0 : s.layout.frame_length / 256 ≡ t.layout.frame_length / 256 = cc in
@@ -92,31 +98,47 @@ settings_told s t l e =
     let q : presence_octet s.layout.ocf ≡ presence_octet t.layout.ocf = cc in
     let r : truth_octet s.layout.error_control ≡ truth_octet t.layout.error_control = cc in
     let m : mask_of s.channels ≡ mask_of t.channels = cc in
-    ap (λ (x : ℕ). made x s.layout.frame_length s.layout.skip_before s.layout.skip_after s.layout.secondary s.layout.ocf s.layout.error_control s.channels)
+    ap (λ (x : ℕ). made x s.layout.frame_length s.layout.skip_before s.layout.skip_after s.layout.secondary s.layout.ocf s.layout.error_control s.channels s.max_packet)
     (number_told s.layout.spacecraft t.layout.spacecraft a0 a1)
-    ∙ ap (λ (x : ℕ). made t.layout.spacecraft x s.layout.skip_before s.layout.skip_after s.layout.secondary s.layout.ocf s.layout.error_control s.channels)
+    ∙ ap (λ (x : ℕ). made t.layout.spacecraft x s.layout.skip_before s.layout.skip_after s.layout.secondary s.layout.ocf s.layout.error_control s.channels s.max_packet)
     (number_told s.layout.frame_length t.layout.frame_length b0 b1)
-    ∙ ap (λ (x : ℕ). made t.layout.spacecraft t.layout.frame_length x s.layout.skip_after s.layout.secondary s.layout.ocf s.layout.error_control s.channels)
+    ∙ ap (λ (x : ℕ). made t.layout.spacecraft t.layout.frame_length x s.layout.skip_after s.layout.secondary s.layout.ocf s.layout.error_control s.channels s.max_packet)
     (number_told s.layout.skip_before t.layout.skip_before c0 c1)
-    ∙ ap (λ (x : ℕ). made t.layout.spacecraft t.layout.frame_length t.layout.skip_before x s.layout.secondary s.layout.ocf s.layout.error_control s.channels)
+    ∙ ap (λ (x : ℕ). made t.layout.spacecraft t.layout.frame_length t.layout.skip_before x s.layout.secondary s.layout.ocf s.layout.error_control s.channels s.max_packet)
     (number_told s.layout.skip_after t.layout.skip_after d0 d1)
-    ∙ ap (λ (x : Presence). made t.layout.spacecraft t.layout.frame_length t.layout.skip_before t.layout.skip_after x s.layout.ocf s.layout.error_control s.channels)
+    ∙ ap (λ (x : Presence). made t.layout.spacecraft t.layout.frame_length t.layout.skip_before t.layout.skip_after x s.layout.ocf s.layout.error_control s.channels s.max_packet)
     (presence_told s.layout.secondary t.layout.secondary p)
-    ∙ ap (λ (x : Presence). made t.layout.spacecraft t.layout.frame_length t.layout.skip_before t.layout.skip_after t.layout.secondary x s.layout.error_control s.channels)
+    ∙ ap (λ (x : Presence). made t.layout.spacecraft t.layout.frame_length t.layout.skip_before t.layout.skip_after t.layout.secondary x s.layout.error_control s.channels s.max_packet)
     (presence_told s.layout.ocf t.layout.ocf q)
-    ∙ ap (λ (x : Bool). made t.layout.spacecraft t.layout.frame_length t.layout.skip_before t.layout.skip_after t.layout.secondary t.layout.ocf x s.channels)
+    ∙ ap (λ (x : Bool). made t.layout.spacecraft t.layout.frame_length t.layout.skip_before t.layout.skip_after t.layout.secondary t.layout.ocf x s.channels s.max_packet)
     (truth_told s.layout.error_control t.layout.error_control r)
-    ∙ ap (λ (x : List Bool). made t.layout.spacecraft t.layout.frame_length t.layout.skip_before t.layout.skip_after t.layout.secondary t.layout.ocf t.layout.error_control x)
+    ∙ ap (λ (x : List Bool). made t.layout.spacecraft t.layout.frame_length t.layout.skip_before t.layout.skip_after t.layout.secondary t.layout.ocf t.layout.error_control x s.max_packet)
     (mask_told s.channels t.channels l m)
+    ∙ ap (λ (x : ℕ). made t.layout.spacecraft t.layout.frame_length t.layout.skip_before t.layout.skip_after t.layout.secondary t.layout.ocf t.layout.error_control t.channels x) limit
+
+-- and all fifteen tell them all
+fifteen_told : (s t : Rules) → length s.channels ≡ length t.channels → settings_octets s ≡ settings_octets t → s ≡ t
+fifteen_told s t l e =
+    let limits : three s.max_packet ≡ three t.max_packet = ap (drop 12) e in
+    let a : s.max_packet / 65536 ≡ t.max_packet / 65536 = cc in
+    let b : (s.max_packet % 65536) / 256 ≡ (t.max_packet % 65536) / 256 = cc in
+    let c : (s.max_packet % 65536) % 256 ≡ (t.max_packet % 65536) % 256 = cc in
+    twelve_told s t l (ap (take 12) e) (three_told s.max_packet t.max_packet a b c)
+
+-- where a version can tell the settings its octets do
+settings_told : (v : Version) (s t : Rules) → length s.channels ≡ length t.channels → tells v s ≡ true → tells v t ≡ true → head_octets v s ≡ head_octets v t → s ≡ t
+settings_told One s t l p q e = twelve_told s t l (ap (drop 5) e) (eqb-true s.max_packet 65542 p ∙ sym (eqb-true t.max_packet 65542 q))
+settings_told Two s t l p q e = fifteen_told s t l (ap (drop 5) e)
+settings_told Three s t l p q e = fifteen_told s t l (ap (drop 5) e)
 
 -- ---- spellings in front of octets
 
 abbrev state_is : State → ℕ → Result reassembly.Decoded StateFault
 state_is state octets = Ok (record { state = state; octets = octets })
 
-state_in : Result reassembly.Decoded StateFault → State → State
-state_in (Ok d) other = d.state
-state_in _ other = other
+state_of : Result reassembly.Decoded StateFault → State → State
+state_of (Ok d) other = d.state
+state_of _ other = other
 
 abbrev entries_are : Entries → ℕ → Result sequence.Decoded TrackerFault
 entries_are entries octets = Ok (record { entries = entries; octets = octets })
@@ -132,14 +154,16 @@ behind xs ys a b e f =
     ∙ ap (drop (length xs)) (f ∙ ap (λ (l : List ℕ). l ++ b) (sym e))
     ∙ drop-append_seam xs b
 
-states_told : (layout : LayoutParts) (chosen : ℕ → Bool) (s t : State) (a b : List ℕ) → IsState layout chosen s → IsState layout chosen t
-    → reassembly.spelling s ++ a ≡ reassembly.spelling t ++ b → (s ≡ t) × (a ≡ b)
-unfolding state_in
-states_told layout chosen s t a b v w e =
-    let read : state_is s (length (reassembly.spelling s)) ≡ state_is t (length (reassembly.spelling t)) =
-    sym (state_written.read-again layout chosen s a v) ∙ ap (reassembly.decoding_of layout chosen) e ∙ state_written.read-again layout chosen t b w in
-    let same : s ≡ t = ap (λ (r : Result reassembly.Decoded StateFault). state_in r s) read in
-    (same, behind (reassembly.spelling s) (reassembly.spelling t) a b (ap reassembly.spelling same) e)
+-- the octets of states that go on in the same way tell what the version keeps of them
+states_told : (v : Version) (rules : Rules) (s t : State) (a b : List ℕ) → IsState rules s → IsState rules t
+    → state_octets v s ++ a ≡ state_octets v t ++ b → (kept_state v s ≡ kept_state v t) × (a ≡ b)
+unfolding state_of
+states_told v rules s t a b p q e =
+    let read : state_is (kept_state v s) (length (state_octets v s)) ≡ state_is (kept_state v t) (length (state_octets v t)) =
+    sym (state_again v rules s a p) ∙ ap (state_in v rules) e ∙ state_again v rules t b q in
+    let same : kept_state v s ≡ kept_state v t = ap (λ (r : Result reassembly.Decoded StateFault). state_of r (kept_state v s)) read in
+    let octets : state_octets v s ≡ state_octets v t = sym (kept_spelled v s) ∙ ap (state_octets v) same ∙ kept_spelled v t in
+    (same, behind (state_octets v s) (state_octets v t) a b octets e)
 
 entries_told : (s t : Entries) (a b : List ℕ) → valid.IsState s → valid.IsState t → sequence.spelling s ++ a ≡ sequence.spelling t ++ b → s ≡ t
 unfolding entries_in
@@ -150,37 +174,61 @@ entries_told s t a b v w e =
 
 -- ---- checkpoints
 
-abbrev check : Work → List ℕ
-check w = two (error_control_of (head_octets (settings_of w) ++ (reassembly.spelling w.state ++ sequence.spelling w.entries)))
+-- the octets in front, whatever follows
+front : (v : Version) (w : Work) (rest : List ℕ) → take (5 + (form_of v).settings) (spelled_in v w ++ rest) ≡ head_octets v w.rules
+unfolding spelled_in
+front One w rest = refl
+front Two w rest = refl
+front Three w rest = refl
 
-abbrev work_of : Choices → State → Entries → Work
-work_of s state entries = record { layout = s.layout; channels = s.channels; state = state; entries = entries }
+-- the octets behind them, part by part
+parts : (v : Version) (w : Work) (rest : List ℕ) → drop (5 + (form_of v).settings) (spelled_in v w ++ rest)
+    ≡ state_octets v w.state ++ (sequence.spelling w.entries ++ (check v w ++ rest))
+parts v w rest =
+    behind_head v w rest
+    ∙ append_assoc (body v w) (check v w) rest
+    ∙ append_assoc (state_octets v w.state) (sequence.spelling w.entries) (check v w ++ rest)
 
--- the octets behind the head, part by part
-parts : (w : Work) (rest : List ℕ) → ((reassembly.spelling w.state ++ sequence.spelling w.entries) ++ check w) ++ rest
-    ≡ reassembly.spelling w.state ++ (sequence.spelling w.entries ++ (check w ++ rest))
-parts w rest =
-    append_assoc (reassembly.spelling w.state ++ sequence.spelling w.entries) (check w) rest
-    ∙ append_assoc (reassembly.spelling w.state) (sequence.spelling w.entries) (check w ++ rest)
+abbrev work_of : Rules → State → Entries → Work
+work_of s state entries = record { rules = s; state = state; entries = entries }
 
-works_told : (v w : Work) (rest more : List ℕ) → IsWork v → IsWork w → checkpoint_of v ++ rest ≡ checkpoint_of w ++ more → v ≡ w
-unfolding checkpoint_of
-works_told v w rest more hv hw e =
-    let settings : settings_of v ≡ settings_of w = settings_told (settings_of v) (settings_of w) (hv.eight ∙ sym hw.eight) (ap (take 17) e) in
-    let tails : reassembly.spelling v.state ++ (sequence.spelling v.entries ++ (check v ++ rest))
-    ≡ reassembly.spelling w.state ++ (sequence.spelling w.entries ++ (check w ++ more)) = sym (parts v rest) ∙ ap (drop 17) e ∙ parts w more in
-    let moved : IsState v.layout (is_chosen v.channels) w.state =
-    subst (λ (s : Choices). IsState s.layout (is_chosen s.channels) w.state) (sym settings) hw.state in
-    let told = states_told v.layout (is_chosen v.channels) v.state w.state (sequence.spelling v.entries ++ (check v ++ rest)) (sequence.spelling w.entries ++ (check w ++ more)) hv.state moved tails in
-    let entries : v.entries ≡ w.entries = entries_told v.entries w.entries (check v ++ rest) (check w ++ more) hv.entries hw.entries told.1 in
-    ap (λ (s : Choices). work_of s v.state v.entries) settings
-    ∙ ap (λ (s : State). work_of (settings_of w) s v.entries) told.0
-    ∙ ap (λ (l : Entries). work_of (settings_of w) w.state l) entries
+works_told : (v : Version) (a b : Work) (rest more : List ℕ) → IsWork a → IsWork b → tells v a.rules ≡ true → tells v b.rules ≡ true
+    → spelled_in v a ++ rest ≡ spelled_in v b ++ more → kept_in v a ≡ kept_in v b
+works_told v a b rest more ha hb ta tb e =
+    let k : ℕ = 5 + (form_of v).settings in
+    let settings : a.rules ≡ b.rules = settings_told v a.rules b.rules (ha.eight ∙ sym hb.eight) ta tb (sym (front v a rest) ∙ ap (take k) e ∙ front v b more) in
+    let tails : state_octets v a.state ++ (sequence.spelling a.entries ++ (check v a ++ rest))
+    ≡ state_octets v b.state ++ (sequence.spelling b.entries ++ (check v b ++ more)) = sym (parts v a rest) ∙ ap (drop k) e ∙ parts v b more in
+    let moved : IsState a.rules b.state = subst (λ (s : Rules). IsState s b.state) (sym settings) hb.state in
+    let told = states_told v a.rules a.state b.state (sequence.spelling a.entries ++ (check v a ++ rest)) (sequence.spelling b.entries ++ (check v b ++ more)) ha.state moved tails in
+    let entries : a.entries ≡ b.entries = entries_told a.entries b.entries (check v a ++ rest) (check v b ++ more) ha.entries hb.entries told.1 in
+    ap (λ (s : Rules). work_of s (kept_state v a.state) a.entries) settings
+    ∙ ap (λ (s : State). work_of b.rules s a.entries) told.0
+    ∙ ap (λ (l : Entries). work_of b.rules (kept_state v b.state) l) entries
 
-pub no_prefix : (v w : Work) (rest : List ℕ) → IsWork v → IsWork w → checkpoint_of v ++ rest ≡ checkpoint_of w → (v ≡ w) × (rest ≡ [])
-no_prefix v w rest hv hw e =
-    let ended : checkpoint_of w ≡ checkpoint_of w ++ [] = sym (append-nil (checkpoint_of w)) in
-    let same : v ≡ w = works_told v w rest [] hv hw (e ∙ ended) in
-    let long : length (checkpoint_of v) ≡ length (checkpoint_of w) = ap (λ (x : Work). length (checkpoint_of x)) same in
-    let sum : length (checkpoint_of v) + length rest ≡ length (checkpoint_of w) = sym (length-append (checkpoint_of v) rest) ∙ ap length e in
+-- the version is told by the fifth octet
+version_told : (u v : Version) (a b : Work) (rest : List ℕ) → spelled_in u a ++ rest ≡ spelled_in v b → u ≡ v
+unfolding spelled_in
+version_told u v a b rest e = told_apart u v (ap (λ (l : List ℕ). slice_index l 4) e)
+
+-- what a version keeps of a work is spelled as that is
+kept_again : (v : Version) (w : Work) → spelled_in v (kept_in v w) ≡ spelled_in v w
+unfolding spelled_in
+kept_again One w = refl
+kept_again Two w = refl
+kept_again Three w = refl
+
+same_version : (v : Version) (a b : Work) (rest : List ℕ) → IsWork a → IsWork b → tells v a.rules ≡ true → tells v b.rules ≡ true
+    → spelled_in v a ++ rest ≡ spelled_in v b → (kept_in v a ≡ kept_in v b) × (rest ≡ [])
+same_version v a b rest ha hb ta tb e =
+    let same : kept_in v a ≡ kept_in v b = works_told v a b rest [] ha hb ta tb (e ∙ sym (append-nil (spelled_in v b))) in
+    let octets : spelled_in v a ≡ spelled_in v b = sym (kept_again v a) ∙ ap (spelled_in v) same ∙ kept_again v b in
+    let long : length (spelled_in v a) ≡ length (spelled_in v b) = ap length octets in
+    let sum : length (spelled_in v a) + length rest ≡ length (spelled_in v b) = sym (length-append (spelled_in v a) rest) ∙ ap length e in
     (same, nil_from_length rest (omega arith))
+
+pub no_prefix : (u v : Version) (a b : Work) (rest : List ℕ) → IsWork a → IsWork b → tells u a.rules ≡ true → tells v b.rules ≡ true
+    → spelled_in u a ++ rest ≡ spelled_in v b → (u ≡ v) × (kept_in u a ≡ kept_in v b) × (rest ≡ [])
+no_prefix u v a b rest ha hb ta tb e =
+    subst (λ (x : Version). tells x b.rules ≡ true → spelled_in u a ++ rest ≡ spelled_in x b → (u ≡ x) × (kept_in u a ≡ kept_in x b) × (rest ≡ []))
+    (version_told u v a b rest e) (λ t f. let (same, none) = same_version u a b rest ha hb ta t f in (refl, same, none)) tb e

@@ -10,7 +10,7 @@ use Rattle.tm_packet.specs.Header.{Fields, header_of, reading_of, version_of}
 use Rattle.tm_packet.specs.Merge as sequence
 use Rattle.tm_packet.specs.Merge.{Sent}
 use Rattle.tm_packet.proofs.HeaderLemmas.{reading_ok}
-use Rattle.tm_reassembly.specs.Item.{Item, Bad, Gap, Vca, Dropped, Packet, Short}
+use Rattle.tm_reassembly.specs.Item.{Item, Bad, MasterGap, Gap, Vca, Dropped, Packet, Short}
 use Rattle.tm_reassembly.specs.Sinks.{IsOnePacket}
 use Rattle.tm_reassembly.proofs.Reach.{reach-least}
 use Rattle.tm_tool.specs.Lines.{note_lines}
@@ -58,6 +58,7 @@ some_notes seen channel application (n ∷ ns) i note is = some_front _ _ (some_
 line_alone : (entries : Entries) (x : Item) → HasLine x → line_of x ≡ report_of entries x
 unfolding report_of
 line_alone entries (Bad seen fault) has = refl
+line_alone entries (MasterGap seen expected found missing) has = refl
 line_alone entries (Gap seen channel expected found missing) has = refl
 line_alone entries (Vca seen channel) has = refl
 line_alone entries (Dropped seen channel first place octets reason) has = refl

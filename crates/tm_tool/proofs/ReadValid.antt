@@ -1,13 +1,17 @@
 -- What is read of the state is a valid one.
-use Rattle.std.proofs.Common.{◌≡◌, ℕ, ◌<◌, ◌^◌, Bool, Ok, Err, Result, List, length, drop, refl, subst, arith, ltb}
-use Rattle.std.proofs.lemmas.Bool.{cond_both}
+use Rattle.std.proofs.Common.{◌≡◌, ℕ, ◌+◌, ◌<◌, ◌^◌, Ok, Err, None, Option, Result, List, [], ◌∷◌, length, drop, refl, subst, arith, ltb, eqb}
+use Rattle.std.specs.Prelude.{slice_index}
+use Rattle.std.proofs.lemmas.Bool.{cond_both, eqb-false}
 use Rattle.tm_bits.specs.Bits.{AreOctets}
 use Rattle.tm_bits.proofs.PartLemmas.{octets_behind}
-use Rattle.tm_frame.specs.declared.layout.LayoutParts.{LayoutParts}
 use Rattle.tm_reassembly.specs.declared.fault.StateFault.{StateFault}
-use Rattle.tm_reassembly.specs.Checkpoint.{Decoded, ReadAll, four_at, blocks_read, with_records, decoding_of}
-use Rattle.tm_reassembly.specs.Valid.{IsState}
+use Rattle.tm_reassembly.specs.Checkpoint.{Decoded, ReadAll, ReadMaster, four_at, blocks_read, master_read, with_channels, with_master, decoding_of, old_decoding_of}
+use Rattle.tm_reassembly.specs.Rules.{Rules, IsLimit}
+use Rattle.tm_reassembly.specs.Valid.{IsCount, IsState}
 use Rattle.tm_reassembly.proofs.Decoding.{blocks_valid}
+use Rattle.tm_tool.specs.declared.version.Version.{Version}
+use Rattle.tm_tool.specs.declared.version.Version.TheVariants.{One, Two, Three}
+use Rattle.tm_tool.specs.Checkpoints.{state_in}
 
 four_below : (xs : List ℕ) → AreOctets xs → four_at xs 0 < 2 ^ 32
 four_below xs h =
@@ -17,21 +21,51 @@ four_below xs h =
     let d = h.below 3 in
     omega arith
 
-abbrev IsRead : LayoutParts → (ℕ → Bool) → Result Decoded StateFault → Type 0
-IsRead layout chosen (Ok d) = IsState layout chosen d.state
-IsRead layout chosen (Err found) = Unit {0}
+abbrev IsRead : Rules → Result Decoded StateFault → Type 0
+IsRead rules (Ok d) = IsState rules d.state
+IsRead rules (Err found) = Unit {0}
 
-with_valid : (layout : LayoutParts) (chosen : ℕ → Bool) (records : ℕ) (xs : List ℕ) (all : Result ReadAll StateFault) → AreOctets xs → records < 2 ^ 32
-    → blocks_read layout chosen records 8 0 xs ≡ all → IsRead layout chosen (with_records records all)
-with_valid layout chosen records xs (Ok all) h small e = blocks_valid layout chosen records all.octets all.kept xs h small e
-with_valid layout chosen records xs (Err found) h small e = tt
+abbrev IsMaster : Result ReadMaster StateFault → Type 0
+IsMaster (Ok read) = IsCount read.count
+IsMaster (Err found) = Unit {0}
 
-decoding-valid : (layout : LayoutParts) (chosen : ℕ → Bool) (xs : List ℕ) → AreOctets xs → IsRead layout chosen (decoding_of layout chosen xs)
-unfolding decoding_of
-decoding-valid layout chosen xs h =
-    cond_both (ltb (length xs) 4) _ _ (λ (r : Result Decoded StateFault). IsRead layout chosen r) (λ p. tt)
-    (λ p. with_valid layout chosen (four_at xs 0) (drop 4 xs) (blocks_read layout chosen (four_at xs 0) 8 0 (drop 4 xs)) (octets_behind 4 xs h) (four_below xs h) refl)
+master-valid : (xs : List ℕ) → AreOctets xs → IsMaster (master_read xs)
+unfolding master_read
+master-valid [] h = tt
+master-valid (flag ∷ xs) h =
+    cond_both (eqb flag 0) _ _ IsMaster (λ p. tt)
+    (λ p.
+    cond_both (ltb 1 flag) _ _ IsMaster (λ q. tt)
+    (λ q. cond_both (eqb (length xs) 0) _ _ IsMaster (λ r. tt) (λ r. h.below 1)))
 
-pub state_read : (layout : LayoutParts) (chosen : ℕ → Bool) (xs : List ℕ) (d : Decoded) → AreOctets xs → decoding_of layout chosen xs ≡ Ok d
-    → IsState layout chosen d.state
-state_read layout chosen xs d h e = subst (λ (r : Result Decoded StateFault). IsRead layout chosen r) e (decoding-valid layout chosen xs h)
+module _ (rules : Rules) (range : IsLimit rules.max_packet) where
+  channels-valid : (records octets : ℕ) (master : Option ℕ) (xs : List ℕ) (all : Result ReadAll StateFault) → AreOctets xs → records < 2 ^ 32 → IsCount master
+      → blocks_read rules records 8 0 xs ≡ all → IsRead rules (with_channels records master octets all)
+  channels-valid records octets master xs (Ok all) h small count e = blocks_valid rules records all.octets all.kept xs h small e range master count
+  channels-valid records octets master xs (Err found) h small count e = tt
+
+  with-valid : (records : ℕ) (xs : List ℕ) (read : Result ReadMaster StateFault) → AreOctets xs → records < 2 ^ 32 → IsMaster read
+      → IsRead rules (with_master rules records xs read)
+  with-valid records xs (Ok read) h small count =
+      channels-valid records (4 + read.octets) read.count (drop read.octets xs) (blocks_read rules records 8 0 (drop read.octets xs)) (octets_behind read.octets xs h) small count refl
+  with-valid records xs (Err found) h small count = tt
+
+  decoding-valid : (xs : List ℕ) → AreOctets xs → IsRead rules (decoding_of rules xs)
+  unfolding decoding_of
+  decoding-valid xs h =
+      cond_both (ltb (length xs) 4) _ _ (IsRead rules) (λ p. tt)
+      (λ p. with-valid (four_at xs 0) (drop 4 xs) (master_read (drop 4 xs)) (octets_behind 4 xs h) (four_below xs h) (master-valid (drop 4 xs) (octets_behind 4 xs h)))
+
+  old_decoding-valid : (xs : List ℕ) → AreOctets xs → IsRead rules (old_decoding_of rules xs)
+  unfolding old_decoding_of
+  old_decoding-valid xs h =
+      cond_both (ltb (length xs) 4) _ _ (IsRead rules) (λ p. tt)
+      (λ p. channels-valid (four_at xs 0) 4 None (drop 4 xs) (blocks_read rules (four_at xs 0) 8 0 (drop 4 xs)) (octets_behind 4 xs h) (four_below xs h) tt refl)
+
+  any-valid : (v : Version) (xs : List ℕ) → AreOctets xs → IsRead rules (state_in v rules xs)
+  any-valid One xs h = old_decoding-valid xs h
+  any-valid Two xs h = old_decoding-valid xs h
+  any-valid Three xs h = decoding-valid xs h
+
+  pub state_valid : (v : Version) (xs : List ℕ) (d : Decoded) → AreOctets xs → state_in v rules xs ≡ Ok d → IsState rules d.state
+  state_valid v xs d h e = subst (IsRead rules) e (any-valid v xs h)

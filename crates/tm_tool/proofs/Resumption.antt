@@ -4,17 +4,17 @@ use Rattle.std.specs.Prelude.{min, Result}
 use Rattle.std.proofs.lemmas.List.{length-take, take-append-drop}
 use Rattle.std.proofs.Math.Seq.{drop-append_seam, take-append_seam}
 use Rattle.tm_frame.specs.Layout.{record_length_of}
+use Rattle.tm_reassembly.specs.Rules.{Rules, IsLimit}
 use Rattle.tm_reassembly.specs.Valid.{AllOctets}
 use Rattle.tm_tool.specs.declared.fault.CheckpointFault.{CheckpointFault}
 use Rattle.tm_tool.specs.declared.job.Ending.{Ending}
 use Rattle.tm_tool.specs.declared.job.Ending.TheVariants.{Close, Keep, StopAfter}
-use Rattle.tm_tool.specs.Checkpoints.{IsWork, checkpoint_of, resumed, settings_of}
+use Rattle.tm_tool.specs.Checkpoints.{IsWork, checkpoint_of, resumed}
 use Rattle.tm_tool.specs.Jobs.{JobState, begun}
 use Rattle.tm_tool.specs.Outputs.{Piece}
 use Rattle.tm_tool.specs.Pieces.{Texts, Work, chosen, end_pieces, further, pieces, pieces_after, record_pieces, worked}
 use Rattle.tm_tool.specs.Records.{records, rest_of}
 use Rattle.tm_tool.specs.Resuming.{Stop, KeepsJob, Follows, left_by, then_pieces, run_pieces, resumed_pieces, done_by, done_in_all, in_one}
-use Rattle.tm_tool.specs.Settings.{Choices}
 use Rattle.tm_tool.proofs.CheckpointLemmas.{read_again}
 use Rattle.tm_tool.proofs.WorkValid.{begun-work, worked-work}
 use Rattle.tm_tool.proofs.Running.{IsValid, records-append, records-counted, worked-append, worked-none}
@@ -51,9 +51,9 @@ chosen-front (StopAfter n) more = (drop n more, sym (take-append-drop n more), �
 
 module _ {A : Type 0} (head : Bool → List (Piece A)) (none : head false ≡ []) (text : Texts A) (ending : Ending) (last : List ℕ)
     (start : Work) (zero : start.state.records ≡ 0)
-    (valid : (done more : List (List ℕ)) → records (record_length_of start.layout) last ≡ done ++ more → IsWork (worked start done)) where
+    (valid : (done more : List (List ℕ)) → records (record_length_of start.rules.layout) last ≡ done ++ more → IsWork (worked start done)) where
   abbrev size : ℕ
-  size = record_length_of start.layout
+  size = record_length_of start.rules.layout
 
   -- the records that are taken behind those that are done
   abbrev taken : (done : List (List ℕ)) (stops : List Stop) → Follows size last done stops → List (List ℕ)
@@ -110,11 +110,11 @@ module _ {A : Type 0} (head : Bool → List (Piece A)) (none : head false ≡ []
         (sym (worked-append start v done (chosen e more)))
 
   module _ (v : IsValid start) where
-    abbrev after_stop : Choices → List Stop → Result JobState CheckpointFault → List (Piece A)
+    abbrev after_stop : Rules → List Stop → Result JobState CheckpointFault → List (Piece A)
     after_stop s stops r = then_pieces r (λ next. resumed_pieces head text ending last s next stops)
 
     chain : (done : List (List ℕ)) (fresh : Bool) (stops : List Stop) (h : Follows size last done stops)
-        → resumed_pieces head text ending last (settings_of start) (record { work = worked start done; fresh = fresh }) stops
+        → resumed_pieces head text ending last start.rules (record { work = worked start done; fresh = fresh }) stops
         ≡ head fresh ++ (record_pieces text (worked start done) (taken done stops h)
         ++ end_pieces text ending (worked start (done ++ taken done stops h)) (length (rest_of size last)))
     chain done fresh [] (more, is) = ap (λ (ps : List (Piece A)). head fresh ++ ps) (pieces_is done last more is ending v)
@@ -131,15 +131,15 @@ module _ {A : Type 0} (head : Bool → List (Piece A)) (none : head false ≡ []
         let left : left_by stop.ending w stop.recording ≡ worked start (done ++ c) =
         ap (λ (rs : List (List ℕ)). worked w (chosen stop.ending rs)) (further_is done stop.recording more is) ∙ sym (worked-append start v done c) in
         let (others, split) = front (done ++ c) stops rest in
-        let again : resumed (settings_of start) (checkpoint_of (left_by stop.ending w stop.recording)) ≡ Ok (record { work = worked start (done ++ c); fresh = false }) =
-        ap (λ (x : Work). resumed (settings_of start) (checkpoint_of x)) left ∙ read_again (worked start (done ++ c)) (valid (done ++ c) others split) in
-        let there : after_stop (settings_of start) stops (resumed (settings_of start) (checkpoint_of (left_by stop.ending w stop.recording)))
+        let again : resumed start.rules (checkpoint_of (left_by stop.ending w stop.recording)) ≡ Ok (record { work = worked start (done ++ c); fresh = false }) =
+        ap (λ (x : Work). resumed start.rules (checkpoint_of x)) left ∙ read_again (worked start (done ++ c)) (valid (done ++ c) others split) in
+        let there : after_stop start.rules stops (resumed start.rules (checkpoint_of (left_by stop.ending w stop.recording)))
         ≡ record_pieces text (worked w c) t ++ end =
-        ap (after_stop (settings_of start) stops) again ∙ chain (done ++ c) false stops rest
+        ap (after_stop start.rules stops) again ∙ chain (done ++ c) false stops rest
         ∙ ap (λ (ps : List (Piece A)). ps ++ (record_pieces text (worked start (done ++ c)) t ++ end)) none
         ∙ ap (λ (x : Work). record_pieces text x t ++ end) (worked-append start v done c) in
         let (more_all, split_all) = front done (stop ∷ stops) (more, is, keeps, rest) in
-        ap (λ (ps : List (Piece A)). ps ++ after_stop (settings_of start) stops (resumed (settings_of start) (checkpoint_of (left_by stop.ending w stop.recording)))) here
+        ap (λ (ps : List (Piece A)). ps ++ after_stop start.rules stops (resumed start.rules (checkpoint_of (left_by stop.ending w stop.recording)))) here
         ∙ ap (λ (ps : List (Piece A)). (head fresh ++ record_pieces text w c) ++ ps) there
         ∙ append_assoc (head fresh) (record_pieces text w c) (record_pieces text (worked w c) t ++ end)
         ∙ ap (λ (ps : List (Piece A)). head fresh ++ ps)
@@ -163,7 +163,7 @@ module _ {A : Type 0} (head : Bool → List (Piece A)) (none : head false ≡ []
             ap (take (done_in_all size ending last 0 stops)) split ∙ ap (λ (k : ℕ). take k (taken [] stops h ++ others)) (counted [] stops h) ∙ take-append_seam (taken [] stops h) others
 
     pub joined : (fresh : Bool) (stops : List Stop) → Follows size last [] stops
-        → resumed_pieces head text ending last (settings_of start) (record { work = start; fresh = fresh }) stops
+        → resumed_pieces head text ending last start.rules (record { work = start; fresh = fresh }) stops
         ≡ run_pieces head text (in_one ending (done_in_all size ending last 0 stops)) (record { work = start; fresh = fresh }) last
     joined fresh stops h =
         let t : List (List ℕ) = taken [] stops h in
@@ -176,7 +176,7 @@ module _ {A : Type 0} (head : Bool → List (Piece A)) (none : head false ≡ []
         ∙ ap (λ (w : Work). record_pieces text w (chosen (in_one ending count) (records size last)) ++ end_pieces text (in_one ending count) (worked start (chosen (in_one ending count) (records size last))) rest) first
         ∙ ap (λ (rs : List (List ℕ)). record_pieces text start rs ++ end_pieces text (in_one ending count) (worked start rs) rest) (chosen_all stops h)
         ∙ ap (λ (ps : List (Piece A)). record_pieces text start t ++ ps) (same_end text ending count (worked start t) rest) in
-        ap (λ (w : Work). resumed_pieces head text ending last (settings_of start) (record { work = w; fresh = fresh }) stops) (sym first)
+        ap (λ (w : Work). resumed_pieces head text ending last start.rules (record { work = w; fresh = fresh }) stops) (sym first)
         ∙ chain [] fresh stops h
         ∙ ap (λ (w : Work). head fresh ++ (record_pieces text w t ++ end_pieces text ending (worked start t) rest)) first
         ∙ ap (λ (ps : List (Piece A)). head fresh ++ ps) (sym one)
@@ -187,9 +187,9 @@ front-octets : (done more : List (List ℕ)) → AllOctets (done ++ more) → Al
 front-octets [] more all = tt
 front-octets (rs ∷ done) more all = (all.0, front-octets done more all.1)
 
-pub front-work : (settings : Choices) (last : List ℕ) → length settings.channels ≡ 8 → AllOctets (records (record_length_of settings.layout) last)
+pub front-work : (settings : Rules) (last : List ℕ) → length settings.channels ≡ 8 → IsLimit settings.max_packet → AllOctets (records (record_length_of settings.layout) last)
     → length (records (record_length_of settings.layout) last) < 2 ^ 32
     → (done more : List (List ℕ)) → records (record_length_of settings.layout) last ≡ done ++ more → IsWork (worked (begun settings).work done)
-front-work settings last eight octets few done more is =
+front-work settings last eight range octets few done more is =
     let count : length done ≤ length (records (record_length_of settings.layout) last) = omega (arith, ap (λ (l : List (List ℕ)). length l) is, length-append done more) in
-    worked-work (begun settings).work done (begun-work settings eight) (front-octets done more (subst AllOctets is octets)) (omega (arith, count, few))
+    worked-work (begun settings).work done (begun-work settings eight range) (front-octets done more (subst AllOctets is octets)) (omega (arith, count, few))

@@ -99,20 +99,20 @@ nat_le_or_lt (suc a) (suc b) =
 
 module _ {A K : Type 0} (grows : K → K → List A → Type 0) (grows-nil : (k : K) → grows k k [])
     (grows-trans : (j k l : K) (xs ys : List A) → grows j k xs → grows k l ys → grows j l (xs ++ ys))
-    (rows : Bool) (text : Texts A) (ending : Ending) (w : Work) (valid : IsValid w) (some : 0 < record_length_of w.layout) where
+    (rows : Bool) (text : Texts A) (ending : Ending) (w : Work) (valid : IsValid w) (some : 0 < record_length_of w.rules.layout) where
   -- the records that follow those that are done
-  further_front : (read : List (List ℕ)) (more : List ℕ) → AreRecords (record_length_of w.layout) read → w.state.records ≤ length read
-      → further w (concat read ++ more) ≡ behind w read ++ records (record_length_of w.layout) more
+  further_front : (read : List (List ℕ)) (more : List ℕ) → AreRecords (record_length_of w.rules.layout) read → w.state.records ≤ length read
+      → further w (concat read ++ more) ≡ behind w read ++ records (record_length_of w.rules.layout) more
   further_front read more sized passed =
-      ap (drop w.state.records) (records_front (record_length_of w.layout) some read more sized)
-      ∙ drop-append-le w.state.records read (records (record_length_of w.layout) more) passed
+      ap (drop w.state.records) (records_front (record_length_of w.rules.layout) some read more sized)
+      ∙ drop-append-le w.state.records read (records (record_length_of w.rules.layout) more) passed
 
   -- the records that an ending takes
   chosen_is : (read : List (List ℕ)) (rest : List ℕ) (left_old left_new : Option (List ℕ)) (left : List ℕ) → w.state.records ≤ length read
-      → HasEnded ending w left_old left_new read rest → (IsAtEnd left_new → left ≡ []) → AreRecords (record_length_of w.layout) read
+      → HasEnded ending w left_old left_new read rest → (IsAtEnd left_new → left ≡ []) → AreRecords (record_length_of w.rules.layout) read
       → chosen ending (further w ((concat read ++ rest) ++ left)) ≡ behind w read
   chosen_is read rest left_old left_new left passed (inl h) end sized =
-      let n : ℕ = record_length_of w.layout in
+      let n : ℕ = record_length_of w.rules.layout in
       let all : (concat read ++ rest) ++ left ≡ concat read ++ rest = ap (λ (l : List ℕ). (concat read ++ rest) ++ l) (end h.0.ended) ∙ append-nil (concat read ++ rest) in
       ap (λ (l : List ℕ). chosen ending (further w l)) all
       ∙ ap (chosen ending) (further_front read rest sized passed ∙ ap (λ (l : List (List ℕ)). behind w read ++ l) (records_short n rest h.0.short) ∙ append-nil (behind w read))
@@ -120,39 +120,39 @@ module _ {A K : Type 0} (grows : K → K → List A → Type 0) (grows-nil : (k 
   chosen_is read rest left_old left_new left passed (inr h) end sized =
       ap (λ (l : List ℕ). chosen ending (further w l)) (append_assoc (concat read) rest left)
       ∙ ap (chosen ending) (further_front read (rest ++ left) sized passed)
-      ∙ chosen_enough w read passed ending (records (record_length_of w.layout) (rest ++ left)) h.2
+      ∙ chosen_enough w read passed ending (records (record_length_of w.rules.layout) (rest ++ left)) h.2
 
   -- and what the ending has
   end_is : (read : List (List ℕ)) (rest : List ℕ) (left_old left_new : Option (List ℕ)) (left : List ℕ)
-      → HasEnded ending w left_old left_new read rest → (IsAtEnd left_new → left ≡ []) → AreRecords (record_length_of w.layout) read
-      → end_pieces text ending (worked w (behind w read)) (length (rest_of (record_length_of w.layout) ((concat read ++ rest) ++ left)))
+      → HasEnded ending w left_old left_new read rest → (IsAtEnd left_new → left ≡ []) → AreRecords (record_length_of w.rules.layout) read
+      → end_pieces text ending (worked w (behind w read)) (length (rest_of (record_length_of w.rules.layout) ((concat read ++ rest) ++ left)))
       ≡ end_pieces text ending (worked w (behind w read)) (length rest)
   end_is read rest left_old left_new left (inl h) end sized =
-      let n : ℕ = record_length_of w.layout in
+      let n : ℕ = record_length_of w.rules.layout in
       let all : (concat read ++ rest) ++ left ≡ concat read ++ rest = ap (λ (l : List ℕ). (concat read ++ rest) ++ l) (end h.0.ended) ∙ append-nil (concat read ++ rest) in
       ap (λ (l : List ℕ). end_pieces text ending (worked w (behind w read)) (length l))
       (ap (rest_of n) all ∙ rest_front n some read rest sized ∙ rest_short n rest h.0.short)
   end_is read rest left_old left_new left (inr h) end sized =
-      end_none text ending w.state.records (length read) (worked w (behind w read)) (length (rest_of (record_length_of w.layout) ((concat read ++ rest) ++ left))) h.2
+      end_none text ending w.state.records (length read) (worked w (behind w read)) (length (rest_of (record_length_of w.rules.layout) ((concat read ++ rest) ++ left))) h.2
       ∙ sym (end_none text ending w.state.records (length read) (worked w (behind w read)) (length rest) h.2)
 
   -- the pieces of a recording of which an ending took these records
   pieces_ended : (read : List (List ℕ)) (rest : List ℕ) (left_old left_new : Option (List ℕ)) (left : List ℕ) → w.state.records ≤ length read
-      → HasEnded ending w left_old left_new read rest → (IsAtEnd left_new → left ≡ []) → AreRecords (record_length_of w.layout) read
+      → HasEnded ending w left_old left_new read rest → (IsAtEnd left_new → left ≡ []) → AreRecords (record_length_of w.rules.layout) read
       → pieces text ending w ((concat read ++ rest) ++ left) ≡ pieces_after text ending w (behind w read) (length rest)
   unfolding pieces
   pieces_ended read rest left_old left_new left passed h end sized =
-      ap (λ (l : List (List ℕ)). pieces_after text ending w l (length (rest_of (record_length_of w.layout) ((concat read ++ rest) ++ left))))
+      ap (λ (l : List (List ℕ)). pieces_after text ending w l (length (rest_of (record_length_of w.rules.layout) ((concat read ++ rest) ++ left))))
       (chosen_is read rest left_old left_new left passed h end sized)
       ∙ ap (λ (ps : List (Piece A)). record_pieces text w (behind w read) ++ ps) (end_is read rest left_old left_new left h end sized)
 
   -- the pieces of the records in front come first
-  pieces_front : (read : List (List ℕ)) (more : List ℕ) → AreRecords (record_length_of w.layout) read → w.state.records ≤ length read
+  pieces_front : (read : List (List ℕ)) (more : List ℕ) → AreRecords (record_length_of w.rules.layout) read → w.state.records ≤ length read
       → Reached ending w.state.records (length read)
       → (others : List (Piece A)) × (pieces text ending w (concat read ++ more) ≡ record_pieces text w (behind w read) ++ others)
   unfolding pieces
   pieces_front read more sized passed reached =
-      let n : ℕ = record_length_of w.layout in
+      let n : ℕ = record_length_of w.rules.layout in
       let rest : ℕ = length (rest_of n (concat read ++ more)) in
       let done : List (List ℕ) = behind w read in
       let (others, split) = chosen_front w read passed ending (records n more) reached in
@@ -166,13 +166,13 @@ module _ {A K : Type 0} (grows : K → K → List A → Type 0) (grows-nil : (k 
       )
 
   -- and then those of the record that follows them
-  pieces_next : (read : List (List ℕ)) (one more : List ℕ) → AreRecords (record_length_of w.layout) read → length one ≡ record_length_of w.layout
+  pieces_next : (read : List (List ℕ)) (one more : List ℕ) → AreRecords (record_length_of w.rules.layout) read → length one ≡ record_length_of w.rules.layout
       → w.state.records ≤ length read → GoesOn ending w.state.records (length read)
       → (others : List (Piece A)) × (pieces text ending w ((concat read ++ one) ++ more) ≡ (record_pieces text w (behind w read) ++ record_pieces text (worked w (behind w read)) (one ∷ [])) ++ others)
   pieces_next read one more sized exact passed wanted =
       let count = length-append read (one ∷ []) in
       let (others, split) =
-      pieces_front (read ++ one ∷ []) more (AreRecords-append (record_length_of w.layout) read (one ∷ []) sized (exact, tt)) (omega (arith, passed, count))
+      pieces_front (read ++ one ∷ []) more (AreRecords-append (record_length_of w.rules.layout) read (one ∷ []) sized (exact, tt)) (omega (arith, passed, count))
       (more_reached ending w.state.records (length read) (length (read ++ one ∷ [])) wanted count) in (
         others,
         ap (λ (l : List ℕ). pieces text ending w (l ++ more)) (sym (concat-one read one))
@@ -185,7 +185,7 @@ module _ {A K : Type 0} (grows : K → K → List A → Type 0) (grows-nil : (k 
   module _ (first next : Option (List ℕ)) (old new : View K) where
     -- what is said of a recording that an ending has read
     ended_told : (P : List ℕ → Type 0) (read : List (List ℕ)) (rest : List ℕ) → HasEnded ending w first next read rest
-        → ((left : List ℕ) → (IsAtEnd next → left ≡ []) → AreRecords (record_length_of w.layout) read → P ((concat read ++ rest) ++ left)) → IfSome first P
+        → ((left : List ℕ) → (IsAtEnd next → left ≡ []) → AreRecords (record_length_of w.rules.layout) read → P ((concat read ++ rest) ++ left)) → IfSome first P
     ended_told P read rest (inl h) f =
         told_left P (concat read ++ rest) first next h.0.octets.octets (λ left end. f left end h.0.octets.sized)
     ended_told P read rest (inr h) f =
@@ -205,7 +205,7 @@ module _ {A K : Type 0} (grows : K → K → List A → Type 0) (grows-nil : (k 
         ))
 
     -- all of the pieces of some records were written
-    whole_cut : (read : List (List ℕ)) (part : List ℕ) → HasRead (record_length_of w.layout) first next read part → w.state.records ≤ length read
+    whole_cut : (read : List (List ℕ)) (part : List ℕ) → HasRead (record_length_of w.rules.layout) first next read part → w.state.records ≤ length read
         → Reached ending w.state.records (length read) → Took grows old new (record_pieces text w (behind w read))
         → IfSome first (λ octets. AppendsCut grows old new (pieces text ending w octets))
     whole_cut read part has passed reached took =
@@ -274,20 +274,20 @@ module _ {A K : Type 0} (grows : K → K → List A → Type 0) (grows-nil : (k 
     run_memory h = weaker first (λ octets s. s.memory refl) (stopped_at NoMemory h)
 
     -- the recording has more records than can be counted
-    pub run_many : IsStoppedAt grows rows text ending w first next old new TooMany → IfSome first (λ octets. 2 ^ 32 - 1 < record_count (record_length_of w.layout) octets)
+    pub run_many : IsStoppedAt grows rows text ending w first next old new TooMany → IfSome first (λ octets. 2 ^ 32 - 1 < record_count (record_length_of w.rules.layout) octets)
     run_many h =
-        let n : ℕ = record_length_of w.layout in
+        let n : ℕ = record_length_of w.rules.layout in
         told _ (concat h.read ++ h.one) first next h.octets.octets (λ left.
         let longer : List (List ℕ) = h.read ++ h.one ∷ [] in
-        let all : record_count (record_length_of w.layout) ((concat h.read ++ h.one) ++ left) ≡ length longer + record_count (record_length_of w.layout) left =
-        ap (λ (l : List ℕ). record_count (record_length_of w.layout) (l ++ left)) (sym (concat-one h.read h.one))
+        let all : record_count (record_length_of w.rules.layout) ((concat h.read ++ h.one) ++ left) ≡ length longer + record_count (record_length_of w.rules.layout) left =
+        ap (λ (l : List ℕ). record_count (record_length_of w.rules.layout) (l ++ left)) (sym (concat-one h.read h.one))
         ∙ count_front n some longer left (AreRecords-append n h.read (h.one ∷ []) h.octets.sized (h.exact, tt)) in
         omega (arith, all, length-append h.read (h.one ∷ []), h.most))
 
     -- the recording has fewer records than are done
-    pub run_short : IsStoppedAt grows rows text ending w first next old new ShortRecording → IfSome first (λ octets. record_count (record_length_of w.layout) octets < w.state.records)
+    pub run_short : IsStoppedAt grows rows text ending w first next old new ShortRecording → IfSome first (λ octets. record_count (record_length_of w.rules.layout) octets < w.state.records)
     run_short h =
-        let n : ℕ = record_length_of w.layout in
+        let n : ℕ = record_length_of w.rules.layout in
         told_all _ (concat h.read ++ h.rest) first next h.all.octets.octets h.all.ended
         (let all = count_front n some h.read h.rest h.all.octets.sized in
         let none = count_short n h.rest h.all.short in

@@ -5,13 +5,12 @@ use Rattle.std.proofs.Math.ListN.{drop_of_length-le}
 use Rattle.std.specs.List.{concat}
 use Rattle.std.specs.Io.KnownBytes.{Consumes, IsAtEnd}
 use Rattle.std.proofs.KnownBytes.{Consumes-trans}
-use Rattle.tm_frame.specs.declared.layout.LayoutParts.{LayoutParts}
 use Rattle.tm_frame.specs.Fault.{reading_of}
 use Rattle.tm_frame.specs.Layout.{record_length_of}
-use Rattle.tm_reassembly.specs.Channels.{is_chosen}
 use Rattle.tm_reassembly.specs.Item.{Item}
 use Rattle.tm_reassembly.specs.Items.{empty}
 use Rattle.tm_reassembly.specs.Recording.{items, after}
+use Rattle.tm_reassembly.specs.Rules.{Rules, IsLimit, chooses}
 use Rattle.tm_reassembly.specs.State.{State}
 use Rattle.tm_bits.specs.Bits.{AreOctets}
 use Rattle.tm_reassembly.specs.Steps.{Progress, most_records, stepped, step_items}
@@ -30,7 +29,7 @@ use Rattle.tm_tool.specs.Stepping.{Enough, HasTaken, HasStepped, HasPassed, Pass
 use Rattle.tm_tool.proofs.ListingLemmas.{AreRecords-append, concat-one}
 use Rattle.tm_tool.proofs.PieceLemmas.{took_none, took_took}
 
-pub none_valid : (layout : LayoutParts) (chosen : ℕ → Bool) → IsState layout chosen empty
+pub none_valid : (rules : Rules) → IsLimit rules.max_packet → IsState rules empty
 none_valid = empty-valid
 
 -- the work after a step: the state that it leaves, and the entries
@@ -39,11 +38,11 @@ pub stepped_work : (p q : Progress) (e e' : Entries) (octets : List ℕ) → q �
 stepped_work p q e e' octets left noted = ap (λ (x : Progress). work_of x e') left ∙ ap (λ (x : Entries). work_of (stepped p octets) x) noted
 
 -- and its state is a valid one
-pub stepped_valid : (p q : Progress) (octets : List ℕ) → IsState p.layout (is_chosen p.channels) p.state → AreOctets octets → p.state.records < most_records
-    → q ≡ stepped p octets → IsState q.layout (is_chosen q.channels) q.state
+pub stepped_valid : (p q : Progress) (octets : List ℕ) → IsState p.rules p.state → AreOctets octets → p.state.records < most_records
+    → q ≡ stepped p octets → IsState q.rules q.state
 stepped_valid p q octets valid are few left =
-    subst (λ (x : Progress). IsState x.layout (is_chosen x.channels) x.state) (sym left)
-    (record-valid p.layout (is_chosen p.channels) p.state octets valid are (omega (arith, few)))
+    subst (λ (x : Progress). IsState x.rules x.state) (sym left)
+    (record-valid p.rules p.state octets valid are (omega (arith, few)))
 
 -- a fault of writing is a fault of stepping
 pub step_stopped : {A K : Type 0} (grows : K → K → List A → Type 0) (rows : Bool) (records : ℕ) (old new : View K) (ps : List (Piece A)) (fault : RunFault)
@@ -67,30 +66,30 @@ pieces-append text e [] ys = refl
 pieces-append {A} text e (x ∷ xs) ys = ap (λ (l : List (Piece A)). piece_of text e x ∷ l) (pieces-append text (noted e x) xs ys)
 
 abbrev pub IsValid : Work → Type 0
-IsValid w = IsState w.layout (is_chosen w.channels) w.state
+IsValid w = IsState w.rules w.state
 
 module _ (w : Work) (valid : IsValid w) where
   pub worked-none : worked w [] ≡ w
   unfolding items after
-  worked-none = ap (λ (s : State). record { layout = w.layout; channels = w.channels; state = s; entries = w.entries }) (after-nil (is_chosen w.channels) w.state valid.shape)
+  worked-none = ap (λ (s : State). record { rules = w.rules; state = s; entries = w.entries }) (after-nil w.rules.max_packet (chooses w.rules) w.state valid.shape)
 
   pub records-append : {A : Type 0} (text : Texts A) (a b : List (List ℕ))
       → record_pieces text w (a ++ b) ≡ record_pieces text w a ++ record_pieces text (worked w a) b
   records-append text a b =
-      ap (pieces_of text w.entries) (items-join w.layout (is_chosen w.channels) w.state a b valid)
+      ap (pieces_of text w.entries) (items-join w.rules w.state a b valid)
       ∙ pieces-append text w.entries (items_of w a) (items_of (worked w a) b)
 
   pub worked-append : (a b : List (List ℕ)) → worked w (a ++ b) ≡ worked (worked w a) b
   worked-append a b =
-      ap (λ (s : State). record { layout = w.layout; channels = w.channels; state = s; entries = noted_all w.entries (items_of w (a ++ b)) })
-      (states-join w.layout (is_chosen w.channels) w.state a b valid)
-      ∙ ap (λ (e : Entries). record { layout = w.layout; channels = w.channels; state = after w.layout (is_chosen w.channels) (worked w a).state b; entries = e })
-      (ap (noted_all w.entries) (items-join w.layout (is_chosen w.channels) w.state a b valid) ∙ noted-append w.entries (items_of w a) (items_of (worked w a) b))
+      ap (λ (s : State). record { rules = w.rules; state = s; entries = noted_all w.entries (items_of w (a ++ b)) })
+      (states-join w.rules w.state a b valid)
+      ∙ ap (λ (e : Entries). record { rules = w.rules; state = after w.rules (worked w a).state b; entries = e })
+      (ap (noted_all w.entries) (items-join w.rules w.state a b valid) ∙ noted-append w.entries (items_of w a) (items_of (worked w a) b))
 
 -- the number of records that are done
 pub records-counted : (w : Work) (rs : List (List ℕ)) → (worked w rs).state.records ≡ w.state.records + length rs
 unfolding after
-records-counted w rs = ap (λ (n : ℕ). w.state.records + n) (length-map rs (reading_of w.layout))
+records-counted w rs = ap (λ (n : ℕ). w.state.records + n) (length-map rs (reading_of w.rules.layout))
 
 -- ---- how many records are wanted
 
@@ -136,7 +135,7 @@ module _ {A K : Type 0} (grows : K → K → List A → Type 0) (grows-nil : (k 
   nothing v = took_none grows grows-nil grows-trans v
 
   -- the records that are done were passed over
-  pub taken_first : (first left : Option (List ℕ)) (v : View K) → HasPassed (record_length_of w.layout) w.state.records first left → HasTaken grows text w first left v v w
+  pub taken_first : (first left : Option (List ℕ)) (v : View K) → HasPassed (record_length_of w.rules.layout) w.state.records first left → HasTaken grows text w first left v v w
   taken_first first left v h =
       let none : behind w h.read ≡ [] = behind-none w h.read (omega (arith, h.counted)) in record {
         read = h.read;
@@ -149,7 +148,7 @@ module _ {A K : Type 0} (grows : K → K → List A → Type 0) (grows-nil : (k 
 
   -- they could not be
   pub passing_stopped : (rows : Bool) (first next : Option (List ℕ)) (v : View K) (fault : RunFault)
-      → PassingStopped (record_length_of w.layout) w.state.records first next fault → IsStoppedAt grows rows text ending w first next v v fault
+      → PassingStopped (record_length_of w.rules.layout) w.state.records first next fault → IsStoppedAt grows rows text ending w first next v v fault
   passing_stopped rows first next v Read h =
       let none : behind w h.read ≡ [] = behind-none w h.read (omega (arith, h.few)) in record {
         read = h.read;
@@ -168,17 +167,17 @@ module _ {A K : Type 0} (grows : K → K → List A → Type 0) (grows-nil : (k 
 
   module _ (first left next : Option (List ℕ)) (old now new : View K) (work : Work) (octets : List ℕ)
       (taken : HasTaken grows text w first left old now work) (got : Consumes left next octets) where
-    has_read : HasRead (record_length_of w.layout) first next taken.read octets
+    has_read : HasRead (record_length_of w.rules.layout) first next taken.read octets
     has_read = record { sized = taken.sized; octets = Consumes-trans first left next (concat taken.read) octets taken.octets got }
 
     -- a record was read and taken
-    pub taken_more : (more : Work) → length octets ≡ record_length_of w.layout → Took grows now new (record_pieces text work (octets ∷ [])) → more ≡ worked work (octets ∷ [])
+    pub taken_more : (more : Work) → length octets ≡ record_length_of w.rules.layout → Took grows now new (record_pieces text work (octets ∷ [])) → more ≡ worked work (octets ∷ [])
         → HasTaken grows text w first next old new more
     taken_more more exact took left_is =
         let done : List (List ℕ) = behind w taken.read in
         let longer : behind w (taken.read ++ octets ∷ []) ≡ done ++ octets ∷ [] = behind-more w taken.read octets taken.passed in record {
           read = taken.read ++ octets ∷ [];
-          sized = AreRecords-append (record_length_of w.layout) taken.read (octets ∷ []) taken.sized (exact, tt);
+          sized = AreRecords-append (record_length_of w.rules.layout) taken.read (octets ∷ []) taken.sized (exact, tt);
           octets = subst (Consumes first next) (sym (concat-one taken.read octets)) has_read.octets;
           passed = omega (arith, taken.passed, length-append taken.read (octets ∷ []));
           work = left_is ∙ ap (λ (x : Work). worked x (octets ∷ [])) taken.work ∙ sym (worked-append w valid done (octets ∷ [])) ∙ ap (worked w) (sym longer);
@@ -196,7 +195,7 @@ module _ {A K : Type 0} (grows : K → K → List A → Type 0) (grows-nil : (k 
       goes_on : GoesOn ending w.state.records (length taken.read)
       goes_on = subst (GoesOn ending w.state.records) counted wanted
 
-      at_record : (rows : Bool) (fault : RunFault) → length octets ≡ record_length_of w.layout → Stopped grows rows now new (record_pieces text work (octets ∷ [])) fault
+      at_record : (rows : Bool) (fault : RunFault) → length octets ≡ record_length_of w.rules.layout → Stopped grows rows now new (record_pieces text work (octets ∷ [])) fault
           → StopsAtRecord grows rows text ending w first next old new fault
       at_record rows fault exact h = record {
         read = taken.read;
@@ -211,7 +210,7 @@ module _ {A K : Type 0} (grows : K → K → List A → Type 0) (grows-nil : (k 
       }
 
       -- writing stopped in its pieces, or the record was one too many
-      pub taken_stopped : (rows : Bool) (fault : RunFault) → length octets ≡ record_length_of w.layout
+      pub taken_stopped : (rows : Bool) (fault : RunFault) → length octets ≡ record_length_of w.rules.layout
           → StepStopped grows rows work.state.records now new (record_pieces text work (octets ∷ [])) fault
           → IsStoppedAt grows rows text ending w first next old new fault
       taken_stopped rows Read exact h = absurd h
@@ -230,12 +229,12 @@ module _ {A K : Type 0} (grows : K → K → List A → Type 0) (grows-nil : (k 
       taken_stopped rows NoMemory exact h = inl (at_record rows NoMemory exact h)
 
       -- a read failed in a record
-      pub taken_read : (rows : Bool) → length octets < record_length_of w.layout → IsStoppedAt grows rows text ending w first next old now Read
+      pub taken_read : (rows : Bool) → length octets < record_length_of w.rules.layout → IsStoppedAt grows rows text ending w first next old now Read
       taken_read rows short =
           record { read = taken.read; part = octets; octets = has_read; short = short; wanted = inr goes_on; took = taken.took }
 
       -- all was read, and so many octets are left
-      pub taken_all : (n : ℕ) → length octets ≡ n → length octets < record_length_of w.layout → IsAtEnd next
+      pub taken_all : (n : ℕ) → length octets ≡ n → length octets < record_length_of w.rules.layout → IsAtEnd next
           → HasStepped grows text ending w first next old now work n
       taken_all n count short ended = record {
         read = taken.read;

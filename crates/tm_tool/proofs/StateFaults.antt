@@ -1,29 +1,33 @@
 -- What is wrong with octets of a state is never want of memory.
-use Rattle.std.proofs.Common.{◌≡◌, ℕ, zero, suc, ◌+◌, Bool, not, ◌||◌, Ok, Err, Result, List, length, drop, refl, subst, ltb, eqb}
+use Rattle.std.proofs.Common.{◌≡◌, ℕ, zero, suc, ◌+◌, Bool, not, ◌||◌, Ok, Err, None, Option, Result, List, [], ◌∷◌, length, drop, refl, subst, ltb, leb, eqb}
 use Rattle.std.specs.Prelude.{slice_index, slice_range}
 use Rattle.std.proofs.lemmas.Bool.{cond_both}
 use Rattle.tm_frame.specs.declared.layout.LayoutParts.{LayoutParts}
 use Rattle.tm_reassembly.specs.declared.fault.StateFault.{StateFault}
 use Rattle.tm_reassembly.specs.declared.fault.StateFault.TheVariants as fault
-use Rattle.tm_reassembly.specs.Checkpoint.{four_at, two_at, Read, ReadAll, Decoded, is_unfinished, tail_read, block_read, blocks_read, in_front, and_then, with_records, decoding_of}
+use Rattle.tm_reassembly.specs.Checkpoint.{four_at, two_at, Read, ReadAll, ReadMaster, Decoded, is_unfinished, tail_read, block_read, blocks_read, in_front, and_then, master_read, with_channels, with_master, decoding_of, old_decoding_of}
+use Rattle.tm_reassembly.specs.Rules.{Rules, chooses}
+use Rattle.tm_tool.specs.declared.version.Version.{Version}
+use Rattle.tm_tool.specs.declared.version.Version.TheVariants.{One, Two, Three}
+use Rattle.tm_tool.specs.Checkpoints.{state_in}
 
 abbrev Told : {A : Type 0} → Result A StateFault → Type 0
 Told (Ok x) = Unit {0}
 Told (Err found) = found ≡ fault.NoMemory → ⊥
 
-tail-told : (layout : LayoutParts) (records : ℕ) (xs : List ℕ) (first place size : ℕ) → Told (tail_read layout records xs first place size)
-tail-told layout records xs first place size =
+tail-told : (limit : ℕ) (layout : LayoutParts) (records : ℕ) (xs : List ℕ) (first place size : ℕ) → Told (tail_read limit layout records xs first place size)
+tail-told limit layout records xs first place size =
     cond_both (not (ltb first records) || ltb layout.frame_length (place + 7)) _ _ (λ (r : Result Read StateFault). Told r) (λ p e. cc)
     (λ p.
-    cond_both (eqb size 0 || ltb 65541 size) _ _ (λ (r : Result Read StateFault). Told r) (λ q e. cc)
+    cond_both (eqb size 0 || leb limit size) _ _ (λ (r : Result Read StateFault). Told r) (λ q e. cc)
     (λ q.
     cond_both (ltb (length xs) (12 + size)) _ _ (λ (r : Result Read StateFault). Told r) (λ s e. cc)
     (λ s.
-    cond_both (not (is_unfinished (slice_range xs 12 (12 + size)))) _ _ (λ (r : Result Read StateFault). Told r) (λ t e. cc) (λ t. tt))))
+    cond_both (not (is_unfinished limit (slice_range xs 12 (12 + size)))) _ _ (λ (r : Result Read StateFault). Told r) (λ t e. cc) (λ t. tt))))
 
-block-told : (layout : LayoutParts) (chosen : Bool) (records : ℕ) (xs : List ℕ) → Told (block_read layout chosen records xs)
+block-told : (limit : ℕ) (layout : LayoutParts) (chosen : Bool) (records : ℕ) (xs : List ℕ) → Told (block_read limit layout chosen records xs)
 unfolding block_read
-block-told layout chosen records xs =
+block-told limit layout chosen records xs =
     let flag : ℕ = slice_index xs 0 in
     cond_both (eqb (length xs) 0) _ _ (λ (r : Result Read StateFault). Told r) (λ p e. cc)
     (λ p.
@@ -34,7 +38,7 @@ block-told layout chosen records xs =
     cond_both (eqb flag 1) _ _ (λ (r : Result Read StateFault). Told r)
     (λ t. cond_both (ltb (length xs) 2) _ _ (λ (r : Result Read StateFault). Told r) (λ u e. cc) (λ u. tt))
     (λ t. cond_both (ltb (length xs) 12) _ _ (λ (r : Result Read StateFault). Told r) (λ u e. cc)
-    (λ u. tail-told layout records xs (four_at xs 2) (two_at xs 6) (four_at xs 8))))))
+    (λ u. tail-told limit layout records xs (four_at xs 2) (two_at xs 6) (four_at xs 8))))))
 
 front-told : (one : Read) (rest : Result ReadAll StateFault) → Told rest → Told (in_front one rest)
 front-told one (Ok all) h = tt
@@ -44,22 +48,47 @@ then-told : (one : Result Read StateFault) (others : ℕ → Result ReadAll Stat
 then-told (Ok one) others h rest = front-told one (others one.octets) (rest one.octets)
 then-told (Err found) others h rest = h
 
-blocks-told : (layout : LayoutParts) (chosen : ℕ → Bool) (records n c : ℕ) (xs : List ℕ) → Told (blocks_read layout chosen records n c xs)
+blocks-told : (rules : Rules) (records n c : ℕ) (xs : List ℕ) → Told (blocks_read rules records n c xs)
 unfolding blocks_read
-blocks-told layout chosen records zero c xs = tt
-blocks-told layout chosen records (suc n) c xs =
-    then-told (block_read layout (chosen c) records xs) (λ used. blocks_read layout chosen records n (c + 1) (drop used xs))
-    (block-told layout (chosen c) records xs) (λ used. blocks-told layout chosen records n (c + 1) (drop used xs))
+blocks-told rules records zero c xs = tt
+blocks-told rules records (suc n) c xs =
+    then-told (block_read rules.max_packet rules.layout (chooses rules c) records xs) (λ used. blocks_read rules records n (c + 1) (drop used xs))
+    (block-told rules.max_packet rules.layout (chooses rules c) records xs) (λ used. blocks-told rules records n (c + 1) (drop used xs))
 
-with-told : (records : ℕ) (all : Result ReadAll StateFault) → Told all → Told (with_records records all)
-with-told records (Ok all) h = tt
-with-told records (Err found) h = h
+channels-told : (records octets : ℕ) (master : Option ℕ) (all : Result ReadAll StateFault) → Told all → Told (with_channels records master octets all)
+channels-told records octets master (Ok all) h = tt
+channels-told records octets master (Err found) h = h
 
-decoding-told : (layout : LayoutParts) (chosen : ℕ → Bool) (xs : List ℕ) → Told (decoding_of layout chosen xs)
+master-told : (xs : List ℕ) → Told (master_read xs)
+unfolding master_read
+master-told [] = λ e. cc
+master-told (flag ∷ xs) =
+    cond_both (eqb flag 0) _ _ (λ (r : Result ReadMaster StateFault). Told r) (λ p. tt)
+    (λ p.
+    cond_both (ltb 1 flag) _ _ (λ (r : Result ReadMaster StateFault). Told r) (λ q e. cc)
+    (λ q. cond_both (eqb (length xs) 0) _ _ (λ (r : Result ReadMaster StateFault). Told r) (λ r e. cc) (λ r. tt)))
+
+with-told : (rules : Rules) (records : ℕ) (xs : List ℕ) (read : Result ReadMaster StateFault) → Told read → Told (with_master rules records xs read)
+with-told rules records xs (Ok read) h =
+    channels-told records (4 + read.octets) read.count (blocks_read rules records 8 0 (drop read.octets xs)) (blocks-told rules records 8 0 (drop read.octets xs))
+with-told rules records xs (Err found) h = h
+
+decoding-told : (rules : Rules) (xs : List ℕ) → Told (decoding_of rules xs)
 unfolding decoding_of
-decoding-told layout chosen xs =
+decoding-told rules xs =
     cond_both (ltb (length xs) 4) _ _ (λ (r : Result Decoded StateFault). Told r) (λ p e. cc)
-    (λ p. with-told (four_at xs 0) (blocks_read layout chosen (four_at xs 0) 8 0 (drop 4 xs)) (blocks-told layout chosen (four_at xs 0) 8 0 (drop 4 xs)))
+    (λ p. with-told rules (four_at xs 0) (drop 4 xs) (master_read (drop 4 xs)) (master-told (drop 4 xs)))
 
-pub never_memory : (layout : LayoutParts) (chosen : ℕ → Bool) (xs : List ℕ) → decoding_of layout chosen xs ≡ Err fault.NoMemory → ⊥
-never_memory layout chosen xs e = subst (λ (r : Result Decoded StateFault). Told r) e (decoding-told layout chosen xs) refl
+old_decoding-told : (rules : Rules) (xs : List ℕ) → Told (old_decoding_of rules xs)
+unfolding old_decoding_of
+old_decoding-told rules xs =
+    cond_both (ltb (length xs) 4) _ _ (λ (r : Result Decoded StateFault). Told r) (λ p e. cc)
+    (λ p. channels-told (four_at xs 0) 4 None (blocks_read rules (four_at xs 0) 8 0 (drop 4 xs)) (blocks-told rules (four_at xs 0) 8 0 (drop 4 xs)))
+
+any-told : (v : Version) (rules : Rules) (xs : List ℕ) → Told (state_in v rules xs)
+any-told One rules xs = old_decoding-told rules xs
+any-told Two rules xs = old_decoding-told rules xs
+any-told Three rules xs = decoding-told rules xs
+
+pub never_memory : (v : Version) (rules : Rules) (xs : List ℕ) → state_in v rules xs ≡ Err fault.NoMemory → ⊥
+never_memory v rules xs e = subst (λ (r : Result Decoded StateFault). Told r) e (any-told v rules xs) refl

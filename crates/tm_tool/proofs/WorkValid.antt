@@ -5,20 +5,20 @@ use Rattle.tm_packet.specs.Valid as valid
 use Rattle.tm_packet.proofs.AfterValid.{header-range, header-fits, after-valid}
 use Rattle.tm_packet.proofs.States.{valid-none}
 use Rattle.tm_reassembly.specs.Among.{Among, is_of}
-use Rattle.tm_reassembly.specs.Channels.{is_chosen}
-use Rattle.tm_reassembly.specs.Item.{Item, Bad, Gap, Vca, Dropped, Packet, Short}
+use Rattle.tm_reassembly.specs.Item.{Item, Bad, MasterGap, Gap, Vca, Dropped, Packet, Short}
+use Rattle.tm_reassembly.specs.Rules.{Rules, IsLimit}
 use Rattle.tm_reassembly.specs.Valid.{AllOctets}
 use Rattle.tm_reassembly.proofs.ItemChannels.{item-channel}
 use Rattle.tm_reassembly.proofs.States.{empty-valid, records-valid}
 use Rattle.tm_tool.specs.Checkpoints.{IsWork}
 use Rattle.tm_tool.specs.Jobs.{begun}
 use Rattle.tm_tool.specs.Pieces.{Entries, Work, sent, noted, noted_all, items_of, worked}
-use Rattle.tm_tool.specs.Settings.{Choices}
 
 -- an item whose channel is one of eight leaves the entries valid
 noted-valid : (entries : Entries) (x : Item) → valid.IsState entries → ((c : ℕ) → is_of c x ≡ true → c < 8) → valid.IsState (noted entries x)
 unfolding noted
 noted-valid entries (Bad seen fault) v h = v
+noted-valid entries (MasterGap seen expected found missing) v h = v
 noted-valid entries (Gap seen channel expected found missing) v h = v
 noted-valid entries (Vca seen channel) v h = v
 noted-valid entries (Dropped seen channel first place octets reason) v h = v
@@ -37,11 +37,11 @@ noted_all-valid entries (x ∷ xs) v h =
 pub worked-work : (w : Work) (rs : List (List ℕ)) → IsWork w → AllOctets rs → w.state.records + length rs < 2 ^ 32 → IsWork (worked w rs)
 worked-work w rs v octets most = record {
   eight = v.eight;
-  state = records-valid w.layout (is_chosen w.channels) w.state rs v.state octets most;
+  state = records-valid w.rules w.state rs v.state octets most;
   entries = noted_all-valid w.entries (items_of w rs) v.entries
-      (λ c x own a. subst (λ (n : ℕ). c < n) v.eight (item-channel w.layout w.channels w.state rs c x own a));
+      (λ c x own a. subst (λ (n : ℕ). c < n) v.eight (item-channel w.rules w.state rs c x own a));
 }
 
 -- the work of a new job
-pub begun-work : (s : Choices) → length s.channels ≡ 8 → IsWork (begun s).work
-begun-work s h = record { eight = h; state = empty-valid s.layout (is_chosen s.channels); entries = valid-none }
+pub begun-work : (rules : Rules) → length rules.channels ≡ 8 → IsLimit rules.max_packet → IsWork (begun rules).work
+begun-work rules h range = record { eight = h; state = empty-valid rules range; entries = valid-none }

@@ -4,22 +4,22 @@ use Rattle.tm_fields.specs.declared.field.Field.{Field}
 use Rattle.tm_fields.specs.Rows.{head_of}
 use Rattle.tm_packet.specs.Merge.{no_entries}
 use Rattle.tm_reassembly.specs.Items.{empty}
+use Rattle.tm_reassembly.specs.Rules.{Rules}
 use Rattle.tm_tool.specs.declared.job.Command.{Command}
 use Rattle.tm_tool.specs.declared.job.Command.TheVariants.{Extract, Packets, Fields}
 use Rattle.tm_tool.specs.declared.job.Ending.{Ending}
 use Rattle.tm_tool.specs.Outputs.{Piece}
 use Rattle.tm_tool.specs.Pieces.{Work, pieces, text_of}
-use Rattle.tm_tool.specs.Settings.{Choices}
 
 -- how far a job has got, and whether it is fresh: no run has begun with it
 pub record JobState : Type 0 where
   pub work : Work
   pub fresh : Bool
 
--- a job before any record
-abbrev pub begun : Choices → JobState
-begun settings = record {
-  work = record { layout = settings.layout; channels = settings.channels; state = empty; entries = no_entries };
+-- a job with these settings before any record
+abbrev pub begun : Rules → JobState
+begun rules = record {
+  work = record { rules = rules; state = empty; entries = no_entries };
   fresh = true;
 }
 

@@ -19,3 +19,4 @@ pub mod Shelves
 pub mod ShelfLaws
 pub mod Checkpoints
 pub mod Resuming
+pub mod OlderVersions

@@ -100,6 +100,15 @@ gap_line seen channel expected found missing =
     ∷ codes " missing=" ∷ decimal missing
     ∷ codes "\n" ∷ [])
 
+-- the line of a gap in the counts of the master channel
+unfoldable pub master_gap_line : (seen expected found missing : ℕ) → List ℕ
+master_gap_line seen expected found missing =
+    concat (codes "mastergap record=" ∷ decimal seen
+    ∷ codes " expected=" ∷ decimal expected
+    ∷ codes " found=" ∷ decimal found
+    ∷ codes " missing=" ∷ decimal missing
+    ∷ codes "\n" ∷ [])
+
 -- the line of a VCA frame
 unfoldable pub vca_line : (seen channel : ℕ) → List ℕ
 vca_line seen channel = concat (codes "vca record=" ∷ decimal seen ∷ codes " channel=" ∷ decimal channel ∷ codes "\n" ∷ [])

@@ -1,7 +1,7 @@
 -- Where packets go: what is known of it, and how it grows.
 use Rattle.std.specs.Prelude.{◌≡◌, refl, ℕ, Bool, true, List, [], ◌++◌}
 use Rattle.tm_fields.specs.declared.field.Field.{Field}
-use Rattle.tm_reassembly.specs.Item.{Item, Bad, Gap, Vca, Dropped, Packet, Short}
+use Rattle.tm_reassembly.specs.Item.{Item, Bad, MasterGap, Gap, Vca, Dropped, Packet, Short}
 use Rattle.tm_tool.specs.Devices.{raised}
 use Rattle.tm_tool.specs.declared.job.Command.{Command}
 use Rattle.tm_tool.specs.declared.job.Command.TheVariants.{Extract, Packets, Fields}
@@ -27,6 +27,7 @@ GivesNone text x = (text.out x ≡ []) × (text.remark x ≡ [])
 octets_none : (x : Item) → HasLine x → octets_of x ≡ []
 unfolding octets_of
 octets_none (Bad seen fault) has = refl
+octets_none (MasterGap seen expected found missing) has = refl
 octets_none (Gap seen channel expected found missing) has = refl
 octets_none (Vca seen channel) has = refl
 octets_none (Dropped seen channel first place octets reason) has = refl
@@ -36,6 +37,7 @@ octets_none (Short seen octets) has = refl
 listed_none : (x : Item) → HasLine x → listed x ≡ []
 unfolding listed
 listed_none (Bad seen fault) has = refl
+listed_none (MasterGap seen expected found missing) has = refl
 listed_none (Gap seen channel expected found missing) has = refl
 listed_none (Vca seen channel) has = refl
 listed_none (Dropped seen channel first place octets reason) has = refl
@@ -45,6 +47,7 @@ listed_none (Short seen octets) has = refl
 tabled_none : (fields : List Field) (application : ℕ) (x : Item) → HasLine x → tabled fields application x ≡ []
 unfolding tabled
 tabled_none fields application (Bad seen fault) has = refl
+tabled_none fields application (MasterGap seen expected found missing) has = refl
 tabled_none fields application (Gap seen channel expected found missing) has = refl
 tabled_none fields application (Vca seen channel) has = refl
 tabled_none fields application (Dropped seen channel first place octets reason) has = refl
@@ -54,6 +57,7 @@ tabled_none fields application (Short seen octets) has = refl
 too_short_none : (fields : List Field) (application : ℕ) (x : Item) → HasLine x → too_short fields application x ≡ []
 unfolding too_short
 too_short_none fields application (Bad seen fault) has = refl
+too_short_none fields application (MasterGap seen expected found missing) has = refl
 too_short_none fields application (Gap seen channel expected found missing) has = refl
 too_short_none fields application (Vca seen channel) has = refl
 too_short_none fields application (Dropped seen channel first place octets reason) has = refl

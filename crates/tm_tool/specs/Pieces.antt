@@ -1,7 +1,6 @@
 -- The pieces of a recording: for each item what belongs to `out`, and its lines for the report.
 use Rattle.std.specs.Prelude.{⊤, ℕ, ◌/◌, ◌%◌, Bool, true, false, List, [], ◌∷◌, ◌++◌, length, map, take, drop, Option}
 use Rattle.std.specs.List.{flat_map}
-use Rattle.tm_frame.specs.declared.layout.LayoutParts.{LayoutParts}
 use Rattle.tm_frame.specs.Layout.{record_length_of}
 use Rattle.tm_fields.specs.declared.field.Field.{Field}
 use Rattle.tm_packet.specs.declared.notes.Note.{Note}
@@ -10,17 +9,17 @@ use Rattle.tm_packet.specs.declared.tracker.Unclosed.{Unclosed}
 use Rattle.tm_packet.specs.Header.{header_of}
 use Rattle.tm_packet.specs.Merge as sequence
 use Rattle.tm_packet.specs.Merge.{Sent}
-use Rattle.tm_reassembly.specs.Channels.{is_chosen}
-use Rattle.tm_reassembly.specs.Item.{Item, Bad, Gap, Vca, Dropped, Packet, Short}
+use Rattle.tm_reassembly.specs.Item.{Item, Bad, MasterGap, Gap, Vca, Dropped, Packet, Short}
 use Rattle.tm_reassembly.specs.Items.{closing}
 use Rattle.tm_reassembly.specs.Recording.{items, after}
+use Rattle.tm_reassembly.specs.Rules.{Rules}
 use Rattle.tm_reassembly.specs.State.{State}
 use Rattle.tm_tool.specs.declared.job.Command.{Command}
 use Rattle.tm_tool.specs.declared.job.Command.TheVariants.{Extract, Packets, Fields}
 use Rattle.tm_tool.specs.declared.job.Ending.{Ending}
 use Rattle.tm_tool.specs.declared.job.Ending.TheVariants.{Close, Keep, StopAfter}
 use Rattle.tm_tool.specs.FieldRows.{tabled, too_short}
-use Rattle.tm_tool.specs.Lines.{bad_line, drop_line, gap_line, note_line, note_lines, packet_line, short_line, vca_line}
+use Rattle.tm_tool.specs.Lines.{bad_line, drop_line, gap_line, master_gap_line, note_line, note_lines, packet_line, short_line, vca_line}
 use Rattle.tm_tool.specs.Outputs.{Piece}
 use Rattle.tm_tool.specs.Records.{records, rest_of}
 
@@ -35,6 +34,7 @@ sent channel octets = record { channel = channel; header = header_of octets }
 -- the entries after an item: a packet's header is noted, and nothing else
 unfoldable pub noted : Entries → Item → Entries
 noted entries (Bad seen fault) = entries
+noted entries (MasterGap seen expected found missing) = entries
 noted entries (Gap seen channel expected found missing) = entries
 noted entries (Vca seen channel) = entries
 noted entries (Dropped seen channel first place octets reason) = entries
@@ -48,6 +48,7 @@ notes_of entries p = flat_map (λ ns. ns) (sequence.notes entries (p ∷ []))
 -- the line of an item; a packet has none
 unfoldable pub line_of : Item → List ℕ
 line_of (Bad seen fault) = bad_line seen fault
+line_of (MasterGap seen expected found missing) = master_gap_line seen expected found missing
 line_of (Gap seen channel expected found missing) = gap_line seen channel expected found missing
 line_of (Vca seen channel) = vca_line seen channel
 line_of (Dropped seen channel first place octets reason) = drop_line seen channel first place octets reason
@@ -124,22 +125,20 @@ unclosed_pieces seen us = map (unclosed_piece seen) us
 
 -- ---- of records
 
--- how far a job has got: how records are laid out, the chosen channels, the state of the channels, and the entries of the sequence counts
+-- how far a job has got: what the settings say, the state of the channels, and the entries of the sequence counts
 pub record Work : Type 0 where
-  pub layout : LayoutParts
-  pub channels : List Bool
+  pub rules : Rules
   pub state : State
   pub entries : Entries
 
 abbrev pub items_of : Work → List (List ℕ) → List Item
-items_of w rs = items w.layout (is_chosen w.channels) w.state rs
+items_of w rs = items w.rules w.state rs
 
 -- the job after more records
 abbrev pub worked : Work → List (List ℕ) → Work
 worked w rs = record {
-  layout = w.layout;
-  channels = w.channels;
-  state = after w.layout (is_chosen w.channels) w.state rs;
+  rules = w.rules;
+  state = after w.rules w.state rs;
   entries = noted_all w.entries (items_of w rs);
 }
 
@@ -153,7 +152,7 @@ chosen (StopAfter n) rs = take n rs
 
 -- the records of a recording that follow those that are done
 abbrev pub further : Work → List ℕ → List (List ℕ)
-further w recording = drop w.state.records (records (record_length_of w.layout) recording)
+further w recording = drop w.state.records (records (record_length_of w.rules.layout) recording)
 
 module _ {A : Type 0} (text : Texts A) where
   -- the pieces of records
@@ -179,4 +178,4 @@ module _ {A : Type 0} (text : Texts A) where
   -- the pieces of a recording, from where the job has got
   unfoldable pub pieces : Ending → Work → List ℕ → List (Piece A)
   pieces ending w recording =
-      pieces_after ending w (chosen ending (further w recording)) (length (rest_of (record_length_of w.layout) recording))
+      pieces_after ending w (chosen ending (further w recording)) (length (rest_of (record_length_of w.rules.layout) recording))

@@ -1,5 +1,6 @@
 -- A job that is stopped and resumed from its checkpoints, any number of times.
 use Rattle.std.specs.Prelude.{⊤, ◌≡◌, ℕ, ◌+◌, ◌-◌, min, Bool, List, [], ◌∷◌, ◌++◌, length, Result, Ok, Err}
+use Rattle.tm_reassembly.specs.Rules.{Rules}
 use Rattle.tm_tool.specs.declared.fault.CheckpointFault.{CheckpointFault}
 use Rattle.tm_tool.specs.declared.job.Ending.{Ending}
 use Rattle.tm_tool.specs.declared.job.Ending.TheVariants.{Close, Keep, StopAfter}
@@ -8,7 +9,6 @@ use Rattle.tm_tool.specs.Jobs.{JobState}
 use Rattle.tm_tool.specs.Outputs.{Piece}
 use Rattle.tm_tool.specs.Pieces.{Texts, Work, chosen, further, pieces, worked}
 use Rattle.tm_tool.specs.Records.{records}
-use Rattle.tm_tool.specs.Settings.{Choices}
 
 -- a stop: where a run ended, and the recording as it was then
 pub record Stop : Type 0 where
@@ -36,7 +36,7 @@ module _ {A : Type 0} (head : Bool → List (Piece A)) (text : Texts A) where
   run_pieces ending job recording = head job.fresh ++ pieces text ending job.work recording
 
   -- the pieces of all runs: after each stop the job is written as a checkpoint, and resumed from that with the same settings
-  abbrev pub resumed_pieces : Ending → List ℕ → Choices → JobState → List Stop → List (Piece A)
+  abbrev pub resumed_pieces : Ending → List ℕ → Rules → JobState → List Stop → List (Piece A)
   resumed_pieces ending last settings job [] = run_pieces ending job last
   resumed_pieces ending last settings job (stop ∷ stops) =
       run_pieces stop.ending job stop.recording

@@ -47,8 +47,8 @@ behind w read = drop w.state.records read
 -- what an ending reads: all, down to less than a record; or just as many records as it wants
 abbrev pub HasEnded : Ending → Work → Option (List ℕ) → Option (List ℕ) → List (List ℕ) → List ℕ → Type 0
 HasEnded ending w left_old left_new read rest =
-    (HasReadAll (record_length_of w.layout) left_old left_new read rest × GoesOn ending w.state.records (length read))
-    ⊎ (HasRead (record_length_of w.layout) left_old left_new read [] × (rest ≡ []) × Suffices ending w.state.records (length read))
+    (HasReadAll (record_length_of w.rules.layout) left_old left_new read rest × GoesOn ending w.state.records (length read))
+    ⊎ (HasRead (record_length_of w.rules.layout) left_old left_new read [] × (rest ≡ []) × Suffices ending w.state.records (length read))
 
 -- Records and what the ending has are written one after the other, from where the job has got. The recording is read from its beginning:
 -- the records that are done come first, and nothing is written of them.
@@ -67,8 +67,8 @@ module _ {A K : Type 0} (grows : K → K → List A → Type 0) (rows : Bool) (t
   pub record StopsAtRead (left_old left_new : Option (List ℕ)) (old new : View K) : Type 0 where
     pub read : List (List ℕ)
     pub part : List ℕ
-    pub octets : HasRead (record_length_of w.layout) left_old left_new read part
-    pub short : length part < record_length_of w.layout
+    pub octets : HasRead (record_length_of w.rules.layout) left_old left_new read part
+    pub short : length part < record_length_of w.rules.layout
     pub wanted : (length read < w.state.records) ⊎ GoesOn ending w.state.records (length read)
     pub took : Took grows old new (record_pieces text w (behind w read))
 
@@ -76,7 +76,7 @@ module _ {A K : Type 0} (grows : K → K → List A → Type 0) (rows : Bool) (t
   pub record StopsShort (left_old left_new : Option (List ℕ)) (old new : View K) : Type 0 where
     pub read : List (List ℕ)
     pub rest : List ℕ
-    pub all : HasReadAll (record_length_of w.layout) left_old left_new read rest
+    pub all : HasReadAll (record_length_of w.rules.layout) left_old left_new read rest
     pub few : length read < w.state.records
     pub took : Took grows old new []
 
@@ -84,8 +84,8 @@ module _ {A K : Type 0} (grows : K → K → List A → Type 0) (rows : Bool) (t
   pub record StopsAtTooMany (left_old left_new : Option (List ℕ)) (old new : View K) : Type 0 where
     pub read : List (List ℕ)
     pub one : List ℕ
-    pub octets : HasRead (record_length_of w.layout) left_old left_new read one
-    pub exact : length one ≡ record_length_of w.layout
+    pub octets : HasRead (record_length_of w.rules.layout) left_old left_new read one
+    pub exact : length one ≡ record_length_of w.rules.layout
     pub most : length read ≡ 2 ^ 32 - 1
     pub wanted : GoesOn ending w.state.records (length read)
     pub took : Took grows old new (record_pieces text w (behind w read))
@@ -94,8 +94,8 @@ module _ {A K : Type 0} (grows : K → K → List A → Type 0) (rows : Bool) (t
   pub record StopsAtRecord (left_old left_new : Option (List ℕ)) (old new : View K) (fault : RunFault) : Type 0 where
     pub read : List (List ℕ)
     pub one : List ℕ
-    pub octets : HasRead (record_length_of w.layout) left_old left_new read one
-    pub exact : length one ≡ record_length_of w.layout
+    pub octets : HasRead (record_length_of w.rules.layout) left_old left_new read one
+    pub exact : length one ≡ record_length_of w.rules.layout
     pub passed : w.state.records ≤ length read
     pub wanted : GoesOn ending w.state.records (length read)
     pub mid : View K

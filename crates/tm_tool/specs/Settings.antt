@@ -8,16 +8,12 @@ use Rattle.tm_frame.specs.declared.layout.LayoutParts.{LayoutParts}
 use Rattle.tm_frame.specs.declared.layout.Presence.{Presence}
 use Rattle.tm_frame.specs.declared.layout.Presence.TheVariants.{Flag, Always, Never}
 use Rattle.tm_reassembly.specs.Channels.{all_channels, channels_of}
+use Rattle.tm_reassembly.specs.Rules.{Rules}
 use Rattle.tm_tool.specs.declared.key.Key.{Key}
-use Rattle.tm_tool.specs.declared.key.Key.TheVariants.{Spacecraft, FrameLength, SkipBefore, SkipAfter, Secondary, Ocf, ErrorControl, Channels}
+use Rattle.tm_tool.specs.declared.key.Key.TheVariants.{Spacecraft, FrameLength, SkipBefore, SkipAfter, Secondary, Ocf, ErrorControl, Channels, MaxPacket}
 use Rattle.tm_tool.specs.declared.fault.SettingsFault.{SettingsFault}
 use Rattle.tm_tool.specs.declared.fault.SettingsFault.TheVariants.{Toml, Unknown, Missing, Kind, Range}
 use Rattle.tm_tool.specs.Keys.{name_of, is_name}
-
--- what the settings are: the layout of a record, and for each channel from 0 whether it is chosen
-pub record Choices : Type 0 where
-  pub layout : LayoutParts
-  pub channels : List Bool
 
 -- ---- unknown keys
 
@@ -109,9 +105,9 @@ channels_at key d = of_kind key (λ zs. of_range key (channels_of (map channel_n
 abbrev pub value_at : Key → Members → Option Data
 value_at key ms = get_member (name_of key) ms
 
--- the keys in the order of the table, the first with a fault deciding
-abbrev pub choices_from : Members → ReadAs Choices
-choices_from ms =
+-- the keys of the layout in the order of the table, the first with a fault deciding
+abbrev pub layout_from : Members → ReadAs LayoutParts
+layout_from ms =
     read_and_then (required Spacecraft (integer_of Spacecraft 0 1023) (value_at Spacecraft ms)) (λ spacecraft.
     read_and_then (required FrameLength (integer_of FrameLength 9 2048) (value_at FrameLength ms)) (λ frame_length.
     read_and_then (optional 0 (integer_of SkipBefore 0 1024) (value_at SkipBefore ms)) (λ skip_before.
@@ -119,25 +115,29 @@ choices_from ms =
     read_and_then (optional Flag (presence_of Secondary) (value_at Secondary ms)) (λ secondary.
     read_and_then (optional Flag (presence_of Ocf) (value_at Ocf ms)) (λ ocf.
     read_and_then (required ErrorControl (truth_of ErrorControl) (value_at ErrorControl ms)) (λ error_control.
-    read_and_then (optional all_channels (channels_at Channels) (value_at Channels ms)) (λ channels.
     Ok (record {
-      layout = record {
-        frame_length = frame_length;
-        skip_before = skip_before;
-        skip_after = skip_after;
-        spacecraft = spacecraft;
-        secondary = secondary;
-        ocf = ocf;
-        error_control = error_control;
-      };
-      channels = channels;
-    })))))))))
+      frame_length = frame_length;
+      skip_before = skip_before;
+      skip_after = skip_after;
+      spacecraft = spacecraft;
+      secondary = secondary;
+      ocf = ocf;
+      error_control = error_control;
+    }))))))))
+
+-- all keys: behind those of the layout the channels, and then the most octets that a packet may have
+abbrev pub choices_from : Members → ReadAs Rules
+choices_from ms =
+    read_and_then (layout_from ms) (λ layout.
+    read_and_then (optional all_channels (channels_at Channels) (value_at Channels ms)) (λ channels.
+    read_and_then (optional 65542 (integer_of MaxPacket 7 65542) (value_at MaxPacket ms)) (λ max_packet.
+    Ok (record { layout = layout; channels = channels; max_packet = max_packet }))))
 
 abbrev pub unless_unknown : {A : Type 0} → Option (List ℕ) → ReadAs A → ReadAs A
 unless_unknown None read = read
 unless_unknown (Some key) read = Err (Unknown key)
 
 -- what a text says, where this is its document
-abbrev pub settings_from : Option Members → ReadAs Choices
+abbrev pub settings_from : Option Members → ReadAs Rules
 settings_from None = Err Toml
 settings_from (Some ms) = unless_unknown (least (unknown_keys ms)) (choices_from ms)

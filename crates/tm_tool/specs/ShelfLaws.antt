@@ -1,7 +1,7 @@
 -- How places grow by one list of octets after another.
 use Rattle.std.specs.Prelude.{◌≡◌, refl, ℕ, Bool, true, false, ◌==◌, List, [], ◌∷◌, ◌++◌, Option, None, Some, if◌then◌else◌}
 use Rattle.std.proofs.Common.{sym, ap, ◌∙◌, append_assoc, append-nil}
-use Rattle.tm_reassembly.specs.Item.{Item, Bad, Gap, Vca, Dropped, Packet, Short}
+use Rattle.tm_reassembly.specs.Item.{Item, Bad, MasterGap, Gap, Vca, Dropped, Packet, Short}
 use Rattle.tm_tool.specs.Outlets.{GivesNone}
 use Rattle.tm_tool.specs.Pieces.{HasLine}
 use Rattle.tm_tool.specs.Shelves.{Puts, Shelved, shelved, of_application, Shelves, shelved_of, shelf_text}
@@ -42,6 +42,7 @@ shelves_put (Some f) (Some g) application octets h = λ k.
 shelved_none : (x : Item) → HasLine x → shelved_of x ≡ []
 unfolding shelved_of
 shelved_none (Bad seen fault) has = refl
+shelved_none (MasterGap seen expected found missing) has = refl
 shelved_none (Gap seen channel expected found missing) has = refl
 shelved_none (Vca seen channel) has = refl
 shelved_none (Dropped seen channel first place octets reason) has = refl

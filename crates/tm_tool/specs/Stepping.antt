@@ -16,7 +16,7 @@ use Rattle.tm_tool.specs.Runs.{HasRead, HasReadAll, HasEnded, behind}
 
 -- how far a reassembly has got, together with the sequence counts
 abbrev pub work_of : Progress → Entries → Work
-work_of p entries = record { layout = p.layout; channels = p.channels; state = p.state; entries = entries }
+work_of p entries = record { rules = p.rules; state = p.state; entries = entries }
 
 -- no more records were read than are wanted
 abbrev pub Reached : Ending → ℕ → ℕ → Type 0
@@ -59,7 +59,7 @@ module _ {A K : Type 0} (grows : K → K → List A → Type 0) where
   -- these records were read, nothing else, and those behind the ones that are done were taken
   pub record HasTaken (text : Texts A) (w : Work) (left_old left_new : Option (List ℕ)) (old new : View K) (now : Work) : Type 0 where
     pub read : List (List ℕ)
-    pub sized : AreRecords (record_length_of w.layout) read
+    pub sized : AreRecords (record_length_of w.rules.layout) read
     pub octets : Consumes left_old left_new (concat read)
     pub passed : w.state.records ≤ length read
     pub work : now ≡ worked w (behind w read)

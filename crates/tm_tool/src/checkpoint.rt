@@ -1,16 +1,17 @@
 //! The checkpoint of a job: written, and read again.
 
-ghost use Rattle.std.specs.Prelude.{◌≡◌, ◌≢◌, ◌≤◌, IfOk, IfErr, IsErrOf, IsOk, OnOk, Ok, Err, None, Some, false, length};
+ghost use Rattle.std.specs.Prelude.{◌≡◌, ◌≢◌, ◌⊎◌, ◌≤◌, ◌<◌, ◌+◌, ◌*◌, ◌^◌, IfOk, IfErr, IsErrOf, IsOk, OnOk, Ok, Err, false, length};
 ghost use Rattle.tm_frame.specs.declared.layout.Presence.{Presence};
 ghost use Rattle.tm_packet.specs.Spelling as sequence;
-ghost use Rattle.tm_reassembly.specs.Channels.{is_chosen};
-ghost use Rattle.tm_reassembly.specs.Checkpoint.{decoding_of};
+ghost use Rattle.tm_reassembly.specs.declared.fault.StateFault.TheVariants as found;
+ghost use Rattle.tm_reassembly.specs.Rules.{IsLimit, Rules};
 ghost use Rattle.tm_reassembly.specs.State.{State};
 ghost use Rattle.tm_reassembly.specs.Valid.{IsState};
-ghost use Rattle.tm_tool.specs.Checkpoints.{AsksMemory, IsWork, checkpoint_of, check_holds, fault_around, head_octets, job_of, presence_octet, resumed, settings_octets, with_check, with_entries, with_state};
-ghost use Rattle.tm_tool.specs.Settings.{Choices};
+ghost use Rattle.tm_tool.specs.declared.version.Version.TheVariants as version;
+ghost use Rattle.tm_tool.specs.Checkpoints.{AsksMemory, IsWork, checkpoint_of, check_holds, form_of, framed, head_octets, inner, job_of, presence_octet, resumed, says_settings, settings_octets, state_in, tells, three, with_check, with_entries, with_state};
 ghost use Rattle.tm_tool.specs.Stepping.{work_of};
 
+use crate::version::Version;
 use crate::{CheckpointFault, Job, NoMemory, Settings};
 use std::alloc::{AllocError, Global};
 use tm_frame::{Layout, Presence, error_control};
@@ -20,24 +21,24 @@ use tm_reassembly::{Channels, Reassembly, StateFault};
 // The letters TMXC, with which a checkpoint begins.
 const MAGIC: [u8; 4] = [0x54, 0x4D, 0x58, 0x43];
 
-// The version of the form in which it is written.
-const VERSION: u8 = 1;
-
 impl Job {
-    /// The job in octets, at most 622,705: the letters TMXC and the version 1; the settings in twelve octets; the state of the channels and
-    /// the sequence counts, as `Reassembly::encode` and `Tracker::encode` write them; and the error control of all these.
+    /// The job in octets, at most 98,374 and eight times as many as a packet may have, so at most 622,710: the letters TMXC and the version
+    /// 3; the settings in fifteen octets; the state of the channels and the sequence counts, as `Reassembly::encode` and `Tracker::encode`
+    /// write them; and the error control of all these.
     ///
     /// # Errors
     ///
     /// `NoMemory` where there is no room for them.
     pub fn checkpoint(&self, alloc: Global) -> Result<Vec<u8>, NoMemory>
         ensures octets { IfOk result (λ octets. octets.items ≡ checkpoint_of self.now.work) }
-        ensures bound { IfOk result (λ octets. length octets.items ≤ 622705) }
+        ensures bound { IfOk result (λ octets. length octets.items ≤ 98374 + 8 * self.now.work.rules.max_packet) }
+        ensures most { IfOk result (λ octets. length octets.items ≤ 622710) }
         ensures valid { IfOk result (λ octets. IsWork self.now.work) }
     {
         let layout = self.reassembly.layout();
         let channels = self.reassembly.channels();
-        let Ok(mut octets) = write_head(alloc, layout, channels) else {
+        let max_packet = self.reassembly.max_packet();
+        let Ok(mut octets) = write_head(alloc, layout, channels, max_packet) else {
             return Err(NoMemory);
         };
         let Ok(()) = self.reassembly.encode(&mut octets) else {
@@ -52,25 +53,28 @@ impl Job {
         }
     }
 
-    /// The job that these octets say, which were written with the same settings. It isn't fresh. Room is reserved as `new` does.
+    /// The job that these octets say, which were written with the same settings, in version 3 or in one of the older versions 1 and 2. It
+    /// isn't fresh. Room is reserved as `new` does. Version 1 has no limit on packets in its settings: it stands for the greatest, 65,542.
+    /// Of an older version the job has no last master channel count, so that no gap of the master channel is reported at its first good frame.
     ///
     /// # Errors
     ///
     /// What is wrong first: `Short` where there are fewer than 33 octets; `Magic` where they don't begin with TMXC; `Version` where the fifth
-    /// isn't 1; `Check` where the last two aren't the error control of those before; `Settings` where they were written with other settings;
-    /// `State` where `Reassembly::decode` or, behind the octets that it read, `Tracker::decode` refuses them; `Trailing` where octets are
-    /// left over. `NoMemory` comes at the earliest after the checks of `Reassembly::decode`.
+    /// is none of 1, 2 and 3; `Short` where there are fewer than 36 in version 2, or 37 in version 3; `Check` where the last two aren't the
+    /// error control of those before; `Settings` where they were written with other settings; `State` where `Reassembly::decode`, of an older
+    /// version `Reassembly::decode_old`, or, behind the octets that it read, `Tracker::decode` refuses them; `Trailing` where octets are
+    /// left over. `NoMemory` comes at the earliest after the checks of the state.
     pub fn resume(alloc: Global, settings: &Settings, octets: &[u8]) -> Result<Job, CheckpointFault>
         ensures ok { IfOk result (λ job. resumed settings.now octets.now ≡ Ok job) }
         ensures refused { IfErr result (λ found. found ≢ CheckpointFault.NoMemory → resumed settings.now octets.now ≡ Err found) }
         ensures memory { IsErrOf result CheckpointFault.NoMemory → AsksMemory settings.now octets.now }
     {
-        if let Some(fault) = fault_around(settings, octets) {
-            return Err(fault);
-        }
-        let end = octets.len() - 2;
-        let inner = &octets[17..end];
-        let (reassembly, read) = match read_state(alloc, settings, inner) {
+        let version = match framed(settings, octets) {
+            Ok(version) => version,
+            Err(fault) => return Err(fault),
+        };
+        let inner = inner(version, octets);
+        let (reassembly, read) = match read_state(alloc, settings, version, inner) {
             Ok(read) => read,
             Err(fault) => return Err(fault),
         };
@@ -82,13 +86,20 @@ impl Job {
     }
 }
 
-// The octets before the state.
-fn write_head(alloc: Global, layout: Layout, channels: Channels) -> Result<Vec<u8>, AllocError>
-    ensures { IfOk result (λ head. head.items ≡ head_octets (record { layout = layout; channels = channels })) }
+// The octets before the state, in the version that is written.
+fn write_head(
+    alloc: Global,
+    layout: Layout,
+    channels: Channels,
+    max_packet: u32,
+) -> Result<Vec<u8>, AllocError>
+    requires { IsLimit max_packet }
+    ensures { IfOk result (λ head. head.items
+        ≡ head_octets version.Three (record { layout = layout; channels = channels; max_packet = max_packet })) }
 {
     let mut head = Vec::from_slice(alloc, &MAGIC)?;
-    head.push(VERSION)?;
-    head.extend_from_slice(&settings_octets(layout, channels))?;
+    head.push(Version::Three.form().octet)?;
+    head.extend_from_slice(&settings_octets(layout, channels, max_packet))?;
     Ok(head)
 }
 
@@ -100,15 +111,26 @@ fn push_check(octets: &mut Vec<u8>) -> Result<(), AllocError>
     octets.extend_from_slice(&check.to_be_bytes())
 }
 
-// The settings in twelve octets.
-fn settings_octets(layout: Layout, channels: Channels) -> [u8; 12]
-    ensures { result ≡ settings_octets (record { layout = layout; channels = channels }) }
+// A number in three octets.
+fn three_octets(number: u32) -> [u8; 3]
+    requires { number < 2 ^ 24 }
+    ensures { result ≡ three number }
+{
+    let low = ((number % 65536) as u16).to_be_bytes();
+    [(number / 65536) as u8, low[0], low[1]]
+}
+
+// The settings in fifteen octets.
+fn settings_octets(layout: Layout, channels: Channels, max_packet: u32) -> [u8; 15]
+    requires { IsLimit max_packet }
+    ensures { result ≡ settings_octets (record { layout = layout; channels = channels; max_packet = max_packet }) }
 {
     let parts = layout.parts();
     let spacecraft = (parts.spacecraft as u16).to_be_bytes();
     let frame_length = (parts.frame_length as u16).to_be_bytes();
     let skip_before = (parts.skip_before as u16).to_be_bytes();
     let skip_after = (parts.skip_after as u16).to_be_bytes();
+    let limit = three_octets(max_packet);
     [
         spacecraft[0],
         spacecraft[1],
@@ -122,6 +144,9 @@ fn settings_octets(layout: Layout, channels: Channels) -> [u8; 12]
         presence_octet(parts.ocf),
         u8::from(parts.error_control),
         channels.mask(),
+        limit[0],
+        limit[1],
+        limit[2],
     ]
 }
 
@@ -136,30 +161,56 @@ fn presence_octet(presence: Presence) -> u8
     }
 }
 
-// What is wrong first around the state and the entries.
-#[tactic(auto, unfolding(crate::specs::Checkpoints::fault_around))]
-fn fault_around(settings: &Settings, octets: &[u8]) -> Option<CheckpointFault>
-    ensures value { result ≡ fault_around settings.now octets.now }
-    ensures memory { result ≢ Some CheckpointFault.NoMemory }
-    ensures long { result ≡ None → 33 ≤ length octets.now }
+// The version, or what is wrong first around the state and the entries.
+#[tactic(auto, unfolding(crate::specs::Checkpoints::framed))]
+fn framed(settings: &Settings, octets: &[u8]) -> Result<Version, CheckpointFault>
+    ensures value { result ≡ framed settings.now octets.now }
+    ensures memory { result ≢ Err CheckpointFault.NoMemory }
+    ensures long { IfOk result (λ v. (form_of v).least ≤ length octets.now) }
 {
     if octets.len() < 33 {
-        return Some(CheckpointFault::Short);
+        return Err(CheckpointFault::Short);
     }
     if &octets[..4] != MAGIC.as_slice() {
-        return Some(CheckpointFault::Magic);
+        return Err(CheckpointFault::Magic);
     }
-    if octets[4] != VERSION {
-        return Some(CheckpointFault::Version);
+    let Some(version) = Version::of(octets[4]) else {
+        return Err(CheckpointFault::Version);
+    };
+    if octets.len() < version.form().least {
+        return Err(CheckpointFault::Short);
     }
     if !check_holds(octets) {
-        return Some(CheckpointFault::Check);
+        return Err(CheckpointFault::Check);
     }
-    let written = settings_octets(settings.layout(), settings.channels());
-    if &octets[5..17] != written.as_slice() {
-        return Some(CheckpointFault::Settings);
+    if !says_settings(version, settings, octets) {
+        return Err(CheckpointFault::Settings);
     }
-    None
+    Ok(version)
+}
+
+// Whether settings can be told in a version: version 1 stands for the greatest limit on packets.
+fn tells(version: Version, settings: &Settings) -> bool
+    ensures { result ≡ tells version settings.now }
+{
+    match version {
+        Version::One => settings.max_packet() == 65542,
+        Version::Two | Version::Three => true,
+    }
+}
+
+// Whether the settings are those that the octets of a version tell.
+fn says_settings(version: Version, settings: &Settings, octets: &[u8]) -> bool
+    requires { (form_of version).least ≤ length octets.now }
+    ensures { result ≡ says_settings version settings.now octets.now }
+{
+    let length = version.form().settings;
+    let written = settings_octets(
+        settings.layout(),
+        settings.channels(),
+        settings.max_packet(),
+    );
+    tells(version, settings) && &octets[5..5 + length] == &written[..length]
 }
 
 // The last two octets are the error control of those before.
@@ -171,20 +222,52 @@ fn check_holds(octets: &[u8]) -> bool
     u16::from_be_bytes([octets[end], octets[end + 1]]) == error_control(&octets[..end])
 }
 
-// The state at the front of octets, and how many of them it has.
+// The octets between the settings and the check.
+fn inner(version: Version, octets: &[u8]) -> &[u8]
+    requires { (form_of version).least ≤ length octets.now }
+    ensures { result.now ≡ inner version octets.now }
+{
+    let begin = 5 + version.form().settings;
+    &octets[begin..octets.len() - 2]
+}
+
+// The state at the front of octets in the form of a version, and how many of them it has.
+fn decode_state(
+    alloc: Global,
+    settings: &Settings,
+    version: Version,
+    octets: &[u8],
+) -> Result<(Reassembly, usize), StateFault>
+    ensures ok { IfOk result (λ read. state_in version settings.now octets.now ≡ Ok (record { state = read.0.state; octets = read.1 })) }
+    ensures same { IfOk result (λ read. read.0 ≡ record { rules = settings.now; state = read.0.state; failed = false }) }
+    ensures refused { IfErr result (λ fault. (state_in version settings.now octets.now ≡ Err fault)
+        ⊎ ((fault ≡ found.NoMemory) × IsOk (state_in version settings.now octets.now))) }
+{
+    let layout = settings.layout();
+    let channels = settings.channels();
+    let max_packet = settings.max_packet();
+    if version.form().with_master {
+        Reassembly::decode(alloc, layout, channels, max_packet, octets)
+    } else {
+        Reassembly::decode_old(alloc, layout, channels, max_packet, octets)
+    }
+}
+
+// The same, where what is refused is a fault of the checkpoint.
 fn read_state(
     alloc: Global,
     settings: &Settings,
+    version: Version,
     octets: &[u8],
 ) -> Result<(Reassembly, usize), CheckpointFault>
-    ensures ok { IfOk result (λ read. decoding_of settings.now.layout (is_chosen settings.now.channels) octets.now ≡ Ok (record { state = read.0.state; octets = read.1 })) }
-    ensures same { IfOk result (λ read. read.0 ≡ record { layout = settings.now.layout; channels = settings.now.channels; state = read.0.state; failed = false }) }
-    ensures valid { IfOk result (λ read. IsState read.0.layout (is_chosen read.0.channels) read.0.state) }
+    ensures ok { IfOk result (λ read. state_in version settings.now octets.now ≡ Ok (record { state = read.0.state; octets = read.1 })) }
+    ensures same { IfOk result (λ read. read.0 ≡ record { rules = settings.now; state = read.0.state; failed = false }) }
+    ensures valid { IfOk result (λ read. IsState read.0.rules read.0.state) }
     ensures inside { IfOk result (λ read. read.1 ≤ length octets.now) }
-    ensures refused { IfErr result (λ found. found ≢ CheckpointFault.NoMemory → with_state settings.now octets.now (decoding_of settings.now.layout (is_chosen settings.now.channels) octets.now) ≡ Err found) }
-    ensures memory { IsErrOf result CheckpointFault.NoMemory → IsOk (decoding_of settings.now.layout (is_chosen settings.now.channels) octets.now) }
+    ensures refused { IfErr result (λ found. found ≢ CheckpointFault.NoMemory → with_state settings.now octets.now (state_in version settings.now octets.now) ≡ Err found) }
+    ensures memory { IsErrOf result CheckpointFault.NoMemory → IsOk (state_in version settings.now octets.now) }
 {
-    match Reassembly::decode(alloc, settings.layout(), settings.channels(), octets) {
+    match decode_state(alloc, settings, version, octets) {
         Ok((reassembly, read)) => {
             prove!(!reassembly.failed());
             Ok((reassembly, read))
@@ -196,9 +279,9 @@ fn read_state(
 
 // The entries that these octets are.
 fn read_entries(alloc: Global, octets: &[u8]) -> Result<Tracker, CheckpointFault>
-    ensures ok { IfOk result (λ entries. (settings : Choices) (state : State) →
+    ensures ok { IfOk result (λ entries. (settings : Rules) (state : State) →
         with_entries settings state (length octets.now) (sequence.decoding_of octets.now) ≡ Ok (job_of settings state entries)) }
-    ensures refused { IfErr result (λ found. found ≢ CheckpointFault.NoMemory → (settings : Choices) (state : State) →
+    ensures refused { IfErr result (λ found. found ≢ CheckpointFault.NoMemory → (settings : Rules) (state : State) →
         with_entries settings state (length octets.now) (sequence.decoding_of octets.now) ≡ Err found) }
 {
     match Tracker::decode(alloc, octets) {
@@ -220,7 +303,7 @@ fn with_buffer(
     tracker: Tracker,
 ) -> Result<Job, CheckpointFault>
     requires sound { reassembly.failed ≡ false }
-    requires valid { IsState reassembly.layout (is_chosen reassembly.channels) reassembly.state }
+    requires valid { IsState reassembly.rules reassembly.state }
     ensures ok { IfOk result (λ job. job ≡ record { work = work_of reassembly tracker; fresh = false }) }
     ensures refused { IfErr result (λ found. found ≡ CheckpointFault.NoMemory) }
 {

@@ -4,7 +4,6 @@ ghost use Rattle.std.specs.Prelude.{◌≡◌, ◌<◌, true, false, if◌then�
 ghost use Rattle.std.specs.Io.KnownBytes.{Appends, Keeps};
 ghost use Rattle.tm_fields.specs.Rows.{head_of};
 ghost use Rattle.tm_frame.specs.Layout.{record_length_of};
-ghost use Rattle.tm_reassembly.specs.Channels.{is_chosen};
 ghost use Rattle.tm_reassembly.specs.Valid.{IsState};
 ghost use Rattle.tm_tool.specs.declared.job.Command.TheVariants.{Extract, Packets};
 ghost use Rattle.tm_tool.specs.Faults.{RunCounted};
@@ -37,10 +36,10 @@ fn run_extract<R: Source, W: Drain, V: Drain>(
     report: &mut V,
     ending: Ending,
 ) -> Result<Ended, RunFault>
-    requires exact { length buffer.old ≡ record_length_of reassembly.layout }
+    requires exact { length buffer.old ≡ record_length_of reassembly.rules.layout }
     requires some { 0 < length buffer.old }
     requires going { reassembly.failed ≡ false }
-    requires valid { IsState reassembly.layout (is_chosen reassembly.channels) reassembly.state }
+    requires valid { IsState reassembly.rules reassembly.state }
     ensures run { IfOk result (λ ended. IsRun Appends false (text_of Extract) ending (work_of reassembly tracker)
         (R.left recording.old) (R.left recording.new)
         (view (W.written out.old) (V.written report.old) (W.failures out.old) (V.failures report.old))
@@ -84,10 +83,10 @@ fn run_lines<R: Source, W: Drain, V: Drain>(
     report: &mut V,
     ending: Ending,
 ) -> Result<Ended, RunFault>
-    requires exact { length buffer.old ≡ record_length_of reassembly.layout }
+    requires exact { length buffer.old ≡ record_length_of reassembly.rules.layout }
     requires some { 0 < length buffer.old }
     requires going { reassembly.failed ≡ false }
-    requires valid { IsState reassembly.layout (is_chosen reassembly.channels) reassembly.state }
+    requires valid { IsState reassembly.rules reassembly.state }
     ensures run { IfOk result (λ ended. IsRun Appends true (text_of Packets) ending (work_of reassembly tracker)
         (R.left recording.old) (R.left recording.new)
         (view (W.written out.old) (V.written report.old) (W.failures out.old) (V.failures report.old))
@@ -130,10 +129,10 @@ fn run_packets<R: Source, W: Drain, V: Drain>(
     report: &mut V,
     ending: Ending,
 ) -> Result<Ended, RunFault>
-    requires exact { length buffer.old ≡ record_length_of reassembly.layout }
+    requires exact { length buffer.old ≡ record_length_of reassembly.rules.layout }
     requires some { 0 < length buffer.old }
     requires going { reassembly.failed ≡ false }
-    requires valid { IsState reassembly.layout (is_chosen reassembly.channels) reassembly.state }
+    requires valid { IsState reassembly.rules reassembly.state }
     ensures run { IfOk result (λ ended. IsRun Appends true (text_of Packets) ending (work_of reassembly tracker)
         (R.left recording.old) (R.left recording.new)
         (view (W.written out.old) (V.written report.old) (W.failures out.old) (V.failures report.old))
@@ -168,10 +167,10 @@ fn run_rows<R: Source, W: Drain, V: Drain>(
     report: &mut V,
     ending: Ending,
 ) -> Result<Ended, RunFault>
-    requires exact { length buffer.old ≡ record_length_of reassembly.layout }
+    requires exact { length buffer.old ≡ record_length_of reassembly.rules.layout }
     requires some { 0 < length buffer.old }
     requires going { reassembly.failed ≡ false }
-    requires valid { IsState reassembly.layout (is_chosen reassembly.channels) reassembly.state }
+    requires valid { IsState reassembly.rules reassembly.state }
     ensures run { IfOk result (λ ended. IsRun Appends true (rows_text definition.now application) ending (work_of reassembly tracker)
         (R.left recording.old) (R.left recording.new)
         (view (W.written out.old) (V.written report.old) (W.failures out.old) (V.failures report.old))
@@ -246,10 +245,10 @@ fn run_fields<R: Source, W: Drain, V: Drain>(
     report: &mut V,
     ending: Ending,
 ) -> Result<Ended, RunFault>
-    requires exact { length buffer.old ≡ record_length_of reassembly.layout }
+    requires exact { length buffer.old ≡ record_length_of reassembly.rules.layout }
     requires some { 0 < length buffer.old }
     requires going { reassembly.failed ≡ false }
-    requires valid { IsState reassembly.layout (is_chosen reassembly.channels) reassembly.state }
+    requires valid { IsState reassembly.rules reassembly.state }
     ensures run { IfOk result (λ ended. IsHeadedRun Appends true (rows_text definition.now application) ending (work_of reassembly tracker) (rows_head definition.now fresh)
         (R.left recording.old) (R.left recording.new)
         (view (W.written out.old) (V.written report.old) (W.failures out.old) (V.failures report.old))
@@ -295,10 +294,10 @@ pub fn run_by<R: Source, W: Drain, V: Drain>(
     report: &mut V,
     ending: Ending,
 ) -> Result<Ended, RunFault>
-    requires exact { length buffer.old ≡ record_length_of reassembly.layout }
+    requires exact { length buffer.old ≡ record_length_of reassembly.rules.layout }
     requires some { 0 < length buffer.old }
     requires going { reassembly.failed ≡ false }
-    requires valid { IsState reassembly.layout (is_chosen reassembly.channels) reassembly.state }
+    requires valid { IsState reassembly.rules reassembly.state }
     ensures run { IfOk result (λ ended. IsHeadedRun Appends (makes_rows command.entry) (text_of command.entry) ending (work_of reassembly tracker) (head_pieces command.entry fresh)
         (R.left recording.old) (R.left recording.new)
         (view (W.written out.old) (V.written report.old) (W.failures out.old) (V.failures report.old))
@@ -352,10 +351,10 @@ pub fn run_split<R: Source, H: Shelf, V: Drain>(
     report: &mut V,
     ending: Ending,
 ) -> Result<Ended, RunFault>
-    requires exact { length buffer.old ≡ record_length_of reassembly.layout }
+    requires exact { length buffer.old ≡ record_length_of reassembly.rules.layout }
     requires some { 0 < length buffer.old }
     requires going { reassembly.failed ≡ false }
-    requires valid { IsState reassembly.layout (is_chosen reassembly.channels) reassembly.state }
+    requires valid { IsState reassembly.rules reassembly.state }
     ensures run { IfOk result (λ ended. IsRun Shelves false shelf_text ending (work_of reassembly tracker)
         (R.left recording.old) (R.left recording.new)
         (view (H.kept shelf.old) (V.written report.old) (H.refusals shelf.old) (V.failures report.old))

@@ -3,7 +3,6 @@
 ghost use Rattle.std.specs.Prelude.{◌≡◌, ◌+◌, ◌-◌, ◌^◌, ◌<◌, true, false, length, option_map, IfOk, IfErr, IfSome, OnOk, IsErrOf};
 ghost use Rattle.std.specs.Io.KnownBytes.{Appends, Keeps};
 ghost use Rattle.tm_frame.specs.Layout.{record_length_of};
-ghost use Rattle.tm_reassembly.specs.Channels.{is_chosen};
 ghost use Rattle.tm_reassembly.specs.Valid.{IsState};
 ghost use Rattle.tm_tool.specs.Faults.{RunCounted};
 ghost use Rattle.tm_tool.specs.Jobs.{all_pieces, begun, head_pieces};
@@ -66,7 +65,6 @@ pub struct Job {
 impl Model for Job {
     ghost use Rattle.std.specs.Prelude.{◌≡◌, ◌<◌, false, length};
     ghost use Rattle.tm_frame.specs.Layout.{record_length_of};
-    ghost use Rattle.tm_reassembly.specs.Channels.{is_chosen};
     ghost use Rattle.tm_reassembly.specs.Valid.{IsState};
     ghost use Rattle.tm_tool.specs.Jobs.{JobState};
     ghost use Rattle.tm_tool.specs.Stepping.{work_of};
@@ -75,13 +73,13 @@ impl Model for Job {
 
     ghost view = { λ j. record { work = work_of j.reassembly j.tracker; fresh = j.fresh } };
 
-    ghost invariant = { λ j. (j.reassembly.failed ≡ false) × (length j.buffer.items ≡ record_length_of j.reassembly.layout) × (0 < length j.buffer.items)
-        × IsState j.reassembly.layout (is_chosen j.reassembly.channels) j.reassembly.state };
+    ghost invariant = { λ j. (j.reassembly.failed ≡ false) × (length j.buffer.items ≡ record_length_of j.reassembly.rules.layout) × (0 < length j.buffer.items)
+        × IsState j.reassembly.rules j.reassembly.state };
 }
 
 impl Job {
-    /// Before any record. What `run` needs is reserved here: the room of eight channels' tails, the places of all sequence counts, and a
-    /// buffer of one record.
+    /// Before any record. What `run` needs is reserved here: the room of eight channels' tails, each of so many octets as a packet may have,
+    /// the places of all sequence counts, and a buffer of one record.
     ///
     /// # Errors
     ///
@@ -91,7 +89,12 @@ impl Job {
         ensures { IfOk result (λ job. job ≡ begun settings.now) }
     {
         let layout = settings.layout();
-        let Ok(reassembly) = Reassembly::new(alloc, layout, settings.channels()) else {
+        let Ok(reassembly) = Reassembly::new(
+            alloc,
+            layout,
+            settings.channels(),
+            settings.max_packet(),
+        ) else {
             return Err(NoMemory);
         };
         let Ok(tracker) = Tracker::new(alloc) else {
@@ -119,7 +122,7 @@ impl Job {
 // The job after a run, where it is kept, with its buffer.
 fn done_by(ended: Ended, buffer: Vec<u8>, fresh: bool) -> Done
     requires going { IfSome ended.kept (λ k. IsGoing k.reassembly) }
-    requires exact { IfSome ended.kept (λ k. length buffer.items ≡ record_length_of k.reassembly.layout) }
+    requires exact { IfSome ended.kept (λ k. length buffer.items ≡ record_length_of k.reassembly.rules.layout) }
     requires some { 0 < length buffer.items }
     ensures records { result.records ≡ ended.records }
     ensures kept { option_map (λ j. j.work) result.kept ≡ kept_work ended.kept }
@@ -194,9 +197,9 @@ pub fn run<R: Source, W: Drain, V: Drain>(
         WantsMemory Appends (makes_rows command.entry) (view (W.written out.old) (V.written report.old) (W.failures out.old) (V.failures report.old))
         (view (W.written out.new) (V.written report.new) (W.failures out.new) (V.failures report.new)) (all_pieces command.entry ending job octets)) }
     ensures too_many { IsErrOf result RunFault.TooMany → IfSome (R.left recording.old) (λ octets.
-        2 ^ 32 - 1 < record_count (record_length_of job.work.layout) octets) }
+        2 ^ 32 - 1 < record_count (record_length_of job.work.rules.layout) octets) }
     ensures short { IsErrOf result RunFault.ShortRecording → IfSome (R.left recording.old) (λ octets.
-        record_count (record_length_of job.work.layout) octets < job.work.state.records) }
+        record_count (record_length_of job.work.rules.layout) octets < job.work.state.records) }
 
     // What was read by then, and written: nothing past the record at a piece of which writing stopped.
     ensures stopped { IfErr result (IsHeadedStop Appends (makes_rows command.entry) (text_of command.entry) ending job.work (head_pieces command.entry job.fresh) (R.left recording.old) (R.left recording.new)
@@ -265,9 +268,9 @@ pub fn split<R: Source, H: Shelf, V: Drain>(
         WantsMemory Shelves false (view (H.kept shelf.old) (V.written report.old) (H.refusals shelf.old) (V.failures report.old))
         (view (H.kept shelf.new) (V.written report.new) (H.refusals shelf.new) (V.failures report.new)) (pieces shelf_text ending job.work octets)) }
     ensures too_many { IsErrOf result RunFault.TooMany → IfSome (R.left recording.old) (λ octets.
-        2 ^ 32 - 1 < record_count (record_length_of job.work.layout) octets) }
+        2 ^ 32 - 1 < record_count (record_length_of job.work.rules.layout) octets) }
     ensures short { IsErrOf result RunFault.ShortRecording → IfSome (R.left recording.old) (λ octets.
-        record_count (record_length_of job.work.layout) octets < job.work.state.records) }
+        record_count (record_length_of job.work.rules.layout) octets < job.work.state.records) }
 
     // What was read by then, and written: nothing past the record at a piece of which writing stopped.
     ensures stopped { IfErr result (IsStoppedAt Shelves false shelf_text ending job.work (R.left recording.old) (R.left recording.new)

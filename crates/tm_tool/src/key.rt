@@ -13,6 +13,7 @@ pub enum Key {
     Ocf,
     ErrorControl,
     Channels,
+    MaxPacket,
 }
 
 impl Key {
@@ -31,6 +32,7 @@ impl Key {
             Key::Ocf => "ocf",
             Key::ErrorControl => "error_control",
             Key::Channels => "channels",
+            Key::MaxPacket => "max_packet",
         }
     }
 }

@@ -1,42 +1,50 @@
 //! Laws of the definitions. These functions make no calls: their contracts are the laws.
 
-ghost use Rattle.std.specs.Prelude.{◌≡◌, ◌<◌, ◌≤◌, ◌^◌, ℕ, false, Ok, List, [], ◌++◌, length};
+ghost use Rattle.std.specs.Prelude.{◌≡◌, ◌⊎◌, ◌<◌, ◌≤◌, ◌+◌, ◌*◌, ◌^◌, ℕ, true, false, Ok, List, [], ◌++◌, length};
 ghost use Rattle.tm_bits.specs.Bits.{AreOctets};
 ghost use Rattle.tm_frame.specs.Layout.{record_length_of};
-ghost use Rattle.tm_reassembly.specs.Channels.{is_chosen};
+ghost use Rattle.tm_reassembly.specs.Rules.{IsLimit, Rules};
 ghost use Rattle.tm_reassembly.specs.Valid.{AllOctets, IsState};
 ghost use Rattle.tm_tool.specs.declared.job.Command.{Command};
 ghost use Rattle.tm_tool.specs.declared.job.Ending.{Ending};
-ghost use Rattle.tm_tool.specs.Checkpoints.{IsWork, checkpoint_of, resumed, settings_of};
+ghost use Rattle.tm_tool.specs.Checkpoints.{IsWork, checkpoint_of, kept_in, resumed, spelled_in, tells, without_master};
+ghost use Rattle.tm_tool.specs.declared.version.Version.{Version};
 ghost use Rattle.tm_tool.specs.Jobs.{JobState, begun, head_pieces};
-ghost use Rattle.tm_tool.specs.Pieces.{Texts, Work, record_pieces, text_of, worked};
+ghost use Rattle.tm_tool.specs.OlderVersions.{LacksGap};
+ghost use Rattle.tm_tool.specs.Pieces.{Texts, Work, pieces, record_pieces, text_of, worked};
 ghost use Rattle.tm_tool.specs.Records.{records};
-ghost use Rattle.tm_tool.specs.Resuming.{Follows, Stop, done_in_all, in_one, no_head, resumed_pieces, run_pieces};
-ghost use Rattle.tm_tool.specs.Settings.{Choices};
+ghost use Rattle.tm_tool.specs.Resuming.{Follows, Stop, done_in_all, in_one, no_head, resumed_pieces, run_pieces, then_pieces};
 ghost use Rattle.tm_tool.specs.Shelves.{Shelved, shelf_text};
 
-/// Checkpoints: what is written is read again, with the same settings, as the same work, and the job isn't fresh; and octets that are read
-/// are the checkpoint of the work that they are read as, which has these settings and is valid. So with settings of eight channels just the
-/// checkpoints of valid works with these settings are read. No checkpoint is a proper prefix of another, whatever their settings are. None
-/// has more than 622,705 octets.
+/// Checkpoints: what is written is read again, with the same settings, as the same work, and the job isn't fresh. So it is for the older
+/// versions, as far as they can tell the settings, but that the last master channel count is lost. And octets that are read are the
+/// checkpoint, in some version, of the work that they are read as, which has these settings, is valid, and has what that version keeps. So
+/// with settings of eight channels just the checkpoints of valid works with these settings are read. No checkpoint is a proper prefix of
+/// another, whatever their versions and settings are. What is written has at most 98,374 octets and eight times as many as a packet may
+/// have, so at most 622,710.
 pub fn checkpoints()
-    ensures read_again { (w : Work) → IsWork w → resumed (settings_of w) (checkpoint_of w) ≡ Ok (record { work = w; fresh = false }) }
-    ensures written_again { (settings : Choices) (octets : List ℕ) (job : JobState) → AreOctets octets → resumed settings octets ≡ Ok job →
-        (octets ≡ checkpoint_of job.work) × (settings_of job.work ≡ settings) × (job.fresh ≡ false) }
-    ensures valid { (settings : Choices) (octets : List ℕ) (job : JobState) → length settings.channels ≡ 8 → AreOctets octets →
-        resumed settings octets ≡ Ok job → IsWork job.work }
-    ensures no_prefix { (v w : Work) (rest : List ℕ) → IsWork v → IsWork w → checkpoint_of v ++ rest ≡ checkpoint_of w → (v ≡ w) × (rest ≡ []) }
-    ensures bound { (w : Work) → IsWork w → length (checkpoint_of w) ≤ 622705 }
+    ensures read_again { (w : Work) → IsWork w → resumed w.rules (checkpoint_of w) ≡ Ok (record { work = w; fresh = false }) }
+    ensures older_again { (v : Version) (w : Work) → IsWork w → tells v w.rules ≡ true →
+        resumed w.rules (spelled_in v w) ≡ Ok (record { work = kept_in v w; fresh = false }) }
+    ensures written_again { (settings : Rules) (octets : List ℕ) (job : JobState) → AreOctets octets → resumed settings octets ≡ Ok job →
+        (v : Version) × (octets ≡ spelled_in v job.work) × (tells v settings ≡ true) × (kept_in v job.work ≡ job.work)
+        × (job.work.rules ≡ settings) × (job.fresh ≡ false) }
+    ensures valid { (settings : Rules) (octets : List ℕ) (job : JobState) → length settings.channels ≡ 8 → IsLimit settings.max_packet →
+        AreOctets octets → resumed settings octets ≡ Ok job → IsWork job.work }
+    ensures no_prefix { (u v : Version) (a b : Work) (rest : List ℕ) → IsWork a → IsWork b → tells u a.rules ≡ true → tells v b.rules ≡ true →
+        spelled_in u a ++ rest ≡ spelled_in v b → (u ≡ v) × (kept_in u a ≡ kept_in v b) × (rest ≡ []) }
+    ensures bound { (w : Work) → IsWork w → length (checkpoint_of w) ≤ 98374 + 8 * w.rules.max_packet }
+    ensures most { (w : Work) → IsWork w → length (checkpoint_of w) ≤ 622710 }
 {}
 
 /// Joining: the pieces of records and more records are those of the first, and then those of the others from the work that the first leave;
 /// and so is the work that they leave.
 pub fn joining()
-    ensures pieces { (text : Texts ℕ) (w : Work) (a b : List (List ℕ)) → IsState w.layout (is_chosen w.channels) w.state →
+    ensures pieces { (text : Texts ℕ) (w : Work) (a b : List (List ℕ)) → IsState w.rules w.state →
         record_pieces text w (a ++ b) ≡ record_pieces text w a ++ record_pieces text (worked w a) b }
-    ensures shelved { (text : Texts Shelved) (w : Work) (a b : List (List ℕ)) → IsState w.layout (is_chosen w.channels) w.state →
+    ensures shelved { (text : Texts Shelved) (w : Work) (a b : List (List ℕ)) → IsState w.rules w.state →
         record_pieces text w (a ++ b) ≡ record_pieces text w a ++ record_pieces text (worked w a) b }
-    ensures work { (w : Work) (a b : List (List ℕ)) → IsState w.layout (is_chosen w.channels) w.state → worked w (a ++ b) ≡ worked (worked w a) b }
+    ensures work { (w : Work) (a b : List (List ℕ)) → IsState w.rules w.state → worked w (a ++ b) ≡ worked (worked w a) b }
 {}
 
 /// Resumption: a new job that is stopped any number of times, at the recording's end or after so many records, and each time written as a
@@ -45,14 +53,31 @@ pub fn joining()
 /// by then, and the last has fewer than 2^32 records. So it is for each command, its head standing once in front, and for packets that are put
 /// on a shelf.
 pub fn resumption()
-    ensures run { (command : Command) (ending : Ending) (last : List ℕ) (settings : Choices) (stops : List Stop) →
-        length settings.channels ≡ 8 → AllOctets (records (record_length_of settings.layout) last) → length (records (record_length_of settings.layout) last) < 2 ^ 32 →
+    ensures run { (command : Command) (ending : Ending) (last : List ℕ) (settings : Rules) (stops : List Stop) →
+        length settings.channels ≡ 8 → IsLimit settings.max_packet → AllOctets (records (record_length_of settings.layout) last) → length (records (record_length_of settings.layout) last) < 2 ^ 32 →
         Follows (record_length_of settings.layout) last [] stops →
         resumed_pieces (head_pieces command) (text_of command) ending last settings (begun settings) stops
         ≡ run_pieces (head_pieces command) (text_of command) (in_one ending (done_in_all (record_length_of settings.layout) ending last 0 stops)) (begun settings) last }
-    ensures split { (ending : Ending) (last : List ℕ) (settings : Choices) (stops : List Stop) →
-        length settings.channels ≡ 8 → AllOctets (records (record_length_of settings.layout) last) → length (records (record_length_of settings.layout) last) < 2 ^ 32 →
+    ensures split { (ending : Ending) (last : List ℕ) (settings : Rules) (stops : List Stop) →
+        length settings.channels ≡ 8 → IsLimit settings.max_packet → AllOctets (records (record_length_of settings.layout) last) → length (records (record_length_of settings.layout) last) < 2 ^ 32 →
         Follows (record_length_of settings.layout) last [] stops →
         resumed_pieces no_head shelf_text ending last settings (begun settings) stops
         ≡ run_pieces no_head shelf_text (in_one ending (done_in_all (record_length_of settings.layout) ending last 0 stops)) (begun settings) last }
+{}
+
+/// Older versions: from an older checkpoint a job gives, in this and all further runs, what the job of the same work gives without its last
+/// master channel count. The pieces of a recording from there are those from the work itself, in their order, but for at most one: the line
+/// of a gap of the master channel. So it is for each command, and for packets that are put on a shelf.
+pub fn older_versions()
+    ensures run { (v : Version) (w : Work) (command : Command) (ending : Ending) (last : List ℕ) (stops : List Stop) → IsWork w → tells v w.rules ≡ true →
+        then_pieces (resumed w.rules (spelled_in v w)) (λ job. resumed_pieces (head_pieces command) (text_of command) ending last w.rules job stops)
+        ≡ resumed_pieces (head_pieces command) (text_of command) ending last w.rules (record { work = kept_in v w; fresh = false }) stops }
+    ensures split { (v : Version) (w : Work) (ending : Ending) (last : List ℕ) (stops : List Stop) → IsWork w → tells v w.rules ≡ true →
+        then_pieces (resumed w.rules (spelled_in v w)) (λ job. resumed_pieces no_head shelf_text ending last w.rules job stops)
+        ≡ resumed_pieces no_head shelf_text ending last w.rules (record { work = kept_in v w; fresh = false }) stops }
+    ensures kept { (v : Version) (w : Work) → (kept_in v w ≡ w) ⊎ (kept_in v w ≡ without_master w) }
+    ensures one_gap { (command : Command) (ending : Ending) (w : Work) (recording : List ℕ) → IsState w.rules w.state →
+        LacksGap (pieces (text_of command) ending w recording) (pieces (text_of command) ending (without_master w) recording) }
+    ensures shelved_gap { (ending : Ending) (w : Work) (recording : List ℕ) → IsState w.rules w.state →
+        LacksGap (pieces shelf_text ending w recording) (pieces shelf_text ending (without_master w) recording) }
 {}

@@ -17,6 +17,7 @@ mod settings;
 mod standard;
 mod transfer;
 mod values;
+mod version;
 
 pub use device::{DeviceFailed, Drain, Shelf, Source};
 pub use fault::{CheckpointFault, NoMemory, RunFault, SettingsFault};

@@ -2,7 +2,7 @@
 
 ghost use Rattle.std.specs.Prelude.{◌≡◌, ◌++◌, ◌∷◌, [], Some, OnOk, codes, string_bytes};
 ghost use Rattle.std.specs.List.{concat};
-ghost use Rattle.tm_tool.specs.Lines.{bad_line, bit_text, drop_line, flags_word, frame_line, gap_line, kind_word, note_line, packet_line, place_text, short_line, short_packet_line, type_word, vca_line, why_word, yes_or_no};
+ghost use Rattle.tm_tool.specs.Lines.{bad_line, bit_text, drop_line, flags_word, frame_line, gap_line, kind_word, master_gap_line, note_line, packet_line, place_text, short_line, short_packet_line, type_word, vca_line, why_word, yes_or_no};
 
 use itoa::{Buffer, Integer};
 use std::alloc::AllocError;
@@ -182,6 +182,23 @@ pub fn push_gap(
     write!(
         text,
         "gap record={seen} channel={channel} expected={expected} found={found} missing={missing}\n"
+    )
+}
+
+/// The line of a gap in the counts of the master channel, over the good frames of all channels.
+#[tactic(auto, unfolding(crate::specs::Lines::master_gap_line))]
+pub fn push_master_gap(
+    text: &mut String,
+    seen: u32,
+    expected: u8,
+    found: u8,
+    missing: u8,
+) -> Result<(), AllocError>
+    ensures { OnOk result (string_bytes text.new ≡ string_bytes text.old ++ master_gap_line seen expected found missing) }
+{
+    write!(
+        text,
+        "mastergap record={seen} expected={expected} found={found} missing={missing}\n"
     )
 }
 

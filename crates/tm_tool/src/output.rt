@@ -11,7 +11,9 @@ ghost use Rattle.tm_tool.specs.Outputs.{Written, view};
 ghost use Rattle.tm_tool.specs.Pieces.{HasLine, line_of, noted, notes_of, piece_of, unclosed_piece, unclosed_pieces};
 ghost use Rattle.tm_tool.specs.Sinking.{Refuses, Takes};
 
-use crate::lines::{push_bad, push_drop, push_gap, push_note, push_short, push_vca};
+use crate::lines::{
+    push_bad, push_drop, push_gap, push_master_gap, push_note, push_short, push_vca,
+};
 use crate::outlet::Outlet;
 use crate::transfer::put_all;
 use crate::{Drain, RunFault};
@@ -51,13 +53,19 @@ fn push_notes(
 }
 
 // Makes the line of an item, none of a packet.
-#[tactic(auto, using(crate::proofs::LineLemmas::some_bad, crate::proofs::LineLemmas::some_gap, crate::proofs::LineLemmas::some_vca, crate::proofs::LineLemmas::some_drop, crate::proofs::LineLemmas::some_short), unfolding(crate::specs::Pieces::line_of))]
+#[tactic(auto, using(crate::proofs::LineLemmas::some_bad, crate::proofs::LineLemmas::some_master_gap, crate::proofs::LineLemmas::some_gap, crate::proofs::LineLemmas::some_vca, crate::proofs::LineLemmas::some_drop, crate::proofs::LineLemmas::some_short), unfolding(crate::specs::Pieces::line_of))]
 fn push_item(text: &mut String, item: Item<'_>) -> Result<(), AllocError>
     ensures line { OnOk result (string_bytes text.new ≡ string_bytes text.old ++ line_of (item_of item.entry)) }
     ensures memory { OnErr result (line_of (item_of item.entry) ≢ []) }
 {
     match item {
         Item::Bad { seen, fault } => push_bad(text, seen, fault),
+        Item::MasterGap {
+            seen,
+            expected,
+            found,
+            missing,
+        } => push_master_gap(text, seen, expected, found, missing),
         Item::Gap {
             seen,
             channel,
@@ -260,6 +268,7 @@ impl<O: Outlet, V: Drain> Sink for Output<'_, O, V> {
                 octets,
             } => self.put_packet(seen, channel, first, place, octets),
             Item::Bad { .. }
+            | Item::MasterGap { .. }
             | Item::Gap { .. }
             | Item::Vca { .. }
             | Item::Dropped { .. }

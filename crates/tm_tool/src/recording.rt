@@ -3,7 +3,6 @@
 ghost use Rattle.std.specs.Prelude.{◌≡◌, ◌<◌, ◌-◌, ◌^◌, ◌∷◌, [], true, false, length, option_map, IfOk, IfErr, IfSome, OnOk};
 ghost use Rattle.std.specs.Io.KnownBytes.{Keeps};
 ghost use Rattle.tm_frame.specs.Layout.{record_length_of};
-ghost use Rattle.tm_reassembly.specs.Channels.{is_chosen};
 ghost use Rattle.tm_reassembly.specs.Items.{closing};
 ghost use Rattle.tm_reassembly.specs.Steps.{most_records};
 ghost use Rattle.tm_reassembly.specs.Valid.{IsState};
@@ -28,7 +27,7 @@ fn step_into<O: Outlet, V: Drain>(
     octets: &[u8],
     output: &mut Output<'_, O, V>,
 ) -> Result<(), RunFault>
-    requires exact { length octets.now ≡ record_length_of reassembly.old.layout }
+    requires exact { length octets.now ≡ record_length_of reassembly.old.rules.layout }
     requires going { IsGoing reassembly.old }
     ensures same_tracker { output.new.tracker.ghost_name ≡ output.old.tracker.ghost_name }
     ensures same_outlet { output.new.outlet.ghost_name ≡ output.old.outlet.ghost_name }
@@ -54,7 +53,7 @@ fn finish_into<O: Outlet, V: Drain>(
     rest: usize,
     output: &mut Output<'_, O, V>,
 ) -> Result<(), RunFault>
-    requires rest { rest < record_length_of reassembly.layout }
+    requires rest { rest < record_length_of reassembly.rules.layout }
     requires going { reassembly.failed ≡ false }
     ensures same_tracker { output.new.tracker.ghost_name ≡ output.old.tracker.ghost_name }
     ensures same_outlet { output.new.outlet.ghost_name ≡ output.old.outlet.ghost_name }
@@ -110,16 +109,16 @@ fn step_records<R: Source, O: Outlet, V: Drain>(
     output: &mut Output<'_, O, V>,
     ending: Ending,
 ) -> Result<usize, RunFault>
-    requires exact { length buffer.old ≡ record_length_of reassembly.old.layout }
+    requires exact { length buffer.old ≡ record_length_of reassembly.old.rules.layout }
     requires some { 0 < length buffer.old }
     requires going { reassembly.old.failed ≡ false }
-    requires valid { IsState reassembly.old.layout (is_chosen reassembly.old.channels) reassembly.old.state }
+    requires valid { IsState reassembly.old.rules reassembly.old.state }
     ensures same_tracker { output.new.tracker.ghost_name ≡ output.old.tracker.ghost_name }
     ensures same_outlet { output.new.outlet.ghost_name ≡ output.old.outlet.ghost_name }
     ensures same_out { O.fixed output.new.outlet.now ≡ O.fixed output.old.outlet.now }
     ensures same_report { output.new.report.ghost_name ≡ output.old.report.ghost_name }
     ensures going_on { OnOk result (IsGoing reassembly.new) }
-    ensures short { IfOk result (λ octets. octets < record_length_of reassembly.old.layout) }
+    ensures short { IfOk result (λ octets. octets < record_length_of reassembly.old.rules.layout) }
     ensures stepped { IfOk result (HasStepped O.grows (O.text (O.fixed output.old.outlet.now)) ending (work_of reassembly.old output.old.tracker.now) (R.left recording.old) (R.left recording.new)
         (view (O.held output.old.outlet.now) (V.written output.old.report.now) (O.failures output.old.outlet.now) (V.failures output.old.report.now))
         (view (O.held output.new.outlet.now) (V.written output.new.report.now) (O.failures output.new.outlet.now) (V.failures output.new.report.now)) (work_of reassembly.new output.new.tracker.now)) }
@@ -157,7 +156,7 @@ fn close<O: Outlet, V: Drain>(
     rest: usize,
     output: &mut Output<'_, O, V>,
 ) -> Result<(), RunFault>
-    requires rest { rest < record_length_of reassembly.layout }
+    requires rest { rest < record_length_of reassembly.rules.layout }
     requires going { reassembly.failed ≡ false }
     ensures same_tracker { output.new.tracker.ghost_name ≡ output.old.tracker.ghost_name }
     ensures same_outlet { output.new.outlet.ghost_name ≡ output.old.outlet.ghost_name }
@@ -184,7 +183,7 @@ fn end<O: Outlet, V: Drain>(
     output: &mut Output<'_, O, V>,
     ending: Ending,
 ) -> Result<Option<Reassembly>, RunFault>
-    requires rest { rest < record_length_of reassembly.layout }
+    requires rest { rest < record_length_of reassembly.rules.layout }
     requires going { IsGoing reassembly }
     ensures same_tracker { output.new.tracker.ghost_name ≡ output.old.tracker.ghost_name }
     ensures same_outlet { output.new.outlet.ghost_name ≡ output.old.outlet.ghost_name }
@@ -220,10 +219,10 @@ fn take_all<R: Source, O: Outlet, V: Drain>(
     output: &mut Output<'_, O, V>,
     ending: Ending,
 ) -> Result<Taken, RunFault>
-    requires exact { length buffer.old ≡ record_length_of reassembly.layout }
+    requires exact { length buffer.old ≡ record_length_of reassembly.rules.layout }
     requires some { 0 < length buffer.old }
     requires going { reassembly.failed ≡ false }
-    requires valid { IsState reassembly.layout (is_chosen reassembly.channels) reassembly.state }
+    requires valid { IsState reassembly.rules reassembly.state }
     ensures same_tracker { output.new.tracker.ghost_name ≡ output.old.tracker.ghost_name }
     ensures same_outlet { output.new.outlet.ghost_name ≡ output.old.outlet.ghost_name }
     ensures same_out { O.fixed output.new.outlet.now ≡ O.fixed output.old.outlet.now }
@@ -272,10 +271,10 @@ fn take_all_into<R: Source, O: Outlet, V: Drain>(
     report: &mut V,
     ending: Ending,
 ) -> Result<Taken, RunFault>
-    requires exact { length buffer.old ≡ record_length_of reassembly.layout }
+    requires exact { length buffer.old ≡ record_length_of reassembly.rules.layout }
     requires some { 0 < length buffer.old }
     requires going { reassembly.failed ≡ false }
-    requires valid { IsState reassembly.layout (is_chosen reassembly.channels) reassembly.state }
+    requires valid { IsState reassembly.rules reassembly.state }
     ensures run { IfOk result (λ taken. IsRun O.grows O.rows (O.text (O.fixed outlet.old)) ending (work_of reassembly tracker.old)
         (R.left recording.old) (R.left recording.new)
         (view (O.held outlet.old) (V.written report.old) (O.failures outlet.old) (V.failures report.old))
@@ -356,10 +355,10 @@ pub fn run_to_end<R: Source, O: Outlet, V: Drain>(
     report: &mut V,
     ending: Ending,
 ) -> Result<Ended, RunFault>
-    requires exact { length buffer.old ≡ record_length_of reassembly.layout }
+    requires exact { length buffer.old ≡ record_length_of reassembly.rules.layout }
     requires some { 0 < length buffer.old }
     requires going { reassembly.failed ≡ false }
-    requires valid { IsState reassembly.layout (is_chosen reassembly.channels) reassembly.state }
+    requires valid { IsState reassembly.rules reassembly.state }
     ensures run { IfOk result (λ ended. IsRun O.grows O.rows (O.text (O.fixed outlet.old)) ending (work_of reassembly tracker)
         (R.left recording.old) (R.left recording.new)
         (view (O.held outlet.old) (V.written report.old) (O.failures outlet.old) (V.failures report.old))

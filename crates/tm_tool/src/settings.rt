@@ -6,10 +6,11 @@ ghost use Rattle.std.specs.String.{string_cmp};
 ghost use Rattle.toml.specs.Parse.{parse_document};
 ghost use Rattle.toml.specs.View.{table_view};
 ghost use Rattle.tm_frame.specs.Layout.{IsInRange};
+ghost use Rattle.tm_reassembly.specs.Rules.{IsLimit};
 ghost use Rattle.tm_tool.specs.Keys.{is_name};
-ghost use Rattle.tm_tool.specs.Settings.{choices_from, least, settings_from, unknown_keys};
+ghost use Rattle.tm_tool.specs.Settings.{choices_from, layout_from, least, settings_from, unknown_keys};
 
-use crate::values::{channels_at, number_at, presence_at, skip_at, truth_at};
+use crate::values::{channels_at, limit_at, number_at, presence_at, skip_at, truth_at};
 use crate::{Key, Octets, SettingsFault};
 use std::alloc::Global;
 use std::marker::Model;
@@ -22,17 +23,21 @@ use toml::Table;
 pub struct Settings {
     layout: Layout,
     channels: Channels,
+    max_packet: u32,
 }
 
 impl Model for Settings {
-    ghost use Rattle.tm_tool.specs.Settings.{Choices};
+    ghost use Rattle.tm_reassembly.specs.Rules.{Rules, IsLimit};
 
-    ghost Value = { Choices };
+    ghost Value = { Rules };
 
     ghost view = { λ s. record {
       layout = s.layout;
       channels = s.channels;
+      max_packet = s.max_packet;
     } };
+
+    ghost invariant = { λ s. IsLimit s.max_packet };
 }
 
 // The text is the name of a setting.
@@ -47,6 +52,7 @@ fn is_setting(name: &str) -> bool
         || name == "ocf"
         || name == "error_control"
         || name == "channels"
+        || name == "max_packet"
 }
 
 // The first key that names no setting, in the order of the keys.
@@ -75,10 +81,9 @@ fn layout_of(parts: LayoutParts) -> Layout
     }
 }
 
-// The settings of a document whose keys are all known.
-fn read_choices(alloc: Global, table: &Table) -> Result<Settings, SettingsFault>
-    ensures ok { IfOk result (λ s. choices_from (table_view table.now) ≡ Ok s) }
-    ensures refused { IfErr result (λ f. f ≢ SettingsFault.NoMemory → choices_from (table_view table.now) ≡ Err f) }
+// The layout that a document says.
+fn read_layout(table: &Table) -> Result<Layout, SettingsFault>
+    ensures { result ≡ layout_from (table_view table.now) }
 {
     let spacecraft = number_at(table, Key::Spacecraft, 0, 1023)?;
     let frame_length = number_at(table, Key::FrameLength, 9, 2048)?;
@@ -87,8 +92,7 @@ fn read_choices(alloc: Global, table: &Table) -> Result<Settings, SettingsFault>
     let secondary = presence_at(table, Key::Secondary)?;
     let ocf = presence_at(table, Key::Ocf)?;
     let error_control = truth_at(table, Key::ErrorControl)?;
-    let channels = channels_at(alloc, table, Key::Channels)?;
-    let layout = layout_of(LayoutParts {
+    Ok(layout_of(LayoutParts {
         frame_length,
         skip_before,
         skip_after,
@@ -96,8 +100,22 @@ fn read_choices(alloc: Global, table: &Table) -> Result<Settings, SettingsFault>
         secondary,
         ocf,
         error_control,
-    });
-    Ok(Settings { layout, channels })
+    }))
+}
+
+// The settings of a document whose keys are all known.
+fn read_choices(alloc: Global, table: &Table) -> Result<Settings, SettingsFault>
+    ensures ok { IfOk result (λ s. choices_from (table_view table.now) ≡ Ok s) }
+    ensures refused { IfErr result (λ f. f ≢ SettingsFault.NoMemory → choices_from (table_view table.now) ≡ Err f) }
+{
+    let layout = read_layout(table)?;
+    let channels = channels_at(alloc, table, Key::Channels)?;
+    let max_packet = limit_at(table, Key::MaxPacket)?;
+    Ok(Settings {
+        layout,
+        channels,
+        max_packet,
+    })
 }
 
 // The settings of a document.
@@ -117,8 +135,9 @@ fn read_table(alloc: Global, table: &Table) -> Result<Settings, SettingsFault>
 impl Settings {
     /// The settings that a text says: a TOML document with the keys `spacecraft` (0 to 1023),
     /// `frame_length` (9 to 2048), `skip_before` and `skip_after` (0 to 1024), `secondary` and `ocf`
-    /// (`"flag"`, `"always"` or `"never"`), `error_control` (a boolean) and `channels` (distinct numbers
-    /// 0 to 7, at least one). `spacecraft`, `frame_length` and `error_control` have to be there.
+    /// (`"flag"`, `"always"` or `"never"`), `error_control` (a boolean), `channels` (distinct numbers
+    /// 0 to 7, at least one) and `max_packet` (7 to 65542). `spacecraft`, `frame_length` and
+    /// `error_control` have to be there.
     pub fn read(alloc: Global, text: &[u8]) -> Result<Settings, SettingsFault>
         // Settings and refusals are those that the document says, by `toml`'s own definition of one.
         ensures ok { IfOk result (λ s. IsUtf8 text.now × (settings_from (parse_document text.now) ≡ Ok s)) }
@@ -150,10 +169,19 @@ impl Settings {
     {
         self.layout
     }
+
     /// The channels whose packets are wanted.
     pub fn channels(&self) -> Channels
         ensures { result ≡ self.now.channels }
     {
         self.channels
+    }
+
+    /// The most octets that a packet may have, 7 to 65,542.
+    pub fn max_packet(&self) -> u32
+        ensures value { result ≡ self.now.max_packet }
+        ensures range { IsLimit result }
+    {
+        self.max_packet
     }
 }

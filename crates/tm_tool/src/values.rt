@@ -3,6 +3,7 @@
 ghost use Rattle.std.specs.Prelude.{◌≡◌, ◌≢◌, Err, Ok, option_map, map, IfOk, IfErr};
 ghost use Rattle.toml.specs.View.{view, items_view, table_view};
 ghost use Rattle.tm_reassembly.specs.Channels.{all_channels};
+ghost use Rattle.tm_reassembly.specs.Rules.{IsLimit};
 ghost use Rattle.tm_tool.specs.Settings.{channel_number, channels_at, integers, integer_between, integer_of, optional, presence_named, presence_of, required, truth_of, value_at};
 
 use crate::{Key, SettingsFault};
@@ -52,14 +53,35 @@ pub fn number_at(table: &Table, key: Key, low: u32, high: u32) -> Result<u32, Se
     }
 }
 
+// A number, or the default where it is absent.
+fn number_or(
+    table: &Table,
+    key: Key,
+    low: u32,
+    high: u32,
+    default: u32,
+) -> Result<u32, SettingsFault>
+    ensures { result ≡ optional default (integer_of key low high) (value_at key (table_view table.now)) }
+{
+    match value_at(table, key) {
+        Some(value) => read_number(key, low, high, value),
+        None => Ok(default),
+    }
+}
+
 /// A number of skipped octets, 0 where it is absent.
 pub fn skip_at(table: &Table, key: Key) -> Result<u32, SettingsFault>
     ensures { result ≡ optional 0 (integer_of key 0 1024) (value_at key (table_view table.now)) }
 {
-    match value_at(table, key) {
-        Some(value) => read_number(key, 0, 1024, value),
-        None => Ok(0),
-    }
+    number_or(table, key, 0, 1024, 0)
+}
+
+/// The most octets that a packet may have, 7 to 65,542, the greatest where the key is absent.
+pub fn limit_at(table: &Table, key: Key) -> Result<u32, SettingsFault>
+    ensures value { result ≡ optional 65542 (integer_of key 7 65542) (value_at key (table_view table.now)) }
+    ensures range { IfOk result IsLimit }
+{
+    number_or(table, key, 7, 65542, 65542)
 }
 
 // ---- booleans and words

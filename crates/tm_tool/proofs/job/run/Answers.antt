@@ -20,7 +20,7 @@ done_by-requires-clause-exact g c =
     (view (g.W.Drain.written c.args.out.now) (g.V.Drain.written c.args.report.now) (g.W.Drain.failures c.args.out.now) (g.V.Drain.failures c.args.report.now))
     (view (g.W.Drain.written c.run_by.new.out) (g.V.Drain.written c.run_by.new.report) (g.W.Drain.failures c.run_by.new.out) (g.V.Drain.failures c.run_by.new.report)) c.in-Ok.ended.records (kept_work c.in-Ok.ended.kept)) c.job.view_is c.in-Ok.ensures.run in
     kept_exact c.in-Ok.ended.kept c.args.ending (worked c.args.job.work (behind c.args.job.work ran.run.read)) _ ran.run.kept_is
-    (subst (λ (j : JobState). length (take c.job.inside.buffer.len (c.run_by.new.buffer ++ drop (length c.run_by.new.buffer) c.job.inside.buffer.items)) ≡ record_length_of j.work.layout) c.job.view_is
+    (subst (λ (j : JobState). length (take c.job.inside.buffer.len (c.run_by.new.buffer ++ drop (length c.run_by.new.buffer) c.job.inside.buffer.items)) ≡ record_length_of j.work.rules.layout) c.job.view_is
     (omega (
       arith,
       length-take c.job.inside.buffer.len (c.run_by.new.buffer ++ drop (length c.run_by.new.buffer) c.job.inside.buffer.items),
@@ -43,7 +43,7 @@ returns-in-Ok-clause-all g c =
 pub returns-in-Ok-clause-done : goal.returns-in-Ok-clause-done
 returns-in-Ok-clause-done g c =
     let valid = subst (λ (j : JobState). IsValid j.work) c.job.view_is c.job.invariant.3 in
-    let some = subst (λ (j : JobState). 0 < record_length_of j.work.layout) c.job.view_is (omega (arith, c.job.invariant.1, c.job.invariant.2)) in
+    let some = subst (λ (j : JobState). 0 < record_length_of j.work.rules.layout) c.job.view_is (omega (arith, c.job.invariant.1, c.job.invariant.2)) in
     let ran = subst (λ (j : JobState). IsHeadedRun Appends (makes_rows c.args.command) (text_of c.args.command) c.args.ending j.work (head_pieces c.args.command j.fresh) (g.R.Source.left c.args.recording.now) (g.R.Source.left c.run_by.new.recording)
     (view (g.W.Drain.written c.args.out.now) (g.V.Drain.written c.args.report.now) (g.W.Drain.failures c.args.out.now) (g.V.Drain.failures c.args.report.now))
     (view (g.W.Drain.written c.run_by.new.out) (g.V.Drain.written c.run_by.new.report) (g.W.Drain.failures c.run_by.new.out) (g.V.Drain.failures c.run_by.new.report)) c.in-Ok.ended.records (kept_work c.in-Ok.ended.kept)) c.job.view_is c.in-Ok.ensures.run in
@@ -60,7 +60,7 @@ returns-in-Ok-clause-done g c =
 pub returns-in-Err-clause-cut : goal.returns-in-Err-clause-cut
 returns-in-Err-clause-cut g c =
     let valid = subst (λ (j : JobState). IsValid j.work) c.job.view_is c.job.invariant.3 in
-    let some = subst (λ (j : JobState). 0 < record_length_of j.work.layout) c.job.view_is (omega (arith, c.job.invariant.1, c.job.invariant.2)) in
+    let some = subst (λ (j : JobState). 0 < record_length_of j.work.rules.layout) c.job.view_is (omega (arith, c.job.invariant.1, c.job.invariant.2)) in
     let stopped = subst (λ (j : JobState). IsHeadedStop Appends (makes_rows c.args.command) (text_of c.args.command) c.args.ending j.work (head_pieces c.args.command j.fresh) (g.R.Source.left c.args.recording.now) (g.R.Source.left c.run_by.new.recording)
     (view (g.W.Drain.written c.args.out.now) (g.V.Drain.written c.args.report.now) (g.W.Drain.failures c.args.out.now) (g.V.Drain.failures c.args.report.now))
     (view (g.W.Drain.written c.run_by.new.out) (g.V.Drain.written c.run_by.new.report) (g.W.Drain.failures c.run_by.new.out) (g.V.Drain.failures c.run_by.new.report)) c.in-Err.fault) c.job.view_is c.in-Err.ensures.stopped in
@@ -72,7 +72,7 @@ returns-in-Err-clause-cut g c =
 pub returns-in-Err-clause-memory : goal.returns-in-Err-clause-memory
 returns-in-Err-clause-memory g c without =
     let valid = subst (λ (j : JobState). IsValid j.work) c.job.view_is c.job.invariant.3 in
-    let some = subst (λ (j : JobState). 0 < record_length_of j.work.layout) c.job.view_is (omega (arith, c.job.invariant.1, c.job.invariant.2)) in
+    let some = subst (λ (j : JobState). 0 < record_length_of j.work.rules.layout) c.job.view_is (omega (arith, c.job.invariant.1, c.job.invariant.2)) in
     let stopped = subst (λ (j : JobState). IsHeadedStop Appends (makes_rows c.args.command) (text_of c.args.command) c.args.ending j.work (head_pieces c.args.command j.fresh) (g.R.Source.left c.args.recording.now) (g.R.Source.left c.run_by.new.recording)
     (view (g.W.Drain.written c.args.out.now) (g.V.Drain.written c.args.report.now) (g.W.Drain.failures c.args.out.now) (g.V.Drain.failures c.args.report.now))
     (view (g.W.Drain.written c.run_by.new.out) (g.V.Drain.written c.run_by.new.report) (g.W.Drain.failures c.run_by.new.out) (g.V.Drain.failures c.run_by.new.report)) c.in-Err.fault) c.job.view_is c.in-Err.ensures.stopped in
@@ -86,7 +86,7 @@ returns-in-Err-clause-memory g c without =
 pub returns-in-Err-clause-too_many : goal.returns-in-Err-clause-too_many
 returns-in-Err-clause-too_many g c many =
     let valid = subst (λ (j : JobState). IsValid j.work) c.job.view_is c.job.invariant.3 in
-    let some = subst (λ (j : JobState). 0 < record_length_of j.work.layout) c.job.view_is (omega (arith, c.job.invariant.1, c.job.invariant.2)) in
+    let some = subst (λ (j : JobState). 0 < record_length_of j.work.rules.layout) c.job.view_is (omega (arith, c.job.invariant.1, c.job.invariant.2)) in
     let stopped = subst (λ (j : JobState). IsHeadedStop Appends (makes_rows c.args.command) (text_of c.args.command) c.args.ending j.work (head_pieces c.args.command j.fresh) (g.R.Source.left c.args.recording.now) (g.R.Source.left c.run_by.new.recording)
     (view (g.W.Drain.written c.args.out.now) (g.V.Drain.written c.args.report.now) (g.W.Drain.failures c.args.out.now) (g.V.Drain.failures c.args.report.now))
     (view (g.W.Drain.written c.run_by.new.out) (g.V.Drain.written c.run_by.new.report) (g.W.Drain.failures c.run_by.new.out) (g.V.Drain.failures c.run_by.new.report)) c.in-Err.fault) c.job.view_is c.in-Err.ensures.stopped in
@@ -100,7 +100,7 @@ returns-in-Err-clause-too_many g c many =
 pub returns-in-Err-clause-short : goal.returns-in-Err-clause-short
 returns-in-Err-clause-short g c short =
     let valid = subst (λ (j : JobState). IsValid j.work) c.job.view_is c.job.invariant.3 in
-    let some = subst (λ (j : JobState). 0 < record_length_of j.work.layout) c.job.view_is (omega (arith, c.job.invariant.1, c.job.invariant.2)) in
+    let some = subst (λ (j : JobState). 0 < record_length_of j.work.rules.layout) c.job.view_is (omega (arith, c.job.invariant.1, c.job.invariant.2)) in
     let stopped = subst (λ (j : JobState). IsHeadedStop Appends (makes_rows c.args.command) (text_of c.args.command) c.args.ending j.work (head_pieces c.args.command j.fresh) (g.R.Source.left c.args.recording.now) (g.R.Source.left c.run_by.new.recording)
     (view (g.W.Drain.written c.args.out.now) (g.V.Drain.written c.args.report.now) (g.W.Drain.failures c.args.out.now) (g.V.Drain.failures c.args.report.now))
     (view (g.W.Drain.written c.run_by.new.out) (g.V.Drain.written c.run_by.new.report) (g.W.Drain.failures c.run_by.new.out) (g.V.Drain.failures c.run_by.new.report)) c.in-Err.fault) c.job.view_is c.in-Err.ensures.stopped in

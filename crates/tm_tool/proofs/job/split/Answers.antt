@@ -19,7 +19,7 @@ done_by-requires-clause-exact g c =
     (view (g.H.Shelf.kept c.args.shelf.now) (g.V.Drain.written c.args.report.now) (g.H.Shelf.refusals c.args.shelf.now) (g.V.Drain.failures c.args.report.now))
     (view (g.H.Shelf.kept c.run_split.new.shelf) (g.V.Drain.written c.run_split.new.report) (g.H.Shelf.refusals c.run_split.new.shelf) (g.V.Drain.failures c.run_split.new.report)) c.in-Ok.ended.records (kept_work c.in-Ok.ended.kept)) c.job.view_is c.in-Ok.ensures.run in
     kept_exact c.in-Ok.ended.kept c.args.ending (worked c.args.job.work (behind c.args.job.work ran.read)) _ ran.kept_is
-    (subst (λ (j : JobState). length (take c.job.inside.buffer.len (c.run_split.new.buffer ++ drop (length c.run_split.new.buffer) c.job.inside.buffer.items)) ≡ record_length_of j.work.layout) c.job.view_is
+    (subst (λ (j : JobState). length (take c.job.inside.buffer.len (c.run_split.new.buffer ++ drop (length c.run_split.new.buffer) c.job.inside.buffer.items)) ≡ record_length_of j.work.rules.layout) c.job.view_is
     (omega (
       arith,
       length-take c.job.inside.buffer.len (c.run_split.new.buffer ++ drop (length c.run_split.new.buffer) c.job.inside.buffer.items),
@@ -42,7 +42,7 @@ returns-in-Ok-clause-all g c =
 pub returns-in-Ok-clause-done : goal.returns-in-Ok-clause-done
 returns-in-Ok-clause-done g c =
     let valid = subst (λ (j : JobState). IsValid j.work) c.job.view_is c.job.invariant.3 in
-    let some = subst (λ (j : JobState). 0 < record_length_of j.work.layout) c.job.view_is (omega (arith, c.job.invariant.1, c.job.invariant.2)) in
+    let some = subst (λ (j : JobState). 0 < record_length_of j.work.rules.layout) c.job.view_is (omega (arith, c.job.invariant.1, c.job.invariant.2)) in
     let ran = subst (λ (j : JobState). IsRun Shelves false shelf_text c.args.ending j.work (g.R.Source.left c.args.recording.now) (g.R.Source.left c.run_split.new.recording)
     (view (g.H.Shelf.kept c.args.shelf.now) (g.V.Drain.written c.args.report.now) (g.H.Shelf.refusals c.args.shelf.now) (g.V.Drain.failures c.args.report.now))
     (view (g.H.Shelf.kept c.run_split.new.shelf) (g.V.Drain.written c.run_split.new.report) (g.H.Shelf.refusals c.run_split.new.shelf) (g.V.Drain.failures c.run_split.new.report)) c.in-Ok.ended.records (kept_work c.in-Ok.ended.kept)) c.job.view_is c.in-Ok.ensures.run in
@@ -59,7 +59,7 @@ returns-in-Ok-clause-done g c =
 pub returns-in-Err-clause-cut : goal.returns-in-Err-clause-cut
 returns-in-Err-clause-cut g c =
     let valid = subst (λ (j : JobState). IsValid j.work) c.job.view_is c.job.invariant.3 in
-    let some = subst (λ (j : JobState). 0 < record_length_of j.work.layout) c.job.view_is (omega (arith, c.job.invariant.1, c.job.invariant.2)) in
+    let some = subst (λ (j : JobState). 0 < record_length_of j.work.rules.layout) c.job.view_is (omega (arith, c.job.invariant.1, c.job.invariant.2)) in
     let stopped = subst (λ (j : JobState). IsStoppedAt Shelves false shelf_text c.args.ending j.work (g.R.Source.left c.args.recording.now) (g.R.Source.left c.run_split.new.recording)
     (view (g.H.Shelf.kept c.args.shelf.now) (g.V.Drain.written c.args.report.now) (g.H.Shelf.refusals c.args.shelf.now) (g.V.Drain.failures c.args.report.now))
     (view (g.H.Shelf.kept c.run_split.new.shelf) (g.V.Drain.written c.run_split.new.report) (g.H.Shelf.refusals c.run_split.new.shelf) (g.V.Drain.failures c.run_split.new.report)) c.in-Err.fault) c.job.view_is c.in-Err.ensures.stopped in
@@ -71,7 +71,7 @@ returns-in-Err-clause-cut g c =
 pub returns-in-Err-clause-memory : goal.returns-in-Err-clause-memory
 returns-in-Err-clause-memory g c without =
     let valid = subst (λ (j : JobState). IsValid j.work) c.job.view_is c.job.invariant.3 in
-    let some = subst (λ (j : JobState). 0 < record_length_of j.work.layout) c.job.view_is (omega (arith, c.job.invariant.1, c.job.invariant.2)) in
+    let some = subst (λ (j : JobState). 0 < record_length_of j.work.rules.layout) c.job.view_is (omega (arith, c.job.invariant.1, c.job.invariant.2)) in
     let stopped = subst (λ (j : JobState). IsStoppedAt Shelves false shelf_text c.args.ending j.work (g.R.Source.left c.args.recording.now) (g.R.Source.left c.run_split.new.recording)
     (view (g.H.Shelf.kept c.args.shelf.now) (g.V.Drain.written c.args.report.now) (g.H.Shelf.refusals c.args.shelf.now) (g.V.Drain.failures c.args.report.now))
     (view (g.H.Shelf.kept c.run_split.new.shelf) (g.V.Drain.written c.run_split.new.report) (g.H.Shelf.refusals c.run_split.new.shelf) (g.V.Drain.failures c.run_split.new.report)) c.in-Err.fault) c.job.view_is c.in-Err.ensures.stopped in
@@ -85,7 +85,7 @@ returns-in-Err-clause-memory g c without =
 pub returns-in-Err-clause-too_many : goal.returns-in-Err-clause-too_many
 returns-in-Err-clause-too_many g c many =
     let valid = subst (λ (j : JobState). IsValid j.work) c.job.view_is c.job.invariant.3 in
-    let some = subst (λ (j : JobState). 0 < record_length_of j.work.layout) c.job.view_is (omega (arith, c.job.invariant.1, c.job.invariant.2)) in
+    let some = subst (λ (j : JobState). 0 < record_length_of j.work.rules.layout) c.job.view_is (omega (arith, c.job.invariant.1, c.job.invariant.2)) in
     let stopped = subst (λ (j : JobState). IsStoppedAt Shelves false shelf_text c.args.ending j.work (g.R.Source.left c.args.recording.now) (g.R.Source.left c.run_split.new.recording)
     (view (g.H.Shelf.kept c.args.shelf.now) (g.V.Drain.written c.args.report.now) (g.H.Shelf.refusals c.args.shelf.now) (g.V.Drain.failures c.args.report.now))
     (view (g.H.Shelf.kept c.run_split.new.shelf) (g.V.Drain.written c.run_split.new.report) (g.H.Shelf.refusals c.run_split.new.shelf) (g.V.Drain.failures c.run_split.new.report)) c.in-Err.fault) c.job.view_is c.in-Err.ensures.stopped in
@@ -99,7 +99,7 @@ returns-in-Err-clause-too_many g c many =
 pub returns-in-Err-clause-short : goal.returns-in-Err-clause-short
 returns-in-Err-clause-short g c short =
     let valid = subst (λ (j : JobState). IsValid j.work) c.job.view_is c.job.invariant.3 in
-    let some = subst (λ (j : JobState). 0 < record_length_of j.work.layout) c.job.view_is (omega (arith, c.job.invariant.1, c.job.invariant.2)) in
+    let some = subst (λ (j : JobState). 0 < record_length_of j.work.rules.layout) c.job.view_is (omega (arith, c.job.invariant.1, c.job.invariant.2)) in
     let stopped = subst (λ (j : JobState). IsStoppedAt Shelves false shelf_text c.args.ending j.work (g.R.Source.left c.args.recording.now) (g.R.Source.left c.run_split.new.recording)
     (view (g.H.Shelf.kept c.args.shelf.now) (g.V.Drain.written c.args.report.now) (g.H.Shelf.refusals c.args.shelf.now) (g.V.Drain.failures c.args.report.now))
     (view (g.H.Shelf.kept c.run_split.new.shelf) (g.V.Drain.written c.run_split.new.report) (g.H.Shelf.refusals c.run_split.new.shelf) (g.V.Drain.failures c.run_split.new.report)) c.in-Err.fault) c.job.view_is c.in-Err.ensures.stopped in

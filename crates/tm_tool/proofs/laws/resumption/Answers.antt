@@ -15,9 +15,9 @@ no_later_head Packets = refl
 no_later_head (Fields definition application) = refl
 
 pub returns-clause-run : goal.returns-clause-run
-returns-clause-run c command ending last settings stops eight octets few follows =
-    joined (head_pieces command) (no_later_head command) (text_of command) ending last (begun settings).work refl (front-work settings last eight octets few) (none_valid _ _) _ stops follows
+returns-clause-run c command ending last settings stops eight range octets few follows =
+    joined (head_pieces command) (no_later_head command) (text_of command) ending last (begun settings).work refl (front-work settings last eight range octets few) (none_valid _ range) _ stops follows
 
 pub returns-clause-split : goal.returns-clause-split
-returns-clause-split c ending last settings stops eight octets few follows =
-    joined no_head refl shelf_text ending last (begun settings).work refl (front-work settings last eight octets few) (none_valid _ _) _ stops follows
+returns-clause-split c ending last settings stops eight range octets few follows =
+    joined no_head refl shelf_text ending last (begun settings).work refl (front-work settings last eight range octets few) (none_valid _ range) _ stops follows

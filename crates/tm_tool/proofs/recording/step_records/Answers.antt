@@ -73,7 +73,7 @@ returns-in-Err-step_into-clause-stopped g c =
     let inv = c.loop-ending.invariant in
     let wanted : GoesOn c.args.ending c.args.reassembly.now.state.records c.loop-ending.reassembly.state.records =
     rw (inv.done, c.records.ensures) at (c.wants_more.ensures.wanted (search rules)) in
-    let exact : length c.fill.new.buffer ≡ record_length_of c.args.reassembly.now.layout = omega (arith, inv.exact) in
+    let exact : length c.fill.new.buffer ≡ record_length_of c.args.reassembly.now.rules.layout = omega (arith, inv.exact) in
     let got = subst (Consumes (g.R.Source.left c.loop-ending.recording) (g.R.Source.left c.fill.new.source)) (take_all c.in-Ok.octets c.fill.new.buffer (omega arith)) c.in-Ok.ensures.octets in
     let stopped = rw inv.out at c.in-Err-step_into.ensures.written in
     taken_stopped g.O.Outlet.grows g.met.O.Outlet.grows_nil g.met.O.Outlet.grows_trans (g.O.Outlet.text (g.O.Outlet.fixed c.args.output.now.outlet.now)) c.args.ending (work_of c.args.reassembly.now c.args.output.now.tracker.now) c.requires.valid (g.R.Source.left c.args.recording.now) (g.R.Source.left c.loop-ending.recording) (g.R.Source.left c.fill.new.source) (view (g.O.Outlet.held c.args.output.now.outlet.now) (g.V.Drain.written c.args.output.now.report.now) (g.O.Outlet.failures c.args.output.now.outlet.now) (g.V.Drain.failures c.args.output.now.report.now))
@@ -91,7 +91,7 @@ pub loop-ending-preserved : goal.loop-ending-preserved
 loop-ending-preserved g c =
     let inv = c.loop-ending.invariant in
     let wanted = rw c.records.ensures at (c.wants_more.ensures.wanted (search rules)) in
-    let exact : length c.fill.new.buffer ≡ record_length_of c.args.reassembly.now.layout = omega (arith, inv.exact) in
+    let exact : length c.fill.new.buffer ≡ record_length_of c.args.reassembly.now.rules.layout = omega (arith, inv.exact) in
     let got = subst (Consumes (g.R.Source.left c.loop-ending.recording) (g.R.Source.left c.fill.new.source)) (take_all c.in-Ok.octets c.fill.new.buffer (omega arith)) c.in-Ok.ensures.octets in
     let ens = c.in_default-step_into.ensures in
     let next = ap (λ (w : Work). w.state.records) ens.work ∙ records-counted (work_of c.loop-ending.reassembly c.loop-ending.output.tracker.now) (c.fill.new.buffer ∷ []) in
@@ -101,7 +101,7 @@ loop-ending-preserved g c =
       outlet = ens.same_outlet ∙ inv.outlet;
       out = ens.same_out ∙ inv.out;
       report = ens.same_report ∙ inv.report;
-      layout = ap (λ (w : Work). w.layout) ens.work ∙ inv.layout;
+      layout = ap (λ (w : Work). w.rules.layout) ens.work ∙ inv.layout;
       going = ens.going_on;
       few = omega (arith, next, ens.few);
       exact = exact;

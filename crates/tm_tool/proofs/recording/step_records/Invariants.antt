@@ -12,10 +12,10 @@ invariant-loop-ending g l = record {
   outlet : l.output.outlet.ghost_name ≡ l.fn.output.outlet.ghost_name;
   out : g.O.Outlet.fixed l.output.outlet.now ≡ g.O.Outlet.fixed l.fn.output.outlet.now;
   report : l.output.report.ghost_name ≡ l.fn.output.report.ghost_name;
-  layout : l.reassembly.layout ≡ l.fn.reassembly.layout;
+  layout : l.reassembly.rules.layout ≡ l.fn.reassembly.rules.layout;
   going : IsGoing l.reassembly;
   few : l.reassembly.state.records < 2 ^ 32;
-  exact : length l.buffer ≡ record_length_of l.fn.reassembly.layout;
+  exact : length l.buffer ≡ record_length_of l.fn.reassembly.rules.layout;
   reads : g.R.Source.failures l.recording ≡ g.R.Source.failures l.fn.recording;
   done : l.done ≡ l.fn.reassembly.state.records;
   reached : Reached l.ending l.done l.reassembly.state.records;

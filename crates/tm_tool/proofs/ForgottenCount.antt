@@ -1,0 +1,131 @@
+-- What a work's pieces lack without its last master channel count: at most one gap of the master channel.
+use Rattle.std.proofs.Common.{◌≡◌, ◌⊎◌, inl, inr, ⊎_elim, ℕ, List, [], ◌∷◌, ◌++◌, length, refl, sym, ap, ◌∙◌, append_assoc, append-nil}
+use Rattle.tm_frame.specs.Layout.{record_length_of}
+use Rattle.tm_reassembly.specs.Item.{Item, MasterGap}
+use Rattle.tm_reassembly.specs.State.{State}
+use Rattle.tm_reassembly.specs.OlderForms.{LacksMasterGap, IsMasterGapAtMost}
+use Rattle.tm_reassembly.specs.OlderForms as older
+use Rattle.tm_reassembly.specs.Valid.{IsState}
+use Rattle.tm_reassembly.proofs.OlderForms.{items-lack, states-meet}
+use Rattle.tm_tool.specs.declared.job.Command.{Command}
+use Rattle.tm_tool.specs.declared.job.Ending.{Ending}
+use Rattle.tm_tool.specs.declared.job.Ending.TheVariants.{Close, Keep, StopAfter}
+use Rattle.tm_tool.specs.Checkpoints.{without_master}
+use Rattle.tm_tool.specs.Lines.{master_gap_line}
+use Rattle.tm_tool.specs.OlderVersions.{gap_piece, IsGapAtMost, LacksGap}
+use Rattle.tm_tool.specs.Outlets.{GivesNone, no_text}
+use Rattle.tm_tool.specs.Outputs.{Piece}
+use Rattle.tm_tool.specs.Pieces.{Entries, Texts, Work, chosen, end_pieces, further, items_of, line_of, noted, noted_all, piece_of, pieces, pieces_of, record_pieces, report_of, text_of, worked}
+use Rattle.tm_tool.specs.Records.{rest_of}
+use Rattle.tm_tool.specs.Shelves.{Shelved, shelf_text}
+use Rattle.tm_tool.specs.ShelfLaws.{no_shelf}
+use Rattle.tm_tool.proofs.Running.{noted-append, pieces-append}
+
+-- it leaves the entries as they are
+gap_noted : (entries : Entries) (gap : List Item) → IsMasterGapAtMost gap → noted_all entries gap ≡ entries
+unfolding noted
+gap_noted entries gap (inl e) = ap (noted_all entries) e
+gap_noted entries gap (inr (seen, expected, found, missing, e)) = ap (noted_all entries) e
+
+-- the items of records from a work, and from it without its last master channel count
+lacks_item : (w : Work) (rs : List (List ℕ)) → IsState w.rules w.state → LacksMasterGap (items_of w rs) (items_of (without_master w) rs)
+lacks_item w rs v = items-lack w.rules w.state rs v
+
+states_same : (w : Work) (rs : List (List ℕ)) → IsState w.rules w.state → older.without_master (worked w rs).state ≡ older.without_master (worked (without_master w) rs).state
+states_same w rs v =
+    ⊎_elim (λ e. ap older.without_master (sym e)) (λ h. ap older.without_master (sym h.0)) (states-meet w.rules w.state rs v)
+
+entries_same : (entries : Entries) (xs ys : List Item) → LacksMasterGap xs ys → noted_all entries xs ≡ noted_all entries ys
+entries_same entries xs ys h =
+    let there : Entries = noted_all entries h.front in
+    ap (noted_all entries) h.all_is
+    ∙ noted-append entries h.front (h.gap ++ h.back)
+    ∙ noted-append there h.gap h.back
+    ∙ ap (λ (e : Entries). noted_all e h.back) (gap_noted there h.gap h.gap_is)
+    ∙ sym (noted-append entries h.front h.back)
+    ∙ ap (noted_all entries) (sym h.fewer_is)
+
+-- the works that records leave differ in the last master channel count alone
+works_same : (w : Work) (rs : List (List ℕ)) → IsState w.rules w.state → without_master (worked w rs) ≡ without_master (worked (without_master w) rs)
+works_same w rs v =
+    ap (λ (s : State). record { rules = w.rules; state = s; entries = noted_all w.entries (items_of w rs) }) (states_same w rs v)
+    ∙ ap (λ (e : Entries). record { rules = w.rules; state = older.without_master (worked (without_master w) rs).state; entries = e })
+    (entries_same w.entries (items_of w rs) (items_of (without_master w) rs) (lacks_item w rs v))
+
+-- of texts that give nothing of a gap of the master channel but its line
+module _ {A : Type 0} (text : Texts A) (none : (seen expected found missing : ℕ) → GivesNone text (MasterGap seen expected found missing)) where
+  line_piece : (entries : Entries) (seen expected found missing : ℕ) → piece_of text entries (MasterGap seen expected found missing) ≡ gap_piece seen expected found missing
+  unfolding report_of line_of
+  line_piece entries seen expected found missing =
+      let gives = none seen expected found missing in
+      let line : List ℕ = master_gap_line seen expected found missing in
+      ap (λ (out : List A). record { out = out; report = line ++ text.remark (MasterGap seen expected found missing) }) gives.0
+      ∙ ap (λ (more : List ℕ). record { out = []; report = line ++ more }) gives.1
+      ∙ ap (λ (report : List ℕ). record { out = []; report = report }) (append-nil line)
+
+  gap_pieces : (entries : Entries) (gap : List Item) → IsMasterGapAtMost gap → IsGapAtMost (pieces_of text entries gap)
+  gap_pieces entries gap (inl e) = inl (ap (pieces_of text entries) e)
+  gap_pieces entries gap (inr (seen, expected, found, missing, e)) =
+      inr (seen, expected, found, missing, ap (pieces_of text entries) e ∙ ap (λ (p : Piece A). p ∷ []) (line_piece entries seen expected found missing))
+
+  -- the pieces of items, and of the same but for a gap, with further ones behind them
+  lacks_piece : (entries : Entries) (xs ys : List Item) (end : List (Piece A)) → LacksMasterGap xs ys → LacksGap (pieces_of text entries xs ++ end) (pieces_of text entries ys ++ end)
+  lacks_piece entries xs ys end h =
+      let there : Entries = noted_all entries h.front in
+      let fore : List (Piece A) = pieces_of text entries h.front in
+      let gap : List (Piece A) = pieces_of text there h.gap in
+      let back : List (Piece A) = pieces_of text there h.back in
+      let all : pieces_of text entries xs ≡ fore ++ (gap ++ back) =
+      ap (pieces_of text entries) h.all_is
+      ∙ pieces-append text entries h.front (h.gap ++ h.back)
+      ∙ ap (λ (ps : List (Piece A)). fore ++ ps)
+      (pieces-append text there h.gap h.back
+      ∙ ap (λ (e : Entries). gap ++ pieces_of text e h.back) (gap_noted there h.gap h.gap_is)) in
+      let some : pieces_of text entries ys ≡ fore ++ back = ap (pieces_of text entries) h.fewer_is ∙ pieces-append text entries h.front h.back in
+      record {
+        front = fore;
+        gap = gap;
+        back = back ++ end;
+        whole_is =
+            ap (λ (ps : List (Piece A)). ps ++ end) all ∙ append_assoc fore (gap ++ back) end
+            ∙ ap (λ (ps : List (Piece A)). fore ++ ps) (append_assoc gap back end);
+        fewer_is = ap (λ (ps : List (Piece A)). ps ++ end) some ∙ append_assoc fore back end;
+        gap_is = gap_pieces there h.gap h.gap_is;
+      }
+
+  -- what an ending has does not rest on the last master channel count
+  same_end : (ending : Ending) (w : Work) (rest : ℕ) → end_pieces text ending w rest ≡ end_pieces text ending (without_master w) rest
+  same_end Close w rest = refl
+  same_end Keep w rest = refl
+  same_end (StopAfter n) w rest = refl
+
+  ends_same : (ending : Ending) (w : Work) (rs : List (List ℕ)) (rest : ℕ) → IsState w.rules w.state
+      → end_pieces text ending (worked (without_master w) rs) rest ≡ end_pieces text ending (worked w rs) rest
+  ends_same ending w rs rest v =
+      same_end ending (worked (without_master w) rs) rest
+      ∙ ap (λ (x : Work). end_pieces text ending x rest) (sym (works_same w rs v))
+      ∙ sym (same_end ending (worked w rs) rest)
+
+  lacks_gap : (ending : Ending) (w : Work) (recording : List ℕ) → IsState w.rules w.state → LacksGap (pieces text ending w recording) (pieces text ending (without_master w) recording)
+  unfolding pieces
+  lacks_gap ending w recording v =
+      let rs : List (List ℕ) = chosen ending (further w recording) in
+      let rest : ℕ = length (rest_of (record_length_of w.rules.layout) recording) in
+      let h = lacks_piece w.entries (items_of w rs) (items_of (without_master w) rs) (end_pieces text ending (worked w rs) rest) (lacks_item w rs v) in
+      record {
+        front = h.front;
+        gap = h.gap;
+        back = h.back;
+        whole_is = h.whole_is;
+        fewer_is = ap (λ (ps : List (Piece A)). record_pieces text (without_master w) rs ++ ps) (ends_same ending w rs rest v) ∙ h.fewer_is;
+        gap_is = h.gap_is;
+      }
+
+pub command_lacks : (command : Command) (ending : Ending) (w : Work) (recording : List ℕ) → IsState w.rules w.state
+    → LacksGap (pieces (text_of command) ending w recording) (pieces (text_of command) ending (without_master w) recording)
+command_lacks command ending w recording v =
+    lacks_gap (text_of command) (λ seen expected found missing. no_text command (MasterGap seen expected found missing) tt) ending w recording v
+
+pub shelf_lacks : (ending : Ending) (w : Work) (recording : List ℕ) → IsState w.rules w.state
+    → LacksGap (pieces shelf_text ending w recording) (pieces shelf_text ending (without_master w) recording)
+shelf_lacks ending w recording v = lacks_gap shelf_text (λ seen expected found missing. no_shelf (MasterGap seen expected found missing) tt) ending w recording v

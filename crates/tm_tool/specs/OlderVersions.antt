@@ -1,0 +1,21 @@
+-- What a job reports less that was read from an older version, and so has no last master channel count: at most one gap of the master channel.
+use Rattle.std.specs.Prelude.{◌≡◌, ◌⊎◌, ℕ, List, [], ◌∷◌, ◌++◌}
+use Rattle.tm_tool.specs.Lines.{master_gap_line}
+use Rattle.tm_tool.specs.Outputs.{Piece}
+
+-- the piece of a gap of the master channel: its line for the report, and nothing else
+abbrev pub gap_piece : {A : Type 0} → (seen expected found missing : ℕ) → Piece A
+gap_piece seen expected found missing = record { out = []; report = master_gap_line seen expected found missing }
+
+-- at most one such piece
+abbrev pub IsGapAtMost : {A : Type 0} → List (Piece A) → Type 0
+IsGapAtMost ps = (ps ≡ []) ⊎ ((seen expected found missing : ℕ) × (ps ≡ gap_piece seen expected found missing ∷ []))
+
+-- the fewer pieces are those of the whole, in their order, but for at most one gap of the master channel
+pub record LacksGap {A : Type 0} (whole fewer : List (Piece A)) : Type 0 where
+  pub front : List (Piece A)
+  pub gap : List (Piece A)
+  pub back : List (Piece A)
+  pub whole_is : whole ≡ front ++ (gap ++ back)
+  pub fewer_is : fewer ≡ front ++ back
+  pub gap_is : IsGapAtMost gap

@@ -1,7 +1,7 @@
 //! Checkpoints and frames with one bit changed, and checkpoints that are cut off: each is refused.
 
-use crate::checkpoints::{BEFORE_CHECK, checked};
-use crate::runs::{BASE, settings_of};
+use crate::checkpoints::{CHECKPOINT, LIMITED, VERSION_1, VERSION_2};
+use crate::runs::{BASE, TWELVE, octets_of, settings_of};
 use std::alloc::Global;
 use std::test::Fail;
 use tm_frame::FrameFault;
@@ -17,41 +17,58 @@ fn changed(alloc: Global, octets: &[u8], bit: usize) -> Result<Vec<u8>, Fail> {
     Ok(altered)
 }
 
+// Checkpoints of all versions, with their settings, and the number of octets below which they are too short.
+const CHECKPOINTS: [(&str, &str, usize); 4] = [
+    (CHECKPOINT, BASE, 37),
+    (LIMITED, TWELVE, 37),
+    (VERSION_2, BASE, 36),
+    (VERSION_1, BASE, 33),
+];
+
+// How a checkpoint is refused of which the octet of this number was changed, and is this one now.
+fn fault_at(at: usize, octet: Option<&u8>) -> CheckpointFault {
+    match (at, octet) {
+        (0..=3, _) => CheckpointFault::Magic,
+        // Another version that is read.
+        (4, Some(1..=3)) => CheckpointFault::Check,
+        (4, _) => CheckpointFault::Version,
+        _ => CheckpointFault::Check,
+    }
+}
+
 // The error control finds each change of one bit, in itself too.
 #[test]
-fn checkpoint_with_a_bit_changed(rt: HostRuntime) -> Result<(), Fail> {
+fn checkpoints_with_a_bit_changed(rt: HostRuntime) -> Result<(), Fail> {
     let alloc = rt.alloc();
-    let settings = settings_of(alloc, BASE)?;
-    let octets = checked(alloc, BEFORE_CHECK)?;
-    assert_eq!(rt; octets.len(), 69);
-    for bit in 0..552 {
-        let fault = match bit / 8 {
-            0..=3 => CheckpointFault::Magic,
-            4 => CheckpointFault::Version,
-            _ => CheckpointFault::Check,
-        };
-        let altered = changed(alloc, &octets, bit)?;
-        let answer = Job::resume(alloc, &settings, &altered).err();
-        assert_eq!(rt; answer, Some(fault), "bit {bit}");
+    for (text, settings, _) in CHECKPOINTS {
+        let settings = settings_of(alloc, settings)?;
+        let octets = octets_of(alloc, text)?;
+        for bit in 0..8 * octets.len() {
+            let altered = changed(alloc, &octets, bit)?;
+            let answer = Job::resume(alloc, &settings, &altered).err();
+            let wanted = fault_at(bit / 8, altered.get(bit / 8));
+            assert_eq!(rt; answer, Some(wanted), "bit {bit} of {text}");
+        }
     }
     Ok(())
 }
 
 // The last two octets of a part are nowhere the error control of those before.
 #[test]
-fn checkpoint_cut_off(rt: HostRuntime) -> Result<(), Fail> {
+fn checkpoints_cut_off(rt: HostRuntime) -> Result<(), Fail> {
     let alloc = rt.alloc();
-    let settings = settings_of(alloc, BASE)?;
-    let octets = checked(alloc, BEFORE_CHECK)?;
-    assert_eq!(rt; octets.len(), 69);
-    for len in 0..octets.len() {
-        let fault = if len < 33 {
-            CheckpointFault::Short
-        } else {
-            CheckpointFault::Check
-        };
-        let answer = Job::resume(alloc, &settings, &octets[..len]).err();
-        assert_eq!(rt; answer, Some(fault), "the first {len} octets");
+    for (text, settings, least) in CHECKPOINTS {
+        let settings = settings_of(alloc, settings)?;
+        let octets = octets_of(alloc, text)?;
+        for len in 0..octets.len() {
+            let fault = if len < least {
+                CheckpointFault::Short
+            } else {
+                CheckpointFault::Check
+            };
+            let answer = Job::resume(alloc, &settings, &octets[..len]).err();
+            assert_eq!(rt; answer, Some(fault), "the first {len} octets of {text}");
+        }
     }
     Ok(())
 }

@@ -22,7 +22,7 @@ fn answer_at<A: Copy>(table: &[(usize, A)], len: usize) -> Option<A> {
 // What settings are read as, or how they are refused.
 #[derive(Clone, Copy, Debug, PartialEq, Eq)]
 enum Answer {
-    Read(LayoutParts, Channels),
+    Read(LayoutParts, Channels, u32),
     Toml,
     Missing(Key),
     Range(Key),
@@ -32,7 +32,11 @@ enum Answer {
 
 fn settings_answer(alloc: Global, text: &[u8]) -> Answer {
     match Settings::read(alloc, text) {
-        Ok(settings) => Answer::Read(settings.layout().parts(), settings.channels()),
+        Ok(settings) => Answer::Read(
+            settings.layout().parts(),
+            settings.channels(),
+            settings.max_packet(),
+        ),
         Err(SettingsFault::Toml) => Answer::Toml,
         Err(SettingsFault::Missing(key)) => Answer::Missing(key),
         Err(SettingsFault::Range(key)) => Answer::Range(key),
@@ -41,7 +45,7 @@ fn settings_answer(alloc: Global, text: &[u8]) -> Answer {
 }
 
 // Spacecraft 42, and all that isn't named here absent.
-fn read(frame_length: u32, skip_before: u32, error_control: bool) -> Answer {
+fn read(frame_length: u32, skip_before: u32, error_control: bool, max_packet: u32) -> Answer {
     let parts = LayoutParts {
         frame_length,
         skip_before,
@@ -51,7 +55,7 @@ fn read(frame_length: u32, skip_before: u32, error_control: bool) -> Answer {
         ocf: Presence::Flag,
         error_control,
     };
-    Answer::Read(parts, Channels::all())
+    Answer::Read(parts, Channels::all(), max_packet)
 }
 
 // A line is whole from the first digit of its number on, or from the end of its boolean. A text that is cut before that is no document.
@@ -65,7 +69,7 @@ fn settings_with_error_control(rt: HostRuntime) {
         (31, Answer::Toml),
         (33, Answer::Missing(Key::ErrorControl)),
         (52, Answer::Toml),
-        (54, read(9, 0, true)),
+        (54, read(9, 0, true, 65_542)),
     ];
     for len in 0..=text.len() {
         let answer = settings_answer(rt.alloc(), &text.as_bytes()[..len]);
@@ -75,8 +79,9 @@ fn settings_with_error_control(rt: HostRuntime) {
 }
 
 #[test]
-fn settings_with_skipped_octets(rt: HostRuntime) {
-    let text = "spacecraft = 42\nframe_length = 24\nerror_control = false\nskip_before = 4\n";
+fn settings_with_skipped_octets_and_a_limit(rt: HostRuntime) {
+    let text =
+        "spacecraft = 42\nframe_length = 24\nerror_control = false\nskip_before = 4\nmax_packet = 12\n";
     let table = [
         (0, Answer::Missing(Key::Spacecraft)),
         (13, Answer::Toml),
@@ -86,9 +91,13 @@ fn settings_with_skipped_octets(rt: HostRuntime) {
         (32, Answer::Range(Key::FrameLength)),
         (34, Answer::Missing(Key::ErrorControl)),
         (54, Answer::Toml),
-        (56, read(24, 0, false)),
+        (56, read(24, 0, false, 65_542)),
         (70, Answer::Toml),
-        (72, read(24, 4, false)),
+        (72, read(24, 4, false, 65_542)),
+        (85, Answer::Toml),
+        // Packets of one octet.
+        (86, Answer::Range(Key::MaxPacket)),
+        (88, read(24, 4, false, 12)),
     ];
     for len in 0..=text.len() {
         let answer = settings_answer(rt.alloc(), &text.as_bytes()[..len]);

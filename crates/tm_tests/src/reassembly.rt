@@ -1,6 +1,6 @@
 //! Records of channels, with the packets and the lost parts that they give.
 
-ghost use Rattle.std.specs.Prelude.{◌≡◌};
+ghost use Rattle.std.specs.Prelude.{◌≡◌, IfOk};
 
 use std::alloc::{AllocError, Global};
 use std::process::Abort;
@@ -54,12 +54,38 @@ pub(crate) fn layout(frame_length: u32) -> Option<Layout> {
     Layout::new(parts).ok()
 }
 
+// The octets that a packet may have at most.
+const GREATEST: u32 = 65_542;
+
+// How a state is spelled: as it is written, or as it was before the last count of the master channel was kept.
+#[derive(Clone, Copy, Debug, PartialEq, Eq)]
+enum Spelling {
+    Written,
+    Old,
+}
+
+// What is read of a state by its spelling.
+fn read_state(
+    alloc: Global,
+    layout: Layout,
+    spelling: Spelling,
+    octets: &[u8],
+) -> Result<(Reassembly, usize), StateFault>
+    ensures { IfOk result (λ read. read.0.rules.layout ≡ layout) }
+{
+    let all = Channels::all();
+    match spelling {
+        Spelling::Written => Reassembly::decode(alloc, layout, all, GREATEST, octets),
+        Spelling::Old => Reassembly::decode_old(alloc, layout, all, GREATEST, octets),
+    }
+}
+
 // A reassembly of the records of a layout, which looks at what its calls ask for.
 #[derive(Drop)]
 struct Station {
     layout: Layout,
     reassembly: Reassembly,
-    ghost same: { reassembly.layout ≡ layout },
+    ghost same: { reassembly.rules.layout ≡ layout },
 }
 
 impl Station {
@@ -67,17 +93,21 @@ impl Station {
         let Some(layout) = layout(frame_length) else {
             return Err(Fail::from("a layout"));
         };
-        match Reassembly::new(alloc, layout, Channels::all()) {
+        match Reassembly::new(alloc, layout, Channels::all(), GREATEST) {
             Ok(reassembly) => Ok(Station { layout, reassembly }),
             Err(NoMemory) => Err(Fail::from("memory")),
         }
     }
 
-    fn decode(alloc: Global, octets: &[u8]) -> Result<(Station, usize), StateFault> {
+    fn decode(
+        alloc: Global,
+        spelling: Spelling,
+        octets: &[u8],
+    ) -> Result<(Station, usize), StateFault> {
         let Some(layout) = layout(24) else {
             return Err(StateFault::NoMemory);
         };
-        match Reassembly::decode(alloc, layout, Channels::all(), octets) {
+        match read_state(alloc, layout, spelling, octets) {
             Ok((reassembly, read)) => Ok((Station { layout, reassembly }, read)),
             Err(fault) => Err(fault),
         }
@@ -114,6 +144,13 @@ impl Station {
             return None;
         }
         self.reassembly.last_count(channel)
+    }
+
+    fn last_master(&self) -> Option<u8> {
+        if self.reassembly.failed() {
+            return None;
+        }
+        self.reassembly.last_master()
     }
 
     fn encode(&self, out: &mut Vec<u8>) -> Result<(), NoMemory> {
@@ -253,6 +290,8 @@ fn held_and_closed(rt: HostRuntime) -> Result<(), Fail> {
     assert_eq!(rt; station.held(0), front(&first, 18));
     assert_eq!(rt; station.last_count(1), Some(0));
     assert_eq!(rt; station.last_count(2), None);
+    assert_eq!(rt; station.last_master(), Some(1));
+    assert_eq!(rt; station.reassembly.max_packet(), GREATEST);
     assert_eq!(rt; station.finish(10, &mut sink), Ok(()));
     assert_eq!(rt; sink.taken, 3);
     Ok(())
@@ -288,9 +327,13 @@ fn after_three_records(rt: &impl Abort, alloc: Global) -> Result<Station, Fail> 
 }
 
 // What is spelled of the state after them.
-fn spelled_state(alloc: Global) -> Result<Vec<u8>, AllocError> {
+fn spelled_state(alloc: Global, spelling: Spelling) -> Result<Vec<u8>, AllocError> {
     let first: [u8; 26] = packet(0);
-    let mut spelled = [0, 0, 0, 3, 2, 0, 0, 0, 0, 0, 0, 0, 0, 0, 0, 18].to_vec(alloc)?;
+    let mut spelled = [0, 0, 0, 3].to_vec(alloc)?;
+    if spelling == Spelling::Written {
+        spelled.extend_from_slice(&[1, 2])?;
+    }
+    spelled.extend_from_slice(&[2, 0, 0, 0, 0, 0, 0, 0, 0, 0, 0, 18])?;
     spelled.extend_from_slice(front(&first, 18))?;
     spelled.extend_from_slice(&[1, 1, 0, 0, 0, 0, 0, 0])?;
     Ok(spelled)
@@ -299,22 +342,22 @@ fn spelled_state(alloc: Global) -> Result<Vec<u8>, AllocError> {
 #[test]
 fn state_after_three_records(rt: HostRuntime) -> Result<(), Fail> {
     let station = after_three_records(&rt, rt.alloc())?;
-    let spelled = spelled_state(rt.alloc())?;
+    let spelled = spelled_state(rt.alloc(), Spelling::Written)?;
     let mut octets = Vec::new(rt.alloc());
     assert_eq!(rt; station.encode(&mut octets), Ok(()));
     assert_eq!(rt; octets.as_slice(), spelled.as_slice());
     Ok(())
 }
 
-#[test]
-fn state_that_is_read_again(rt: HostRuntime) -> Result<(), Fail> {
+// Reads the state after three records, with an octet behind it, and takes a bad frame.
+fn read_again(rt: &impl Abort, alloc: Global, spelling: Spelling, len: usize, master: Option<u8>) -> Result<(), Fail> {
     let first: [u8; 26] = packet(0);
-    let mut octets = spelled_state(rt.alloc())?;
+    let mut octets = spelled_state(alloc, spelling)?;
     octets.push(0x77)?;
-    let Ok((mut again, read)) = Station::decode(rt.alloc(), &octets) else {
+    let Ok((mut again, read)) = Station::decode(alloc, spelling, &octets) else {
         return Err(Fail::from("what was spelled"));
     };
-    assert_eq!(rt; read, 42);
+    assert_eq!(rt; read, len);
     assert_eq!(rt; again.reassembly.records(), 3);
     assert_eq!(rt; again.held(0), front(&first, 18));
     assert_eq!(rt; again.last_count(1), Some(1));
@@ -325,36 +368,76 @@ fn state_that_is_read_again(rt: HostRuntime) -> Result<(), Fail> {
     let mut sink = Wanted::new(&bad);
     assert_eq!(rt; again.step(&[0x42; 24], &mut sink), Ok(()));
     assert_eq!(rt; sink.taken, 1);
+    assert_eq!(rt; again.last_master(), master);
     Ok(())
 }
 
 #[test]
-fn decode_faults(rt: HostRuntime) -> Result<(), Fail> {
-    let alloc = rt.alloc();
-    let full = [0xFF, 0xFF, 0xFF, 0xFF, 0, 0, 0, 0, 0, 0, 0, 0];
-    let Ok((mut station, _)) = Station::decode(alloc, &full) else {
+fn state_that_is_read_again(rt: HostRuntime) -> Result<(), Fail> {
+    read_again(&rt, rt.alloc(), Spelling::Written, 44, Some(2))?;
+    read_again(&rt, rt.alloc(), Spelling::Old, 42, None)
+}
+
+// Reads a state of the greatest number of records, which takes no further one.
+fn is_full(rt: &impl Abort, alloc: Global, spelling: Spelling, octets: &[u8]) -> Result<(), Fail> {
+    let Ok((mut station, read)) = Station::decode(alloc, spelling, octets) else {
         return Err(Fail::from("the greatest number of records"));
     };
+    assert_eq!(rt; read, octets.len());
     let mut sink = Wanted::new(&[]);
     assert_eq!(rt;
         station.step(&[0x55; 24], &mut sink),
         Err(StepFault::TooMany)
     );
     assert_eq!(rt; station.reassembly.records(), 4_294_967_295);
+    Ok(())
+}
+
+#[test]
+fn greatest_number_of_records(rt: HostRuntime) -> Result<(), Fail> {
+    let full = [0xFF, 0xFF, 0xFF, 0xFF, 0, 0, 0, 0, 0, 0, 0, 0, 0];
+    is_full(&rt, rt.alloc(), Spelling::Written, &full)?;
+    is_full(&rt, rt.alloc(), Spelling::Old, front(&full, 12))
+}
+
+// How octets are refused as a state.
+fn refusal(alloc: Global, spelling: Spelling, octets: &[u8]) -> Option<StateFault> {
+    Station::decode(alloc, spelling, octets).err()
+}
+
+// The same octets without the fifth, where that says that the master channel has no last count.
+fn without_fifth(alloc: Global, octets: &[u8]) -> Result<Option<Vec<u8>>, AllocError> {
+    if octets.get(4) != Some(&0) {
+        return Ok(None);
+    }
+    let mut older = front(octets, 4).to_vec(alloc)?;
+    older.extend_from_slice(behind(octets, 5))?;
+    Ok(Some(older))
+}
+
+// In the older spelling the fifth octet is left out, and the answer is the same.
+#[test]
+fn decode_faults(rt: HostRuntime) -> Result<(), Fail> {
+    let alloc = rt.alloc();
     let tail = [
-        0, 0, 0, 1, 2, 0, 0, 0, 0, 0, 0, 0, 0, 0, 0, 1, 0xE0, 0, 0, 0, 0, 0, 0, 0,
+        0, 0, 0, 1, 0, 2, 0, 0, 0, 0, 0, 0, 0, 0, 0, 0, 1, 0xE0, 0, 0, 0, 0, 0, 0, 0,
     ];
     let mut place = tail;
-    place[9] = 1;
-    let rows: [(&[u8], StateFault); 4] = [
+    place[10] = 1;
+    let rows: [(&[u8], StateFault); 7] = [
         (&[0, 0, 0], StateFault::Short),
-        (&[0, 0, 0, 0, 3], StateFault::Flag),
+        (&[0, 0, 0, 0, 0, 3], StateFault::Flag),
         (&tail, StateFault::Tail),
         (&place, StateFault::Place),
+        (&[0, 0, 0, 0, 2], StateFault::Flag),
+        (&[0, 0, 0, 0], StateFault::Short),
+        (&[0, 0, 0, 0, 1], StateFault::Short),
     ];
     for (octets, fault) in rows {
-        let answer = Station::decode(alloc, octets).err();
-        assert_eq!(rt; answer, Some(fault));
+        assert_eq!(rt; refusal(alloc, Spelling::Written, octets), Some(fault));
+        if let Some(older) = without_fifth(alloc, octets)? {
+            assert_eq!(rt; refusal(alloc, Spelling::Old, &older), Some(fault));
+        }
     }
     Ok(())
 }

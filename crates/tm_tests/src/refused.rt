@@ -17,14 +17,19 @@ const BEFORE: [u8; 64] = [0xAA; 64];
 // One entry: two packets were taken.
 const ENTRY: [u8; 8] = [0x00, 0x01, 0x08, 0x64, 0x00, 0x01, 0xFF, 0xFF];
 
-// Three records are done: 18 octets are held of channel 0, and one of count 1 was the last on channel 1.
+// Three records are done: the last of the master channel has count 2, 18 octets are held of channel 0, and one of count 1 was the last on
+// channel 1.
 const STATE: &str =
+    "00000003 01 02 02 00 00000000 0000 00000012 0064C0000013555555555555555555555555 01 01 00 00 00 00 00 00";
+
+// Likewise, in the older spelling, which has no count of the master channel.
+const OLD_STATE: &str =
     "00000003 02 00 00000000 0000 00000012 0064C0000013555555555555555555555555 01 01 00 00 00 00 00 00";
 
 const TAIL: &str = "0064C0000013555555555555555555555555";
 
 const SETTINGS: &str =
-    "spacecraft = 42\nframe_length = 24\nerror_control = false\nsecondary = \"never\"\nchannels = [0, 3]\n";
+    "spacecraft = 42\nframe_length = 24\nerror_control = false\nsecondary = \"never\"\nchannels = [0, 3]\nmax_packet = 12\n";
 
 const FIELDS: &str =
     "name, data_type, bit_length\nVERSION, uint, 8\nLEVEL, int, 12\nPAD, fill, 4\nLABEL, str, 24\nRATE, float, 32\n";
@@ -128,10 +133,13 @@ fn decode_tracker(rt: HostRuntime) -> Result<(), Fail> {
     passed(&turns)
 }
 
+// The octets that a packet may have at most.
+const GREATEST: u32 = 65_542;
+
 // A reassembly from the octets of its state.
 fn decoded(alloc: Global, octets: &[u8]) -> Option<Reassembly> {
     let layout = layout(24)?;
-    match Reassembly::decode(alloc, layout, Channels::all(), octets) {
+    match Reassembly::decode(alloc, layout, Channels::all(), GREATEST, octets) {
         Ok((reassembly, _)) => Some(reassembly),
         Err(_) => None,
     }
@@ -143,7 +151,7 @@ fn new_reassembly(rt: HostRuntime) -> Result<(), Fail> {
     let layout = layout(24).ok_or("a layout")?;
     let mut turns = Turns::new(&rt);
     for _ in 0..turns.most() {
-        let answer = match Reassembly::new(alloc, layout, Channels::all()) {
+        let answer = match Reassembly::new(alloc, layout, Channels::all(), GREATEST) {
             Ok(reassembly) => Answer::right_if(
                 !reassembly.failed() && reassembly.records() == 0 && reassembly.held(0).is_empty(),
             ),
@@ -182,6 +190,26 @@ fn encode_reassembly(rt: HostRuntime) -> Result<(), Fail> {
     passed(&turns)
 }
 
+// What was read of a state of so many octets, with this tail and this last count of the master channel, or why it wasn't.
+fn state_answer(
+    read: Result<(Reassembly, usize), StateFault>,
+    octets: usize,
+    tail: &[u8],
+    master: Option<u8>,
+) -> Answer {
+    match read {
+        Ok((reassembly, read)) => Answer::right_if(
+            read == octets
+                && !reassembly.failed()
+                && reassembly.records() == 3
+                && reassembly.held(0) == tail
+                && reassembly.last_count(1) == Some(1)
+                && reassembly.last_master() == master,
+        ),
+        Err(fault) => Answer::refused_if(fault == StateFault::NoMemory),
+    }
+}
+
 #[test]
 fn decode_reassembly(rt: HostRuntime) -> Result<(), Fail> {
     let alloc = rt.alloc();
@@ -190,19 +218,24 @@ fn decode_reassembly(rt: HostRuntime) -> Result<(), Fail> {
     let tail = made(|| octets_in(alloc, TAIL)).ok_or("a tail")?;
     let mut turns = Turns::new(&rt);
     for _ in 0..turns.most() {
-        let answer = {
-            match Reassembly::decode(alloc, layout, Channels::all(), &state) {
-                Ok((reassembly, read)) => Answer::right_if(
-                    read == state.len()
-                        && !reassembly.failed()
-                        && reassembly.records() == 3
-                        && reassembly.held(0) == tail.as_slice()
-                        && reassembly.last_count(1) == Some(1),
-                ),
-                Err(fault) => Answer::refused_if(fault == StateFault::NoMemory),
-            }
-        };
-        if !turns.take(answer) {
+        let read = Reassembly::decode(alloc, layout, Channels::all(), GREATEST, &state);
+        if !turns.take(state_answer(read, state.len(), &tail, Some(2))) {
+            break;
+        }
+    }
+    passed(&turns)
+}
+
+#[test]
+fn decode_old_reassembly(rt: HostRuntime) -> Result<(), Fail> {
+    let alloc = rt.alloc();
+    let layout = layout(24).ok_or("a layout")?;
+    let state = made(|| octets_in(alloc, OLD_STATE)).ok_or("a state")?;
+    let tail = made(|| octets_in(alloc, TAIL)).ok_or("a tail")?;
+    let mut turns = Turns::new(&rt);
+    for _ in 0..turns.most() {
+        let read = Reassembly::decode_old(alloc, layout, Channels::all(), GREATEST, &state);
+        if !turns.take(state_answer(read, state.len(), &tail, None)) {
             break;
         }
     }
@@ -277,7 +310,9 @@ fn row_of_a_packet(rt: HostRuntime) -> Result<(), Fail> {
 fn settings_once(alloc: Global) -> Answer {
     match Settings::read(alloc, SETTINGS.as_bytes()) {
         Ok(settings) => Answer::right_if(
-            settings.layout().record_length() == 24 && settings.channels().mask() == 9,
+            settings.layout().record_length() == 24
+                && settings.channels().mask() == 9
+                && settings.max_packet() == 12,
         ),
         Err(SettingsFault::NoMemory) => Answer::Refused,
         Err(_) => Answer::Wrong,

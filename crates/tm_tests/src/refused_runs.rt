@@ -1,9 +1,12 @@
 //! Checkpoints, listings and runs that are refused memory, one request after the other: what was written by then ends with a whole line or
 //! packet.
 
-use crate::checkpoints::{BEFORE_CHECK, checked};
+use crate::calls::packet_lengths;
+use crate::checkpoints::{CHECKPOINT, LIMITED, VERSION_1, VERSION_2};
 use crate::refused::{definition_of, octets_in, passed, room, settings_of};
-use crate::runs::{BASE, POINTER_DROP_AND_SEQUENCE_GAP};
+use crate::runs::{
+    BASE, FRAME_GAP, LONG_AT_ONCE, LONG_SPLIT_HEADER, POINTER_DROP_AND_SEQUENCE_GAP, Row, TWELVE,
+};
 use crate::{MemoryDrain, MemorySource, field_rows};
 use std::alloc::Global;
 use std::test::Fail;
@@ -11,13 +14,6 @@ use tm_memory::{Answer, Turns, made};
 use tm_tool::{
     CheckpointFault, Command, Ending, Job, RunFault, Settings, Shelf, list_frames, run, split,
 };
-
-fn checkpoint_octets(alloc: Global) -> Option<Vec<u8>> {
-    match checked(alloc, BEFORE_CHECK) {
-        Ok(octets) => Some(octets),
-        Err(_) => None,
-    }
-}
 
 fn resumed(alloc: Global, settings: &Settings, octets: &[u8]) -> Option<Job> {
     match Job::resume(alloc, settings, octets) {
@@ -30,13 +26,13 @@ fn resumed(alloc: Global, settings: &Settings, octets: &[u8]) -> Option<Job> {
 fn checkpoint_of_a_job(rt: HostRuntime) -> Result<(), Fail> {
     let alloc = rt.alloc();
     let settings = made(|| settings_of(alloc, BASE)).ok_or("settings")?;
-    let octets = made(|| checkpoint_octets(alloc)).ok_or("octets")?;
+    let octets = made(|| octets_in(alloc, CHECKPOINT)).ok_or("octets")?;
     let job = made(|| resumed(alloc, &settings, &octets)).ok_or("a job")?;
     let mut turns = Turns::new(&rt);
     for _ in 0..turns.most() {
         let answer = match job.checkpoint(alloc) {
             Ok(again) => Answer::right_if(
-                again.len() == 69 && again.as_slice() == octets.as_slice(),
+                again.len() == 74 && again.as_slice() == octets.as_slice(),
             ),
             Err(_) => Answer::Refused,
         };
@@ -47,15 +43,20 @@ fn checkpoint_of_a_job(rt: HostRuntime) -> Result<(), Fail> {
     passed(&turns)
 }
 
-#[test]
-fn resumed_job(rt: HostRuntime) -> Result<(), Fail> {
+// Resumes a job of so many records in turn.
+fn resume_in_turn(
+    rt: &HostRuntime,
+    text: &str,
+    settings: &str,
+    records: u32,
+) -> Result<(), Fail> {
     let alloc = rt.alloc();
-    let settings = made(|| settings_of(alloc, BASE)).ok_or("settings")?;
-    let octets = made(|| checkpoint_octets(alloc)).ok_or("octets")?;
-    let mut turns = Turns::new(&rt);
+    let settings = made(|| settings_of(alloc, settings)).ok_or("settings")?;
+    let octets = made(|| octets_in(alloc, text)).ok_or("octets")?;
+    let mut turns = Turns::new(rt);
     for _ in 0..turns.most() {
         let answer = match Job::resume(alloc, &settings, &octets) {
-            Ok(job) => Answer::right_if(job.records() == 3),
+            Ok(job) => Answer::right_if(job.records() == records),
             Err(fault) => Answer::refused_if(fault == CheckpointFault::NoMemory),
         };
         if !turns.take(answer) {
@@ -65,18 +66,38 @@ fn resumed_job(rt: HostRuntime) -> Result<(), Fail> {
     passed(&turns)
 }
 
-// Where a text of whole pieces may end: behind a line, or behind so many octets.
+#[test]
+fn resumed_job(rt: HostRuntime) -> Result<(), Fail> {
+    resume_in_turn(&rt, CHECKPOINT, BASE, 3)?;
+    resume_in_turn(&rt, VERSION_2, BASE, 3)?;
+    resume_in_turn(&rt, VERSION_1, BASE, 3)?;
+    resume_in_turn(&rt, LIMITED, TWELVE, 1)
+}
+
+// Where a text of whole pieces may end: behind a line, or behind one of the packets, which have these lengths.
 #[derive(Clone, Copy)]
-enum Piece {
+enum Piece<'p> {
     Line,
-    Packet(usize),
+    Packet(&'p [usize]),
+}
+
+// So many octets are the first packets of these lengths.
+fn are_packets(octets: usize, lengths: &[usize]) -> bool {
+    let mut end = 0usize;
+    for length in lengths {
+        if end == octets {
+            return true;
+        }
+        end = end.saturating_add(*length);
+    }
+    end == octets
 }
 
 // What was written is the front of what is to be written, and ends with a whole piece.
-fn is_whole_front(written: &[u8], all: &[u8], piece: Piece) -> bool {
+fn is_whole_front(written: &[u8], all: &[u8], piece: Piece<'_>) -> bool {
     let ends = match piece {
         Piece::Line => written.is_empty() || written.ends_with(b"\n"),
-        Piece::Packet(octets) => octets > 0 && written.len() % octets == 0,
+        Piece::Packet(lengths) => are_packets(written.len(), lengths),
     };
     ends && all.starts_with(written)
 }
@@ -164,7 +185,7 @@ impl Bench {
 struct Wanted<'w> {
     records: u32,
     out: &'w [u8],
-    piece: Piece,
+    piece: Piece<'w>,
     report: &'w str,
 }
 
@@ -221,30 +242,52 @@ fn run_in_turn(
     passed(&turns)
 }
 
-#[test]
-fn run_by_extract(rt: HostRuntime) -> Result<(), Fail> {
+// Recordings of all kinds of reports: in two of them packets are too long, and in one a frame is missing.
+const ROWS: [Row; 4] = [
+    POINTER_DROP_AND_SEQUENCE_GAP,
+    LONG_AT_ONCE,
+    LONG_SPLIT_HEADER,
+    FRAME_GAP,
+];
+
+// The lengths of the packets of a row.
+fn lengths_in(alloc: Global, row: Row) -> Option<Vec<usize>> {
+    packet_lengths(alloc, row.lines).ok()
+}
+
+fn extract_in_turn(rt: &HostRuntime, row: Row) -> Result<(), Fail> {
     let alloc = rt.alloc();
-    let row = POINTER_DROP_AND_SEQUENCE_GAP;
     let octets = made(|| octets_in(alloc, row.octets)).ok_or("octets")?;
+    let lengths = made(|| lengths_in(alloc, row)).ok_or("lengths")?;
     let wanted = Wanted {
         records: row.records,
         out: octets.as_slice(),
-        piece: Piece::Packet(10),
+        piece: Piece::Packet(lengths.as_slice()),
         report: row.report,
     };
-    run_in_turn(&rt, row.settings, row.recording, Command::Extract, wanted)
+    run_in_turn(rt, row.settings, row.recording, Command::Extract, wanted)
+}
+
+#[test]
+fn run_by_extract(rt: HostRuntime) -> Result<(), Fail> {
+    for row in ROWS {
+        extract_in_turn(&rt, row)?;
+    }
+    Ok(())
 }
 
 #[test]
 fn run_by_packets(rt: HostRuntime) -> Result<(), Fail> {
-    let row = POINTER_DROP_AND_SEQUENCE_GAP;
-    let wanted = Wanted {
-        records: row.records,
-        out: row.lines.as_bytes(),
-        piece: Piece::Line,
-        report: row.report,
-    };
-    run_in_turn(&rt, row.settings, row.recording, Command::Packets, wanted)
+    for row in ROWS {
+        let wanted = Wanted {
+            records: row.records,
+            out: row.lines.as_bytes(),
+            piece: Piece::Line,
+            report: row.report,
+        };
+        run_in_turn(&rt, row.settings, row.recording, Command::Packets, wanted)?;
+    }
+    Ok(())
 }
 
 #[test]
@@ -321,24 +364,16 @@ fn split_once(alloc: Global, bench: &mut Bench, shelf: &mut Room, wanted: Wanted
     }
 }
 
-#[test]
-fn split_recording(rt: HostRuntime) -> Result<(), Fail> {
+// Splits in turn.
+fn split_in_turn(rt: &HostRuntime, row: Row, wanted: Wanted<'_>) -> Result<(), Fail> {
     let alloc = rt.alloc();
-    let row = POINTER_DROP_AND_SEQUENCE_GAP;
-    let octets = made(|| octets_in(alloc, row.octets)).ok_or("octets")?;
-    let wanted = Wanted {
-        records: row.records,
-        out: octets.as_slice(),
-        piece: Piece::Packet(10),
-        report: row.report,
-    };
     let mut bench = made(|| Bench::new(alloc, row.settings, row.recording)).ok_or("devices")?;
     bench.job = bench.begin(alloc);
     let mut shelf = Room {
         octets: made(|| room(alloc, 4096)).ok_or("room")?,
         refused: 0,
     };
-    let mut turns = Turns::new(&rt);
+    let mut turns = Turns::new(rt);
     for _ in 0..turns.most() {
         let answer = split_once(alloc, &mut bench, &mut shelf, wanted);
         if !turns.take(answer) {
@@ -346,4 +381,21 @@ fn split_recording(rt: HostRuntime) -> Result<(), Fail> {
         }
     }
     passed(&turns)
+}
+
+#[test]
+fn split_recordings(rt: HostRuntime) -> Result<(), Fail> {
+    let alloc = rt.alloc();
+    for row in ROWS {
+        let octets = made(|| octets_in(alloc, row.octets)).ok_or("octets")?;
+        let lengths = made(|| lengths_in(alloc, row)).ok_or("lengths")?;
+        let wanted = Wanted {
+            records: row.records,
+            out: octets.as_slice(),
+            piece: Piece::Packet(lengths.as_slice()),
+            report: row.report,
+        };
+        split_in_turn(&rt, row, wanted)?;
+    }
+    Ok(())
 }

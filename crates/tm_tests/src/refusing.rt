@@ -31,6 +31,12 @@ fn words_of(alloc: Global, item: Item<'_>) -> Result<String, AllocError> {
             let word = fault.word();
             format!(in alloc; "bad {seen} {word}\n")
         }
+        Item::MasterGap {
+            seen,
+            expected,
+            found,
+            missing,
+        } => format!(in alloc; "mastergap {seen} {expected} {found} {missing}\n"),
         Item::Gap {
             seen,
             channel,
@@ -112,7 +118,8 @@ fn answers_of(
 ) -> Result<Vec<Result<(), StepFault<Refused>>>, Fail> {
     let settings = settings_of(alloc, row.settings)?;
     let layout = settings.layout();
-    let Ok(mut reassembly) = Reassembly::new(alloc, layout, settings.channels()) else {
+    let limit = settings.max_packet();
+    let Ok(mut reassembly) = Reassembly::new(alloc, layout, settings.channels(), limit) else {
         return Err(Fail::from("memory"));
     };
     let recording = octets_of(alloc, row.recording)?;

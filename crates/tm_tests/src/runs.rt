@@ -9,6 +9,10 @@ pub(crate) const BASE: &str = "spacecraft = 42\nframe_length = 24\nerror_control
 
 const WIDE: &str = "spacecraft = 42\nframe_length = 27\nerror_control = false\n";
 
+/// No packet has more than twelve octets.
+pub(crate) const TWELVE: &str =
+    "spacecraft = 42\nframe_length = 24\nerror_control = false\nmax_packet = 12\n";
+
 /// A recording, and what is known of it. Octets are in hexadecimal: `55*4` is four octets `55`.
 #[derive(Clone, Copy)]
 pub(crate) struct Row {
@@ -203,7 +207,7 @@ pub(crate) const POINTER_DROP_AND_SEQUENCE_GAP: Row = Row {
     order: "/0/--1.",
 };
 
-const FRAME_GAP: Row = Row {
+pub(crate) const FRAME_GAP: Row = Row {
     name: "frame-gap",
     settings: BASE,
     recording: "02A0FEFE1800 0064C000000B555555555555555555555555 \
@@ -214,6 +218,7 @@ const FRAME_GAP: Row = Row {
     items: "packet 0 0 0 0 18\n\
         packet 1 0 1 0 18\n\
         packet 2 0 2 0 10\n\
+        mastergap 3 1 2 1\n\
         gap 3 0 1 2 1\n\
         drop 3 0 2 10 8 gap\n\
         drop 3 0 3 0 6 no-start\n\
@@ -230,11 +235,12 @@ const FRAME_GAP: Row = Row {
         1,0,100,1,85\n\
         2,0,100,2,85\n\
         3,0,100,4,85\n",
-    report: "gap record=3 channel=0 expected=1 found=2 missing=1\n\
+    report: "mastergap record=3 expected=1 found=2 missing=1\n\
+        gap record=3 channel=0 expected=1 found=2 missing=1\n\
         drop record=3 channel=0 from=2 at=10 octets=8 reason=gap\n\
         drop record=3 channel=0 from=3 at=0 octets=6 reason=no-start\n\
         seqgap record=3 channel=0 apid=100 expected=3 found=4 missing=1\n",
-    order: "/0/0/0/---1.",
+    order: "/0/0/0/----1.",
 };
 
 const FRAME_TWICE: Row = Row {
@@ -244,6 +250,7 @@ const FRAME_TWICE: Row = Row {
         02A000001800 0064C000000B555555555555555555555555",
     records: 2,
     items: "packet 0 0 0 0 18\n\
+        mastergap 1 1 0 255\n\
         gap 1 0 1 0 255\n\
         packet 1 0 1 0 18\n",
     octets: "0064C000000B555555555555555555555555 \
@@ -252,9 +259,10 @@ const FRAME_TWICE: Row = Row {
         packet record=1 channel=0 from=1 at=0 type=tm secondary=no apid=100 flags=unsegmented count=0 octets=18\n",
     rows: "0,0,100,0,85\n\
         1,0,100,0,85\n",
-    report: "gap record=1 channel=0 expected=1 found=0 missing=255\n\
+    report: "mastergap record=1 expected=1 found=0 missing=255\n\
+        gap record=1 channel=0 expected=1 found=0 missing=255\n\
         seqgap record=1 channel=0 apid=100 expected=1 found=0 missing=16383\n",
-    order: "/0/-1.",
+    order: "/0/--1.",
 };
 
 const OTHER_VERSION: Row = Row {
@@ -488,8 +496,119 @@ const ERROR_CONTROL: Row = Row {
     order: "//-.",
 };
 
+pub(crate) const LONG_AT_ONCE: Row = Row {
+    name: "long-at-once",
+    settings: TWELVE,
+    recording: "02A000001800 0064C000000355555555 0064C00100075555 \
+        02A001011806 555555555555 0064C0020005555555555555",
+    records: 2,
+    items: "packet 0 0 0 0 10\n\
+        drop 0 0 0 10 8 length\n\
+        drop 1 0 1 0 6 no-start\n\
+        packet 1 0 1 6 12\n",
+    octets: "0064C000000355555555 0064C0020005555555555555",
+    lines: "packet record=0 channel=0 from=0 at=0 type=tm secondary=no apid=100 flags=unsegmented count=0 octets=10\n\
+        packet record=1 channel=0 from=1 at=6 type=tm secondary=no apid=100 flags=unsegmented count=2 octets=12\n",
+    rows: "0,0,100,0,85\n\
+        1,0,100,2,85\n",
+    report: "drop record=0 channel=0 from=0 at=10 octets=8 reason=length\n\
+        drop record=1 channel=0 from=1 at=0 octets=6 reason=no-start\n\
+        seqgap record=1 channel=0 apid=100 expected=1 found=2 missing=1\n",
+    order: "/0-/-1.",
+};
+
+pub(crate) const LONG_SPLIT_HEADER: Row = Row {
+    name: "long-split-header",
+    settings: TWELVE,
+    recording: "02A000001800 0064C00000015555 0064C001000055 0064C0 \
+        02A00101180B 0200075555555555555555 0064C003000055",
+    records: 2,
+    items: "packet 0 0 0 0 8\n\
+        packet 0 0 0 8 7\n\
+        drop 1 0 0 15 3 length\n\
+        drop 1 0 1 0 11 length\n\
+        packet 1 0 1 11 7\n",
+    octets: "0064C00000015555 0064C001000055 0064C003000055",
+    lines: "packet record=0 channel=0 from=0 at=0 type=tm secondary=no apid=100 flags=unsegmented count=0 octets=8\n\
+        packet record=0 channel=0 from=0 at=8 type=tm secondary=no apid=100 flags=unsegmented count=1 octets=7\n\
+        packet record=1 channel=0 from=1 at=11 type=tm secondary=no apid=100 flags=unsegmented count=3 octets=7\n",
+    rows: "0,0,100,0,85\n\
+        0,0,100,1,85\n\
+        1,0,100,3,85\n",
+    report: "drop record=1 channel=0 from=0 at=15 octets=3 reason=length\n\
+        drop record=1 channel=0 from=1 at=0 octets=11 reason=length\n\
+        seqgap record=1 channel=0 apid=100 expected=2 found=3 missing=1\n",
+    order: "/00/--1.",
+};
+
+const LONG_SPLIT_HEADER_AND_POINTER: Row = Row {
+    name: "long-split-header, where the pointer disagrees too",
+    settings: TWELVE,
+    recording: "02A000001800 0064C00000015555 0064C001000055 0064C0 \
+        02A00101180A 02000755555555555555 0064C00300015555",
+    records: 2,
+    items: "packet 0 0 0 0 8\n\
+        packet 0 0 0 8 7\n\
+        drop 1 0 0 15 3 pointer\n\
+        drop 1 0 1 0 10 pointer\n\
+        packet 1 0 1 10 8\n",
+    octets: "0064C00000015555 0064C001000055 0064C00300015555",
+    lines: "packet record=0 channel=0 from=0 at=0 type=tm secondary=no apid=100 flags=unsegmented count=0 octets=8\n\
+        packet record=0 channel=0 from=0 at=8 type=tm secondary=no apid=100 flags=unsegmented count=1 octets=7\n\
+        packet record=1 channel=0 from=1 at=10 type=tm secondary=no apid=100 flags=unsegmented count=3 octets=8\n",
+    rows: "0,0,100,0,85\n\
+        0,0,100,1,85\n\
+        1,0,100,3,85\n",
+    report: "drop record=1 channel=0 from=0 at=15 octets=3 reason=pointer\n\
+        drop record=1 channel=0 from=1 at=0 octets=10 reason=pointer\n\
+        seqgap record=1 channel=0 apid=100 expected=2 found=3 missing=1\n",
+    order: "/00/--1.",
+};
+
+const LONG: Row = Row {
+    name: "long-or-not, where it is long",
+    settings: TWELVE,
+    recording: "02A000001800 0064C00000075555555555555555 55555555",
+    records: 1,
+    items: "drop 0 0 0 0 18 length\n",
+    octets: "",
+    lines: "",
+    rows: "",
+    report: "drop record=0 channel=0 from=0 at=0 octets=18 reason=length\n",
+    order: "/-.",
+};
+
+const NOT_LONG: Row = Row {
+    name: "long-or-not, where it is not",
+    settings: "spacecraft = 42\nframe_length = 24\nerror_control = false\nmax_packet = 14\n",
+    recording: "02A000001800 0064C00000075555555555555555 55555555",
+    records: 1,
+    items: "packet 0 0 0 0 14\n\
+        drop 0 0 0 14 4 version\n",
+    octets: "0064C00000075555555555555555",
+    lines: "packet record=0 channel=0 from=0 at=0 type=tm secondary=no apid=100 flags=unsegmented count=0 octets=14\n",
+    rows: "0,0,100,0,85\n",
+    report: "drop record=0 channel=0 from=0 at=14 octets=4 reason=version\n",
+    order: "/0-.",
+};
+
+const MASTER_GAP_UNCHOSEN: Row = Row {
+    name: "master-gap-unchosen",
+    settings: "spacecraft = 42\nframe_length = 24\nerror_control = false\nchannels = [1]\n",
+    recording: "02A000001800 0064C000000B555555555555555555555555 \
+        02A202001800 0064C000000B555555555555555555555555",
+    records: 2,
+    items: "mastergap 1 1 2 1\n\
+        packet 1 1 1 0 18\n",
+    octets: "0064C000000B555555555555555555555555",
+    lines: "packet record=1 channel=1 from=1 at=0 type=tm secondary=no apid=100 flags=unsegmented count=0 octets=18\n",
+    rows: "1,1,100,0,85\n",
+    report: "mastergap record=1 expected=1 found=2 missing=1\n",
+    order: "//-0.",
+};
+
 /// All of them.
-pub(crate) fn rows() -> [Row; 21] {
+pub(crate) fn rows() -> [Row; 27] {
     [
         TWO_PACKETS,
         EMPTY_RECORDING,
@@ -512,6 +631,12 @@ pub(crate) fn rows() -> [Row; 21] {
         SPLIT_WITH_IDLE,
         HELD_AFTER_FIRST_RECORD,
         ERROR_CONTROL,
+        LONG_AT_ONCE,
+        LONG_SPLIT_HEADER,
+        LONG_SPLIT_HEADER_AND_POINTER,
+        LONG,
+        NOT_LONG,
+        MASTER_GAP_UNCHOSEN,
     ]
 }
 

@@ -24,8 +24,9 @@ fn read_with_defaults_and_without(rt: HostRuntime) -> Result<(), Fail> {
     let plain = settings_of(alloc, BASE)?;
     assert_eq!(rt; plain.layout().parts(), base());
     assert_eq!(rt; plain.layout().record_length(), 24);
+    assert_eq!(rt; plain.max_packet(), 65_542);
     let text = format!(in alloc;
-        "{BASE}skip_before = 4\nskip_after = 1024\nsecondary = \"always\"\nocf = \"never\"\nchannels = [7, 0]\n"
+        "{BASE}skip_before = 4\nskip_after = 1024\nsecondary = \"always\"\nocf = \"never\"\nchannels = [7, 0]\nmax_packet = 7\n"
     )?;
     let full = settings_of(alloc, text.as_str())?;
     let parts = LayoutParts {
@@ -37,6 +38,7 @@ fn read_with_defaults_and_without(rt: HostRuntime) -> Result<(), Fail> {
     };
     assert_eq!(rt; full.layout().parts(), parts);
     assert_eq!(rt; full.layout().record_length(), 1052);
+    assert_eq!(rt; full.max_packet(), 7);
     Ok(())
 }
 
@@ -104,6 +106,22 @@ fn settings_faults(rt: HostRuntime) -> Result<(), Fail> {
         (
             "spacecraft = 42\nframe_length = 24\nerror_control = false\nocf = \"Flag\"\n",
             "range ocf",
+        ),
+        (
+            "spacecraft = 42\nframe_length = 24\nerror_control = false\nmax_packet = 6\n",
+            "range max_packet",
+        ),
+        (
+            "spacecraft = 42\nframe_length = 24\nerror_control = false\nmax_packet = 65543\n",
+            "range max_packet",
+        ),
+        (
+            "spacecraft = 42\nframe_length = 24\nerror_control = false\nmax_packet = \"12\"\n",
+            "kind max_packet",
+        ),
+        (
+            "spacecraft = 42\nframe_length = 24\nerror_control = false\nmax_packet = 6\nchannels = []\n",
+            "range channels",
         ),
         ("spacecraft = -1\nframe_length = 8\n", "range spacecraft"),
         ("frame_length = 8\n", "missing spacecraft"),

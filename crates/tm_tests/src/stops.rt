@@ -1,6 +1,10 @@
 //! Jobs that are stopped and go on: the outputs joined are those of one run.
 
-use crate::runs::{BASE, Row, SHORT_REST, TWO_CHANNELS, new_job, octets_of, rows, settings_of};
+use crate::checkpoints::{CHECKPOINT, LIMITED, VERSION_1, VERSION_2};
+use crate::runs::{
+    BASE, FRAME_GAP, LONG_SPLIT_HEADER, Row, SHORT_REST, TWO_CHANNELS, new_job, octets_of, rows,
+    settings_of,
+};
 use crate::{MemoryDrain, MemoryShelf, MemorySource};
 use std::alloc::{AllocError, Global};
 use std::process::Abort;
@@ -170,55 +174,152 @@ fn worked_rows_split_in_steps(rt: HostRuntime) -> Result<(), Fail> {
     Ok(())
 }
 
-// Runs a job by `extract` over a recording, and answers the job that is kept.
-fn extract_on(
-    alloc: Global,
-    job: Job,
-    recording: &str,
-    out: &mut MemoryDrain,
-    ending: Ending,
-) -> Result<Option<Job>, Fail> {
-    let mut source = MemorySource::new(octets_of(alloc, recording)?, 65_536, 0);
-    let mut report = MemoryDrain::new(Vec::new(alloc), 65_536, 0);
-    let command = Command::Extract;
-    let Ok(done) = run(alloc, job, command, &mut source, out, &mut report, ending) else {
-        return Err(Fail::from("a run"));
-    };
-    if !report.octets.is_empty() {
-        return Err(Fail::from("no report"));
-    }
-    Ok(done.kept)
+// What jobs that go on from each other write.
+#[derive(Drop)]
+struct Outputs {
+    out: MemoryDrain,
+    report: MemoryDrain,
 }
 
-// Stopped once, after 1, 2, 3 or 4 records. The checkpoint after 3 is known octet for octet but for its check.
+impl Outputs {
+    fn new(alloc: Global) -> Outputs {
+        Outputs {
+            out: MemoryDrain::new(Vec::new(alloc), 65_536, 0),
+            report: MemoryDrain::new(Vec::new(alloc), 65_536, 0),
+        }
+    }
+
+    // These octets were written, and this report.
+    fn are(&self, octets: &[u8], report: &str) -> bool {
+        let Outputs { out, report: lines } = self;
+        out.octets.as_slice() == octets && lines.octets.as_slice() == report.as_bytes()
+    }
+
+    // Runs a job by `extract` over a recording, and answers the job that is kept.
+    fn extract(
+        &mut self,
+        alloc: Global,
+        job: Job,
+        recording: &str,
+        ending: Ending,
+    ) -> Result<Option<Job>, Fail> {
+        let mut source = MemorySource::new(octets_of(alloc, recording)?, 65_536, 0);
+        let Ok(done) = run(
+            alloc,
+            job,
+            Command::Extract,
+            &mut source,
+            &mut self.out,
+            &mut self.report,
+            ending,
+        ) else {
+            return Err(Fail::from("a run"));
+        };
+        Ok(done.kept)
+    }
+
+    // Likewise, of an ending that keeps one.
+    fn extract_kept(
+        &mut self,
+        alloc: Global,
+        job: Job,
+        recording: &str,
+        ending: Ending,
+    ) -> Result<Job, Fail> {
+        match self.extract(alloc, job, recording, ending)? {
+            Some(job) => Ok(job),
+            None => Err(Fail::from("a job")),
+        }
+    }
+}
+
+// Stops once, after so many records, and goes on from the checkpoint, which is answered.
+fn stopped_once(rt: &impl Abort, alloc: Global, row: Row, records: u32) -> Result<Vec<u8>, Fail> {
+    let mut outputs = Outputs::new(alloc);
+    let job = new_job(alloc, row.settings)?;
+    let ending = Ending::StopAfter(records);
+    let kept = outputs.extract_kept(alloc, job, row.recording, ending)?;
+    let Ok(checkpoint) = kept.checkpoint(alloc) else {
+        return Err(Fail::from("memory"));
+    };
+    let job = next_job(alloc, row.settings, kept, Going::Resumed)?;
+    let kept = outputs.extract(alloc, job, row.recording, Ending::Close)?;
+    assert!(rt; kept.is_none());
+    let octets = octets_of(alloc, row.octets)?;
+    assert!(rt; outputs.are(&octets, row.report), "after {records} records");
+    Ok(checkpoint)
+}
+
 #[test]
 fn two_channels_stopped_once(rt: HostRuntime) -> Result<(), Fail> {
-    let alloc = rt.alloc();
-    let octets = octets_of(alloc, TWO_CHANNELS.octets)?;
-    let known = octets_of(
-        alloc,
-        "544D5843 01 002A 0018 0000 0000 00 00 00 FF 00000003 \
-            02 00 00000000 0000 00000012 0064C0000013555555555555555555555555 01 01 00 00 00 00 00 00 0001 0864 0001 FFFF",
-    )?;
     for records in 1..=4u32 {
-        let job = new_job(alloc, BASE)?;
-        let mut out = MemoryDrain::new(Vec::new(alloc), 65_536, 0);
-        let recording = TWO_CHANNELS.recording;
-        let ending = Ending::StopAfter(records);
-        let Some(kept) = extract_on(alloc, job, recording, &mut out, ending)? else {
-            return Err(Fail::from("a job"));
-        };
-        if records == 3 {
-            let Ok(checkpoint) = kept.checkpoint(alloc) else {
-                return Err(Fail::from("memory"));
-            };
-            assert_eq!(rt; checkpoint.len(), 69);
-            assert!(rt; checkpoint.as_slice().starts_with(known.as_slice()));
-        }
-        let job = next_job(alloc, BASE, kept, Going::Resumed)?;
-        let kept = extract_on(alloc, job, recording, &mut out, Ending::Close)?;
-        assert!(rt; kept.is_none());
-        assert_eq!(rt; out.octets.as_slice(), octets.as_slice());
+        stopped_once(&rt, rt.alloc(), TWO_CHANNELS, records)?;
+    }
+    Ok(())
+}
+
+// Three records are done, and a packet of 14 octets is begun.
+const GAP: &str = "544D5843 03 002A 0018 0000 0000 00 00 00 FF 010006 00000003 01 00 \
+    02 00 00000002 000A 00000008 0064C00300075555 00 00 00 00 00 00 00 0001 0064 0002 FFFF 613D";
+
+const GAP_2: &str = "544D5843 02 002A 0018 0000 0000 00 00 00 FF 010006 00000003 \
+    02 00 00000002 000A 00000008 0064C00300075555 00 00 00 00 00 00 00 0001 0064 0002 FFFF 3C22";
+
+const GAP_1: &str = "544D5843 01 002A 0018 0000 0000 00 00 00 FF 00000003 \
+    02 00 00000002 000A 00000008 0064C00300075555 00 00 00 00 00 00 00 0001 0064 0002 FFFF 3FDA";
+
+#[test]
+fn known_checkpoints(rt: HostRuntime) -> Result<(), Fail> {
+    let alloc = rt.alloc();
+    let table = [
+        (TWO_CHANNELS, 3, CHECKPOINT),
+        (FRAME_GAP, 3, GAP),
+        (LONG_SPLIT_HEADER, 1, LIMITED),
+    ];
+    for (row, records, text) in table {
+        let checkpoint = stopped_once(&rt, alloc, row, records)?;
+        let known = octets_of(alloc, text)?;
+        assert_eq!(rt; checkpoint.as_slice(), known.as_slice(), "{text}");
+    }
+    Ok(())
+}
+
+// Goes on from a checkpoint, and closes the recording.
+fn resumed_from(alloc: Global, checkpoint: &str, row: Row) -> Result<Outputs, Fail> {
+    let settings = settings_of(alloc, row.settings)?;
+    let octets = octets_of(alloc, checkpoint)?;
+    let Ok(job) = Job::resume(alloc, &settings, octets.as_slice()) else {
+        return Err(Fail::from("a checkpoint"));
+    };
+    let mut outputs = Outputs::new(alloc);
+    match outputs.extract(alloc, job, row.recording, Ending::Close)? {
+        None => Ok(outputs),
+        Some(_) => Err(Fail::from("a job")),
+    }
+}
+
+// Each version of a checkpoint after three records is gone on from. Of the older ones the last count of the master channel isn't known, so that
+// the report lacks its gap.
+#[test]
+fn resumed_from_three_versions(rt: HostRuntime) -> Result<(), Fail> {
+    let alloc = rt.alloc();
+    let gap = FRAME_GAP.report;
+    let older = gap.strip_prefix("mastergap record=3 expected=1 found=2 missing=1\n");
+    let older = older.unwrap_or("");
+    let joined = "0064C00000135555555555555555555555555555555555555555 0064C001000355555555";
+    let last = "0064C0040005555555555555";
+    let table = [
+        (CHECKPOINT, TWO_CHANNELS, joined, ""),
+        (VERSION_2, TWO_CHANNELS, joined, ""),
+        (VERSION_1, TWO_CHANNELS, joined, ""),
+        (GAP, FRAME_GAP, last, gap),
+        (GAP_2, FRAME_GAP, last, older),
+        (GAP_1, FRAME_GAP, last, older),
+    ];
+    for (checkpoint, row, octets, report) in table {
+        let outputs = resumed_from(alloc, checkpoint, row)?;
+        let octets = octets_of(alloc, octets)?;
+        assert!(rt; outputs.are(&octets, report), "{checkpoint}");
     }
     Ok(())
 }
@@ -255,18 +356,16 @@ fn reads_two_records(rt: HostRuntime) -> Result<(), Fail> {
 #[test]
 fn short_rest_kept(rt: HostRuntime) -> Result<(), Fail> {
     let alloc = rt.alloc();
+    let mut outputs = Outputs::new(alloc);
     let job = new_job(alloc, BASE)?;
-    let mut out = MemoryDrain::new(Vec::new(alloc), 65_536, 0);
-    let Some(kept) = extract_on(alloc, job, SHORT_REST.recording, &mut out, Ending::Keep)? else {
-        return Err(Fail::from("a job"));
-    };
+    let kept = outputs.extract_kept(alloc, job, SHORT_REST.recording, Ending::Keep)?;
     assert_eq!(rt; kept.records(), 2);
-    assert!(rt; out.octets.is_empty());
+    assert!(rt; outputs.are(&[], ""));
     let job = next_job(alloc, BASE, kept, Going::Resumed)?;
-    let kept = extract_on(alloc, job, TWO_CHANNELS.recording, &mut out, Ending::Close)?;
+    let kept = outputs.extract(alloc, job, TWO_CHANNELS.recording, Ending::Close)?;
     assert!(rt; kept.is_none());
     let octets = octets_of(alloc, TWO_CHANNELS.octets)?;
-    assert_eq!(rt; out.octets.as_slice(), octets.as_slice());
+    assert!(rt; outputs.are(&octets, ""));
     Ok(())
 }
 
@@ -274,29 +373,26 @@ fn short_rest_kept(rt: HostRuntime) -> Result<(), Fail> {
 #[test]
 fn recording_too_short(rt: HostRuntime) -> Result<(), Fail> {
     let alloc = rt.alloc();
-    let job = new_job(alloc, BASE)?;
-    let mut out = MemoryDrain::new(Vec::new(alloc), 65_536, 0);
-    let recording = TWO_CHANNELS.recording;
-    let ending = Ending::StopAfter(3);
-    let Some(kept) = extract_on(alloc, job, recording, &mut out, ending)? else {
-        return Err(Fail::from("a job"));
+    let settings = settings_of(alloc, BASE)?;
+    let checkpoint = octets_of(alloc, CHECKPOINT)?;
+    let Ok(job) = Job::resume(alloc, &settings, checkpoint.as_slice()) else {
+        return Err(Fail::from("a checkpoint"));
     };
-    let job = next_job(alloc, BASE, kept, Going::Resumed)?;
+    let mut outputs = Outputs::new(alloc);
     let mut source = MemorySource::new(octets_of(alloc, SHORT_REST.recording)?, 65_536, 0);
-    let mut report = MemoryDrain::new(Vec::new(alloc), 65_536, 0);
     let answer = run(
         alloc,
         job,
         Command::Extract,
         &mut source,
-        &mut out,
-        &mut report,
+        &mut outputs.out,
+        &mut outputs.report,
         Ending::Close,
     );
     match answer {
         Err(fault) => assert_eq!(rt; fault, RunFault::ShortRecording),
         Ok(_) => assert!(rt; false),
     }
-    assert!(rt; report.octets.is_empty());
+    assert!(rt; outputs.are(&[], ""));
     Ok(())
 }

@@ -1,6 +1,6 @@
 -- The gap between two counts, by the count that should have been found.
-use Rattle.std.proofs.Common.{◌≡◌, ℕ, Bool, true, false, not, cond, Option, Some, None, List, [], ◌∷◌, refl, sym, ap, ◌∙◌, ⊎_elim, eqb}
-use Rattle.std.proofs.lemmas.Bool.{cases_Bool, cond-true, cond-false}
+use Rattle.std.proofs.Common.{◌≡◌, ℕ, Bool, true, false, not, cond, Option, Some, None, [], ◌∷◌, refl, ap, ◌∙◌, eqb}
+use Rattle.std.proofs.lemmas.Bool.{cond-true, cond-false}
 use Rattle.tm_reassembly.specs.Chain.{Member, has_gap, next_count}
 use Rattle.tm_reassembly.specs.Item.{Item}
 use Rattle.tm_reassembly.specs.Items.{gap_at}

@@ -1,8 +1,8 @@
 -- No packet that is given has more octets than the limit.
-use Rattle.std.proofs.Common.{◌≡◌, Ok, Err, ℕ, suc, zero, pred, ◌+◌, ◌≤◌, Bool, true, false, ◌&&◌, Option, Some, None, List, [], ◌∷◌, ◌++◌, length, take, refl, sym, ap, subst, ◌∙◌, ⊎_elim, inl, inr, arith, length-append, leb, ltb}
+use Rattle.std.proofs.Common.{◌≡◌, Ok, Err, ℕ, suc, zero, pred, ◌+◌, ◌≤◌, Bool, true, false, ◌&&◌, Option, Some, None, List, [], ◌∷◌, ◌++◌, length, take, refl, sym, subst, ◌∙◌, ⊎_elim, inl, inr, arith, length-append, leb, ltb}
 use Rattle.std.specs.List.{slice_get}
 use Rattle.std.proofs.lemmas.Bool.{cases_Bool, cases_lt, cond_both, lt-ltb, le-leb, leb-true}
-use Rattle.std.proofs.lemmas.List.{length-take-le, append-nil}
+use Rattle.std.proofs.lemmas.List.{length-take-le}
 use Rattle.tm_frame.specs.Frame.{GoodFrame}
 use Rattle.tm_reassembly.specs.Among.{Among}
 use Rattle.tm_reassembly.specs.Chain.{Member, has_gap, member, master_member}

@@ -1,5 +1,5 @@
 -- The older form of a spelling, and what is lost with the last master channel count.
-use Rattle.std.proofs.Common.{◌≡◌, ◌⊎◌, Ok, Err, Result, ℕ, suc, zero, ◌+◌, ◌-◌, ◌%◌, ◌≤◌, Bool, true, false, Option, Some, None, List, [], ◌∷◌, ◌++◌, length, drop, refl, sym, ap, subst, ◌∙◌, inl, inr, ⊎_elim, arith, append_assoc, length-append, ltb}
+use Rattle.std.proofs.Common.{◌≡◌, ◌⊎◌, Ok, Err, Result, ℕ, ◌+◌, ◌-◌, ◌%◌, Bool, Option, Some, None, List, [], ◌∷◌, ◌++◌, length, refl, sym, ap, subst, ◌∙◌, inl, inr, ⊎_elim, arith, append_assoc, length-append, ltb}
 use Rattle.std.proofs.lemmas.List.{append-nil}
 use Rattle.std.proofs.lemmas.Bool.{cases_Bool, cond-true, cond-false, le-ltb}
 use Rattle.tm_frame.specs.Frame.{GoodFrame}
@@ -7,8 +7,8 @@ use Rattle.tm_reassembly.specs.declared.fault.StateFault.{StateFault}
 use Rattle.tm_reassembly.specs.Readings.{Reading}
 use Rattle.tm_reassembly.specs.State.{State}
 use Rattle.tm_reassembly.specs.Chain.{Member, has_gap, next_count, member, master_member}
-use Rattle.tm_reassembly.specs.Checkpoint.{ReadAll, Decoded, four_at, blocks_read, master_read, with_channels, with_master, decoding_of, old_decoding_of, old_spelling}
-use Rattle.tm_reassembly.specs.Item.{Item, MasterGap}
+use Rattle.tm_reassembly.specs.Checkpoint.{ReadAll, Decoded, four_at, blocks_read, master_read, with_channels, decoding_of, old_decoding_of, old_spelling}
+use Rattle.tm_reassembly.specs.Item.{Item}
 use Rattle.tm_reassembly.specs.Items.{master_gap_item, gap_at, items, after}
 use Rattle.tm_reassembly.specs.OlderForms.{without_master, IsMasterGapAtMost, LacksMasterGap, one_octet_more}
 use Rattle.tm_reassembly.specs.Recording as raw

@@ -8,7 +8,7 @@ use Rattle.tm_frame.specs.Frame.{GoodFrame}
 use Rattle.tm_frame.specs.declared.fault.FrameFault.{FrameFault}
 use Rattle.tm_reassembly.specs.Readings.{Reading}
 use Rattle.tm_reassembly.specs.Item as item
-use Rattle.tm_reassembly.specs.Chain.{Member, has_gap, member, member_of, is_vca_kind, chain, master_member, master_stem, master_chain}
+use Rattle.tm_reassembly.specs.Chain.{Member, has_gap, member, member_of, is_vca_kind, chain, master_member, master_stem}
 use Rattle.tm_reassembly.specs.Field.{chain_tail_at}
 use Rattle.tm_reassembly.specs.Channels.{eight}
 use Rattle.tm_reassembly.specs.Items.{seen_at, channel_items, channel_after, after, master_gap_item, gap_at, last_count, record_items, items, last_with}

@@ -1,8 +1,8 @@
-use Rattle.std.proofs.Common.{◌≡◌, Option, Ok, refl, sym, ap, subst, ◌∙◌, take, List, arith}
+use Rattle.std.proofs.Common.{Option, Ok, refl, sym, ap, ◌∙◌, arith}
 use Rattle.std.proofs.lemmas.List.{length-set}
 use Rattle.tm_reassembly.specs.State.{Last}
 use Rattle.tm_reassembly.specs.Kept.{lasts}
-use Rattle.tm_reassembly.proofs.Blocks.{ReadsTo, kept_more, kept_all}
+use Rattle.tm_reassembly.proofs.Blocks.{kept_more, kept_all}
 use Rattle.tm_reassembly.proofs.Slots.{lasts_set, lasts_length, limit_at, limit_set}
 use Rattle.tm_reassembly.proofs.reassembly.restore.Goals as goal
 

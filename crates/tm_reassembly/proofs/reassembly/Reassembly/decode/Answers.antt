@@ -1,4 +1,4 @@
-use Rattle.std.proofs.Common.{◌≡◌, ◌+◌, ◌≤◌, length, inl, ◌∙◌, sym, rules}
+use Rattle.std.proofs.Common.{◌+◌, ◌≤◌, length, inl, rules}
 use Rattle.tm_reassembly.proofs.Decoding.{decoding_behind, decoding_master}
 use Rattle.tm_reassembly.proofs.reassembly.Reassembly.decode.Goals as goal
 

@@ -1,4 +1,4 @@
-use Rattle.std.proofs.Common.{◌≡◌, false, ap, ◌∙◌, arith}
+use Rattle.std.proofs.Common.{◌≡◌, false, ap, ◌∙◌}
 use Rattle.tm_reassembly.specs.Rules.{Rules, chooses}
 use Rattle.tm_reassembly.specs.Steps.{Progress}
 use Rattle.tm_reassembly.proofs.OneRecord.{held_short, held_other}

@@ -1,5 +1,5 @@
 -- What a work's pieces lack without its last master channel count: at most one gap of the master channel.
-use Rattle.std.proofs.Common.{◌≡◌, ◌⊎◌, inl, inr, ⊎_elim, ℕ, List, [], ◌∷◌, ◌++◌, length, refl, sym, ap, ◌∙◌, append_assoc, append-nil}
+use Rattle.std.proofs.Common.{◌≡◌, inl, inr, ⊎_elim, ℕ, List, [], ◌∷◌, ◌++◌, length, refl, sym, ap, ◌∙◌, append_assoc, append-nil}
 use Rattle.tm_frame.specs.Layout.{record_length_of}
 use Rattle.tm_reassembly.specs.Item.{Item, MasterGap}
 use Rattle.tm_reassembly.specs.State.{State}
@@ -17,7 +17,7 @@ use Rattle.tm_tool.specs.Outlets.{GivesNone, no_text}
 use Rattle.tm_tool.specs.Outputs.{Piece}
 use Rattle.tm_tool.specs.Pieces.{Entries, Texts, Work, chosen, end_pieces, further, items_of, line_of, noted, noted_all, piece_of, pieces, pieces_of, record_pieces, report_of, text_of, worked}
 use Rattle.tm_tool.specs.Records.{rest_of}
-use Rattle.tm_tool.specs.Shelves.{Shelved, shelf_text}
+use Rattle.tm_tool.specs.Shelves.{shelf_text}
 use Rattle.tm_tool.specs.ShelfLaws.{no_shelf}
 use Rattle.tm_tool.proofs.Running.{noted-append, pieces-append}
 

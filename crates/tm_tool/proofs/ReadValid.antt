@@ -1,7 +1,6 @@
 -- What is read of the state is a valid one.
 use Rattle.std.proofs.Common.{◌≡◌, ℕ, ◌+◌, ◌<◌, ◌^◌, Ok, Err, None, Option, Result, List, [], ◌∷◌, length, drop, refl, subst, arith, ltb, eqb}
-use Rattle.std.specs.Prelude.{slice_index}
-use Rattle.std.proofs.lemmas.Bool.{cond_both, eqb-false}
+use Rattle.std.proofs.lemmas.Bool.{cond_both}
 use Rattle.tm_bits.specs.Bits.{AreOctets}
 use Rattle.tm_bits.proofs.PartLemmas.{octets_behind}
 use Rattle.tm_reassembly.specs.declared.fault.StateFault.{StateFault}

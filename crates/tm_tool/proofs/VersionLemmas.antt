@@ -1,5 +1,5 @@
 -- The versions of checkpoints, and the state in each.
-use Rattle.std.proofs.Common.{◌≡◌, ℕ, ◌+◌, ◌≤◌, Bool, true, false, not, Ok, Result, Option, Some, None, List, [], ◌∷◌, ◌++◌, length, take, drop, refl, sym, ap, ◌∙◌, arith, eqb}
+use Rattle.std.proofs.Common.{◌≡◌, ℕ, ◌+◌, ◌≤◌, Bool, true, false, Ok, Option, Some, None, List, ◌++◌, length, take, refl, sym, ap, ◌∙◌, arith, eqb}
 use Rattle.std.specs.Prelude.{if◌then◌else◌}
 use Rattle.std.proofs.lemmas.Bool.{eqb-true}
 use Rattle.tm_bits.specs.Bits.{AreOctets}
@@ -12,7 +12,6 @@ use Rattle.tm_reassembly.proofs.Spelling.{read-again, old-read-again}
 use Rattle.tm_tool.specs.declared.version.Version.{Version}
 use Rattle.tm_tool.specs.declared.version.Version.TheVariants.{One, Two, Three}
 use Rattle.tm_tool.specs.Checkpoints.{form_of, version_of, kept_state, head_octets, state_octets, state_in}
-use Rattle.tm_tool.specs.Pieces.{Work}
 
 -- ---- versions
 

@@ -1,5 +1,4 @@
 use Rattle.std.proofs.Common.{◌≡◌, Ok, Err, ap, ◌∙◌, ⊎_elim, arith}
-use Rattle.std.specs.Prelude.{IsOk}
 use Rattle.tm_bits.specs.Bits.{AreOctets}
 use Rattle.tm_tool.specs.Checkpoints.{state_in}
 use Rattle.tm_tool.proofs.StateFaults.{never_memory}

@@ -3,37 +3,37 @@ use Rattle.std.proofs.Common.{◌≡◌, inl, inr, ⊎_elim, ℕ, List, [], ◌�
 use Rattle.tm_frame.specs.Layout.{record_length_of}
 use Rattle.tm_reassembly.specs.Item.{Item, MasterGap}
 use Rattle.tm_reassembly.specs.State.{State}
-use Rattle.tm_reassembly.specs.OlderForms.{LacksMasterGap, IsMasterGapAtMost}
-use Rattle.tm_reassembly.specs.OlderForms as older
-use Rattle.tm_reassembly.specs.Valid.{IsState}
+use Rattle.tm_reassembly.specs.OlderForms as forgotten
+use Rattle.tm_reassembly.specs.OlderForms.{IsMasterGapAtMost, LacksMasterGap}
 use Rattle.tm_reassembly.proofs.OlderForms.{items-lack, states-meet}
 use Rattle.tm_tool.specs.declared.job.Command.{Command}
 use Rattle.tm_tool.specs.declared.job.Ending.{Ending}
 use Rattle.tm_tool.specs.declared.job.Ending.TheVariants.{Close, Keep, StopAfter}
 use Rattle.tm_tool.specs.Checkpoints.{without_master}
 use Rattle.tm_tool.specs.Lines.{master_gap_line}
-use Rattle.tm_tool.specs.OlderVersions.{gap_piece, IsGapAtMost, LacksGap}
+use Rattle.tm_tool.specs.OlderVersions.{gap_piece, IsGapLineAtMost, LacksGapLine}
 use Rattle.tm_tool.specs.Outlets.{GivesNone, no_text}
 use Rattle.tm_tool.specs.Outputs.{Piece}
 use Rattle.tm_tool.specs.Pieces.{Entries, Texts, Work, chosen, end_pieces, further, items_of, line_of, noted, noted_all, piece_of, pieces, pieces_of, record_pieces, report_of, text_of, worked}
 use Rattle.tm_tool.specs.Records.{rest_of}
 use Rattle.tm_tool.specs.Shelves.{shelf_text}
 use Rattle.tm_tool.specs.ShelfLaws.{no_shelf}
-use Rattle.tm_tool.proofs.Running.{noted-append, pieces-append}
+use Rattle.tm_tool.proofs.Running.{IsValid, noted-append, pieces-append}
 
--- it leaves the entries as they are
+-- a gap of the master channel leaves the entries as they are
 gap_noted : (entries : Entries) (gap : List Item) → IsMasterGapAtMost gap → noted_all entries gap ≡ entries
 unfolding noted
 gap_noted entries gap (inl e) = ap (noted_all entries) e
 gap_noted entries gap (inr (seen, expected, found, missing, e)) = ap (noted_all entries) e
 
 -- the items of records from a work, and from it without its last master channel count
-lacks_item : (w : Work) (rs : List (List ℕ)) → IsState w.rules w.state → LacksMasterGap (items_of w rs) (items_of (without_master w) rs)
-lacks_item w rs v = items-lack w.rules w.state rs v
+lacks_item : (w : Work) (rs : List (List ℕ)) → IsValid w → LacksMasterGap (items_of w rs) (items_of (without_master w) rs)
+lacks_item w rs valid = items-lack w.rules w.state rs valid
 
-states_same : (w : Work) (rs : List (List ℕ)) → IsState w.rules w.state → older.without_master (worked w rs).state ≡ older.without_master (worked (without_master w) rs).state
-states_same w rs v =
-    ⊎_elim (λ e. ap older.without_master (sym e)) (λ h. ap older.without_master (sym h.0)) (states-meet w.rules w.state rs v)
+states_same : (w : Work) (rs : List (List ℕ)) → IsValid w
+    → forgotten.without_master (worked w rs).state ≡ forgotten.without_master (worked (without_master w) rs).state
+states_same w rs valid =
+    ⊎_elim (λ e. sym (ap forgotten.without_master e)) (λ e. sym (ap forgotten.without_master e.0)) (states-meet w.rules w.state rs valid)
 
 entries_same : (entries : Entries) (xs ys : List Item) → LacksMasterGap xs ys → noted_all entries xs ≡ noted_all entries ys
 entries_same entries xs ys h =
@@ -46,11 +46,11 @@ entries_same entries xs ys h =
     ∙ ap (noted_all entries) (sym h.fewer_is)
 
 -- the works that records leave differ in the last master channel count alone
-works_same : (w : Work) (rs : List (List ℕ)) → IsState w.rules w.state → without_master (worked w rs) ≡ without_master (worked (without_master w) rs)
-works_same w rs v =
-    ap (λ (s : State). record { rules = w.rules; state = s; entries = noted_all w.entries (items_of w rs) }) (states_same w rs v)
-    ∙ ap (λ (e : Entries). record { rules = w.rules; state = older.without_master (worked (without_master w) rs).state; entries = e })
-    (entries_same w.entries (items_of w rs) (items_of (without_master w) rs) (lacks_item w rs v))
+works_same : (w : Work) (rs : List (List ℕ)) → IsValid w → without_master (worked w rs) ≡ without_master (worked (without_master w) rs)
+works_same w rs valid =
+    ap (λ (s : State). record { rules = w.rules; state = s; entries = noted_all w.entries (items_of w rs) }) (states_same w rs valid)
+    ∙ ap (λ (e : Entries). record { rules = w.rules; state = forgotten.without_master (worked (without_master w) rs).state; entries = e })
+    (entries_same w.entries (items_of w rs) (items_of (without_master w) rs) (lacks_item w rs valid))
 
 -- of texts that give nothing of a gap of the master channel but its line
 module _ {A : Type 0} (text : Texts A) (none : (seen expected found missing : ℕ) → GivesNone text (MasterGap seen expected found missing)) where
@@ -63,13 +63,13 @@ module _ {A : Type 0} (text : Texts A) (none : (seen expected found missing : �
       ∙ ap (λ (more : List ℕ). record { out = []; report = line ++ more }) gives.1
       ∙ ap (λ (report : List ℕ). record { out = []; report = report }) (append-nil line)
 
-  gap_pieces : (entries : Entries) (gap : List Item) → IsMasterGapAtMost gap → IsGapAtMost (pieces_of text entries gap)
+  gap_pieces : (entries : Entries) (gap : List Item) → IsMasterGapAtMost gap → IsGapLineAtMost (pieces_of text entries gap)
   gap_pieces entries gap (inl e) = inl (ap (pieces_of text entries) e)
   gap_pieces entries gap (inr (seen, expected, found, missing, e)) =
       inr (seen, expected, found, missing, ap (pieces_of text entries) e ∙ ap (λ (p : Piece A). p ∷ []) (line_piece entries seen expected found missing))
 
   -- the pieces of items, and of the same but for a gap, with further ones behind them
-  lacks_piece : (entries : Entries) (xs ys : List Item) (end : List (Piece A)) → LacksMasterGap xs ys → LacksGap (pieces_of text entries xs ++ end) (pieces_of text entries ys ++ end)
+  lacks_piece : (entries : Entries) (xs ys : List Item) (end : List (Piece A)) → LacksMasterGap xs ys → LacksGapLine (pieces_of text entries xs ++ end) (pieces_of text entries ys ++ end)
   lacks_piece entries xs ys end h =
       let there : Entries = noted_all entries h.front in
       let fore : List (Piece A) = pieces_of text entries h.front in
@@ -86,7 +86,7 @@ module _ {A : Type 0} (text : Texts A) (none : (seen expected found missing : �
         front = fore;
         gap = gap;
         back = back ++ end;
-        whole_is =
+        all_is =
             ap (λ (ps : List (Piece A)). ps ++ end) all ∙ append_assoc fore (gap ++ back) end
             ∙ ap (λ (ps : List (Piece A)). fore ++ ps) (append_assoc gap back end);
         fewer_is = ap (λ (ps : List (Piece A)). ps ++ end) some ∙ append_assoc fore back end;
@@ -99,33 +99,33 @@ module _ {A : Type 0} (text : Texts A) (none : (seen expected found missing : �
   same_end Keep w rest = refl
   same_end (StopAfter n) w rest = refl
 
-  ends_same : (ending : Ending) (w : Work) (rs : List (List ℕ)) (rest : ℕ) → IsState w.rules w.state
+  ends_same : (ending : Ending) (w : Work) (rs : List (List ℕ)) (rest : ℕ) → IsValid w
       → end_pieces text ending (worked (without_master w) rs) rest ≡ end_pieces text ending (worked w rs) rest
-  ends_same ending w rs rest v =
+  ends_same ending w rs rest valid =
       same_end ending (worked (without_master w) rs) rest
-      ∙ ap (λ (x : Work). end_pieces text ending x rest) (sym (works_same w rs v))
+      ∙ ap (λ (x : Work). end_pieces text ending x rest) (sym (works_same w rs valid))
       ∙ sym (same_end ending (worked w rs) rest)
 
-  lacks_gap : (ending : Ending) (w : Work) (recording : List ℕ) → IsState w.rules w.state → LacksGap (pieces text ending w recording) (pieces text ending (without_master w) recording)
+  lacks_gap : (ending : Ending) (w : Work) (recording : List ℕ) → IsValid w → LacksGapLine (pieces text ending w recording) (pieces text ending (without_master w) recording)
   unfolding pieces
-  lacks_gap ending w recording v =
+  lacks_gap ending w recording valid =
       let rs : List (List ℕ) = chosen ending (further w recording) in
       let rest : ℕ = length (rest_of (record_length_of w.rules.layout) recording) in
-      let h = lacks_piece w.entries (items_of w rs) (items_of (without_master w) rs) (end_pieces text ending (worked w rs) rest) (lacks_item w rs v) in
+      let h = lacks_piece w.entries (items_of w rs) (items_of (without_master w) rs) (end_pieces text ending (worked w rs) rest) (lacks_item w rs valid) in
       record {
         front = h.front;
         gap = h.gap;
         back = h.back;
-        whole_is = h.whole_is;
-        fewer_is = ap (λ (ps : List (Piece A)). record_pieces text (without_master w) rs ++ ps) (ends_same ending w rs rest v) ∙ h.fewer_is;
+        all_is = h.all_is;
+        fewer_is = ap (λ (ps : List (Piece A)). record_pieces text (without_master w) rs ++ ps) (ends_same ending w rs rest valid) ∙ h.fewer_is;
         gap_is = h.gap_is;
       }
 
-pub command_lacks : (command : Command) (ending : Ending) (w : Work) (recording : List ℕ) → IsState w.rules w.state
-    → LacksGap (pieces (text_of command) ending w recording) (pieces (text_of command) ending (without_master w) recording)
-command_lacks command ending w recording v =
-    lacks_gap (text_of command) (λ seen expected found missing. no_text command (MasterGap seen expected found missing) tt) ending w recording v
+pub command_lacks : (command : Command) (ending : Ending) (w : Work) (recording : List ℕ) → IsValid w
+    → LacksGapLine (pieces (text_of command) ending w recording) (pieces (text_of command) ending (without_master w) recording)
+command_lacks command ending w recording valid =
+    lacks_gap (text_of command) (λ seen expected found missing. no_text command (MasterGap seen expected found missing) tt) ending w recording valid
 
-pub shelf_lacks : (ending : Ending) (w : Work) (recording : List ℕ) → IsState w.rules w.state
-    → LacksGap (pieces shelf_text ending w recording) (pieces shelf_text ending (without_master w) recording)
-shelf_lacks ending w recording v = lacks_gap shelf_text (λ seen expected found missing. no_shelf (MasterGap seen expected found missing) tt) ending w recording v
+pub shelf_lacks : (ending : Ending) (w : Work) (recording : List ℕ) → IsValid w
+    → LacksGapLine (pieces shelf_text ending w recording) (pieces shelf_text ending (without_master w) recording)
+shelf_lacks ending w recording valid = lacks_gap shelf_text (λ seen expected found missing. no_shelf (MasterGap seen expected found missing) tt) ending w recording valid

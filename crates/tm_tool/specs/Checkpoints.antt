@@ -11,7 +11,7 @@ use Rattle.tm_reassembly.specs.declared.fault.StateFault.{StateFault}
 use Rattle.tm_reassembly.specs.Channels.{mask_of}
 use Rattle.tm_reassembly.specs.Checkpoint as reassembly
 use Rattle.tm_reassembly.specs.Checkpoint.{two, two_at}
-use Rattle.tm_reassembly.specs.OlderForms as older
+use Rattle.tm_reassembly.specs.OlderForms as forgotten
 use Rattle.tm_reassembly.specs.Rules.{Rules}
 use Rattle.tm_reassembly.specs.State.{State}
 use Rattle.tm_reassembly.specs.Valid.{IsState}
@@ -48,13 +48,13 @@ tells One s = s.max_packet == 65542
 tells Two s = true
 tells Three s = true
 
--- a work without its last master channel count
+-- a work, the last master channel count of its state being forgotten
 abbrev pub without_master : Work → Work
-without_master w = record { rules = w.rules; state = older.without_master w.state; entries = w.entries }
+without_master w = record { rules = w.rules; state = forgotten.without_master w.state; entries = w.entries }
 
 -- what a version keeps of a state, and of a work: all, or all but the last master channel count
 abbrev pub kept_state : Version → State → State
-kept_state v s = if (form_of v).with_master then s else older.without_master s
+kept_state v s = if (form_of v).with_master then s else forgotten.without_master s
 
 abbrev pub kept_in : Version → Work → Work
 kept_in v w = record { rules = w.rules; state = kept_state v w.state; entries = w.entries }

@@ -8,14 +8,14 @@ abbrev pub gap_piece : {A : Type 0} → (seen expected found missing : ℕ) → 
 gap_piece seen expected found missing = record { out = []; report = master_gap_line seen expected found missing }
 
 -- at most one such piece
-abbrev pub IsGapAtMost : {A : Type 0} → List (Piece A) → Type 0
-IsGapAtMost ps = (ps ≡ []) ⊎ ((seen expected found missing : ℕ) × (ps ≡ gap_piece seen expected found missing ∷ []))
+abbrev pub IsGapLineAtMost : {A : Type 0} → List (Piece A) → Type 0
+IsGapLineAtMost ps = (ps ≡ []) ⊎ ((seen expected found missing : ℕ) × (ps ≡ gap_piece seen expected found missing ∷ []))
 
--- the fewer pieces are those of the whole, in their order, but for at most one gap of the master channel
-pub record LacksGap {A : Type 0} (whole fewer : List (Piece A)) : Type 0 where
+-- the fewer pieces are all of them, in their order, but for at most one gap of the master channel
+pub record LacksGapLine {A : Type 0} (all fewer : List (Piece A)) : Type 0 where
   pub front : List (Piece A)
   pub gap : List (Piece A)
   pub back : List (Piece A)
-  pub whole_is : whole ≡ front ++ (gap ++ back)
+  pub all_is : all ≡ front ++ (gap ++ back)
   pub fewer_is : fewer ≡ front ++ back
-  pub gap_is : IsGapAtMost gap
+  pub gap_is : IsGapLineAtMost gap

@@ -59,13 +59,13 @@ impl From<AllocError> for RunFault {
 /// Why octets are no checkpoint of a job with the settings.
 #[derive(Clone, Copy, Debug, Error, PartialEq, Eq)]
 pub enum CheckpointFault {
-    /// There are fewer than 33 octets.
+    /// There are fewer than the fewest of any checkpoint, 33, or of one of their version.
     #[error("short")]
     Short,
     /// They don't begin with the letters TMXC.
     #[error("magic")]
     Magic,
-    /// The fifth octet isn't 1.
+    /// The fifth octet is none of 1, 2 and 3.
     #[error("version")]
     Version,
     /// The last two aren't the error control of those before.

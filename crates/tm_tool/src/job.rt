@@ -152,9 +152,9 @@ fn done_by(ended: Ended, buffer: Vec<u8>, fresh: bool) -> Done
 }
 
 /// Reads the recording from its beginning, one record at a time, passes over the records that are done, and gives of those behind them
-/// what the job's settings choose: to `out` each whole packet, its octets
-/// or its line; to the report each bad frame, gap, VCA frame and dropped part, and the notes of the packets' sequence counts. For each
-/// item what belongs to `out` is written first. With `Close` the recording is closed at its end; with `Keep` and `StopAfter` the job after
+/// what the job's settings choose: to `out` each whole packet, its octets or its line; to the report each bad frame, gap of the master
+/// channel, gap of a channel, VCA frame and dropped part, and the notes of the packets' sequence counts. For each item what belongs to
+/// `out` is written first. With `Close` the recording is closed at its end; with `Keep` and `StopAfter` the job after
 /// the records is kept. Both outputs are flushed.
 ///
 /// # Errors

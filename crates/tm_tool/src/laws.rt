@@ -1,6 +1,6 @@
 //! Laws of the definitions. These functions make no calls: their contracts are the laws.
 
-ghost use Rattle.std.specs.Prelude.{◌≡◌, ◌⊎◌, ◌<◌, ◌≤◌, ◌+◌, ◌*◌, ◌^◌, ℕ, true, false, Ok, List, [], ◌++◌, length};
+ghost use Rattle.std.specs.Prelude.{◌≡◌, ◌<◌, ◌≤◌, ◌+◌, ◌*◌, ◌^◌, ℕ, true, false, Ok, List, [], ◌++◌, length};
 ghost use Rattle.tm_bits.specs.Bits.{AreOctets};
 ghost use Rattle.tm_frame.specs.Layout.{record_length_of};
 ghost use Rattle.tm_reassembly.specs.Rules.{IsLimit, Rules};
@@ -9,8 +9,9 @@ ghost use Rattle.tm_tool.specs.declared.job.Command.{Command};
 ghost use Rattle.tm_tool.specs.declared.job.Ending.{Ending};
 ghost use Rattle.tm_tool.specs.Checkpoints.{IsWork, checkpoint_of, kept_in, resumed, spelled_in, tells, without_master};
 ghost use Rattle.tm_tool.specs.declared.version.Version.{Version};
+ghost use Rattle.tm_tool.specs.declared.version.Version.TheVariants as version;
 ghost use Rattle.tm_tool.specs.Jobs.{JobState, begun, head_pieces};
-ghost use Rattle.tm_tool.specs.OlderVersions.{LacksGap};
+ghost use Rattle.tm_tool.specs.OlderVersions.{LacksGapLine};
 ghost use Rattle.tm_tool.specs.Pieces.{Texts, Work, pieces, record_pieces, text_of, worked};
 ghost use Rattle.tm_tool.specs.Records.{records};
 ghost use Rattle.tm_tool.specs.Resuming.{Follows, Stop, done_in_all, in_one, no_head, resumed_pieces, run_pieces, then_pieces};
@@ -75,9 +76,9 @@ pub fn older_versions()
     ensures split { (v : Version) (w : Work) (ending : Ending) (last : List ℕ) (stops : List Stop) → IsWork w → tells v w.rules ≡ true →
         then_pieces (resumed w.rules (spelled_in v w)) (λ job. resumed_pieces no_head shelf_text ending last w.rules job stops)
         ≡ resumed_pieces no_head shelf_text ending last w.rules (record { work = kept_in v w; fresh = false }) stops }
-    ensures kept { (v : Version) (w : Work) → (kept_in v w ≡ w) ⊎ (kept_in v w ≡ without_master w) }
+    ensures kept { (w : Work) → (kept_in version.One w ≡ without_master w) × (kept_in version.Two w ≡ without_master w) × (kept_in version.Three w ≡ w) }
     ensures one_gap { (command : Command) (ending : Ending) (w : Work) (recording : List ℕ) → IsState w.rules w.state →
-        LacksGap (pieces (text_of command) ending w recording) (pieces (text_of command) ending (without_master w) recording) }
+        LacksGapLine (pieces (text_of command) ending w recording) (pieces (text_of command) ending (without_master w) recording) }
     ensures shelved_gap { (ending : Ending) (w : Work) (recording : List ℕ) → IsState w.rules w.state →
-        LacksGap (pieces shelf_text ending w recording) (pieces shelf_text ending (without_master w) recording) }
+        LacksGapLine (pieces shelf_text ending w recording) (pieces shelf_text ending (without_master w) recording) }
 {}

@@ -1,9 +1,9 @@
 -- What comes of the words of the command line, so far as a contract can say it: what files hold and streams take has no place in one.
 use Rattle.std.specs.Prelude.{◌≡◌, ◌⊎◌, ⊤, ℕ, Bool, ◌||◌, true, false, List, [], ◌++◌, codes, Option, Some, None, Ok, IsSome}
 use Rattle.std.specs.Str.{bytes_eq}
+use Rattle.tm_reassembly.specs.Rules.{Rules}
 use Rattle.tm_tool.specs.Checkpoints.{resumed}
 use Rattle.tm_tool.specs.Jobs.{JobState}
-use Rattle.tm_tool.specs.Settings.{Choices}
 use Rattle.tm_tool.specs.declared.fault.RunFault.TheVariants.{NoMemory}
 use Rattle.tm_words.specs.CommandLine.{HasRequired, faults_of, is_taken, lacks_checkpoint, plan_of}
 use Rattle.tmx.specs.Files.{IsFaultOf, IsFileFault}
@@ -96,7 +96,7 @@ abbrev pub IsOfOutputs : Plan → ToolFault → Type 0
 IsOfOutputs p fault = IsRunFault fault ⊎ HasFault p.report fault ⊎ HasFault p.checkpoint fault ⊎ HasFault p.dir fault
 
 -- a job that a checkpoint of these settings says
-abbrev pub IsResumed : Choices → JobState → Type 0
+abbrev pub IsResumed : Rules → JobState → Type 0
 IsResumed settings job = (octets : List ℕ) × (resumed settings octets ≡ Ok job)
 
 -- ---- what comes of the words

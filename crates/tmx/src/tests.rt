@@ -45,6 +45,16 @@ fn lines_and_statuses(rt: HostRuntime) -> Result<(), Fail> {
             2,
         ),
         (
+            ToolFault::Settings(SettingsFault::Range(Key::MaxPacket)),
+            "tmx: settings: range max_packet\n",
+            2,
+        ),
+        (
+            ToolFault::Settings(SettingsFault::Kind(Key::MaxPacket)),
+            "tmx: settings: kind max_packet\n",
+            2,
+        ),
+        (
             ToolFault::File(named(alloc, "a\\b \u{e9}\n")?),
             "tmx: a\\x5cb \\xc3\\xa9\\x0a: failed\n",
             1,

@@ -8,7 +8,8 @@ use tm_tool::{CheckpointFault, Job};
 
 /// Three records of two channels are done: the last count of the master channel is 2, a packet of 26 octets is begun on channel 0, and one of
 /// count 1 was the last on channel 1.
-pub(crate) const CHECKPOINT: &str = "544D5843 03 002A 0018 0000 0000 00 00 00 FF 010006 00000003 01 02 \
+pub(crate) const CHECKPOINT: &str =
+    "544D5843 03 002A 0018 0000 0000 00 00 00 FF 010006 00000003 01 02 \
     02 00 00000000 0000 00000012 0064C0000013555555555555555555555555 01 01 00 00 00 00 00 00 0001 0864 0001 FFFF 074F";
 
 /// Likewise in version 2, which has no count of the master channel, and in version 1, which has no limit on packets either.
@@ -19,7 +20,8 @@ pub(crate) const VERSION_1: &str = "544D5843 01 002A 0018 0000 0000 00 00 00 FF 
     02 00 00000000 0000 00000012 0064C0000013555555555555555555555555 01 01 00 00 00 00 00 00 0001 0864 0001 FFFF 7DE1";
 
 /// Where no packet has more than twelve octets, one record is done, and of a packet three octets are held: its length isn't known yet.
-pub(crate) const LIMITED: &str = "544D5843 03 002A 0018 0000 0000 00 00 00 FF 00000C 00000001 01 00 \
+pub(crate) const LIMITED: &str =
+    "544D5843 03 002A 0018 0000 0000 00 00 00 FF 00000C 00000001 01 00 \
     02 00 00000000 000F 00000003 0064C0 00 00 00 00 00 00 00 0001 0064 0001 FFFF FC32";
 
 // Before any record.

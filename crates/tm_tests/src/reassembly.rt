@@ -350,7 +350,13 @@ fn state_after_three_records(rt: HostRuntime) -> Result<(), Fail> {
 }
 
 // Reads the state after three records, with an octet behind it, and takes a bad frame.
-fn read_again(rt: &impl Abort, alloc: Global, spelling: Spelling, len: usize, master: Option<u8>) -> Result<(), Fail> {
+fn read_again(
+    rt: &impl Abort,
+    alloc: Global,
+    spelling: Spelling,
+    len: usize,
+    master: Option<u8>,
+) -> Result<(), Fail> {
     let first: [u8; 26] = packet(0);
     let mut octets = spelled_state(alloc, spelling)?;
     octets.push(0x77)?;

@@ -44,12 +44,7 @@ fn checkpoint_of_a_job(rt: HostRuntime) -> Result<(), Fail> {
 }
 
 // Resumes a job of so many records in turn.
-fn resume_in_turn(
-    rt: &HostRuntime,
-    text: &str,
-    settings: &str,
-    records: u32,
-) -> Result<(), Fail> {
+fn resume_in_turn(rt: &HostRuntime, text: &str, settings: &str, records: u32) -> Result<(), Fail> {
     let alloc = rt.alloc();
     let settings = made(|| settings_of(alloc, settings)).ok_or("settings")?;
     let octets = made(|| octets_in(alloc, text)).ok_or("octets")?;

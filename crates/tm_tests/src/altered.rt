@@ -43,7 +43,7 @@ fn checkpoints_with_a_bit_changed(rt: HostRuntime) -> Result<(), Fail> {
     for (text, settings, _) in CHECKPOINTS {
         let settings = settings_of(alloc, settings)?;
         let octets = octets_of(alloc, text)?;
-        for bit in 0..8 * octets.len() {
+        for bit in 0..octets.len().saturating_mul(8) {
             let altered = changed(alloc, &octets, bit)?;
             let answer = Job::resume(alloc, &settings, &altered).err();
             let wanted = fault_at(bit / 8, altered.get(bit / 8));

@@ -1,7 +1,6 @@
 //! Checkpoints, listings and runs that are refused memory, one request after the other: what was written by then ends with a whole line or
 //! packet.
 
-use crate::calls::packet_lengths;
 use crate::checkpoints::{CHECKPOINT, LIMITED, VERSION_1, VERSION_2};
 use crate::refused::{definition_of, octets_in, passed, room, settings_of};
 use crate::runs::{
@@ -69,30 +68,32 @@ fn resumed_job(rt: HostRuntime) -> Result<(), Fail> {
     resume_in_turn(&rt, LIMITED, TWELVE, 1)
 }
 
-// Where a text of whole pieces may end: behind a line, or behind one of the packets, which have these lengths.
+// Where a text of whole pieces may end: behind a line, or behind a packet, of which these are the lines.
 #[derive(Clone, Copy)]
-enum Piece<'p> {
+enum Piece {
     Line,
-    Packet(&'p [usize]),
+    Packet(&'static str),
 }
 
-// So many octets are the first packets of these lengths.
-fn are_packets(octets: usize, lengths: &[usize]) -> bool {
+// So many octets are the first packets of these lines.
+fn are_packets(octets: usize, lines: &str) -> bool {
     let mut end = 0usize;
-    for length in lengths {
-        if end == octets {
-            return true;
+    for word in lines.split_whitespace() {
+        if let Some(number) = word.strip_prefix("octets=") {
+            if end == octets {
+                return true;
+            }
+            end = end.saturating_add(number.parse::<usize>().unwrap_or(0));
         }
-        end = end.saturating_add(*length);
     }
     end == octets
 }
 
 // What was written is the front of what is to be written, and ends with a whole piece.
-fn is_whole_front(written: &[u8], all: &[u8], piece: Piece<'_>) -> bool {
+fn is_whole_front(written: &[u8], all: &[u8], piece: Piece) -> bool {
     let ends = match piece {
         Piece::Line => written.is_empty() || written.ends_with(b"\n"),
-        Piece::Packet(lengths) => are_packets(written.len(), lengths),
+        Piece::Packet(lines) => are_packets(written.len(), lines),
     };
     ends && all.starts_with(written)
 }
@@ -180,7 +181,7 @@ impl Bench {
 struct Wanted<'w> {
     records: u32,
     out: &'w [u8],
-    piece: Piece<'w>,
+    piece: Piece,
     report: &'w str,
 }
 
@@ -237,27 +238,23 @@ fn run_in_turn(
     passed(&turns)
 }
 
-// Recordings of all kinds of reports: in two of them packets are too long, and in one a frame is missing.
-const ROWS: [Row; 4] = [
-    POINTER_DROP_AND_SEQUENCE_GAP,
-    LONG_AT_ONCE,
-    LONG_SPLIT_HEADER,
-    FRAME_GAP,
-];
-
-// The lengths of the packets of a row.
-fn lengths_in(alloc: Global, row: Row) -> Option<Vec<usize>> {
-    packet_lengths(alloc, row.lines).ok()
+// Recordings with reports: in two of them packets are too long, and in one a frame is missing.
+fn reported_rows() -> [Row; 4] {
+    [
+        POINTER_DROP_AND_SEQUENCE_GAP,
+        LONG_AT_ONCE,
+        LONG_SPLIT_HEADER,
+        FRAME_GAP,
+    ]
 }
 
 fn extract_in_turn(rt: &HostRuntime, row: Row) -> Result<(), Fail> {
     let alloc = rt.alloc();
     let octets = made(|| octets_in(alloc, row.octets)).ok_or("octets")?;
-    let lengths = made(|| lengths_in(alloc, row)).ok_or("lengths")?;
     let wanted = Wanted {
         records: row.records,
         out: octets.as_slice(),
-        piece: Piece::Packet(lengths.as_slice()),
+        piece: Piece::Packet(row.lines),
         report: row.report,
     };
     run_in_turn(rt, row.settings, row.recording, Command::Extract, wanted)
@@ -265,7 +262,7 @@ fn extract_in_turn(rt: &HostRuntime, row: Row) -> Result<(), Fail> {
 
 #[test]
 fn run_by_extract(rt: HostRuntime) -> Result<(), Fail> {
-    for row in ROWS {
+    for row in reported_rows() {
         extract_in_turn(&rt, row)?;
     }
     Ok(())
@@ -273,7 +270,7 @@ fn run_by_extract(rt: HostRuntime) -> Result<(), Fail> {
 
 #[test]
 fn run_by_packets(rt: HostRuntime) -> Result<(), Fail> {
-    for row in ROWS {
+    for row in reported_rows() {
         let wanted = Wanted {
             records: row.records,
             out: row.lines.as_bytes(),
@@ -359,9 +356,15 @@ fn split_once(alloc: Global, bench: &mut Bench, shelf: &mut Room, wanted: Wanted
     }
 }
 
-// Splits in turn.
-fn split_in_turn(rt: &HostRuntime, row: Row, wanted: Wanted<'_>) -> Result<(), Fail> {
+fn split_in_turn(rt: &HostRuntime, row: Row) -> Result<(), Fail> {
     let alloc = rt.alloc();
+    let octets = made(|| octets_in(alloc, row.octets)).ok_or("octets")?;
+    let wanted = Wanted {
+        records: row.records,
+        out: octets.as_slice(),
+        piece: Piece::Packet(row.lines),
+        report: row.report,
+    };
     let mut bench = made(|| Bench::new(alloc, row.settings, row.recording)).ok_or("devices")?;
     bench.job = bench.begin(alloc);
     let mut shelf = Room {
@@ -380,17 +383,8 @@ fn split_in_turn(rt: &HostRuntime, row: Row, wanted: Wanted<'_>) -> Result<(), F
 
 #[test]
 fn split_recordings(rt: HostRuntime) -> Result<(), Fail> {
-    let alloc = rt.alloc();
-    for row in ROWS {
-        let octets = made(|| octets_in(alloc, row.octets)).ok_or("octets")?;
-        let lengths = made(|| lengths_in(alloc, row)).ok_or("lengths")?;
-        let wanted = Wanted {
-            records: row.records,
-            out: octets.as_slice(),
-            piece: Piece::Packet(lengths.as_slice()),
-            report: row.report,
-        };
-        split_in_turn(&rt, row, wanted)?;
+    for row in reported_rows() {
+        split_in_turn(&rt, row)?;
     }
     Ok(())
 }

@@ -8,7 +8,7 @@ use Rattle.tm_frame.specs.declared.layout.LayoutParts.{LayoutParts}
 use Rattle.tm_frame.specs.declared.layout.Presence.{Presence}
 use Rattle.tm_frame.specs.declared.layout.Presence.TheVariants.{Flag, Always, Never}
 use Rattle.tm_reassembly.specs.Channels.{all_channels, channels_of}
-use Rattle.tm_reassembly.specs.Rules.{Rules}
+pub use Rattle.tm_reassembly.specs.Rules.{Rules}
 use Rattle.tm_tool.specs.declared.key.Key.{Key}
 use Rattle.tm_tool.specs.declared.key.Key.TheVariants.{Spacecraft, FrameLength, SkipBefore, SkipAfter, Secondary, Ocf, ErrorControl, Channels, MaxPacket}
 use Rattle.tm_tool.specs.declared.fault.SettingsFault.{SettingsFault}

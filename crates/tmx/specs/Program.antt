@@ -1,9 +1,9 @@
 -- What comes of the words of the command line, so far as a contract can say it: what files hold and streams take has no place in one.
 use Rattle.std.specs.Prelude.{◌≡◌, ◌⊎◌, ⊤, ℕ, Bool, ◌||◌, true, false, List, [], ◌++◌, codes, Option, Some, None, Ok, IsSome}
 use Rattle.std.specs.Str.{bytes_eq}
-use Rattle.tm_reassembly.specs.Rules.{Rules}
 use Rattle.tm_tool.specs.Checkpoints.{resumed}
 use Rattle.tm_tool.specs.Jobs.{JobState}
+use Rattle.tm_tool.specs.Settings.{Rules}
 use Rattle.tm_tool.specs.declared.fault.RunFault.TheVariants.{NoMemory}
 use Rattle.tm_words.specs.CommandLine.{HasRequired, faults_of, is_taken, lacks_checkpoint, plan_of}
 use Rattle.tmx.specs.Files.{IsFaultOf, IsFileFault}

@@ -20,3 +20,4 @@ pub mod ShelfLaws
 pub mod Checkpoints
 pub mod Resuming
 pub mod OlderVersions
+pub mod Seen

@@ -10,11 +10,11 @@ ghost use Rattle.tm_tool.specs.Faults.{RunCounted};
 ghost use Rattle.tm_tool.specs.Jobs.{head_pieces, rows_head};
 ghost use Rattle.tm_tool.specs.Keeping.{IsGoing, kept_work};
 ghost use Rattle.tm_tool.specs.Outlets.{PutStopped};
-ghost use Rattle.tm_tool.specs.Outputs.{view};
 ghost use Rattle.tm_tool.specs.Pieces.{makes_rows, rows_text, text_of};
 ghost use Rattle.tm_tool.specs.Runs.{IsHeadedRun, IsHeadedStop, IsRun, IsStoppedAt};
 ghost use Rattle.tm_tool.specs.Shelves.{Shelves, shelf_text};
 ghost use Rattle.tm_tool.specs.Stepping.{work_of};
+ghost use Rattle.tm_tool.specs.Seen.{both, shelf_both};
 
 use crate::outlet::{PacketLines, PacketOctets, PacketRows, PacketShelf};
 use crate::recording::{Ended, run_to_end};
@@ -24,188 +24,6 @@ use std::alloc::Global;
 use tm_fields::Definition;
 use tm_packet::Tracker;
 use tm_reassembly::Reassembly;
-
-// The packets' octets into a drain.
-fn run_extract<R: Source, W: Drain, V: Drain>(
-    alloc: Global,
-    reassembly: Reassembly,
-    tracker: Tracker,
-    buffer: &mut [u8],
-    recording: &mut R,
-    out: &mut W,
-    report: &mut V,
-    ending: Ending,
-) -> Result<Ended, RunFault>
-    requires exact { length buffer.old ≡ record_length_of reassembly.rules.layout }
-    requires some { 0 < length buffer.old }
-    requires going { reassembly.failed ≡ false }
-    requires valid { IsState reassembly.rules reassembly.state }
-    ensures run { IfOk result (λ ended. IsRun Appends false (text_of Extract) ending (work_of reassembly tracker)
-        (R.left recording.old) (R.left recording.new)
-        (view (W.written out.old) (V.written report.old) (W.failures out.old) (V.failures report.old))
-        (view (W.written out.new) (V.written report.new) (W.failures out.new) (V.failures report.new)) ended.records (kept_work ended.kept)) }
-    ensures going_on { IfOk result (λ ended. IfSome ended.kept (λ k. IsGoing k.reassembly)) }
-    ensures flushed_out { OnOk result (Keeps (W.flushed out.new) (W.written out.new)) }
-    ensures flushed_report { OnOk result (Keeps (V.flushed report.new) (V.written report.new)) }
-    ensures stopped { IfErr result (IsStoppedAt Appends false (text_of Extract) ending (work_of reassembly tracker)
-        (R.left recording.old) (R.left recording.new)
-        (view (W.written out.old) (V.written report.old) (W.failures out.old) (V.failures report.old))
-        (view (W.written out.new) (V.written report.new) (W.failures out.new) (V.failures report.new))) }
-    ensures counts { RunCounted (R.failures recording.old) (R.failures recording.new)
-        (view (W.written out.old) (V.written report.old) (W.failures out.old) (V.failures report.old))
-        (view (W.written out.new) (V.written report.new) (W.failures out.new) (V.failures report.new)) result }
-{
-    let mut outlet = PacketOctets { out };
-    match run_to_end(
-        alloc,
-        reassembly,
-        tracker,
-        buffer,
-        recording,
-        &mut outlet,
-        report,
-        ending,
-    ) {
-        Ok(ended) => Ok(ended),
-        Err(fault) => Err(fault),
-    }
-}
-
-// A line for each packet into a drain, made in this text.
-fn run_lines<R: Source, W: Drain, V: Drain>(
-    alloc: Global,
-    line: &mut String,
-    reassembly: Reassembly,
-    tracker: Tracker,
-    buffer: &mut [u8],
-    recording: &mut R,
-    out: &mut W,
-    report: &mut V,
-    ending: Ending,
-) -> Result<Ended, RunFault>
-    requires exact { length buffer.old ≡ record_length_of reassembly.rules.layout }
-    requires some { 0 < length buffer.old }
-    requires going { reassembly.failed ≡ false }
-    requires valid { IsState reassembly.rules reassembly.state }
-    ensures run { IfOk result (λ ended. IsRun Appends true (text_of Packets) ending (work_of reassembly tracker)
-        (R.left recording.old) (R.left recording.new)
-        (view (W.written out.old) (V.written report.old) (W.failures out.old) (V.failures report.old))
-        (view (W.written out.new) (V.written report.new) (W.failures out.new) (V.failures report.new)) ended.records (kept_work ended.kept)) }
-    ensures going_on { IfOk result (λ ended. IfSome ended.kept (λ k. IsGoing k.reassembly)) }
-    ensures flushed_out { OnOk result (Keeps (W.flushed out.new) (W.written out.new)) }
-    ensures flushed_report { OnOk result (Keeps (V.flushed report.new) (V.written report.new)) }
-    ensures stopped { IfErr result (IsStoppedAt Appends true (text_of Packets) ending (work_of reassembly tracker)
-        (R.left recording.old) (R.left recording.new)
-        (view (W.written out.old) (V.written report.old) (W.failures out.old) (V.failures report.old))
-        (view (W.written out.new) (V.written report.new) (W.failures out.new) (V.failures report.new))) }
-    ensures counts { RunCounted (R.failures recording.old) (R.failures recording.new)
-        (view (W.written out.old) (V.written report.old) (W.failures out.old) (V.failures report.old))
-        (view (W.written out.new) (V.written report.new) (W.failures out.new) (V.failures report.new)) result }
-{
-    let mut outlet = PacketLines { line, out };
-    match run_to_end(
-        alloc,
-        reassembly,
-        tracker,
-        buffer,
-        recording,
-        &mut outlet,
-        report,
-        ending,
-    ) {
-        Ok(ended) => Ok(ended),
-        Err(fault) => Err(fault),
-    }
-}
-
-// A line for each packet into a drain.
-fn run_packets<R: Source, W: Drain, V: Drain>(
-    alloc: Global,
-    reassembly: Reassembly,
-    tracker: Tracker,
-    buffer: &mut [u8],
-    recording: &mut R,
-    out: &mut W,
-    report: &mut V,
-    ending: Ending,
-) -> Result<Ended, RunFault>
-    requires exact { length buffer.old ≡ record_length_of reassembly.rules.layout }
-    requires some { 0 < length buffer.old }
-    requires going { reassembly.failed ≡ false }
-    requires valid { IsState reassembly.rules reassembly.state }
-    ensures run { IfOk result (λ ended. IsRun Appends true (text_of Packets) ending (work_of reassembly tracker)
-        (R.left recording.old) (R.left recording.new)
-        (view (W.written out.old) (V.written report.old) (W.failures out.old) (V.failures report.old))
-        (view (W.written out.new) (V.written report.new) (W.failures out.new) (V.failures report.new)) ended.records (kept_work ended.kept)) }
-    ensures going_on { IfOk result (λ ended. IfSome ended.kept (λ k. IsGoing k.reassembly)) }
-    ensures flushed_out { OnOk result (Keeps (W.flushed out.new) (W.written out.new)) }
-    ensures flushed_report { OnOk result (Keeps (V.flushed report.new) (V.written report.new)) }
-    ensures stopped { IfErr result (IsStoppedAt Appends true (text_of Packets) ending (work_of reassembly tracker)
-        (R.left recording.old) (R.left recording.new)
-        (view (W.written out.old) (V.written report.old) (W.failures out.old) (V.failures report.old))
-        (view (W.written out.new) (V.written report.new) (W.failures out.new) (V.failures report.new))) }
-    ensures counts { RunCounted (R.failures recording.old) (R.failures recording.new)
-        (view (W.written out.old) (V.written report.old) (W.failures out.old) (V.failures report.old))
-        (view (W.written out.new) (V.written report.new) (W.failures out.new) (V.failures report.new)) result }
-{
-    let mut line = String::new(alloc);
-    run_lines(
-        alloc, &mut line, reassembly, tracker, buffer, recording, out, report, ending,
-    )
-}
-
-// A row for each packet of an application into a drain.
-fn run_rows<R: Source, W: Drain, V: Drain>(
-    alloc: Global,
-    definition: &Definition,
-    application: u16,
-    reassembly: Reassembly,
-    tracker: Tracker,
-    buffer: &mut [u8],
-    recording: &mut R,
-    out: &mut W,
-    report: &mut V,
-    ending: Ending,
-) -> Result<Ended, RunFault>
-    requires exact { length buffer.old ≡ record_length_of reassembly.rules.layout }
-    requires some { 0 < length buffer.old }
-    requires going { reassembly.failed ≡ false }
-    requires valid { IsState reassembly.rules reassembly.state }
-    ensures run { IfOk result (λ ended. IsRun Appends true (rows_text definition.now application) ending (work_of reassembly tracker)
-        (R.left recording.old) (R.left recording.new)
-        (view (W.written out.old) (V.written report.old) (W.failures out.old) (V.failures report.old))
-        (view (W.written out.new) (V.written report.new) (W.failures out.new) (V.failures report.new)) ended.records (kept_work ended.kept)) }
-    ensures going_on { IfOk result (λ ended. IfSome ended.kept (λ k. IsGoing k.reassembly)) }
-    ensures flushed_out { OnOk result (Keeps (W.flushed out.new) (W.written out.new)) }
-    ensures flushed_report { OnOk result (Keeps (V.flushed report.new) (V.written report.new)) }
-    ensures stopped { IfErr result (IsStoppedAt Appends true (rows_text definition.now application) ending (work_of reassembly tracker)
-        (R.left recording.old) (R.left recording.new)
-        (view (W.written out.old) (V.written report.old) (W.failures out.old) (V.failures report.old))
-        (view (W.written out.new) (V.written report.new) (W.failures out.new) (V.failures report.new))) }
-    ensures counts { RunCounted (R.failures recording.old) (R.failures recording.new)
-        (view (W.written out.old) (V.written report.old) (W.failures out.old) (V.failures report.old))
-        (view (W.written out.new) (V.written report.new) (W.failures out.new) (V.failures report.new)) result }
-{
-    let mut outlet = PacketRows {
-        alloc,
-        definition,
-        application,
-        out,
-    };
-    match run_to_end(
-        alloc,
-        reassembly,
-        tracker,
-        buffer,
-        recording,
-        &mut outlet,
-        report,
-        ending,
-    ) {
-        Ok(ended) => Ok(ended),
-        Err(fault) => Err(fault),
-    }
-}
 
 // Writes the head of the rows, where it is due.
 fn put_head<W: Drain>(
@@ -231,7 +49,7 @@ fn put_head<W: Drain>(
     }
 }
 
-// The same, behind the head of the rows where it is due.
+// A row for each packet of an application into a drain, behind the head of the rows where it is due.
 fn run_fields<R: Source, W: Drain, V: Drain>(
     alloc: Global,
     definition: &Definition,
@@ -251,31 +69,35 @@ fn run_fields<R: Source, W: Drain, V: Drain>(
     requires valid { IsState reassembly.rules reassembly.state }
     ensures run { IfOk result (λ ended. IsHeadedRun Appends true (rows_text definition.now application) ending (work_of reassembly tracker) (rows_head definition.now fresh)
         (R.left recording.old) (R.left recording.new)
-        (view (W.written out.old) (V.written report.old) (W.failures out.old) (V.failures report.old))
-        (view (W.written out.new) (V.written report.new) (W.failures out.new) (V.failures report.new)) ended.records (kept_work ended.kept)) }
+        (both W.Drain V.Drain out.old report.old)
+        (both W.Drain V.Drain out.new report.new) ended.records (kept_work ended.kept)) }
     ensures going_on { IfOk result (λ ended. IfSome ended.kept (λ k. IsGoing k.reassembly)) }
     ensures flushed_out { OnOk result (Keeps (W.flushed out.new) (W.written out.new)) }
     ensures flushed_report { OnOk result (Keeps (V.flushed report.new) (V.written report.new)) }
     ensures stopped { IfErr result (IsHeadedStop Appends true (rows_text definition.now application) ending (work_of reassembly tracker) (rows_head definition.now fresh)
         (R.left recording.old) (R.left recording.new)
-        (view (W.written out.old) (V.written report.old) (W.failures out.old) (V.failures report.old))
-        (view (W.written out.new) (V.written report.new) (W.failures out.new) (V.failures report.new))) }
+        (both W.Drain V.Drain out.old report.old)
+        (both W.Drain V.Drain out.new report.new)) }
     ensures counts { RunCounted (R.failures recording.old) (R.failures recording.new)
-        (view (W.written out.old) (V.written report.old) (W.failures out.old) (V.failures report.old))
-        (view (W.written out.new) (V.written report.new) (W.failures out.new) (V.failures report.new)) result }
+        (both W.Drain V.Drain out.old report.old)
+        (both W.Drain V.Drain out.new report.new) result }
 {
     if let Err(fault) = put_head(alloc, definition, fresh, out) {
         return Err(fault);
     }
-    run_rows(
+    let mut outlet = PacketRows {
         alloc,
         definition,
         application,
+        out,
+    };
+    run_to_end(
+        alloc,
         reassembly,
         tracker,
         buffer,
         recording,
-        out,
+        &mut outlet,
         report,
         ending,
     )
@@ -300,28 +122,48 @@ pub fn run_by<R: Source, W: Drain, V: Drain>(
     requires valid { IsState reassembly.rules reassembly.state }
     ensures run { IfOk result (λ ended. IsHeadedRun Appends (makes_rows command.entry) (text_of command.entry) ending (work_of reassembly tracker) (head_pieces command.entry fresh)
         (R.left recording.old) (R.left recording.new)
-        (view (W.written out.old) (V.written report.old) (W.failures out.old) (V.failures report.old))
-        (view (W.written out.new) (V.written report.new) (W.failures out.new) (V.failures report.new)) ended.records (kept_work ended.kept)) }
+        (both W.Drain V.Drain out.old report.old)
+        (both W.Drain V.Drain out.new report.new) ended.records (kept_work ended.kept)) }
     ensures going_on { IfOk result (λ ended. IfSome ended.kept (λ k. IsGoing k.reassembly)) }
     ensures flushed_out { OnOk result (Keeps (W.flushed out.new) (W.written out.new)) }
     ensures flushed_report { OnOk result (Keeps (V.flushed report.new) (V.written report.new)) }
     ensures stopped { IfErr result (IsHeadedStop Appends (makes_rows command.entry) (text_of command.entry) ending (work_of reassembly tracker) (head_pieces command.entry fresh)
         (R.left recording.old) (R.left recording.new)
-        (view (W.written out.old) (V.written report.old) (W.failures out.old) (V.failures report.old))
-        (view (W.written out.new) (V.written report.new) (W.failures out.new) (V.failures report.new))) }
+        (both W.Drain V.Drain out.old report.old)
+        (both W.Drain V.Drain out.new report.new)) }
     ensures counts { RunCounted (R.failures recording.old) (R.failures recording.new)
-        (view (W.written out.old) (V.written report.old) (W.failures out.old) (V.failures report.old))
-        (view (W.written out.new) (V.written report.new) (W.failures out.new) (V.failures report.new)) result }
+        (both W.Drain V.Drain out.old report.old)
+        (both W.Drain V.Drain out.new report.new) result }
 {
     match command {
         Command::Extract => {
-            run_extract(
-                alloc, reassembly, tracker, buffer, recording, out, report, ending,
+            let mut outlet = PacketOctets { out };
+            run_to_end(
+                alloc,
+                reassembly,
+                tracker,
+                buffer,
+                recording,
+                &mut outlet,
+                report,
+                ending,
             )
         }
         Command::Packets => {
-            run_packets(
-                alloc, reassembly, tracker, buffer, recording, out, report, ending,
+            let mut line = String::new(alloc);
+            let mut outlet = PacketLines {
+                line: &mut line,
+                out,
+            };
+            run_to_end(
+                alloc,
+                reassembly,
+                tracker,
+                buffer,
+                recording,
+                &mut outlet,
+                report,
+                ending,
             )
         }
         Command::Fields(definition, application) => run_fields(
@@ -357,20 +199,20 @@ pub fn run_split<R: Source, H: Shelf, V: Drain>(
     requires valid { IsState reassembly.rules reassembly.state }
     ensures run { IfOk result (λ ended. IsRun Shelves false shelf_text ending (work_of reassembly tracker)
         (R.left recording.old) (R.left recording.new)
-        (view (H.kept shelf.old) (V.written report.old) (H.refusals shelf.old) (V.failures report.old))
-        (view (H.kept shelf.new) (V.written report.new) (H.refusals shelf.new) (V.failures report.new)) ended.records (kept_work ended.kept)) }
+        (shelf_both H.Shelf V.Drain shelf.old report.old)
+        (shelf_both H.Shelf V.Drain shelf.new report.new) ended.records (kept_work ended.kept)) }
     ensures going_on { IfOk result (λ ended. IfSome ended.kept (λ k. IsGoing k.reassembly)) }
     ensures flushed_report { OnOk result (Keeps (V.flushed report.new) (V.written report.new)) }
     ensures stopped { IfErr result (IsStoppedAt Shelves false shelf_text ending (work_of reassembly tracker)
         (R.left recording.old) (R.left recording.new)
-        (view (H.kept shelf.old) (V.written report.old) (H.refusals shelf.old) (V.failures report.old))
-        (view (H.kept shelf.new) (V.written report.new) (H.refusals shelf.new) (V.failures report.new))) }
+        (shelf_both H.Shelf V.Drain shelf.old report.old)
+        (shelf_both H.Shelf V.Drain shelf.new report.new)) }
     ensures counts { RunCounted (R.failures recording.old) (R.failures recording.new)
-        (view (H.kept shelf.old) (V.written report.old) (H.refusals shelf.old) (V.failures report.old))
-        (view (H.kept shelf.new) (V.written report.new) (H.refusals shelf.new) (V.failures report.new)) result }
+        (shelf_both H.Shelf V.Drain shelf.old report.old)
+        (shelf_both H.Shelf V.Drain shelf.new report.new) result }
 {
     let mut outlet = PacketShelf { shelf };
-    match run_to_end(
+    run_to_end(
         alloc,
         reassembly,
         tracker,
@@ -379,8 +221,5 @@ pub fn run_split<R: Source, H: Shelf, V: Drain>(
         &mut outlet,
         report,
         ending,
-    ) {
-        Ok(ended) => Ok(ended),
-        Err(fault) => Err(fault),
-    }
+    )
 }

@@ -6,12 +6,13 @@ ghost use Rattle.tm_frame.specs.Layout.{record_length_of};
 ghost use Rattle.tm_reassembly.specs.Valid.{IsState};
 ghost use Rattle.tm_tool.specs.Faults.{RunCounted};
 ghost use Rattle.tm_tool.specs.Jobs.{all_pieces, begun, head_pieces};
-ghost use Rattle.tm_tool.specs.Outputs.{AppendsCut, Took, WantsMemory, view};
+ghost use Rattle.tm_tool.specs.Outputs.{AppendsCut, Took, WantsMemory};
 ghost use Rattle.tm_tool.specs.Keeping.{IsGoing, kept_work};
 ghost use Rattle.tm_tool.specs.Pieces.{chosen, further, makes_rows, pieces, text_of, worked};
 ghost use Rattle.tm_tool.specs.Records.{record_count};
 ghost use Rattle.tm_tool.specs.Runs.{IsHeadedRun, IsHeadedStop, IsRun, IsStoppedAt, kept_of};
 ghost use Rattle.tm_tool.specs.Shelves.{Shelves, shelf_text};
+ghost use Rattle.tm_tool.specs.Seen.{both, shelf_both};
 
 use crate::commands::{run_by, run_split};
 use crate::recording::{Ended, Kept};
@@ -173,11 +174,11 @@ pub fn run<R: Source, W: Drain, V: Drain>(
 ) -> Result<Done, RunFault>
     // With Ok what the ending wants was read, and just its pieces were written, and passed on.
     ensures all { IfOk result (λ done. IsHeadedRun Appends (makes_rows command.entry) (text_of command.entry) ending job.work (head_pieces command.entry job.fresh) (R.left recording.old) (R.left recording.new)
-        (view (W.written out.old) (V.written report.old) (W.failures out.old) (V.failures report.old))
-        (view (W.written out.new) (V.written report.new) (W.failures out.new) (V.failures report.new)) done.records (option_map (λ j. j.work) done.kept)) }
+        (both W.Drain V.Drain out.old report.old)
+        (both W.Drain V.Drain out.new report.new) done.records (option_map (λ j. j.work) done.kept)) }
     ensures done { IfOk result (λ done. IfSome (R.left recording.old) (λ octets.
-        Took Appends (view (W.written out.old) (V.written report.old) (W.failures out.old) (V.failures report.old))
-        (view (W.written out.new) (V.written report.new) (W.failures out.new) (V.failures report.new)) (all_pieces command.entry ending job octets)
+        Took Appends (both W.Drain V.Drain out.old report.old)
+        (both W.Drain V.Drain out.new report.new) (all_pieces command.entry ending job octets)
         × (done.records ≡ job.work.state.records + length (chosen ending (further job.work octets)))
         × (option_map (λ j. j.work) done.kept ≡ kept_of ending (worked job.work (chosen ending (further job.work octets)))))) }
     ensures fresh { IfOk result (λ done. IfSome done.kept (λ j. j.fresh ≡ false)) }
@@ -186,16 +187,16 @@ pub fn run<R: Source, W: Drain, V: Drain>(
 
     // A device is blamed only where a call of it failed.
     ensures counts { RunCounted (R.failures recording.old) (R.failures recording.new)
-        (view (W.written out.old) (V.written report.old) (W.failures out.old) (V.failures report.old))
-        (view (W.written out.new) (V.written report.new) (W.failures out.new) (V.failures report.new)) result }
+        (both W.Drain V.Drain out.old report.old)
+        (both W.Drain V.Drain out.new report.new) result }
 
     // After a fault there is one place up to which these pieces were written. Without memory it is a piece's end; and a text was to be made.
     ensures cut { IfErr result (λ fault. IfSome (R.left recording.old) (λ octets.
-        AppendsCut Appends (view (W.written out.old) (V.written report.old) (W.failures out.old) (V.failures report.old))
-        (view (W.written out.new) (V.written report.new) (W.failures out.new) (V.failures report.new)) (all_pieces command.entry ending job octets))) }
+        AppendsCut Appends (both W.Drain V.Drain out.old report.old)
+        (both W.Drain V.Drain out.new report.new) (all_pieces command.entry ending job octets))) }
     ensures memory { IsErrOf result RunFault.NoMemory → IfSome (R.left recording.old) (λ octets.
-        WantsMemory Appends (makes_rows command.entry) (view (W.written out.old) (V.written report.old) (W.failures out.old) (V.failures report.old))
-        (view (W.written out.new) (V.written report.new) (W.failures out.new) (V.failures report.new)) (all_pieces command.entry ending job octets)) }
+        WantsMemory Appends (makes_rows command.entry) (both W.Drain V.Drain out.old report.old)
+        (both W.Drain V.Drain out.new report.new) (all_pieces command.entry ending job octets)) }
     ensures too_many { IsErrOf result RunFault.TooMany → IfSome (R.left recording.old) (λ octets.
         2 ^ 32 - 1 < record_count (record_length_of job.work.rules.layout) octets) }
     ensures short { IsErrOf result RunFault.ShortRecording → IfSome (R.left recording.old) (λ octets.
@@ -203,8 +204,8 @@ pub fn run<R: Source, W: Drain, V: Drain>(
 
     // What was read by then, and written: nothing past the record at a piece of which writing stopped.
     ensures stopped { IfErr result (IsHeadedStop Appends (makes_rows command.entry) (text_of command.entry) ending job.work (head_pieces command.entry job.fresh) (R.left recording.old) (R.left recording.new)
-        (view (W.written out.old) (V.written report.old) (W.failures out.old) (V.failures report.old))
-        (view (W.written out.new) (V.written report.new) (W.failures out.new) (V.failures report.new))) }
+        (both W.Drain V.Drain out.old report.old)
+        (both W.Drain V.Drain out.new report.new)) }
 {
     let Job {
         reassembly,
@@ -245,11 +246,11 @@ pub fn split<R: Source, H: Shelf, V: Drain>(
 ) -> Result<Done, RunFault>
     // With Ok what the ending wants was read, and just its pieces were written, and passed on.
     ensures all { IfOk result (λ done. IsRun Shelves false shelf_text ending job.work (R.left recording.old) (R.left recording.new)
-        (view (H.kept shelf.old) (V.written report.old) (H.refusals shelf.old) (V.failures report.old))
-        (view (H.kept shelf.new) (V.written report.new) (H.refusals shelf.new) (V.failures report.new)) done.records (option_map (λ j. j.work) done.kept)) }
+        (shelf_both H.Shelf V.Drain shelf.old report.old)
+        (shelf_both H.Shelf V.Drain shelf.new report.new) done.records (option_map (λ j. j.work) done.kept)) }
     ensures done { IfOk result (λ done. IfSome (R.left recording.old) (λ octets.
-        Took Shelves (view (H.kept shelf.old) (V.written report.old) (H.refusals shelf.old) (V.failures report.old))
-        (view (H.kept shelf.new) (V.written report.new) (H.refusals shelf.new) (V.failures report.new)) (pieces shelf_text ending job.work octets)
+        Took Shelves (shelf_both H.Shelf V.Drain shelf.old report.old)
+        (shelf_both H.Shelf V.Drain shelf.new report.new) (pieces shelf_text ending job.work octets)
         × (done.records ≡ job.work.state.records + length (chosen ending (further job.work octets)))
         × (option_map (λ j. j.work) done.kept ≡ kept_of ending (worked job.work (chosen ending (further job.work octets)))))) }
     ensures fresh { IfOk result (λ done. IfSome done.kept (λ j. j.fresh ≡ job.fresh)) }
@@ -257,16 +258,16 @@ pub fn split<R: Source, H: Shelf, V: Drain>(
 
     // A device is blamed only where a call of it failed.
     ensures counts { RunCounted (R.failures recording.old) (R.failures recording.new)
-        (view (H.kept shelf.old) (V.written report.old) (H.refusals shelf.old) (V.failures report.old))
-        (view (H.kept shelf.new) (V.written report.new) (H.refusals shelf.new) (V.failures report.new)) result }
+        (shelf_both H.Shelf V.Drain shelf.old report.old)
+        (shelf_both H.Shelf V.Drain shelf.new report.new) result }
 
     // After a fault there is one place up to which these pieces were written. Without memory it is a piece's end; and a text was to be made.
     ensures cut { IfErr result (λ fault. IfSome (R.left recording.old) (λ octets.
-        AppendsCut Shelves (view (H.kept shelf.old) (V.written report.old) (H.refusals shelf.old) (V.failures report.old))
-        (view (H.kept shelf.new) (V.written report.new) (H.refusals shelf.new) (V.failures report.new)) (pieces shelf_text ending job.work octets))) }
+        AppendsCut Shelves (shelf_both H.Shelf V.Drain shelf.old report.old)
+        (shelf_both H.Shelf V.Drain shelf.new report.new) (pieces shelf_text ending job.work octets))) }
     ensures memory { IsErrOf result RunFault.NoMemory → IfSome (R.left recording.old) (λ octets.
-        WantsMemory Shelves false (view (H.kept shelf.old) (V.written report.old) (H.refusals shelf.old) (V.failures report.old))
-        (view (H.kept shelf.new) (V.written report.new) (H.refusals shelf.new) (V.failures report.new)) (pieces shelf_text ending job.work octets)) }
+        WantsMemory Shelves false (shelf_both H.Shelf V.Drain shelf.old report.old)
+        (shelf_both H.Shelf V.Drain shelf.new report.new) (pieces shelf_text ending job.work octets)) }
     ensures too_many { IsErrOf result RunFault.TooMany → IfSome (R.left recording.old) (λ octets.
         2 ^ 32 - 1 < record_count (record_length_of job.work.rules.layout) octets) }
     ensures short { IsErrOf result RunFault.ShortRecording → IfSome (R.left recording.old) (λ octets.
@@ -274,8 +275,8 @@ pub fn split<R: Source, H: Shelf, V: Drain>(
 
     // What was read by then, and written: nothing past the record at a piece of which writing stopped.
     ensures stopped { IfErr result (IsStoppedAt Shelves false shelf_text ending job.work (R.left recording.old) (R.left recording.new)
-        (view (H.kept shelf.old) (V.written report.old) (H.refusals shelf.old) (V.failures report.old))
-        (view (H.kept shelf.new) (V.written report.new) (H.refusals shelf.new) (V.failures report.new))) }
+        (shelf_both H.Shelf V.Drain shelf.old report.old)
+        (shelf_both H.Shelf V.Drain shelf.new report.new)) }
 {
     let Job {
         reassembly,

@@ -7,9 +7,10 @@ ghost use Rattle.tm_reassembly.specs.Item as value;
 ghost use Rattle.tm_packet.specs.Header.{header_of};
 ghost use Rattle.tm_reassembly.specs.Sinks.{item_of, IsOnePacket};
 ghost use Rattle.tm_tool.specs.Lines.{note_lines};
-ghost use Rattle.tm_tool.specs.Outputs.{Written, view};
+ghost use Rattle.tm_tool.specs.Outputs.{Written};
 ghost use Rattle.tm_tool.specs.Pieces.{HasLine, line_of, noted, notes_of, piece_of, unclosed_piece, unclosed_pieces};
 ghost use Rattle.tm_tool.specs.Sinking.{Refuses, Takes};
+ghost use Rattle.tm_tool.specs.Seen.{outlet_both};
 
 use crate::lines::{
     push_bad, push_drop, push_gap, push_master_gap, push_note, push_short, push_vca,
@@ -137,8 +138,8 @@ impl<O: Outlet, V: Drain> Output<'_, O, V> {
         ensures same_out { O.fixed self.new.outlet.now ≡ O.fixed self.old.outlet.now }
         ensures same_report { self.new.report.ghost_name ≡ self.old.report.ghost_name }
         ensures noted { self.new.tracker.now ≡ noted self.old.tracker.now (value.Packet seen channel first place octets.now) }
-        ensures written { Written O.grows O.rows (view (O.held self.old.outlet.now) (V.written self.old.report.now) (O.failures self.old.outlet.now) (V.failures self.old.report.now))
-            (view (O.held self.new.outlet.now) (V.written self.new.report.now) (O.failures self.new.outlet.now) (V.failures self.new.report.now)) (piece_of (O.text (O.fixed self.old.outlet.now)) self.old.tracker.now (value.Packet seen channel first place octets.now) ∷ []) result }
+        ensures written { Written O.grows O.rows (outlet_both O.Outlet V.Drain self.old.outlet.now self.old.report.now)
+            (outlet_both O.Outlet V.Drain self.new.outlet.now self.new.report.now) (piece_of (O.text (O.fixed self.old.outlet.now)) self.old.tracker.now (value.Packet seen channel first place octets.now) ∷ []) result }
     {
         let header = header_in(octets);
         if let Err(_) = note_packet(self.tracker, self.notes, seen, channel, header) {
@@ -171,8 +172,8 @@ impl<O: Outlet, V: Drain> Output<'_, O, V> {
         ensures same_out { O.fixed self.new.outlet.now ≡ O.fixed self.old.outlet.now }
         ensures same_report { self.new.report.ghost_name ≡ self.old.report.ghost_name }
         ensures noted { self.new.tracker.now ≡ noted self.old.tracker.now (item_of item.entry) }
-        ensures written { Written O.grows O.rows (view (O.held self.old.outlet.now) (V.written self.old.report.now) (O.failures self.old.outlet.now) (V.failures self.old.report.now))
-            (view (O.held self.new.outlet.now) (V.written self.new.report.now) (O.failures self.new.outlet.now) (V.failures self.new.report.now)) (piece_of (O.text (O.fixed self.old.outlet.now)) self.old.tracker.now (item_of item.entry) ∷ []) result }
+        ensures written { Written O.grows O.rows (outlet_both O.Outlet V.Drain self.old.outlet.now self.old.report.now)
+            (outlet_both O.Outlet V.Drain self.new.outlet.now self.new.report.now) (piece_of (O.text (O.fixed self.old.outlet.now)) self.old.tracker.now (item_of item.entry) ∷ []) result }
     {
         self.notes.clear();
         if let Err(_) = push_item(self.notes, item) {
@@ -193,8 +194,8 @@ impl<O: Outlet, V: Drain> Output<'_, O, V> {
         ensures same_out { O.fixed self.new.outlet.now ≡ O.fixed self.old.outlet.now }
         ensures same_report { self.new.report.ghost_name ≡ self.old.report.ghost_name }
         ensures tracker { self.new.tracker.now ≡ self.old.tracker.now }
-        ensures written { Written O.grows O.rows (view (O.held self.old.outlet.now) (V.written self.old.report.now) (O.failures self.old.outlet.now) (V.failures self.old.report.now))
-            (view (O.held self.new.outlet.now) (V.written self.new.report.now) (O.failures self.new.outlet.now) (V.failures self.new.report.now)) (unclosed_piece seen unclosed ∷ []) result }
+        ensures written { Written O.grows O.rows (outlet_both O.Outlet V.Drain self.old.outlet.now self.old.report.now)
+            (outlet_both O.Outlet V.Drain self.new.outlet.now self.new.report.now) (unclosed_piece seen unclosed ∷ []) result }
     {
         self.notes.clear();
         let channel = (unclosed.key / 2048) as u8;
@@ -214,8 +215,8 @@ impl<O: Outlet, V: Drain> Output<'_, O, V> {
         ensures same_outlet { self.new.outlet.ghost_name ≡ self.old.outlet.ghost_name }
         ensures same_out { O.fixed self.new.outlet.now ≡ O.fixed self.old.outlet.now }
         ensures same_report { self.new.report.ghost_name ≡ self.old.report.ghost_name }
-        ensures written { Written O.grows O.rows (view (O.held self.old.outlet.now) (V.written self.old.report.now) (O.failures self.old.outlet.now) (V.failures self.old.report.now))
-            (view (O.held self.new.outlet.now) (V.written self.new.report.now) (O.failures self.new.outlet.now) (V.failures self.new.report.now)) (unclosed_pieces seen (sequence.unclosed 0 self.old.tracker.now)) result }
+        ensures written { Written O.grows O.rows (outlet_both O.Outlet V.Drain self.old.outlet.now self.old.report.now)
+            (outlet_both O.Outlet V.Drain self.new.outlet.now self.new.report.now) (unclosed_pieces seen (sequence.unclosed 0 self.old.tracker.now)) result }
     {
         let mut at = 0;
         while let Some(unclosed) = self.tracker.next_unclosed(at) {
@@ -236,8 +237,8 @@ impl<O: Outlet, V: Drain> Output<'_, O, V> {
         ensures tracker { self.new.tracker.now ≡ self.old.tracker.now }
         ensures flushed_out { OnOk result (O.passed self.new.outlet.now) }
         ensures flushed_report { OnOk result (Keeps (V.flushed self.new.report.now) (V.written self.new.report.now)) }
-        ensures written { Written O.grows O.rows (view (O.held self.old.outlet.now) (V.written self.old.report.now) (O.failures self.old.outlet.now) (V.failures self.old.report.now))
-            (view (O.held self.new.outlet.now) (V.written self.new.report.now) (O.failures self.new.outlet.now) (V.failures self.new.report.now)) [] result }
+        ensures written { Written O.grows O.rows (outlet_both O.Outlet V.Drain self.old.outlet.now self.old.report.now)
+            (outlet_both O.Outlet V.Drain self.new.outlet.now self.new.report.now) [] result }
     {
         if let Err(_) = self.outlet.flush() {
             return Err(RunFault::Write);
@@ -253,10 +254,10 @@ impl<O: Outlet, V: Drain> Sink for Output<'_, O, V> {
     type Fault = RunFault;
 
     ghost takes = { Takes O.grows O.text O.rows (λ s. s.tracker.ghost_name) (λ s. s.outlet.ghost_name) (λ s. O.fixed s.outlet.now) (λ s. s.report.ghost_name) (λ s. s.tracker.now)
-        (λ s. (view (O.held s.outlet.now) (V.written s.report.now) (O.failures s.outlet.now) (V.failures s.report.now))) };
+        (λ s. outlet_both O.Outlet V.Drain s.outlet.now s.report.now) };
 
     ghost refuses = { Refuses O.grows O.text O.rows (λ s. s.tracker.ghost_name) (λ s. s.outlet.ghost_name) (λ s. O.fixed s.outlet.now) (λ s. s.report.ghost_name) (λ s. s.tracker.now)
-        (λ s. (view (O.held s.outlet.now) (V.written s.report.now) (O.failures s.outlet.now) (V.failures s.report.now))) };
+        (λ s. outlet_both O.Outlet V.Drain s.outlet.now s.report.now) };
 
     fn take(&mut self, item: Item<'_>) -> Result<(), RunFault> {
         match item {

@@ -7,11 +7,12 @@ ghost use Rattle.tm_reassembly.specs.Items.{closing};
 ghost use Rattle.tm_reassembly.specs.Steps.{most_records};
 ghost use Rattle.tm_reassembly.specs.Valid.{IsState};
 ghost use Rattle.tm_tool.specs.Faults.{RunCounted};
-ghost use Rattle.tm_tool.specs.Outputs.{SameCounts, Written, view};
+ghost use Rattle.tm_tool.specs.Outputs.{SameCounts, Written};
 ghost use Rattle.tm_tool.specs.Pieces.{closing_pieces, end_pieces, noted_all, pieces_of, record_pieces, worked};
 ghost use Rattle.tm_tool.specs.Keeping.{IsGoing, kept_work};
 ghost use Rattle.tm_tool.specs.Runs.{GoesOn, IsRun, IsStoppedAt, kept_of};
 ghost use Rattle.tm_tool.specs.Stepping.{Enough, HasPassed, HasStepped, PassCounted, PassingStopped, StepWritten, work_of};
+ghost use Rattle.tm_tool.specs.Seen.{outlet_both};
 
 use crate::outlet::Outlet;
 use crate::output::Output;
@@ -36,8 +37,8 @@ fn step_into<O: Outlet, V: Drain>(
     ensures work { OnOk result (work_of reassembly.new output.new.tracker.now ≡ worked (work_of reassembly.old output.old.tracker.now) (octets.now ∷ [])) }
     ensures going_on { OnOk result (IsGoing reassembly.new) }
     ensures few { OnOk result (reassembly.old.state.records < most_records) }
-    ensures written { StepWritten O.grows O.rows reassembly.old.state.records (view (O.held output.old.outlet.now) (V.written output.old.report.now) (O.failures output.old.outlet.now) (V.failures output.old.report.now))
-        (view (O.held output.new.outlet.now) (V.written output.new.report.now) (O.failures output.new.outlet.now) (V.failures output.new.report.now)) (record_pieces (O.text (O.fixed output.old.outlet.now)) (work_of reassembly.old output.old.tracker.now) (octets.now ∷ [])) result }
+    ensures written { StepWritten O.grows O.rows reassembly.old.state.records (outlet_both O.Outlet V.Drain output.old.outlet.now output.old.report.now)
+        (outlet_both O.Outlet V.Drain output.new.outlet.now output.new.report.now) (record_pieces (O.text (O.fixed output.old.outlet.now)) (work_of reassembly.old output.old.tracker.now) (octets.now ∷ [])) result }
 {
     match reassembly.step(octets, output) {
         Ok(()) => Ok(()),
@@ -60,8 +61,8 @@ fn finish_into<O: Outlet, V: Drain>(
     ensures same_out { O.fixed output.new.outlet.now ≡ O.fixed output.old.outlet.now }
     ensures same_report { output.new.report.ghost_name ≡ output.old.report.ghost_name }
     ensures noted { OnOk result (output.new.tracker.now ≡ noted_all output.old.tracker.now (closing reassembly.state rest)) }
-    ensures written { Written O.grows O.rows (view (O.held output.old.outlet.now) (V.written output.old.report.now) (O.failures output.old.outlet.now) (V.failures output.old.report.now))
-        (view (O.held output.new.outlet.now) (V.written output.new.report.now) (O.failures output.new.outlet.now) (V.failures output.new.report.now)) (pieces_of (O.text (O.fixed output.old.outlet.now)) output.old.tracker.now (closing reassembly.state rest)) result }
+    ensures written { Written O.grows O.rows (outlet_both O.Outlet V.Drain output.old.outlet.now output.old.report.now)
+        (outlet_both O.Outlet V.Drain output.new.outlet.now output.new.report.now) (pieces_of (O.text (O.fixed output.old.outlet.now)) output.old.tracker.now (closing reassembly.state rest)) result }
 {
     match reassembly.finish(rest, output) {
         Ok(()) => Ok(()),
@@ -120,15 +121,15 @@ fn step_records<R: Source, O: Outlet, V: Drain>(
     ensures going_on { OnOk result (IsGoing reassembly.new) }
     ensures short { IfOk result (λ octets. octets < record_length_of reassembly.old.rules.layout) }
     ensures stepped { IfOk result (HasStepped O.grows (O.text (O.fixed output.old.outlet.now)) ending (work_of reassembly.old output.old.tracker.now) (R.left recording.old) (R.left recording.new)
-        (view (O.held output.old.outlet.now) (V.written output.old.report.now) (O.failures output.old.outlet.now) (V.failures output.old.report.now))
-        (view (O.held output.new.outlet.now) (V.written output.new.report.now) (O.failures output.new.outlet.now) (V.failures output.new.report.now)) (work_of reassembly.new output.new.tracker.now)) }
+        (outlet_both O.Outlet V.Drain output.old.outlet.now output.old.report.now)
+        (outlet_both O.Outlet V.Drain output.new.outlet.now output.new.report.now) (work_of reassembly.new output.new.tracker.now)) }
     ensures stopped { IfErr result (IsStoppedAt O.grows O.rows (O.text (O.fixed output.old.outlet.now)) ending (work_of reassembly.old output.old.tracker.now)
         (R.left recording.old) (R.left recording.new)
-        (view (O.held output.old.outlet.now) (V.written output.old.report.now) (O.failures output.old.outlet.now) (V.failures output.old.report.now))
-        (view (O.held output.new.outlet.now) (V.written output.new.report.now) (O.failures output.new.outlet.now) (V.failures output.new.report.now))) }
+        (outlet_both O.Outlet V.Drain output.old.outlet.now output.old.report.now)
+        (outlet_both O.Outlet V.Drain output.new.outlet.now output.new.report.now)) }
     ensures counts { RunCounted (R.failures recording.old) (R.failures recording.new)
-        (view (O.held output.old.outlet.now) (V.written output.old.report.now) (O.failures output.old.outlet.now) (V.failures output.old.report.now))
-        (view (O.held output.new.outlet.now) (V.written output.new.report.now) (O.failures output.new.outlet.now) (V.failures output.new.report.now)) result }
+        (outlet_both O.Outlet V.Drain output.old.outlet.now output.old.report.now)
+        (outlet_both O.Outlet V.Drain output.new.outlet.now output.new.report.now) result }
 {
     let done = reassembly.records();
     if let Err(fault) = skip_records(done, buffer, recording) {
@@ -163,8 +164,8 @@ fn close<O: Outlet, V: Drain>(
     ensures same_out { O.fixed output.new.outlet.now ≡ O.fixed output.old.outlet.now }
     ensures same_report { output.new.report.ghost_name ≡ output.old.report.ghost_name }
     ensures written { Written O.grows O.rows
-        (view (O.held output.old.outlet.now) (V.written output.old.report.now) (O.failures output.old.outlet.now) (V.failures output.old.report.now))
-        (view (O.held output.new.outlet.now) (V.written output.new.report.now) (O.failures output.new.outlet.now) (V.failures output.new.report.now)) (closing_pieces (O.text (O.fixed output.old.outlet.now)) (work_of reassembly output.old.tracker.now) rest) result }
+        (outlet_both O.Outlet V.Drain output.old.outlet.now output.old.report.now)
+        (outlet_both O.Outlet V.Drain output.new.outlet.now output.new.report.now) (closing_pieces (O.text (O.fixed output.old.outlet.now)) (work_of reassembly output.old.tracker.now) rest) result }
 {
     let records = reassembly.records();
     if let Err(fault) = finish_into(reassembly, rest, output) {
@@ -192,8 +193,8 @@ fn end<O: Outlet, V: Drain>(
     ensures going_on { IfOk result (λ kept. IfSome kept IsGoing) }
     ensures kept { IfOk result (λ kept. option_map (λ k. work_of k output.new.tracker.now) kept ≡ kept_of ending (work_of reassembly output.old.tracker.now)) }
     ensures written { Written O.grows O.rows
-        (view (O.held output.old.outlet.now) (V.written output.old.report.now) (O.failures output.old.outlet.now) (V.failures output.old.report.now))
-        (view (O.held output.new.outlet.now) (V.written output.new.report.now) (O.failures output.new.outlet.now) (V.failures output.new.report.now)) (end_pieces (O.text (O.fixed output.old.outlet.now)) ending (work_of reassembly output.old.tracker.now) rest) result }
+        (outlet_both O.Outlet V.Drain output.old.outlet.now output.old.report.now)
+        (outlet_both O.Outlet V.Drain output.new.outlet.now output.new.report.now) (end_pieces (O.text (O.fixed output.old.outlet.now)) ending (work_of reassembly output.old.tracker.now) rest) result }
 {
     match ending {
         Ending::Close => match close(reassembly, rest, output) {
@@ -229,18 +230,18 @@ fn take_all<R: Source, O: Outlet, V: Drain>(
     ensures same_report { output.new.report.ghost_name ≡ output.old.report.ghost_name }
     ensures run { IfOk result (λ taken. IsRun O.grows O.rows (O.text (O.fixed output.old.outlet.now)) ending (work_of reassembly output.old.tracker.now)
         (R.left recording.old) (R.left recording.new)
-        (view (O.held output.old.outlet.now) (V.written output.old.report.now) (O.failures output.old.outlet.now) (V.failures output.old.report.now))
-        (view (O.held output.new.outlet.now) (V.written output.new.report.now) (O.failures output.new.outlet.now) (V.failures output.new.report.now)) taken.records (option_map (λ k. work_of k output.new.tracker.now) taken.reassembly)) }
+        (outlet_both O.Outlet V.Drain output.old.outlet.now output.old.report.now)
+        (outlet_both O.Outlet V.Drain output.new.outlet.now output.new.report.now) taken.records (option_map (λ k. work_of k output.new.tracker.now) taken.reassembly)) }
     ensures going_on { IfOk result (λ taken. IfSome taken.reassembly IsGoing) }
     ensures flushed_out { OnOk result (O.passed output.new.outlet.now) }
     ensures flushed_report { OnOk result (Keeps (V.flushed output.new.report.now) (V.written output.new.report.now)) }
     ensures stopped { IfErr result (IsStoppedAt O.grows O.rows (O.text (O.fixed output.old.outlet.now)) ending (work_of reassembly output.old.tracker.now)
         (R.left recording.old) (R.left recording.new)
-        (view (O.held output.old.outlet.now) (V.written output.old.report.now) (O.failures output.old.outlet.now) (V.failures output.old.report.now))
-        (view (O.held output.new.outlet.now) (V.written output.new.report.now) (O.failures output.new.outlet.now) (V.failures output.new.report.now))) }
+        (outlet_both O.Outlet V.Drain output.old.outlet.now output.old.report.now)
+        (outlet_both O.Outlet V.Drain output.new.outlet.now output.new.report.now)) }
     ensures counts { RunCounted (R.failures recording.old) (R.failures recording.new)
-        (view (O.held output.old.outlet.now) (V.written output.old.report.now) (O.failures output.old.outlet.now) (V.failures output.old.report.now))
-        (view (O.held output.new.outlet.now) (V.written output.new.report.now) (O.failures output.new.outlet.now) (V.failures output.new.report.now)) result }
+        (outlet_both O.Outlet V.Drain output.old.outlet.now output.old.report.now)
+        (outlet_both O.Outlet V.Drain output.new.outlet.now output.new.report.now) result }
 {
     let rest = match step_records(&mut reassembly, buffer, recording, output, ending) {
         Ok(rest) => rest,
@@ -277,16 +278,16 @@ fn take_all_into<R: Source, O: Outlet, V: Drain>(
     requires valid { IsState reassembly.rules reassembly.state }
     ensures run { IfOk result (λ taken. IsRun O.grows O.rows (O.text (O.fixed outlet.old)) ending (work_of reassembly tracker.old)
         (R.left recording.old) (R.left recording.new)
-        (view (O.held outlet.old) (V.written report.old) (O.failures outlet.old) (V.failures report.old))
-        (view (O.held outlet.new) (V.written report.new) (O.failures outlet.new) (V.failures report.new)) taken.records (option_map (λ k. work_of k tracker.new) taken.reassembly)) }
+        (outlet_both O.Outlet V.Drain outlet.old report.old)
+        (outlet_both O.Outlet V.Drain outlet.new report.new) taken.records (option_map (λ k. work_of k tracker.new) taken.reassembly)) }
     ensures going_on { IfOk result (λ taken. IfSome taken.reassembly IsGoing) }
     ensures stopped { IfErr result (IsStoppedAt O.grows O.rows (O.text (O.fixed outlet.old)) ending (work_of reassembly tracker.old)
         (R.left recording.old) (R.left recording.new)
-        (view (O.held outlet.old) (V.written report.old) (O.failures outlet.old) (V.failures report.old))
-        (view (O.held outlet.new) (V.written report.new) (O.failures outlet.new) (V.failures report.new))) }
+        (outlet_both O.Outlet V.Drain outlet.old report.old)
+        (outlet_both O.Outlet V.Drain outlet.new report.new)) }
     ensures counts { RunCounted (R.failures recording.old) (R.failures recording.new)
-        (view (O.held outlet.old) (V.written report.old) (O.failures outlet.old) (V.failures report.old))
-        (view (O.held outlet.new) (V.written report.new) (O.failures outlet.new) (V.failures report.new)) result }
+        (outlet_both O.Outlet V.Drain outlet.old report.old)
+        (outlet_both O.Outlet V.Drain outlet.new report.new) result }
     ensures same_out { O.fixed outlet.new ≡ O.fixed outlet.old }
     ensures flushed_out { OnOk result (O.passed outlet.new) }
     ensures flushed_report { OnOk result (Keeps (V.flushed report.new) (V.written report.new)) }
@@ -361,16 +362,16 @@ pub fn run_to_end<R: Source, O: Outlet, V: Drain>(
     requires valid { IsState reassembly.rules reassembly.state }
     ensures run { IfOk result (λ ended. IsRun O.grows O.rows (O.text (O.fixed outlet.old)) ending (work_of reassembly tracker)
         (R.left recording.old) (R.left recording.new)
-        (view (O.held outlet.old) (V.written report.old) (O.failures outlet.old) (V.failures report.old))
-        (view (O.held outlet.new) (V.written report.new) (O.failures outlet.new) (V.failures report.new)) ended.records (kept_work ended.kept)) }
+        (outlet_both O.Outlet V.Drain outlet.old report.old)
+        (outlet_both O.Outlet V.Drain outlet.new report.new) ended.records (kept_work ended.kept)) }
     ensures going_on { IfOk result (λ ended. IfSome ended.kept (λ k. IsGoing k.reassembly)) }
     ensures stopped { IfErr result (IsStoppedAt O.grows O.rows (O.text (O.fixed outlet.old)) ending (work_of reassembly tracker)
         (R.left recording.old) (R.left recording.new)
-        (view (O.held outlet.old) (V.written report.old) (O.failures outlet.old) (V.failures report.old))
-        (view (O.held outlet.new) (V.written report.new) (O.failures outlet.new) (V.failures report.new))) }
+        (outlet_both O.Outlet V.Drain outlet.old report.old)
+        (outlet_both O.Outlet V.Drain outlet.new report.new)) }
     ensures counts { RunCounted (R.failures recording.old) (R.failures recording.new)
-        (view (O.held outlet.old) (V.written report.old) (O.failures outlet.old) (V.failures report.old))
-        (view (O.held outlet.new) (V.written report.new) (O.failures outlet.new) (V.failures report.new)) result }
+        (outlet_both O.Outlet V.Drain outlet.old report.old)
+        (outlet_both O.Outlet V.Drain outlet.new report.new) result }
     ensures same_out { O.fixed outlet.new ≡ O.fixed outlet.old }
     ensures flushed_out { OnOk result (O.passed outlet.new) }
     ensures flushed_report { OnOk result (Keeps (V.flushed report.new) (V.written report.new)) }

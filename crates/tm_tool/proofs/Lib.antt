@@ -1,5 +1,3 @@
-pub mod KeyLemmas
-pub mod Parts
 pub mod ListingLemmas
 pub mod RecordLemmas
 pub mod CutLemmas

@@ -1,10 +1,10 @@
 -- A shelf that refuses.
 use Rattle.std.proofs.Common.{◌≡◌, ℕ, Bool, List, ap, ◌∙◌, Option}
 use Rattle.std.proofs.lemmas.List.{map-append}
-use Rattle.tm_tool.specs.Devices.{raised}
+use Rattle.tm_devices.specs.Devices.{PutsFront, raised}
 use Rattle.tm_tool.specs.declared.fault.RunFault.TheVariants.{Write}
 use Rattle.tm_tool.specs.Outlets.{PutStopped}
-use Rattle.tm_tool.specs.Shelves.{PutsFront, shelved, Shelves}
+use Rattle.tm_tool.specs.Shelves.{shelved, Shelves}
 use Rattle.tm_tool.specs.ShelfLaws.{shelves_put}
 
 pub shelf_stopped : (rows : Bool) (old new : Option (ℕ → List ℕ)) (failures failures' : ℕ) (application : ℕ) (octets : List ℕ)

@@ -1,6 +1,3 @@
-pub mod Keys
-pub mod Settings
-pub mod Devices
 pub mod Records
 pub mod Lines
 pub mod Cuts

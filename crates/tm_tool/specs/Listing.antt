@@ -9,7 +9,7 @@ use Rattle.tm_frame.specs.Frame.{GoodFrame}
 use Rattle.tm_frame.specs.Layout.{record_length_of}
 use Rattle.tm_tool.specs.declared.fault.RunFault.{RunFault}
 use Rattle.tm_tool.specs.declared.fault.RunFault.TheVariants.{Read, Write, Report, ShortRecording, TooMany, NoMemory}
-use Rattle.tm_tool.specs.Devices.{AppendsFront}
+use Rattle.tm_devices.specs.Devices.{AppendsFront}
 use Rattle.tm_tool.specs.Lines.{bad_line, frame_line, short_line}
 use Rattle.tm_tool.specs.Records.{AreRecords, records, rest_of}
 

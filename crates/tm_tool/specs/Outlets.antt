@@ -2,7 +2,7 @@
 use Rattle.std.specs.Prelude.{◌≡◌, refl, ℕ, Bool, true, List, [], ◌++◌}
 use Rattle.tm_fields.specs.declared.field.Field.{Field}
 use Rattle.tm_reassembly.specs.Item.{Item, Bad, MasterGap, Gap, Vca, Dropped, Packet, Short}
-use Rattle.tm_tool.specs.Devices.{raised}
+use Rattle.tm_devices.specs.Devices.{raised}
 use Rattle.tm_tool.specs.declared.job.Command.{Command}
 use Rattle.tm_tool.specs.declared.job.Command.TheVariants.{Extract, Packets, Fields}
 use Rattle.tm_tool.specs.FieldRows.{tabled, too_short}

@@ -1,7 +1,7 @@
 -- Two devices at a moment.
 use Rattle.std.specs.Prelude.{ℕ, List, Option}
-use Rattle.tm_tool.specs.declared.device.Drain as drain
-use Rattle.tm_tool.specs.declared.device.Shelf as shelf
+use Rattle.tm_devices.specs.declared.device.Drain as drain
+use Rattle.tm_devices.specs.declared.device.Shelf as shelf
 use Rattle.tm_tool.specs.declared.outlet.Outlet as outlet
 use Rattle.tm_tool.specs.Outputs.{View, view}
 

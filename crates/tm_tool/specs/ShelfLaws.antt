@@ -4,7 +4,8 @@ use Rattle.std.proofs.Common.{sym, ap, ◌∙◌, append_assoc, append-nil}
 use Rattle.tm_reassembly.specs.Item.{Item, Bad, MasterGap, Gap, Vca, Dropped, Packet, Short}
 use Rattle.tm_tool.specs.Outlets.{GivesNone}
 use Rattle.tm_tool.specs.Pieces.{HasLine}
-use Rattle.tm_tool.specs.Shelves.{Puts, Shelved, shelved, of_application, Shelves, shelved_of, shelf_text}
+use Rattle.tm_devices.specs.Devices.{Puts}
+use Rattle.tm_tool.specs.Shelves.{Shelved, shelved, of_application, Shelves, shelved_of, shelf_text}
 
 pub shelves_nil : (o : Option (ℕ → List ℕ)) → Shelves o o []
 shelves_nil None = tt

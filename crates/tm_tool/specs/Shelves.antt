@@ -4,16 +4,6 @@ use Rattle.tm_packet.specs.Header.{header_of}
 use Rattle.tm_reassembly.specs.Item.{Item, Packet}
 use Rattle.tm_tool.specs.Pieces.{Texts, no_remark}
 
--- known places grow by octets of one application, and no other place changes
-abbrev pub Puts : Option (ℕ → List ℕ) → Option (ℕ → List ℕ) → ℕ → List ℕ → Type 0
-Puts None new application octets = ⊤
-Puts (Some held) None application octets = ⊥
-Puts (Some held) (Some now) application octets = (k : ℕ) → now k ≡ held k ++ (if application == k then octets else [])
-
--- by a front of them, by a proper one if there are any
-abbrev pub PutsFront : Option (ℕ → List ℕ) → Option (ℕ → List ℕ) → ℕ → List ℕ → Type 0
-PutsFront old new application octets = (front rest : List ℕ) × (octets ≡ front ++ rest) × (octets ≢ [] → rest ≢ []) × Puts old new application front
-
 -- an octet of an application
 pub record Shelved : Type 0 where
   pub application : ℕ

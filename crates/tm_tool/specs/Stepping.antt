@@ -4,7 +4,7 @@ use Rattle.std.specs.List.{concat}
 use Rattle.std.specs.Io.KnownBytes.{Consumes}
 use Rattle.tm_frame.specs.Layout.{record_length_of}
 use Rattle.tm_reassembly.specs.Steps.{Progress}
-use Rattle.tm_tool.specs.Devices.{raised}
+use Rattle.tm_devices.specs.Devices.{raised}
 use Rattle.tm_tool.specs.declared.fault.RunFault.{RunFault}
 use Rattle.tm_tool.specs.declared.fault.RunFault.TheVariants.{Read, Write, Report, ShortRecording, TooMany, NoMemory}
 use Rattle.tm_tool.specs.declared.job.Ending.{Ending}

@@ -18,7 +18,7 @@ ghost use Rattle.tm_tool.specs.Seen.{both, shelf_both};
 
 use crate::outlet::{PacketLines, PacketOctets, PacketRows, PacketShelf};
 use crate::recording::{Ended, run_to_end};
-use crate::transfer::put_all;
+use tm_devices::put_all;
 use crate::{Command, Drain, Ending, RunFault, Shelf, Source};
 use std::alloc::Global;
 use tm_fields::Definition;

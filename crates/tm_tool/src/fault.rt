@@ -1,27 +1,9 @@
-//! Why settings are refused, and why a run ends.
+//! Why a run ends, and why octets are no checkpoint.
 
 ghost use Rattle.std.specs.Prelude.{◌≡◌};
 
-use crate::{Key, Octets};
 use std::alloc::AllocError;
 use thiserror::Error;
-
-/// Why a text is no settings.
-#[derive(Debug, Drop)]
-pub enum SettingsFault {
-    /// The text is not UTF-8, or is no TOML document.
-    Toml,
-    /// It has keys that name no setting, of which this is the least by its octets.
-    Unknown(Octets),
-    /// This key has to be there.
-    Missing(Key),
-    /// The value of this key is of another kind.
-    Kind(Key),
-    /// The value of this key is none that it may have.
-    Range(Key),
-    /// Memory ran out.
-    NoMemory,
-}
 
 /// Why a run ended before its end.
 #[derive(Clone, Copy, Debug, Error, PartialEq, Eq)]

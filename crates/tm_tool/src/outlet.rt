@@ -6,14 +6,14 @@ ghost use Rattle.std.proofs.KnownBytes.{Appends-nil, Appends-trans};
 ghost use Rattle.tm_packet.specs.Header.{header_of};
 ghost use Rattle.tm_reassembly.specs.Item as value;
 ghost use Rattle.tm_reassembly.specs.Item.{Item};
-ghost use Rattle.tm_tool.specs.Devices.{Counts};
+ghost use Rattle.tm_devices.specs.Devices.{Counts};
 ghost use Rattle.tm_tool.specs.Outlets.{GivesNone, PutStopped, no_text};
 ghost use Rattle.tm_tool.specs.Pieces.{HasLine, Texts, text_of};
 ghost use Rattle.tm_tool.specs.ShelfLaws.{no_shelf, shelves_nil, shelves_trans};
 ghost use Rattle.tm_tool.specs.Shelves.{Shelved, Shelves, shelf_text};
 
 use crate::lines::{push_packet, push_short_packet};
-use crate::transfer::put_all;
+use tm_devices::put_all;
 use crate::{DeviceFailed, Drain, RunFault, Shelf};
 use std::alloc::{AllocError, Global};
 use tm_fields::{Definition, Lead, RowFault};

@@ -16,7 +16,7 @@ ghost use Rattle.tm_tool.specs.Seen.{outlet_both};
 
 use crate::outlet::Outlet;
 use crate::output::Output;
-use crate::transfer::fill;
+use tm_devices::fill;
 use crate::{Drain, Ending, RunFault, Source};
 use std::alloc::Global;
 use tm_packet::Tracker;

@@ -6,12 +6,12 @@ use Rattle.tm_fields.specs.Escape.{escaped}
 use Rattle.tm_fields.specs.declared.faults.Column.{Column}
 use Rattle.tm_fields.specs.declared.faults.DefinitionFault.{DefinitionFault}
 use Rattle.tm_fields.specs.declared.faults.DefinitionFault.TheVariants as definition
-use Rattle.tm_tool.specs.Keys.{name_of}
-use Rattle.tm_tool.specs.declared.key.Key.{Key}
+use Rattle.tm_settings.specs.Keys.{name_of}
+use Rattle.tm_settings.specs.declared.key.Key.{Key}
 use Rattle.tm_tool.specs.declared.fault.CheckpointFault.{CheckpointFault}
 use Rattle.tm_tool.specs.declared.fault.CheckpointFault.TheVariants as checkpoint
-use Rattle.tm_tool.specs.declared.fault.SettingsFault.{SettingsFault}
-use Rattle.tm_tool.specs.declared.fault.SettingsFault.TheVariants as settings
+use Rattle.tm_settings.specs.declared.fault.SettingsFault.{SettingsFault}
+use Rattle.tm_settings.specs.declared.fault.SettingsFault.TheVariants as settings
 use Rattle.tm_tool.specs.declared.fault.RunFault.{RunFault}
 use Rattle.tm_tool.specs.declared.fault.RunFault.TheVariants as run
 use Rattle.tm_words.specs.declared.request.UsageFault.{UsageFault}

@@ -1,6 +1,7 @@
 use Rattle.tm_packet.specs.Header.{Fields}
 use Rattle.std.proofs.Common.{false, ap, ◌∙◌, subst}
-use Rattle.tm_tool.specs.Shelves.{PutsFront, shelved_of}
+use Rattle.tm_devices.specs.Devices.{PutsFront}
+use Rattle.tm_tool.specs.Shelves.{shelved_of}
 use Rattle.tm_tool.proofs.ShelfLemmas.{shelf_stopped}
 use Rattle.tm_tool.proofs.outlet.PacketShelfOutlet.put.Goals as goal
 

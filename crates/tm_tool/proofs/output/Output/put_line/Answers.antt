@@ -1,7 +1,7 @@
 use Rattle.std.proofs.Common.{◌++◌, ℕ, List, refl, sym, ap, subst, ◌∙◌, inr}
 use Rattle.tm_reassembly.specs.Sinks.{item_of}
 use Rattle.tm_tool.specs.Pieces.{line_of}
-use Rattle.tm_tool.specs.Devices.{AppendsFront}
+use Rattle.tm_devices.specs.Devices.{AppendsFront}
 use Rattle.tm_tool.proofs.PieceLemmas.{no_room, stopped_lines}
 use Rattle.tm_tool.proofs.PacketLemmas.{line_report, some_line}
 use Rattle.tm_tool.proofs.output.Output.put_line.Goals as goal

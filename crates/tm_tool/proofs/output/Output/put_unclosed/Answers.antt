@@ -1,5 +1,5 @@
 use Rattle.std.proofs.Common.{◌++◌, ◌/◌, ◌%◌, ℕ, List, refl, ap, subst, ◌∙◌, inr}
-use Rattle.tm_tool.specs.Devices.{AppendsFront}
+use Rattle.tm_devices.specs.Devices.{AppendsFront}
 use Rattle.tm_tool.specs.Lines.{note_line}
 use Rattle.tm_tool.proofs.PieceLemmas.{no_room, stopped_lines}
 use Rattle.tm_tool.proofs.LineLemmas.{some_note}

@@ -1,7 +1,7 @@
 use Rattle.std.proofs.Common.{◌++◌, take, ◌∙◌}
 use Rattle.std.proofs.KnownBytes.{Appends-trans}
-use Rattle.tm_tool.proofs.Parts.{moves_front}
-use Rattle.tm_tool.proofs.transfer.put_all.Goals as goal
+use Rattle.tm_devices.proofs.Parts.{moves_front}
+use Rattle.tm_devices.proofs.transfer.put_all.Goals as goal
 
 pub loop-rest-preserved : goal.loop-rest-preserved
 loop-rest-preserved g c =

@@ -9,8 +9,8 @@ use Rattle.std.specs.Map.{keys_of}
 use Rattle.std.specs.String.{string_cmp}
 use Rattle.toml.specs.View.{members_view}
 use Rattle.toml.specs.declared.value.Value.{Value}
-use Rattle.tm_tool.specs.Keys.{is_name}
-use Rattle.tm_tool.specs.Settings.{least, least_of, unknown_keys}
+use Rattle.tm_settings.specs.Keys.{is_name}
+use Rattle.tm_settings.specs.Settings.{least, least_of, unknown_keys}
 
 -- a key below those of the entries is the least
 least_of-below : (k : String Global) (es : List (String Global × Value)) → AllByRecursion (λ y. string_cmp k y ≡ Less) (keys_of es)

@@ -2,7 +2,7 @@
 
 ghost use Rattle.std.specs.Prelude.{ℕ, List, ◌<◌, ◌≤◌, length, take, IfOk, OnOk, OnErr};
 ghost use Rattle.std.specs.Io.KnownBytes.{Appends, Consumes, IsAtEnd};
-ghost use Rattle.tm_tool.specs.Devices.{AppendsFront, Counts};
+ghost use Rattle.tm_devices.specs.Devices.{AppendsFront, Counts};
 
 use crate::{DeviceFailed, Drain, Source};
 

@@ -1,5 +1,5 @@
 use Rattle.toml.proofs.Views.{table_get}
-use Rattle.tm_tool.proofs.values.value_at.Goals as goal
+use Rattle.tm_settings.proofs.values.value_at.Goals as goal
 
 pub returns : goal.returns
 returns c = rw (← c.word.ensures) (table_get c.get.result c.word.result.now c.args.table.now.entries c.get.ensures.value)

@@ -7,13 +7,14 @@ ghost use Rattle.toml.specs.Parse.{parse_document};
 ghost use Rattle.toml.specs.View.{table_view};
 ghost use Rattle.tm_frame.specs.Layout.{IsInRange};
 ghost use Rattle.tm_reassembly.specs.Rules.{IsLimit};
-ghost use Rattle.tm_tool.specs.Keys.{is_name};
-ghost use Rattle.tm_tool.specs.Settings.{choices_from, layout_from, least, settings_from, unknown_keys};
+ghost use Rattle.tm_settings.specs.Keys.{is_name};
+ghost use Rattle.tm_settings.specs.Settings.{choices_from, layout_from, least, settings_from, unknown_keys};
 
 use crate::values::{channels_at, limit_at, number_at, presence_at, skip_at, truth_at};
-use crate::{Key, Octets, SettingsFault};
+use crate::{Key, SettingsFault};
 use std::alloc::Global;
 use std::marker::Model;
+use tm_fields::Octets;
 use tm_frame::{Layout, LayoutParts};
 use tm_reassembly::Channels;
 use toml::Table;

@@ -4,7 +4,7 @@ ghost use Rattle.std.specs.Prelude.{◌≡◌, ◌≢◌, Err, Ok, option_map, m
 ghost use Rattle.toml.specs.View.{view, items_view, table_view};
 ghost use Rattle.tm_reassembly.specs.Channels.{all_channels};
 ghost use Rattle.tm_reassembly.specs.Rules.{IsLimit};
-ghost use Rattle.tm_tool.specs.Settings.{channel_number, channels_at, integers, integer_between, integer_of, optional, presence_named, presence_of, required, truth_of, value_at};
+ghost use Rattle.tm_settings.specs.Settings.{channel_number, channels_at, integers, integer_between, integer_of, optional, presence_named, presence_of, required, truth_of, value_at};
 
 use crate::{Key, SettingsFault};
 use std::alloc::{AllocError, Global};

@@ -2,8 +2,7 @@
 
 ghost use Rattle.std.specs.Prelude.{◌≤◌, ℕ, List, length, Option, None, IfOk, OnOk, OnErr};
 ghost use Rattle.std.specs.Io.KnownBytes.{Keeps, ReadConsumes, WriteAppends};
-ghost use Rattle.tm_tool.specs.Devices.{Counts, TakesSome};
-ghost use Rattle.tm_tool.specs.Shelves.{Puts, PutsFront};
+ghost use Rattle.tm_devices.specs.Devices.{Counts, Puts, PutsFront, TakesSome};
 
 /// A call of a device failed.
 #[derive(Clone, Copy, Debug, PartialEq, Eq)]

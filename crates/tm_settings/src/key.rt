@@ -17,7 +17,7 @@ pub enum Key {
 }
 
 impl Key {
-    ghost use Rattle.tm_tool.specs.Keys.{name_of};
+    ghost use Rattle.tm_settings.specs.Keys.{name_of};
 
     /// The key as it is written.
     pub fn word(self) -> &'static str

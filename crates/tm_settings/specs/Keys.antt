@@ -2,8 +2,8 @@
 use Rattle.std.specs.Prelude.{ℕ, Bool, List, [], ◌∷◌, codes}
 use Rattle.std.specs.List.{list_any}
 use Rattle.std.specs.Str.{bytes_eq}
-use Rattle.tm_tool.specs.declared.key.Key.{Key}
-use Rattle.tm_tool.specs.declared.key.Key.TheVariants.{Spacecraft, FrameLength, SkipBefore, SkipAfter, Secondary, Ocf, ErrorControl, Channels, MaxPacket}
+use Rattle.tm_settings.specs.declared.key.Key.{Key}
+use Rattle.tm_settings.specs.declared.key.Key.TheVariants.{Spacecraft, FrameLength, SkipBefore, SkipAfter, Secondary, Ocf, ErrorControl, Channels, MaxPacket}
 
 -- a key as it is written
 abbrev pub name_of : Key → List ℕ

@@ -1,8 +1,8 @@
 use Rattle.std.proofs.Common.{length, ◌-◌, subst, sym, ◌∙◌, rules}
 use Rattle.std.specs.Io.KnownBytes.{Consumes}
 use Rattle.std.proofs.KnownBytes.{Consumes-trans}
-use Rattle.tm_tool.proofs.Parts.{take_filled}
-use Rattle.tm_tool.proofs.transfer.fill.Goals as goal
+use Rattle.tm_devices.proofs.Parts.{take_filled}
+use Rattle.tm_devices.proofs.transfer.fill.Goals as goal
 
 pub loop-filled-preserved : goal.loop-filled-preserved
 loop-filled-preserved g c =

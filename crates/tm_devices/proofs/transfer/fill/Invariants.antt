@@ -1,7 +1,7 @@
 -- The front of the buffer has what was read, and no call failed yet.
 use Rattle.std.proofs.Common.{length, ◌-◌, ◌≡◌, ◌≤◌, take}
 use Rattle.std.specs.Io.KnownBytes.{Consumes}
-use Rattle.tm_tool.proofs.transfer.fill.Given as goal
+use Rattle.tm_devices.proofs.transfer.fill.Given as goal
 
 abbrev pub invariant-loop-filled : goal.invariant-loop-filled
 invariant-loop-filled g l =

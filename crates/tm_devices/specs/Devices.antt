@@ -1,0 +1,33 @@
+-- What the calls of a device do to its octets and to its count of failures.
+use Rattle.std.specs.Prelude.{◌≡◌, ◌≢◌, ⊤, ◌+◌, ◌-◌, ◌^◌, ◌<◌, ◌≤◌, ◌==◌, ℕ, min, List, [], ◌++◌, Option, None, Some, Result, MatchResult, if◌then◌else◌}
+use Rattle.std.specs.Io.KnownBytes.{Appends}
+
+-- the greatest count
+abbrev pub greatest : ℕ
+greatest = 2 ^ 64 - 1
+
+-- a count that rises by one and stays at its greatest value
+abbrev pub raised : ℕ → ℕ
+raised n = min (n + 1) greatest
+
+-- each Err raises the count, and nothing else does
+abbrev pub Counts : {T E : Type 0} → ℕ → ℕ → Result T E → Type 0
+Counts old new r = MatchResult r (λ _. new ≡ old) (λ _. new ≡ raised old)
+
+-- n octets of so many, at least one if there is one
+abbrev pub TakesSome : ℕ → ℕ → Type 0
+TakesSome n all = (n ≤ all) × (0 < all → 0 < n)
+
+-- known octets grew by the front of these
+abbrev pub AppendsFront : Option (List ℕ) → Option (List ℕ) → List ℕ → Type 0
+AppendsFront old new octets = (front rest : List ℕ) × (octets ≡ front ++ rest) × Appends old new front
+
+-- known places grow by octets of one application, and no other place changes
+abbrev pub Puts : Option (ℕ → List ℕ) → Option (ℕ → List ℕ) → ℕ → List ℕ → Type 0
+Puts None new application octets = ⊤
+Puts (Some held) None application octets = ⊥
+Puts (Some held) (Some now) application octets = (k : ℕ) → now k ≡ held k ++ (if application == k then octets else [])
+
+-- by a front of them, by a proper one if there are any
+abbrev pub PutsFront : Option (ℕ → List ℕ) → Option (ℕ → List ℕ) → ℕ → List ℕ → Type 0
+PutsFront old new application octets = (front rest : List ℕ) × (octets ≡ front ++ rest) × (octets ≢ [] → rest ≢ []) × Puts old new application front

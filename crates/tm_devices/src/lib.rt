@@ -1,0 +1,10 @@
+//! Where octets come from and where they go to: devices that may fail, and std's readers and writers as such.
+#![tactic(auto)]
+
+mod device;
+mod standard;
+mod transfer;
+
+pub use device::{DeviceFailed, Drain, Shelf, Source};
+pub use standard::{Reading, Writing};
+pub use transfer::{fill, put_all};

@@ -1,0 +1,21 @@
+//! Why settings are refused.
+
+use crate::Key;
+use tm_fields::Octets;
+
+/// Why a text is no settings.
+#[derive(Debug, Drop)]
+pub enum SettingsFault {
+    /// The text is not UTF-8, or is no TOML document.
+    Toml,
+    /// It has keys that name no setting, of which this is the least by its octets.
+    Unknown(Octets),
+    /// This key has to be there.
+    Missing(Key),
+    /// The value of this key is of another kind.
+    Kind(Key),
+    /// The value of this key is none that it may have.
+    Range(Key),
+    /// Memory ran out.
+    NoMemory,
+}

@@ -1,0 +1,11 @@
+//! The settings of a recording, read from a TOML document.
+#![tactic(auto)]
+
+mod fault;
+mod key;
+mod settings;
+mod values;
+
+pub use fault::SettingsFault;
+pub use key::Key;
+pub use settings::Settings;

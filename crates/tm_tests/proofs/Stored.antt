@@ -3,7 +3,7 @@ use Rattle.std.proofs.Common.{◌≡◌, ◌==◌, ℕ, Bool, true, false, List,
 use Rattle.std.specs.Prelude.{if◌then◌else◌}
 use Rattle.tm_tests.specs.declared.memory.Put.{Put}
 use Rattle.tm_tests.specs.Stored.{of_put, stored}
-use Rattle.tm_tool.specs.Shelves.{PutsFront}
+use Rattle.tm_devices.specs.Devices.{PutsFront}
 
 pub stored_one : (ps : List Put) (p : Put) (k : ℕ) → stored (ps ++ p ∷ []) k ≡ stored ps k ++ (if p.application == k then p.octets.items else [])
 stored_one [] p k = append-nil (of_put k p)

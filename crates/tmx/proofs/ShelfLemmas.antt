@@ -4,7 +4,7 @@ use Rattle.std.specs.Prelude.{OnOk, option_map, slice_get, slice_index_or, vec_l
 use Rattle.std.proofs.lemmas.Bool.{cases_eq}
 use Rattle.std.proofs.lemmas.List.{nil_from_length}
 use Rattle.std.proofs.lemmas.Option.{slice_get_read}
-use Rattle.tm_tool.specs.Shelves.{PutsFront}
+use Rattle.tm_devices.specs.Devices.{PutsFront}
 use Rattle.tmx.specs.Shelves.{HoldsNoneOf}
 
 pub none_put : (new : Option (ℕ → List ℕ)) (application : ℕ) (octets : List ℕ) → PutsFront None new application octets

@@ -1,9 +1,9 @@
 //! The order of steps: command line, settings, definition, checkpoint, recording, report, run, checkpoint of the run.
 
-ghost use Rattle.std.specs.Prelude.{◌≡◌, ◌≢◌, ◌⊎◌, [], false, IfErr, IfOk, IfSome, IsSome, OnOk, is_some, map, option_map, string_bytes};
+ghost use Rattle.std.specs.Prelude.{◌≡◌, ◌≢◌, ◌⊎◌, [], Ok, false, IfErr, IfOk, IfSome, IsSome, OnOk, is_some, map, option_map, string_bytes};
 ghost use Rattle.tmx.specs.Endings.{IsDone};
 ghost use Rattle.tmx.specs.Files.{IsFileFault};
-ghost use Rattle.tmx.specs.Program.{HasFault, IsAsked, IsNoMemory, IsOfDefinition, IsOfOutputs, IsOfResumed, IsOfSettings, IsRunFault, MayEnd, beside, has_name, is_checkpoint, is_in_the_way, is_read};
+ghost use Rattle.tmx.specs.Program.{HasFault, IsAsked, IsNoMemory, IsOfDefinition, IsOfOutputs, IsOfResumed, IsOfSettings, IsRunFault, MayCome, MayEnd, beside, has_name, is_checkpoint, is_in_the_way, is_read};
 
 use crate::fault::ToolFault;
 use crate::files::{append, create, file_fault, open, read_file};
@@ -95,7 +95,7 @@ fn give_packets<R: Print + AllocGlobal, S: Read + Drop, V: Write + Drop>(
     let mut source = source(alloc, recording)?;
     let mut out = drain(alloc, BUFFER, io::writer(rt))?;
     let mut report = drain(alloc, REPORT_BUFFER, report)?;
-    let done = run_job(
+    run_job(
         alloc,
         job,
         command,
@@ -103,10 +103,25 @@ fn give_packets<R: Print + AllocGlobal, S: Read + Drop, V: Write + Drop>(
         &mut out,
         &mut report,
         ending,
-    );
-    match done {
-        Ok(done) => Ok(done),
-        Err(fault) => Err(ToolFault::Run(fault)),
+    )
+    .map_err(|fault| ToolFault::Run(fault))
+}
+
+// What splitting ends with, once what the shelf holds is written.
+fn split_end(
+    done: Result<Done, RunFault>,
+    written: Result<(), ShelfFault>,
+    is_starved: bool,
+) -> Result<Done, ToolFault>
+    ensures done { IfOk result (λ d. done ≡ Ok d) }
+    ensures refused { IfErr result IsRunFault }
+{
+    match (done, written) {
+        (Ok(done), Ok(())) => Ok(done),
+        (Ok(_), Err(ShelfFault::NoMemory)) => Err(no_memory()),
+        (Ok(_), Err(ShelfFault::NotWritten)) => Err(ToolFault::Run(RunFault::Write)),
+        (Err(RunFault::Write), _) if is_starved => Err(no_memory()),
+        (Err(fault), _) => Err(ToolFault::Run(fault)),
     }
 }
 
@@ -127,13 +142,8 @@ fn split_packets<R: Files + AllocGlobal, S: Read + Drop, V: Write + Drop>(
     let mut source = source(alloc, recording)?;
     let mut report = drain(alloc, REPORT_BUFFER, report)?;
     let done = split(alloc, job, &mut source, &mut shelf, &mut report, ending);
-    match (done, shelf.write_held()) {
-        (Ok(done), Ok(())) => Ok(done),
-        (Ok(_), Err(ShelfFault::NoMemory)) => Err(no_memory()),
-        (Ok(_), Err(ShelfFault::NotWritten)) => Err(ToolFault::Run(RunFault::Write)),
-        (Err(RunFault::Write), _) if shelf.is_starved() => Err(no_memory()),
-        (Err(fault), _) => Err(ToolFault::Run(fault)),
-    }
+    let written = shelf.write_held();
+    split_end(done, written, shelf.is_starved())
 }
 
 // The files for the applications in this folder. An empty name is none: it would stand for the root.
@@ -311,6 +321,27 @@ fn inputs_by<R: Files + AllocGlobal>(rt: &R, plan: &Plan) -> Result<Inputs, Tool
     })
 }
 
+// Goes on with the job over the recording, to where the plan wants the packets.
+fn go_on<R: Files + Print + AllocGlobal, S: Read + Drop, V: Write + Drop>(
+    rt: &R,
+    plan: &Plan,
+    definition: Option<&Definition>,
+    job: Job,
+    recording: S,
+    report: V,
+) -> Result<Done, ToolFault>
+    ensures { IfErr result (λ fault. IsRunFault fault ⊎ HasFault plan.now.dir fault) }
+{
+    let ending = ending_by(plan);
+    match (plan.action, &plan.dir) {
+        (Action::Split, Some(dir)) => {
+            let shelf = shelf_in(rt, dir, plan.resume.is_some())?;
+            split_packets(rt, job, shelf, recording, report, ending)
+        }
+        _ => give_packets(rt, job, command_by(plan, definition), recording, report, ending),
+    }
+}
+
 // Does what the plan asks for with the recording.
 #[tactic(auto, using(crate::proofs::ProgramLemmas::starved_run))]
 fn run_on<R: Files + Print + AllocGlobal, S: Read + Drop, E: Write + Drop>(
@@ -333,17 +364,7 @@ fn run_on<R: Files + Print + AllocGlobal, S: Read + Drop, E: Write + Drop>(
     check_checkpoint(rt.alloc(), plan)?;
     let report = report_by(rt, plan, errors)?;
     let job = job_by(rt, resumed, &settings)?;
-    let ending = ending_by(plan);
-    let done = match (plan.action, &plan.dir) {
-        (Action::Split, Some(dir)) => {
-            let shelf = shelf_in(rt, dir, plan.resume.is_some())?;
-            split_packets(rt, job, shelf, recording, report, ending)?
-        }
-        _ => {
-            let command = command_by(plan, definition.as_ref());
-            give_packets(rt, job, command, recording, report, ending)?
-        }
-    };
+    let done = go_on(rt, plan, definition.as_ref(), job, recording, report)?;
     keep(rt, plan, &done)
 }
 
@@ -379,25 +400,38 @@ fn check_streams<R: Print, E: Write>(rt: &R, plan: &Plan, errors: &mut E) -> Res
     Ok(())
 }
 
+// Does what the plan asks for.
+#[tactic(auto, using(crate::proofs::ProgramLemmas::definition_comes, crate::proofs::ProgramLemmas::file_comes, crate::proofs::ProgramLemmas::outputs_come, crate::proofs::ProgramLemmas::resumed_comes, crate::proofs::ProgramLemmas::run_comes, crate::proofs::ProgramLemmas::settings_come))]
+fn run_plan<R: Files + Input + Print + AllocGlobal, E: Write + Drop>(
+    rt: &R,
+    plan: &Plan,
+    mut errors: E,
+) -> Result<(), ToolFault>
+    requires { IsSome plan.now.settings }
+    ensures { IfErr result (MayCome plan.now) }
+{
+    check_streams(rt, plan, &mut errors)?;
+    let inputs = inputs_by(rt, plan)?;
+    match &plan.recording {
+        Some(name) => run_on(rt, plan, inputs, open(rt, name)?, errors),
+        None => run_on(rt, plan, inputs, rt.reader(), errors),
+    }
+}
+
 /// Does what these words of the command line ask for. A report that has no file goes to `errors`, all of it before this returns.
 ///
 /// # Errors
 ///
 /// `Usage` where the words are no plan; else a fault of a file that the plan names, of what the file says, or of the run.
-#[tactic(auto, using(crate::proofs::ProgramLemmas::definition_comes, crate::proofs::ProgramLemmas::file_comes, crate::proofs::ProgramLemmas::outputs_come, crate::proofs::ProgramLemmas::plan_ends, crate::proofs::ProgramLemmas::resumed_comes, crate::proofs::ProgramLemmas::run_comes, crate::proofs::ProgramLemmas::settings_come))]
+#[tactic(auto, using(crate::proofs::ProgramLemmas::plan_ends))]
 pub fn run<R: Files + Input + Print + AllocGlobal, E: Write + Drop>(
     rt: &R,
     words: Vec<String>,
-    mut errors: E,
+    errors: E,
 ) -> Result<(), ToolFault>
     ensures ok { OnOk result ((p : Plan) × IsAsked (map string_bytes words.items) p) }
     ensures refused { IfErr result (MayEnd (map string_bytes words.items)) }
 {
     let plan = plan_by(rt.alloc(), words)?;
-    check_streams(rt, &plan, &mut errors)?;
-    let inputs = inputs_by(rt, &plan)?;
-    match &plan.recording {
-        Some(name) => run_on(rt, &plan, inputs, open(rt, name)?, errors),
-        None => run_on(rt, &plan, inputs, rt.reader(), errors),
-    }
+    run_plan(rt, &plan, errors)
 }

@@ -5,6 +5,7 @@ mod command;
 #[cfg(test)]
 mod refused;
 mod request;
+mod table;
 #[cfg(test)]
 mod tests;
 mod words;

@@ -1,0 +1,142 @@
+//! The words that each subcommand takes.
+
+/// What a word is.
+#[derive(Clone, Copy)]
+pub(crate) enum Form {
+    /// `VALUE`, with nothing before it.
+    Bare,
+    /// `--NAME VALUE`, of any text.
+    Text,
+    /// `--NAME VALUE`, of a number from the first to the second.
+    Number(i64, i64),
+}
+
+/// A word that a subcommand takes.
+#[derive(Clone, Copy)]
+pub(crate) struct Word {
+    pub(crate) name: &'static str,
+    pub(crate) value: &'static str,
+    pub(crate) help: &'static str,
+    pub(crate) required: bool,
+    pub(crate) form: Form,
+}
+
+/// A subcommand.
+#[derive(Clone, Copy)]
+pub(crate) struct Subcommand {
+    pub(crate) name: &'static str,
+    pub(crate) about: &'static str,
+    pub(crate) words: &'static [Word],
+}
+
+const SETTINGS: Word = Word {
+    name: "settings",
+    value: "FILE",
+    help: "The settings of the recording: a TOML file",
+    required: true,
+    form: Form::Text,
+};
+
+const RECORDING: Word = Word {
+    name: "recording",
+    value: "RECORDING",
+    help: "The recording; standard input if it is left out",
+    required: false,
+    form: Form::Bare,
+};
+
+const REPORT: Word = Word {
+    name: "report",
+    value: "FILE",
+    help: "The report of what is bad or lost; standard error if it is left out",
+    required: false,
+    form: Form::Text,
+};
+
+const CHECKPOINT: Word = Word {
+    name: "checkpoint",
+    value: "FILE",
+    help: "The checkpoint, written after the run, from which another run can go on",
+    required: false,
+    form: Form::Text,
+};
+
+const STOP_AFTER: Word = Word {
+    name: "stop-after",
+    value: "N",
+    help: "Records to stop after, a number from 1 to 4294967295; needs --checkpoint",
+    required: false,
+    form: Form::Number(1, 4_294_967_295),
+};
+
+const RESUME: Word = Word {
+    name: "resume",
+    value: "FILE",
+    help: "The checkpoint of an earlier run, to go on from there",
+    required: false,
+    form: Form::Text,
+};
+
+const DIR: Word = Word {
+    name: "dir",
+    value: "DIR",
+    help: "The folder for the files, which has to be there",
+    required: true,
+    form: Form::Text,
+};
+
+const DEFINITION: Word = Word {
+    name: "definition",
+    value: "FILE",
+    help: "The definition of the fields: a CSV file",
+    required: true,
+    form: Form::Text,
+};
+
+const APID: Word = Word {
+    name: "apid",
+    value: "N",
+    help: "The application whose packets are read: a number from 0 to 2047",
+    required: true,
+    form: Form::Number(0, 2047),
+};
+
+const FRAMES_WORDS: [Word; 2] = [SETTINGS, RECORDING];
+
+const REPORTED_WORDS: [Word; 6] = [SETTINGS, REPORT, CHECKPOINT, STOP_AFTER, RESUME, RECORDING];
+
+const SPLIT_WORDS: [Word; 7] = [
+    SETTINGS, DIR, REPORT, CHECKPOINT, STOP_AFTER, RESUME, RECORDING,
+];
+
+const FIELDS_WORDS: [Word; 8] = [
+    SETTINGS, DEFINITION, APID, REPORT, CHECKPOINT, STOP_AFTER, RESUME, RECORDING,
+];
+
+pub(crate) const SUBCOMMANDS: [Subcommand; 5] = [
+    Subcommand {
+        name: "frames",
+        about: "Lists the frames: one line for each record of the recording",
+        words: &FRAMES_WORDS,
+    },
+    Subcommand {
+        name: "packets",
+        about: "Lists the packets of the chosen channels: one line for each",
+        words: &REPORTED_WORDS,
+    },
+    Subcommand {
+        name: "extract",
+        about: "Extracts the packets of the chosen channels: their octets, with nothing between them",
+        words: &REPORTED_WORDS,
+    },
+    Subcommand {
+        name: "split",
+        about: "Extracts the packets of the chosen channels to a file for each application",
+        words: &SPLIT_WORDS,
+    },
+    Subcommand {
+        name: "fields",
+        about: "Reads the fields of an application's packets: a row of CSV for each packet",
+        words: &FIELDS_WORDS,
+    },
+];

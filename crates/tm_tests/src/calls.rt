@@ -1,14 +1,9 @@
 //! The calls of a run's devices, in their order, with the octets that each of them moves.
 
+use crate::bench::{Bench, By, Device};
+use crate::runs::Row;
 use std::alloc::{AllocError, Global};
-
-/// A device of a run: what is read, where the packets go, and the report.
-#[derive(Clone, Copy, Debug, PartialEq, Eq)]
-pub(crate) enum Device {
-    Recording,
-    Out,
-    Report,
-}
+use tm_tool::Command;
 
 /// A call of a device, which moves so many octets: none where it finds the end, or flushes.
 #[derive(Clone, Copy)]
@@ -30,110 +25,165 @@ pub(crate) fn moved(calls: &[Call], device: Device) -> (u64, usize) {
     (count, octets)
 }
 
-/// The calls of a run, up to where it has been followed.
+// The first line of a text with its end, and the text behind it.
+fn cut_line(text: &[u8]) -> (&[u8], &[u8]) {
+    for (index, octet) in text.iter().enumerate() {
+        if *octet == b'\n' {
+            return text.split_at_checked(index + 1).unwrap_or((text, &[]));
+        }
+    }
+    (text, &[])
+}
+
+// The decimal number with which a line ends.
+fn last_number(line: &[u8]) -> usize {
+    let mut number = 0usize;
+    for octet in line {
+        match char::from(*octet).to_digit(10) {
+            Some(digit) => number = number.saturating_mul(10).saturating_add(digit as usize),
+            None if *octet == b'\n' => {}
+            None => number = 0,
+        }
+    }
+    number
+}
+
+// The calls of a run, up to where it has been followed.
 #[derive(Drop)]
-pub(crate) struct Calls<'l> {
-    pub(crate) list: Vec<Call>,
-    /// At most so many octets are read per call, and written to the report; and given to where the packets go.
-    pub(crate) per_call: usize,
-    pub(crate) per_put: usize,
-    /// An idle packet is given as any other.
-    pub(crate) idle: bool,
-    /// The lengths of what is given of the packets, and of the lines of the report, that are still to come.
-    pub(crate) packets: &'l [usize],
-    pub(crate) lines: &'l [usize],
+struct Calls<'l> {
+    list: Vec<Call>,
+    // A packet goes out as octets, and not as a line; they go by one put; and packets have rows of fields, idle ones none.
+    has_octets: bool,
+    has_puts: bool,
+    has_rows: bool,
+    // At most so many octets are read per call, and written.
+    per_call: usize,
+    // The octets of a record, and of the rest behind all records.
+    record: usize,
+    rest: usize,
+    // The lines of the packets and of the report that are still to come.
+    packets: &'l [u8],
+    lines: &'static [u8],
 }
 
 impl Calls<'_> {
-    /// A call that moves so many octets.
-    pub(crate) fn push(&mut self, device: Device, octets: usize) -> Result<(), AllocError> {
+    // A call that moves so many octets.
+    fn push(&mut self, device: Device, octets: usize) -> Result<(), AllocError> {
         self.list.push(Call { device, octets })?;
         Ok(())
     }
 
-    // As many calls as it takes to move so many octets.
+    // As many calls as it takes to move so many octets. A put moves them all.
     fn push_all(&mut self, device: Device, octets: usize) -> Result<(), AllocError> {
-        let most = match device {
-            Device::Out => self.per_put.max(1),
-            Device::Recording | Device::Report => self.per_call.max(1),
+        let most = if device == Device::Out && self.has_puts {
+            octets.max(1)
+        } else {
+            self.per_call.max(1)
         };
         for _ in 0..octets / most {
             self.push(device, most)?;
         }
-        let rest = octets % most;
-        if rest > 0 {
-            self.push(device, rest)?;
+        match octets % most {
+            0 => Ok(()),
+            rest => self.push(device, rest),
         }
-        Ok(())
+    }
+
+    // Reads the rest, and finds the end.
+    fn end(&mut self) -> Result<(), AllocError> {
+        self.push_all(Device::Recording, self.rest)?;
+        self.push(Device::Recording, 0)
     }
 
     // The next lines of the report, written as one.
     fn report(&mut self, count: u32) -> Result<(), AllocError> {
         let mut octets = 0usize;
         for _ in 0..count {
-            let lines = self.lines;
-            if let Some((length, rest)) = lines.split_first() {
-                octets = octets.saturating_add(*length);
-                self.lines = rest;
-            }
+            let (line, rest) = cut_line(self.lines);
+            octets = octets.saturating_add(line.len());
+            self.lines = rest;
         }
         self.push_all(Device::Report, octets)
     }
 
-    // The next packet, and then its lines of the report.
+    // The next packet, its octets or its line, and then its lines of the report.
     fn give(&mut self, notes: u32) -> Result<(), AllocError> {
-        let packets = self.packets;
-        if let Some((length, rest)) = packets.split_first() {
-            self.packets = rest;
-            self.push_all(Device::Out, *length)?;
-        }
+        let (line, rest) = cut_line(self.packets);
+        self.packets = rest;
+        let octets = if self.has_octets {
+            last_number(line)
+        } else {
+            line.len()
+        };
+        self.push_all(Device::Out, octets)?;
         self.report(notes)
     }
 
-    /// Follows an order, as a row has it, through records of so many octets and a rest of so many.
-    pub(crate) fn follow(
-        &mut self,
-        order: &str,
-        record: usize,
-        rest: usize,
-    ) -> Result<(), AllocError> {
+    // Follows an order, as a row has it. An idle packet has no row of fields.
+    fn follow(&mut self, order: &str) -> Result<(), AllocError> {
         for letter in order.chars() {
             match letter {
-                '/' => self.push_all(Device::Recording, record)?,
-                '.' => {
-                    self.push_all(Device::Recording, rest)?;
-                    self.push(Device::Recording, 0)?;
-                }
+                '/' => self.push_all(Device::Recording, self.record)?,
+                '.' => self.end()?,
                 '-' => self.report(1)?,
-                'i' if !self.idle => {}
+                'i' if self.has_rows => {}
                 _ => self.give(letter.to_digit(10).unwrap_or(0))?,
             }
         }
         Ok(())
     }
+
+    // Follows a listing: a line for each record, and one for a rest.
+    fn follow_frames(&mut self, records: u32) -> Result<(), AllocError> {
+        for _ in 0..records {
+            self.push_all(Device::Recording, self.record)?;
+            self.give(0)?;
+        }
+        self.end()?;
+        if self.rest > 0 {
+            self.give(0)?;
+        }
+        Ok(())
+    }
 }
 
-/// The lengths of the lines of a text, with their ends.
-pub(crate) fn line_lengths(alloc: Global, text: &[u8]) -> Result<Vec<usize>, AllocError> {
-    let mut lengths = Vec::new(alloc);
-    let mut length = 0usize;
-    for octet in text {
-        length = length.saturating_add(1);
-        if *octet == b'\n' {
-            lengths.push(length)?;
-            length = 0;
-        }
+/// All calls of a run over a row's recording, which gives this output. Rows have a head before the first record.
+pub(crate) fn calls_of(
+    alloc: Global,
+    bench: &Bench,
+    row: &Row,
+    by: By<'_>,
+    out: &[u8],
+) -> Result<Vec<Call>, AllocError> {
+    let record = bench.settings.layout().record_length();
+    let has_octets = matches!(by, By::Run(Command::Extract) | By::Split);
+    let mut calls = Calls {
+        list: Vec::new(alloc),
+        has_octets,
+        has_puts: matches!(by, By::Split),
+        has_rows: matches!(by, By::Run(Command::Fields(_, _))),
+        per_call: bench.source.per_call,
+        record,
+        rest: bench.source.octets.len() % record,
+        packets: if has_octets {
+            row.lines.as_bytes()
+        } else {
+            out
+        },
+        lines: row.report.as_bytes(),
+    };
+    if calls.has_rows {
+        calls.give(0)?;
     }
-    Ok(lengths)
-}
-
-/// The lengths of packets, from their lines.
-pub(crate) fn packet_lengths(alloc: Global, lines: &str) -> Result<Vec<usize>, AllocError> {
-    let mut lengths = Vec::new(alloc);
-    for word in lines.split_whitespace() {
-        if let Some(number) = word.strip_prefix("octets=") {
-            lengths.push(number.parse::<usize>().unwrap_or(0))?;
-        }
+    match by {
+        By::Frames => calls.follow_frames(row.records)?,
+        By::Run(_) | By::Split => calls.follow(row.order)?,
     }
-    Ok(lengths)
+    if !matches!(by, By::Split) {
+        calls.push(Device::Out, 0)?;
+    }
+    if !matches!(by, By::Frames) {
+        calls.push(Device::Report, 0)?;
+    }
+    Ok(calls.list)
 }

@@ -1,8 +1,7 @@
 //! Checkpoints: written and read again, and refused where an octet was altered.
 
-use crate::runs::{BASE, TWELVE, new_job, octets_of, settings_of};
+use crate::runs::{BASE, TWELVE, octets_of, settings_of};
 use std::alloc::Global;
-use std::test::Fail;
 use tm_frame::error_control;
 use tm_tool::{CheckpointFault, Job};
 
@@ -28,124 +27,106 @@ pub(crate) const LIMITED: &str =
 const NEW: &str =
     "544D5843 03 002A 0018 0000 0000 00 00 00 FF 010006 00000000 00 00 00 00 00 00 00 00 00 0000 BBAD";
 
-// What `resume` answers with the settings of a text.
-fn resume_with(
+// What `resume` answers with the settings of a text: how many records are done.
+fn records_of(
     alloc: Global,
     settings: &str,
     octets: &[u8],
-) -> Result<Result<Job, CheckpointFault>, Fail> {
+) -> Option<Result<u32, CheckpointFault>> {
     let settings = settings_of(alloc, settings)?;
-    Ok(Job::resume(alloc, &settings, octets))
+    match Job::resume(alloc, &settings, octets) {
+        Ok(job) => Some(Ok(job.records())),
+        Err(fault) => Some(Err(fault)),
+    }
+}
+
+// The octets of a checkpoint are read, and written again as they were.
+fn is_written_again(alloc: Global, text: &str) -> Option<bool> {
+    let settings = settings_of(alloc, BASE)?;
+    let octets = octets_of(alloc, text)?;
+    let job = Job::resume(alloc, &settings, &octets).ok()?;
+    let again = job.checkpoint(alloc).ok()?;
+    Some(again == octets)
 }
 
 #[test]
-fn written_again(rt: HostRuntime) -> Result<(), Fail> {
-    let alloc = rt.alloc();
-    let octets = octets_of(alloc, CHECKPOINT)?;
-    let Ok(job) = resume_with(alloc, BASE, &octets)? else {
-        return Err(Fail::from("a checkpoint"));
-    };
-    let Ok(again) = job.checkpoint(alloc) else {
-        return Err(Fail::from("memory"));
-    };
-    assert_eq!(rt; again.as_slice(), octets.as_slice());
-    Ok(())
+fn written_again(rt: HostRuntime) {
+    assert!(rt; is_written_again(rt.alloc(), CHECKPOINT) == Some(true));
 }
 
 // Each version is read, and refused where packets are limited otherwise.
 #[test]
-fn three_versions(rt: HostRuntime) -> Result<(), Fail> {
+fn three_versions(rt: HostRuntime) {
     let alloc = rt.alloc();
     for (text, len) in [(CHECKPOINT, 74), (VERSION_2, 72), (VERSION_1, 69)] {
-        let octets = octets_of(alloc, text)?;
-        assert_eq!(rt; octets.len(), len);
-        let Ok(job) = resume_with(alloc, BASE, &octets)? else {
-            return Err(Fail::from("a checkpoint"));
-        };
-        assert_eq!(rt; job.records(), 3);
-        let refused = resume_with(alloc, TWELVE, &octets)?.err();
-        assert_eq!(rt; refused, Some(CheckpointFault::Settings));
-    }
-    Ok(())
-}
-
-#[test]
-fn before_any_record(rt: HostRuntime) -> Result<(), Fail> {
-    let alloc = rt.alloc();
-    let job = new_job(alloc, BASE)?;
-    let Ok(octets) = job.checkpoint(alloc) else {
-        return Err(Fail::from("memory"));
-    };
-    let wanted = octets_of(alloc, NEW)?;
-    assert_eq!(rt; octets.len(), 37);
-    assert_eq!(rt; octets.as_slice(), wanted.as_slice());
-    let Ok(again) = resume_with(alloc, BASE, &octets)? else {
-        return Err(Fail::from("a checkpoint"));
-    };
-    assert_eq!(rt; again.records(), 0);
-    Ok(())
-}
-
-// What is done to the checkpoint, and how it is then refused.
-#[derive(Clone, Copy, Debug)]
-enum Altered {
-    // It is cut off after so many octets.
-    Cut(usize),
-    // The octet at a place is another one.
-    Octet(usize, u8),
-    // Likewise, and the check is made right again.
-    Checked(usize, u8),
-    // An octet 0 is put before a right check.
-    Longer,
-    // It is read with other settings.
-    Settings(&'static str),
-}
-
-// Puts another octet at a place.
-fn exchange(octets: &mut Vec<u8>, at: usize, octet: u8) -> Result<(), Fail> {
-    match octets.get_mut(at) {
-        Some(place) if *place != octet => {
-            *place = octet;
-            Ok(())
-        }
-        _ => Err(Fail::from("no other octet")),
+        let octets = octets_of(alloc, text).expect(&rt, "octets");
+        assert!(rt; octets.len() == len);
+        assert!(rt; records_of(alloc, BASE, &octets) == Some(Ok(3)));
+        let refused = records_of(alloc, TWELVE, &octets);
+        assert!(rt; refused == Some(Err(CheckpointFault::Settings)));
     }
 }
 
+// The checkpoint of a new job.
+fn new_checkpoint(alloc: Global) -> Option<Vec<u8>> {
+    let settings = settings_of(alloc, BASE)?;
+    let job = Job::new(alloc, &settings).ok()?;
+    job.checkpoint(alloc).ok()
+}
+
 #[test]
-fn altered_checkpoint(rt: HostRuntime) -> Result<(), Fail> {
+fn before_any_record(rt: HostRuntime) {
     let alloc = rt.alloc();
-    let longer = "spacecraft = 42\nframe_length = 25\nerror_control = false\n";
+    let octets = new_checkpoint(alloc).expect(&rt, "a checkpoint");
+    assert!(rt; octets.len() == 37);
+    assert!(rt; octets_of(alloc, NEW).is_some_and(|wanted| wanted == octets));
+    assert!(rt; records_of(alloc, BASE, &octets) == Some(Ok(0)));
+}
+
+// The checkpoint with other octets between a front and a back.
+fn altered(alloc: Global, front: usize, other: &[u8], back: (usize, usize)) -> Option<Vec<u8>> {
+    let octets = octets_of(alloc, CHECKPOINT)?;
+    let mut altered = Vec::new(alloc);
+    for part in [octets.get(..front)?, other, octets.get(back.0..back.1)?] {
+        altered.extend_from_slice(part).ok()?;
+    }
+    Some(altered)
+}
+
+// How these octets are refused, with a right check behind them where it is asked for.
+fn refusal(alloc: Global, mut octets: Vec<u8>, is_checked: bool) -> Option<CheckpointFault> {
+    if is_checked {
+        let check = error_control(&octets).to_be_bytes();
+        octets.extend_from_slice(&check).ok()?;
+    }
+    records_of(alloc, BASE, &octets)?.err()
+}
+
+#[test]
+fn altered_checkpoint(rt: HostRuntime) {
+    let alloc = rt.alloc();
     let table = [
-        (Altered::Cut(32), CheckpointFault::Short),
-        (Altered::Octet(0, 0x55), CheckpointFault::Magic),
-        (Altered::Octet(4, 0x07), CheckpointFault::Version),
-        (Altered::Octet(4, 0x01), CheckpointFault::Check),
-        (Altered::Octet(4, 0x02), CheckpointFault::Check),
-        (Altered::Octet(73, 0x00), CheckpointFault::Check),
-        (Altered::Settings(longer), CheckpointFault::Settings),
-        (Altered::Checked(26, 0x03), CheckpointFault::State),
-        (Altered::Longer, CheckpointFault::Trailing),
+        // It is cut off.
+        (32, [].as_slice(), (74, 74), false, CheckpointFault::Short),
+        // An octet is another one.
+        (0, &[0x55], (1, 74), false, CheckpointFault::Magic),
+        (4, &[0x07], (5, 74), false, CheckpointFault::Version),
+        (4, &[0x01], (5, 74), false, CheckpointFault::Check),
+        (4, &[0x02], (5, 74), false, CheckpointFault::Check),
+        (73, &[0x00], (74, 74), false, CheckpointFault::Check),
+        // Likewise, and the check is made right again.
+        (26, &[0x03], (27, 72), true, CheckpointFault::State),
+        // An octet 0 is put before a right check.
+        (72, &[0x00], (72, 72), true, CheckpointFault::Trailing),
     ];
-    for (altered, fault) in table {
-        let mut settings = BASE;
-        let mut octets = octets_of(alloc, CHECKPOINT)?;
-        octets.truncate(72);
-        match altered {
-            Altered::Checked(at, octet) => exchange(&mut octets, at, octet)?,
-            Altered::Longer => octets.push(0)?,
-            Altered::Settings(text) => settings = text,
-            _ => {}
-        }
-        let check = error_control(&octets);
-        octets.extend_from_slice(&check.to_be_bytes())?;
-        match altered {
-            Altered::Cut(len) => octets.truncate(len),
-            Altered::Octet(at, octet) => exchange(&mut octets, at, octet)?,
-            _ => {}
-        }
-        let answer = resume_with(alloc, settings, &octets)?.err();
-        assert_eq!(rt; answer, Some(fault), "{altered:?}");
+    for (front, other, back, is_checked, fault) in table {
+        let octets = altered(alloc, front, other, back).expect(&rt, "octets");
+        let answer = refusal(alloc, octets, is_checked);
+        assert!(rt; answer == Some(fault), "octets {other:?} behind {front}");
     }
-    Ok(())
+    // It is read with other settings.
+    let longer = "spacecraft = 42\nframe_length = 25\nerror_control = false\n";
+    let octets = octets_of(alloc, CHECKPOINT).expect(&rt, "octets");
+    let answer = records_of(alloc, longer, &octets);
+    assert!(rt; answer == Some(Err(CheckpointFault::Settings)));
 }

@@ -1,9 +1,8 @@
 //! Settings and definitions of fields that are cut off after each of their octets.
 
-use crate::fields::TEXT;
+use crate::fields::{TEXT, bits_of};
 use std::alloc::Global;
-use std::test::Fail;
-use tm_fields::{Column, Definition, DefinitionFault};
+use tm_fields::{Column, DefinitionFault};
 use tm_frame::{LayoutParts, Presence};
 use tm_reassembly::Channels;
 use tm_tool::{Key, Settings, SettingsFault};
@@ -20,7 +19,7 @@ fn answer_at<A: Copy>(table: &[(usize, A)], len: usize) -> Option<A> {
 }
 
 // What settings are read as, or how they are refused.
-#[derive(Clone, Copy, Debug, PartialEq, Eq)]
+#[derive(Clone, Copy, PartialEq, Eq)]
 enum Answer {
     Read(LayoutParts, Channels, u32),
     Toml,
@@ -74,7 +73,7 @@ fn settings_with_error_control(rt: HostRuntime) {
     for len in 0..=text.len() {
         let answer = settings_answer(rt.alloc(), &text.as_bytes()[..len]);
         let wanted = answer_at(&table, len);
-        assert_eq!(rt; Some(answer), wanted, "the first {len} octets");
+        assert!(rt; Some(answer) == wanted, "the first {len} octets");
     }
 }
 
@@ -102,15 +101,7 @@ fn settings_with_skipped_octets_and_a_limit(rt: HostRuntime) {
     for len in 0..=text.len() {
         let answer = settings_answer(rt.alloc(), &text.as_bytes()[..len]);
         let wanted = answer_at(&table, len);
-        assert_eq!(rt; Some(answer), wanted, "the first {len} octets");
-    }
-}
-
-// The bits that a definition needs, or how it is refused.
-fn definition_answer(alloc: Global, text: &[u8]) -> Result<u32, DefinitionFault> {
-    match Definition::read(alloc, text) {
-        Ok(definition) => Ok(definition.bits_needed()),
-        Err(fault) => Err(fault),
+        assert!(rt; Some(answer) == wanted, "the first {len} octets");
     }
 }
 
@@ -144,8 +135,8 @@ fn definition_of_fields(rt: HostRuntime) {
         (104, Ok(128)),
     ];
     for len in 0..=TEXT.len() {
-        let answer = definition_answer(rt.alloc(), &TEXT.as_bytes()[..len]);
+        let answer = bits_of(rt.alloc(), &TEXT.as_bytes()[..len]);
         let wanted = answer_at(&table, len);
-        assert_eq!(rt; Some(answer), wanted, "the first {len} octets");
+        assert!(rt; Some(answer) == wanted, "the first {len} octets");
     }
 }

@@ -1,229 +1,48 @@
 //! Devices that fail. All calls of a run are known, in their order, with the octets that each of them moves. So is what was read and written
 //! before any one of them fails: each piece before the call is whole, in the output and in the report, and nothing behind it was begun.
 
-use crate::calls::{Call, Calls, Device, line_lengths, moved, packet_lengths};
-use crate::runs::{
-    POINTER_DROP_AND_SEQUENCE_GAP, Row, TWO_PACKETS, new_job, octets_of, records_of, rows,
-    settings_of,
-};
-use crate::{MemoryDrain, MemoryShelf, MemorySource};
-use std::alloc::{AllocError, Global};
+use crate::bench::{Bench, By, Device};
+use crate::calls::{Call, calls_of, moved};
+use crate::runs::{POINTER_DROP_AND_SEQUENCE_GAP, Row, TWO_PACKETS, octets_of, rows};
+use std::alloc::Global;
 use std::process::Abort;
-use std::test::Fail;
 use tm_fields::Definition;
-use tm_tool::{Command, Ending, Job, RunFault, Settings, list_frames, run, split};
+use tm_tool::{Command, RunFault};
 
-const DEFINITION: &str = "name,data_type,bit_length\nA,uint,8\n";
+const DEFINITION: &[u8] = b"name,data_type,bit_length\nA,uint,8\n";
 
-const HEAD: &str = "tm_record,tm_channel,tm_apid,tm_count,A\n";
-
-// What is done with a recording.
-#[derive(Clone, Copy)]
-enum By<'a> {
-    Frames,
-    Run(Command<'a>),
-    Split,
-}
+const HEAD: &[u8] = b"tm_record,tm_channel,tm_apid,tm_count,A\n";
 
 // A run of which all is known.
 #[derive(Drop)]
 struct Plan<'a> {
-    settings: Settings,
-    row: Row,
+    records: u32,
     by: By<'a>,
-    per_call: usize,
-    recording: Vec<u8>,
     out: Vec<u8>,
-    report: &'static [u8],
+    report: &'a [u8],
     calls: Vec<Call>,
 }
 
-// What a run answered, how many octets of the recording it read, what it wrote, and how many calls of its devices failed.
-#[derive(Drop)]
-struct Tried {
-    answer: Result<u32, RunFault>,
-    read: usize,
-    out: Vec<u8>,
-    report: Vec<u8>,
-    failed: [u64; 3],
-}
-
 // The lines of the frames, as they are listed where no call fails: one for each record, and one for a rest.
-fn frame_lines(alloc: Global, row: Row) -> Result<Vec<u8>, Fail> {
-    let settings = settings_of(alloc, row.settings)?;
-    let mut source = MemorySource::new(octets_of(alloc, row.recording)?, 65_536, 0);
-    let mut out = MemoryDrain::new(Vec::new(alloc), 65_536, 0);
-    match list_frames(alloc, &settings, &mut source, &mut out) {
-        Ok(_) => Ok(out.octets),
-        Err(fault) => Err(Fail::from(fault)),
+fn frame_lines(alloc: Global, row: &Row) -> Option<Vec<u8>> {
+    let mut bench = Bench::new(alloc, row.settings, row.recording, 65_536)?;
+    match bench.close(alloc, By::Frames) {
+        Ok(_) => bench.out.octets.to_vec(alloc).ok(),
+        Err(_) => None,
     }
 }
 
 // What is written to the output where no call fails.
-fn out_of(alloc: Global, row: Row, by: By<'_>) -> Result<Vec<u8>, Fail> {
+fn out_of(alloc: Global, row: &Row, by: By<'_>) -> Option<Vec<u8>> {
     match by {
         By::Frames => frame_lines(alloc, row),
-        By::Run(Command::Packets) => Ok(row.lines.as_bytes().to_vec(alloc)?),
+        By::Run(Command::Packets) => row.lines.as_bytes().to_vec(alloc).ok(),
         By::Run(Command::Fields(_, _)) => {
-            let rows = row.rows;
-            Ok(format!(in alloc; "{HEAD}{rows}")?.into_bytes())
+            let mut out = HEAD.to_vec(alloc).ok()?;
+            out.extend_from_slice(row.rows.as_bytes()).ok()?;
+            Some(out)
         }
-        By::Run(Command::Extract) | By::Split => Ok(octets_of(alloc, row.octets)?),
-    }
-}
-
-// What is done, in its order. Frames give a line for each record, and one for a rest; rows have a head before the first record.
-fn order_of(alloc: Global, row: Row, by: By<'_>, rest: usize) -> Result<String, AllocError> {
-    let order = row.order;
-    match by {
-        By::Run(Command::Fields(_, _)) => format!(in alloc; "0{order}"),
-        By::Run(_) | By::Split => format!(in alloc; "{order}"),
-        By::Frames => {
-            let mut order = String::new(alloc);
-            for _ in 0..row.records {
-                order.push_str("/0")?;
-            }
-            order.push_str(if rest > 0 { ".0" } else { "." })?;
-            Ok(order)
-        }
-    }
-}
-
-// All calls of a run over a recording of records of so many octets.
-fn calls_of(
-    alloc: Global,
-    row: Row,
-    by: By<'_>,
-    per_call: usize,
-    out: &[u8],
-    record: usize,
-    rest: usize,
-) -> Result<Vec<Call>, Fail> {
-    let packets = match by {
-        By::Run(Command::Extract) | By::Split => packet_lengths(alloc, row.lines)?,
-        By::Run(_) | By::Frames => line_lengths(alloc, out)?,
-    };
-    let lines = line_lengths(alloc, row.report.as_bytes())?;
-    let mut calls = Calls {
-        list: Vec::new(alloc),
-        per_call,
-        per_put: if matches!(by, By::Split) {
-            usize::MAX
-        } else {
-            per_call
-        },
-        idle: !matches!(by, By::Run(Command::Fields(_, _))),
-        packets: packets.as_slice(),
-        lines: lines.as_slice(),
-    };
-    let order = order_of(alloc, row, by, rest)?;
-    calls.follow(order.as_str(), record, rest)?;
-    if !matches!(by, By::Split) {
-        calls.push(Device::Out, 0)?;
-    }
-    if !matches!(by, By::Frames) {
-        calls.push(Device::Report, 0)?;
-    }
-    Ok(calls.list)
-}
-
-// Appends what was put on a shelf, each put under the application in its own header.
-fn push_puts(octets: &mut Vec<u8>, shelf: &MemoryShelf) -> Result<(), Fail> {
-    for put in &shelf.puts {
-        let [high, low, ..] = put.octets.as_slice() else {
-            return Err(Fail::from("a put of no packet"));
-        };
-        if u16::from_be_bytes([*high & 0x07, *low]) != put.application {
-            return Err(Fail::from("a put of another application"));
-        }
-        octets.extend_from_slice(put.octets.as_slice())?;
-    }
-    Ok(())
-}
-
-fn run_closed(
-    alloc: Global,
-    job: Job,
-    command: Command<'_>,
-    source: &mut MemorySource,
-    out: &mut MemoryDrain,
-    report: &mut MemoryDrain,
-) -> Result<u32, RunFault> {
-    records_of(run(alloc, job, command, source, out, report, Ending::Close))
-}
-
-fn split_closed(
-    alloc: Global,
-    job: Job,
-    source: &mut MemorySource,
-    shelf: &mut MemoryShelf,
-    report: &mut MemoryDrain,
-) -> Result<u32, RunFault> {
-    records_of(split(alloc, job, source, shelf, report, Ending::Close))
-}
-
-impl<'a> Plan<'a> {
-    fn new(alloc: Global, row: Row, by: By<'a>, per_call: usize) -> Result<Self, Fail> {
-        let settings = settings_of(alloc, row.settings)?;
-        let recording = octets_of(alloc, row.recording)?;
-        let out = out_of(alloc, row, by)?;
-        let record = settings.layout().record_length();
-        let rest = recording.len() % record;
-        let calls = calls_of(alloc, row, by, per_call, &out, record, rest)?;
-        let report = if matches!(by, By::Frames) {
-            ""
-        } else {
-            row.report
-        };
-        Ok(Plan {
-            settings,
-            row,
-            by,
-            per_call,
-            recording,
-            out,
-            report: report.as_bytes(),
-            calls,
-        })
-    }
-
-    // Runs a new job. The call of this number of a device fails, counted from 1.
-    fn run(&self, alloc: Global, device: Device, call: u64) -> Result<Tried, Fail> {
-        let (reads, writes, reports) = match device {
-            Device::Recording => (call, 0, 0),
-            Device::Out => (0, call, 0),
-            Device::Report => (0, 0, call),
-        };
-        let per_call = self.per_call.max(1);
-        let mut source = MemorySource::new(self.recording.to_vec(alloc)?, per_call, reads);
-        let mut out = MemoryDrain::new(Vec::new(alloc), per_call, writes);
-        let mut report = MemoryDrain::new(Vec::new(alloc), per_call, reports);
-        let mut shelf = MemoryShelf::new(alloc, writes);
-        let answer = match self.by {
-            By::Frames => list_frames(alloc, &self.settings, &mut source, &mut out),
-            By::Run(command) => {
-                let job = new_job(alloc, self.row.settings)?;
-                run_closed(alloc, job, command, &mut source, &mut out, &mut report)
-            }
-            By::Split => {
-                let job = new_job(alloc, self.row.settings)?;
-                split_closed(alloc, job, &mut source, &mut shelf, &mut report)
-            }
-        };
-        let failed = [
-            source.failed,
-            out.failed.saturating_add(shelf.refused),
-            report.failed,
-        ];
-        let mut octets = out.octets;
-        push_puts(&mut octets, &shelf)?;
-        Ok(Tried {
-            answer,
-            read: source.at,
-            out: octets,
-            report: report.octets,
-            failed,
-        })
+        By::Run(Command::Extract) | By::Split => octets_of(alloc, row.octets),
     }
 }
 
@@ -232,129 +51,163 @@ fn front(octets: &[u8], n: usize) -> &[u8] {
     octets.get(..n).unwrap_or(&[])
 }
 
-impl Plan<'_> {
-    // The run read and wrote just what these calls move.
-    fn has_moved(&self, tried: &Tried, calls: &[Call]) -> bool {
+impl<'a> Plan<'a> {
+    fn new(alloc: Global, bench: &Bench, row: &'a Row, by: By<'a>) -> Option<Self> {
+        let out = out_of(alloc, row, by)?;
+        let calls = calls_of(alloc, bench, row, by, &out).ok()?;
+        let report = match by {
+            By::Frames => "",
+            By::Run(_) | By::Split => row.report,
+        };
+        Some(Plan {
+            records: row.records,
+            by,
+            out,
+            report: report.as_bytes(),
+            calls,
+        })
+    }
+
+    // The first of these calls.
+    fn before(&self, index: usize) -> &[Call] {
+        self.calls.get(..index).unwrap_or(&[])
+    }
+
+    // The call of a device fails that would follow these, if there is one. The run answers this, so many calls failed, and it read and wrote just
+    // what these calls move.
+    fn gives(
+        &self,
+        alloc: Global,
+        bench: &mut Bench,
+        calls: &[Call],
+        device: Device,
+        answer: Result<u32, RunFault>,
+        failed: [u64; 3],
+    ) -> bool {
+        let (count, _) = moved(calls, device);
+        bench.begin(device, count.saturating_add(1));
         let (_, read) = moved(calls, Device::Recording);
         let (_, written) = moved(calls, Device::Out);
         let (_, reported) = moved(calls, Device::Report);
-        tried.read == read
-            && tried.out.as_slice() == front(&self.out, written)
-            && tried.report.as_slice() == front(self.report, reported)
+        bench.close(alloc, self.by) == answer
+            && bench.failed() == failed
+            && bench.source.at == read
+            && bench.has_given(front(&self.out, written), front(self.report, reported))
     }
 
-    // A run of which no call fails gives all that is known of the row.
-    fn is_done(&self, tried: &Tried) -> bool {
-        tried.answer == Ok(self.row.records)
-            && tried.failed == [0, 0, 0]
-            && tried.out.as_slice() == self.out.as_slice()
-            && tried.report.as_slice() == self.report
-            && self.has_moved(tried, &self.calls)
-    }
-
-    // A run of which a call of the device fails, behind these calls.
-    fn has_stopped(&self, tried: &Tried, device: Device, before: &[Call]) -> bool {
+    // The call fails, and the run ends there.
+    fn stops_at(&self, alloc: Global, bench: &mut Bench, index: usize, device: Device) -> bool {
         let (fault, failed) = match device {
             Device::Recording => (RunFault::Read, [1, 0, 0]),
             Device::Out => (RunFault::Write, [0, 1, 0]),
             Device::Report => (RunFault::Report, [0, 0, 1]),
         };
-        tried.answer == Err(fault) && tried.failed == failed && self.has_moved(tried, before)
+        self.gives(alloc, bench, self.before(index), device, Err(fault), failed)
     }
 
-    // The first call whose failure does other than what is known, if there is one. Behind the last call of each device no call is left
-    // that could fail.
-    fn first_wrong(&self, alloc: Global) -> Result<Option<usize>, Fail> {
+    // Behind the last call of a device no call is left that could fail: the run gives all that is known of the row.
+    fn is_done(&self, alloc: Global, bench: &mut Bench, device: Device) -> bool {
+        let all = self.calls.as_slice();
+        self.gives(alloc, bench, all, device, Ok(self.records), [0, 0, 0])
+            && bench.has_given(&self.out, self.report)
+    }
+
+    // The first call whose failure does other than what is known, if there is one.
+    fn first_wrong(&self, alloc: Global, bench: &mut Bench) -> Option<usize> {
         for (index, call) in self.calls.iter().enumerate() {
-            let before = self.calls.as_slice().get(..index).unwrap_or(&[]);
-            let (count, _) = moved(before, call.device);
-            let tried = self.run(alloc, call.device, count.saturating_add(1))?;
-            if !self.has_stopped(&tried, call.device, before) {
-                return Ok(Some(index));
+            if !self.stops_at(alloc, bench, index, call.device) {
+                return Some(index);
             }
         }
-        for device in [Device::Recording, Device::Out, Device::Report] {
-            let (count, _) = moved(&self.calls, device);
-            let tried = self.run(alloc, device, count.saturating_add(1))?;
-            if !self.is_done(&tried) {
-                return Ok(Some(self.calls.len()));
-            }
+        if self.is_done(alloc, bench, Device::Recording)
+            && self.is_done(alloc, bench, Device::Out)
+            && self.is_done(alloc, bench, Device::Report)
+        {
+            None
+        } else {
+            Some(self.calls.len())
         }
-        Ok(None)
     }
 }
 
-// Each call of each device fails in turn, in runs over all rows. The devices move seven octets per call; with the greatest packet's
-// recording, of 69,632 octets, they move 1,500.
-fn each_call_failing(rt: &impl Abort, alloc: Global, by: By<'_>) -> Result<(), Fail> {
+// Each call of each device fails in turn, and does what is known.
+fn row_fails(alloc: Global, row: &Row, by: By<'_>, per_call: usize) -> Option<bool> {
+    let mut bench = Bench::new(alloc, row.settings, row.recording, per_call)?;
+    let plan = Plan::new(alloc, &bench, row, by)?;
+    Some(plan.first_wrong(alloc, &mut bench).is_none())
+}
+
+// In runs over all rows. The devices move seven octets per call; with the greatest packet's recording, of 69,632 octets, they move 1,500.
+fn each_call_failing(rt: &impl Abort, alloc: Global, by: By<'_>) {
     for row in rows() {
-        let name = row.name;
         let per_call = if row.records > 10 { 1500 } else { 7 };
-        let plan = Plan::new(alloc, row, by, per_call)?;
-        assert_eq!(rt; plan.first_wrong(alloc)?, None, "{name}");
+        assert!(rt;
+            row_fails(alloc, row, by, per_call) == Some(true),
+            "{}",
+            row.name
+        );
     }
-    Ok(())
 }
 
 #[test]
-fn each_call_failing_by_frames(rt: HostRuntime) -> Result<(), Fail> {
-    each_call_failing(&rt, rt.alloc(), By::Frames)
+fn each_call_failing_by_frames(rt: HostRuntime) {
+    each_call_failing(&rt, rt.alloc(), By::Frames);
 }
 
 #[test]
-fn each_call_failing_by_extract(rt: HostRuntime) -> Result<(), Fail> {
-    each_call_failing(&rt, rt.alloc(), By::Run(Command::Extract))
+fn each_call_failing_by_extract(rt: HostRuntime) {
+    each_call_failing(&rt, rt.alloc(), By::Run(Command::Extract));
 }
 
 #[test]
-fn each_call_failing_by_packets(rt: HostRuntime) -> Result<(), Fail> {
-    each_call_failing(&rt, rt.alloc(), By::Run(Command::Packets))
+fn each_call_failing_by_packets(rt: HostRuntime) {
+    each_call_failing(&rt, rt.alloc(), By::Run(Command::Packets));
 }
 
 #[test]
-fn each_call_failing_by_fields(rt: HostRuntime) -> Result<(), Fail> {
-    let alloc = rt.alloc();
-    let Ok(definition) = Definition::read(alloc, DEFINITION.as_bytes()) else {
-        return Err(Fail::from("the definition"));
-    };
-    each_call_failing(&rt, alloc, By::Run(Command::Fields(&definition, 100)))
+fn each_call_failing_by_fields(rt: HostRuntime) {
+    let definition = Definition::read(rt.alloc(), DEFINITION).expect(&rt, "the definition");
+    each_call_failing(&rt, rt.alloc(), By::Run(Command::Fields(&definition, 100)));
 }
 
 #[test]
-fn each_call_failing_by_split(rt: HostRuntime) -> Result<(), Fail> {
-    each_call_failing(&rt, rt.alloc(), By::Split)
+fn each_call_failing_by_split(rt: HostRuntime) {
+    each_call_failing(&rt, rt.alloc(), By::Split);
 }
 
 // The devices move one octet per call, so what is written is cut at each of its octets.
 #[test]
-fn each_octet_failing(rt: HostRuntime) -> Result<(), Fail> {
-    let alloc = rt.alloc();
-    let row = POINTER_DROP_AND_SEQUENCE_GAP;
+fn each_octet_failing(rt: HostRuntime) {
+    let row = &POINTER_DROP_AND_SEQUENCE_GAP;
     for by in [By::Run(Command::Extract), By::Run(Command::Packets)] {
-        let plan = Plan::new(alloc, row, by, 1)?;
-        assert_eq!(rt; plan.first_wrong(alloc)?, None);
+        assert!(rt; row_fails(rt.alloc(), row, by, 1) == Some(true));
     }
-    Ok(())
 }
 
-// No call fails, in runs over all rows.
-fn none_failing(rt: &impl Abort, alloc: Global, by: By<'_>, per_call: usize) -> Result<(), Fail> {
+// No call fails.
+fn row_is_done(alloc: Global, row: &Row, by: By<'_>, per_call: usize) -> Option<bool> {
+    let mut bench = Bench::new(alloc, row.settings, row.recording, per_call)?;
+    let plan = Plan::new(alloc, &bench, row, by)?;
+    Some(plan.is_done(alloc, &mut bench, Device::Out))
+}
+
+// In runs over all rows, octet by octet, and in few calls.
+fn none_failing(rt: &impl Abort, alloc: Global, by: By<'_>) {
     for row in rows() {
-        let name = row.name;
-        let plan = Plan::new(alloc, row, by, per_call)?;
-        let tried = plan.run(alloc, Device::Out, 0)?;
-        assert!(rt; plan.is_done(&tried), "{name}, {per_call} octets per call");
+        let by_octets = row_is_done(alloc, row, by, 1);
+        let at_once = row_is_done(alloc, row, by, 65_536);
+        assert!(rt;
+            by_octets == Some(true) && at_once == Some(true),
+            "{}",
+            row.name
+        );
     }
-    Ok(())
 }
 
-// All rows by all commands, octet by octet, and in few calls.
+// All rows by all commands.
 #[test]
-fn worked_rows(rt: HostRuntime) -> Result<(), Fail> {
-    let alloc = rt.alloc();
-    let Ok(definition) = Definition::read(alloc, DEFINITION.as_bytes()) else {
-        return Err(Fail::from("the definition"));
-    };
+fn worked_rows(rt: HostRuntime) {
+    let definition = Definition::read(rt.alloc(), DEFINITION).expect(&rt, "the definition");
     let commands = [
         By::Frames,
         By::Run(Command::Extract),
@@ -363,24 +216,41 @@ fn worked_rows(rt: HostRuntime) -> Result<(), Fail> {
         By::Split,
     ];
     for by in commands {
-        none_failing(&rt, alloc, by, 1)?;
-        none_failing(&rt, alloc, by, 65_536)?;
+        none_failing(&rt, rt.alloc(), by);
     }
-    Ok(())
+}
+
+// A run by `packets` with five octets per call, of which a device's call fails, answers this, and has written just this.
+fn ends_by(
+    alloc: Global,
+    row: &Row,
+    device: Device,
+    call: u64,
+    fault: RunFault,
+    written: &str,
+) -> Option<bool> {
+    let mut bench = Bench::new(alloc, row.settings, row.recording, 5)?;
+    bench.begin(device, call);
+    let answer = bench.close(alloc, By::Run(Command::Packets));
+    Some(answer == Err(fault) && bench.out.octets.as_slice() == written.as_bytes())
 }
 
 #[test]
-fn worked_failures(rt: HostRuntime) -> Result<(), Fail> {
-    let alloc = rt.alloc();
-    let by = By::Run(Command::Packets);
-    let plan = Plan::new(alloc, TWO_PACKETS, by, 5)?;
-    let tried = plan.run(alloc, Device::Out, 3)?;
-    assert_eq!(rt; tried.answer, Err(RunFault::Write));
-    assert_eq!(rt; tried.out.as_slice(), b"packet rec".as_slice());
-    let tried = plan.run(alloc, Device::Recording, 1)?;
-    assert_eq!(rt; tried.answer, Err(RunFault::Read));
-    let plan = Plan::new(alloc, POINTER_DROP_AND_SEQUENCE_GAP, by, 5)?;
-    let tried = plan.run(alloc, Device::Report, 1)?;
-    assert_eq!(rt; tried.answer, Err(RunFault::Report));
-    Ok(())
+fn worked_failures(rt: HostRuntime) {
+    let line =
+        "packet record=0 channel=0 from=0 at=0 type=tm secondary=no apid=100 flags=unsegmented count=0 octets=10\n";
+    let table = [
+        (&TWO_PACKETS, Device::Out, 3, RunFault::Write, "packet rec"),
+        (&TWO_PACKETS, Device::Recording, 1, RunFault::Read, ""),
+        (
+            &POINTER_DROP_AND_SEQUENCE_GAP,
+            Device::Report,
+            1,
+            RunFault::Report,
+            line,
+        ),
+    ];
+    for (row, device, call, fault, written) in table {
+        assert!(rt; ends_by(rt.alloc(), row, device, call, fault, written) == Some(true));
+    }
 }

@@ -1,24 +1,19 @@
 //! Rows of fields, from recordings.
 
-use crate::runs::{Ran, new_job, octets_of, records_of};
-use crate::{MemoryDrain, MemorySource};
+use crate::bench::{Bench, By, Device};
+use crate::fields::{HEAD, TEXT};
 use std::alloc::Global;
-use std::test::Fail;
 use tm_fields::Definition;
-use tm_tool::{Command, Ending, RunFault, run};
+use tm_tool::{Command, RunFault};
 
 pub(crate) const SETTINGS: &str = "spacecraft = 42\nframe_length = 22\nerror_control = false\n";
 
 /// One packet of application 100, of 16 octets.
 pub(crate) const RECORDING: &str = "02A000001800 0064C0000009 07FFF0612C623F800000";
 
-pub(crate) const FIELDS: &str =
-    "name, data_type, bit_length\nVERSION, uint, 8\nLEVEL, int, 12\nPAD, fill, 4\nLABEL, str, 24\nRATE, float, 32\n";
-
-const FIELDS_AND_ONE_BIT: &str =
+/// The fields of `TEXT`, and one of a bit more.
+pub(crate) const AND_ONE_BIT: &str =
     "name, data_type, bit_length\nVERSION, uint, 8\nLEVEL, int, 12\nPAD, fill, 4\nLABEL, str, 24\nRATE, float, 32\nEXTRA, uint, 1\n";
-
-const HEAD: &str = "tm_record,tm_channel,tm_apid,tm_count,VERSION,LEVEL,LABEL,RATE\n";
 
 pub(crate) const HEAD_AND_ROW: &str =
     "tm_record,tm_channel,tm_apid,tm_count,VERSION,LEVEL,LABEL,RATE\n0,0,100,0,7,-1,\"a,b\",0x3f800000\n";
@@ -26,85 +21,68 @@ pub(crate) const HEAD_AND_ROW: &str =
 const HEAD_AND_ONE_BIT: &str =
     "tm_record,tm_channel,tm_apid,tm_count,VERSION,LEVEL,LABEL,RATE,EXTRA\n";
 
-// Runs a new job by `fields`. At most 5 octets are written per call. One call of the output, and one of the report, fails, counted from 1;
-// none for 0.
+const SHORT: &str = "shortpacket record=0 channel=0 from=0 at=0 needed=129 found=128\n";
+
+// Runs a job by `fields`, with devices that write 5 octets per call, of which a call of one fails: the answer, and the devices then.
 fn run_rows(
     alloc: Global,
     definition: &str,
     application: u16,
     recording: &str,
-    writes: u64,
-    reports: u64,
-) -> Result<Ran, Fail> {
-    let Ok(definition) = Definition::read(alloc, definition.as_bytes()) else {
-        return Err(Fail::from("the definition"));
-    };
-    let job = new_job(alloc, SETTINGS)?;
-    let mut source = MemorySource::new(octets_of(alloc, recording)?, 65_536, 0);
-    let mut out = MemoryDrain::new(Vec::new(alloc), 5, writes);
-    let mut report = MemoryDrain::new(Vec::new(alloc), 5, reports);
-    let answer = run(
-        alloc,
-        job,
-        Command::Fields(&definition, application),
-        &mut source,
-        &mut out,
-        &mut report,
-        Ending::Close,
-    );
-    Ok(Ran {
-        answer: records_of(answer),
-        out: out.octets,
-        report: report.octets,
-    })
+    device: Device,
+    call: u64,
+) -> Option<(Result<u32, RunFault>, Bench)> {
+    let definition = Definition::read(alloc, definition.as_bytes()).ok()?;
+    let mut bench = Bench::new(alloc, SETTINGS, recording, 5)?;
+    bench.begin(device, call);
+    let answer = bench.close(alloc, By::Run(Command::Fields(&definition, application)));
+    Some((answer, bench))
 }
 
 #[test]
-fn worked_rows_by_fields(rt: HostRuntime) -> Result<(), Fail> {
-    let alloc = rt.alloc();
-    let short = "shortpacket record=0 channel=0 from=0 at=0 needed=129 found=128\n";
+fn worked_rows_by_fields(rt: HostRuntime) {
     let table = [
-        (FIELDS, 100, RECORDING, 1, HEAD_AND_ROW, ""),
-        (
-            FIELDS_AND_ONE_BIT,
-            100,
-            RECORDING,
-            1,
-            HEAD_AND_ONE_BIT,
-            short,
-        ),
-        (FIELDS, 101, RECORDING, 1, HEAD, ""),
-        (FIELDS, 100, "", 0, HEAD, ""),
+        (TEXT, 100, RECORDING, 1, HEAD_AND_ROW, ""),
+        (AND_ONE_BIT, 100, RECORDING, 1, HEAD_AND_ONE_BIT, SHORT),
+        (TEXT, 101, RECORDING, 1, HEAD, ""),
+        (TEXT, 100, "", 0, HEAD, ""),
     ];
     for (definition, application, recording, records, rows, lines) in table {
-        let ran = run_rows(alloc, definition, application, recording, 0, 0)?;
-        assert_eq!(rt; ran.answer, Ok(records));
-        assert_eq!(rt; ran.out.as_slice(), rows.as_bytes());
-        assert_eq!(rt; ran.report.as_slice(), lines.as_bytes());
+        let ran = run_rows(
+            rt.alloc(),
+            definition,
+            application,
+            recording,
+            Device::Out,
+            0,
+        );
+        let (answer, bench) = ran.expect(&rt, "a run");
+        assert!(rt; answer == Ok(records) && bench.has_given(rows.as_bytes(), lines.as_bytes()));
     }
-    Ok(())
 }
 
-// Each write fails in turn, up to the run in which none does: what was written is the front of the head and the row.
-#[test]
-fn each_write_of_rows_failing(rt: HostRuntime) -> Result<(), Fail> {
-    let alloc = rt.alloc();
-    let mut refused = 0u64;
-    for fails_at in 1..1000u64 {
-        let ran = run_rows(alloc, FIELDS, 100, RECORDING, fails_at, 0)?;
-        if ran.answer.is_ok() {
-            assert_eq!(rt; ran.out.as_slice(), HEAD_AND_ROW.as_bytes());
-            break;
-        }
-        assert_eq!(rt; ran.answer, Err(RunFault::Write));
-        assert!(rt; HEAD_AND_ROW.as_bytes().starts_with(ran.out.as_slice()));
-        refused = refused.saturating_add(1);
+// How a run is answered of which this write fails, if what was written is the front of the head and the row.
+fn answer_at(alloc: Global, fails_at: u64) -> Option<Result<u32, RunFault>> {
+    let (answer, bench) = run_rows(alloc, TEXT, 100, RECORDING, Device::Out, fails_at)?;
+    let written = bench.out.octets.as_slice();
+    let is_whole = written == HEAD_AND_ROW.as_bytes();
+    if HEAD_AND_ROW.as_bytes().starts_with(written) && (is_whole || answer.is_err()) {
+        Some(answer)
+    } else {
+        None
     }
-    // 13 writes for the head, 7 for the row, and the flush.
-    assert_eq!(rt; refused, 21);
-    let ran = run_rows(alloc, FIELDS_AND_ONE_BIT, 100, RECORDING, 0, 2)?;
-    assert_eq!(rt; ran.answer, Err(RunFault::Report));
-    assert_eq!(rt; ran.out.as_slice(), HEAD_AND_ONE_BIT.as_bytes());
-    assert_eq!(rt; ran.report.as_slice(), b"short".as_slice());
-    Ok(())
+}
+
+// Each write fails in turn, up to the run in which none does: 13 writes for the head, 7 for the row, and the flush.
+#[test]
+fn each_write_of_rows_failing(rt: HostRuntime) {
+    let alloc = rt.alloc();
+    for fails_at in 1..=21u64 {
+        assert!(rt; answer_at(alloc, fails_at) == Some(Err(RunFault::Write)));
+    }
+    assert!(rt; answer_at(alloc, 22) == Some(Ok(1)));
+    let ran = run_rows(alloc, AND_ONE_BIT, 100, RECORDING, Device::Report, 2);
+    let (answer, bench) = ran.expect(&rt, "a run");
+    assert!(rt; answer == Err(RunFault::Report));
+    assert!(rt; bench.has_given(HEAD_AND_ONE_BIT.as_bytes(), b"short"));
 }

@@ -1,78 +1,84 @@
 //! Definitions that are read, definitions that are refused, and the heads and rows that packets get.
 
-use std::alloc::Global;
-use std::test::Fail;
+use crate::field_rows::AND_ONE_BIT;
+use std::alloc::{AllocError, Global};
 use tm_fields::{Column, Definition, DefinitionFault, Lead, RowFault, number_at, push_escaped};
 
 pub(crate) const TEXT: &str =
     "name, data_type, bit_length\nVERSION, uint, 8\nLEVEL, int, 12\nPAD, fill, 4\nLABEL, str, 24\nRATE, float, 32\n";
 
-const PACKET: [u8; 16] = [
+pub(crate) const HEAD: &str = "tm_record,tm_channel,tm_apid,tm_count,VERSION,LEVEL,LABEL,RATE\n";
+
+pub(crate) const ROW: &str = "0,0,100,0,7,-1,\"a,b\",0x3f800000\n";
+
+pub(crate) const PACKET: [u8; 16] = [
     0x00, 0x64, 0xC0, 0x00, 0x00, 0x09, 0x07, 0xFF, 0xF0, 0x61, 0x2C, 0x62, 0x3F, 0x80, 0x00, 0x00,
 ];
 
-const LEAD: Lead = Lead {
+pub(crate) const LEAD: Lead = Lead {
     seen: 0,
     channel: 0,
     application: 100,
     count: 0,
 };
 
-#[test]
-fn head_and_row(rt: HostRuntime) -> Result<(), Fail> {
-    let alloc = rt.alloc();
-    let Ok(definition) = Definition::read(alloc, TEXT.as_bytes()) else {
-        return Ok(assert!(rt; false));
-    };
-    assert_eq!(rt; definition.bits_needed(), 128);
-    let Ok(head) = definition.head(alloc) else {
-        return Ok(assert!(rt; false));
-    };
-    let names = b"tm_record,tm_channel,tm_apid,tm_count,VERSION,LEVEL,LABEL,RATE\n";
-    assert_eq!(rt; head.as_slice(), names.as_slice());
-    let Ok(row) = definition.row(alloc, LEAD, &PACKET) else {
-        return Ok(assert!(rt; false));
-    };
-    let values = b"0,0,100,0,7,-1,\"a,b\",0x3f800000\n";
-    assert_eq!(rt; row.as_slice(), values.as_slice());
-    Ok(())
+// The definition of a text, its head, and the row of the packet under it.
+fn head_of(alloc: Global, text: &str) -> Option<Vec<u8>> {
+    let definition = Definition::read(alloc, text.as_bytes()).ok()?;
+    definition.head(alloc).ok()
+}
+
+fn row_of(alloc: Global, text: &str) -> Option<Result<Vec<u8>, RowFault>> {
+    let definition = Definition::read(alloc, text.as_bytes()).ok()?;
+    Some(definition.row(alloc, LEAD, &PACKET))
+}
+
+// The text is a definition of just this row of the packet.
+fn has_row(alloc: Global, text: &str, wanted: &[u8]) -> bool {
+    match row_of(alloc, text) {
+        Some(Ok(row)) => row.as_slice() == wanted,
+        _ => false,
+    }
+}
+
+// The bits that a definition needs, or how it is refused.
+pub(crate) fn bits_of(alloc: Global, text: &[u8]) -> Result<u32, DefinitionFault> {
+    match Definition::read(alloc, text) {
+        Ok(definition) => Ok(definition.bits_needed()),
+        Err(fault) => Err(fault),
+    }
 }
 
 #[test]
-fn packet_that_is_a_bit_short(rt: HostRuntime) -> Result<(), Fail> {
+fn head_and_row(rt: HostRuntime) {
     let alloc = rt.alloc();
-    let text = format!(in alloc; "{TEXT}EXTRA, uint, 1\n")?;
-    let Ok(definition) = Definition::read(alloc, text.as_bytes()) else {
-        return Ok(assert!(rt; false));
-    };
-    let Ok(head) = definition.head(alloc) else {
-        return Ok(assert!(rt; false));
-    };
+    assert!(rt; bits_of(alloc, TEXT.as_bytes()) == Ok(128));
+    assert!(rt; head_of(alloc, TEXT).is_some_and(|head| head.as_slice() == HEAD.as_bytes()));
+    assert!(rt; has_row(alloc, TEXT, ROW.as_bytes()));
+}
+
+// How many bits a definition needs and are found, where the packet has too few.
+fn bits_short(alloc: Global, text: &str) -> Option<(u64, u64)> {
+    match row_of(alloc, text)? {
+        Err(RowFault::ShortPacket { needed, found }) => Some((needed, found)),
+        _ => None,
+    }
+}
+
+#[test]
+fn packet_that_is_a_bit_short(rt: HostRuntime) {
+    let alloc = rt.alloc();
+    let head = head_of(alloc, AND_ONE_BIT).expect(&rt, "a head");
     assert!(rt; head.as_slice().ends_with(b",RATE,EXTRA\n"));
-    let Err(fault) = definition.row(alloc, LEAD, &PACKET) else {
-        return Ok(assert!(rt; false));
-    };
-    let short = RowFault::ShortPacket {
-        needed: 129,
-        found: 128,
-    };
-    assert_eq!(rt; fault, short);
-    Ok(())
+    assert!(rt; bits_short(alloc, AND_ONE_BIT) == Some((129, 128)));
 }
 
 #[test]
 fn numbers_at_places(rt: HostRuntime) {
-    assert_eq!(rt; number_at(&[0xFF, 0xF0], 0, 12), Some(4095));
-    assert_eq!(rt; number_at(&[0xFF, 0xF0], 12, 5), None);
-    assert_eq!(rt; number_at(&[0xFF, 0xF0], 0, 0), None);
-}
-
-// The row of the packet under a definition.
-fn row_text(alloc: Global, text: &str) -> Option<Vec<u8>> {
-    let Ok(definition) = Definition::read(alloc, text.as_bytes()) else {
-        return None;
-    };
-    definition.row(alloc, LEAD, &PACKET).ok()
+    let octets = [0xFF, 0xF0];
+    for (offset, bits, number) in [(0, 12, Some(4095)), (12, 5, None), (0, 0, None)] {
+        assert!(rt; number_at(&octets, offset, bits) == number);
+    }
 }
 
 // Fields that go back, lie over one another and begin within an octet: each value is cut out of the packet by hand.
@@ -81,20 +87,14 @@ fn fields_anywhere(rt: HostRuntime) {
     let alloc = rt.alloc();
     let text =
         "bit_offset,name,bit_length,data_type,unit\n48,ALL,64,uint,V\n56,LOW,12,uint,\n52,WIDE,64,int,\n68,TEXT,16,str,\n60,RAW,16,float,\n,NEXT,5,uint,\n0,ID,16,uint,\n56,MINUS,64,int,\n56,ONE,1,int,\n";
-    let Some(row) = row_text(alloc, text) else {
-        return assert!(rt; false);
-    };
     let values =
         b"0,0,100,0,576443577473843072,4095,9223097239581489152,\\x06\\x12,0xff06,2,100,-4396756372586496,-1\n";
-    assert_eq!(rt; row.as_slice(), values.as_slice());
+    assert!(rt; has_row(alloc, text, values));
 }
 
 // The fault of a text, if it has one.
 fn refusal(alloc: Global, text: &[u8]) -> Option<DefinitionFault> {
-    match Definition::read(alloc, text) {
-        Ok(_) => None,
-        Err(fault) => Some(fault),
-    }
+    bits_of(alloc, text).err()
 }
 
 #[test]
@@ -153,41 +153,48 @@ fn definition_faults(rt: HostRuntime) {
         ("name,data_type,bit_length\n", None),
     ];
     for (text, fault) in table {
-        assert_eq!(rt; refusal(alloc, text.as_bytes()), fault);
+        assert!(rt; refusal(alloc, text.as_bytes()) == fault, "{text}");
     }
 }
 
-// A definition of so many fields.
-fn fills(alloc: Global, count: u32) -> Result<Vec<u8>, Fail> {
+// A definition of so many fields, with this behind them.
+fn fills(alloc: Global, count: u32, more: &[u8]) -> Result<Vec<u8>, AllocError> {
     let mut text = Vec::from_slice(alloc, b"name,data_type,bit_length\n")?;
     for _ in 0..count {
         text.extend_from_slice(b"A,fill,8\n")?;
     }
+    text.extend_from_slice(more)?;
     Ok(text)
 }
 
 #[test]
-fn most_fields(rt: HostRuntime) -> Result<(), Fail> {
+fn most_fields(rt: HostRuntime) {
     let alloc = rt.alloc();
-    assert_eq!(rt; refusal(alloc, fills(alloc, 1000)?.as_slice()), None);
-    let many = Some(DefinitionFault::TooMany);
-    assert_eq!(rt; refusal(alloc, fills(alloc, 1001)?.as_slice()), many);
-    assert_eq!(rt; refusal(alloc, fills(alloc, 3000)?.as_slice()), many);
-    // A record of another length is noticed behind those that are kept.
-    let mut text = fills(alloc, 3000)?;
-    text.extend_from_slice(b"A,fill\n")?;
-    assert_eq!(rt; refusal(alloc, text.as_slice()), Some(DefinitionFault::Csv));
-    Ok(())
+    let table = [
+        (1000, b"".as_slice(), None),
+        (1001, b"", Some(DefinitionFault::TooMany)),
+        (3000, b"", Some(DefinitionFault::TooMany)),
+        // A record of another length is noticed behind those that are kept.
+        (3000, b"A,fill\n", Some(DefinitionFault::Csv)),
+    ];
+    for (count, more, fault) in table {
+        let text = fills(alloc, count, more).expect(&rt, "a text");
+        assert!(rt; refusal(alloc, &text) == fault, "{count} fields");
+    }
 }
 
 #[test]
-fn columns_and_printed_octets(rt: HostRuntime) -> Result<(), Fail> {
-    assert_eq!(rt; Column::Name.word(), "name");
-    assert_eq!(rt; Column::DataType.word(), "data_type");
-    assert_eq!(rt; Column::BitLength.word(), "bit_length");
-    assert_eq!(rt; Column::BitOffset.word(), "bit_offset");
-    let mut text = Vec::from_slice(rt.alloc(), b"a")?;
-    push_escaped(&mut text, b" ~\\\x7F\n\xC3")?;
-    assert_eq!(rt; text.as_slice(), b"a ~\\x5c\\x7f\\x0a\\xc3".as_slice());
-    Ok(())
+fn columns_and_printed_octets(rt: HostRuntime) {
+    let words = [
+        (Column::Name, "name"),
+        (Column::DataType, "data_type"),
+        (Column::BitLength, "bit_length"),
+        (Column::BitOffset, "bit_offset"),
+    ];
+    for (column, word) in words {
+        assert!(rt; column.word() == word);
+    }
+    let mut text = Vec::new(rt.alloc());
+    assert!(rt; text.push(b'a').is_ok() && push_escaped(&mut text, b" ~\\\x7F\n\xC3").is_ok());
+    assert!(rt; text.as_slice() == b"a ~\\x5c\\x7f\\x0a\\xc3".as_slice());
 }

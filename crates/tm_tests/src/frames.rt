@@ -1,205 +1,145 @@
 //! Recordings with the lines of their frames.
 
-use crate::runs::{BASE, settings_of};
-use crate::{MemoryDrain, MemorySource};
-use std::alloc::{AllocError, Global};
+use crate::bench::{Bench, By};
+use crate::runs::{BASE, octets_of, settings_of};
+use std::alloc::Global;
 use std::io::{self, ErrorKind, Read, Write};
-use std::test::Fail;
-use tm_tool::{Reading, RunFault, Writing, list_frames};
+use tm_tool::{Drain, Reading, RunFault, Source, Writing, list_frames};
 
 // A frame of 24 octets with a packet of 7 octets and one of 11.
-const TWO_PACKETS: [u8; 24] = [
-    0x02, 0xA0, 0x00, 0x00, 0x18, 0x00, 0x00, 0x64, 0xC0, 0x00, 0x00, 0x00, 0x55, 0x00, 0x64, 0xC0,
-    0x01, 0x00, 0x04, 0x55, 0x55, 0x55, 0x55, 0x55,
-];
+const TWO_PACKETS: &str = "02A000001800 0064C000000055 0064C00100045555555555";
 
 const TWO_PACKETS_LINE: &str =
     "frame record=0 channel=0 master=0 count=0 kind=packets place=0 secondary=0 ocf=no order=0 segment=3 octets=18\n";
 
-// A primary header and the octets after it.
-fn record(alloc: Global, header: [u8; 6], more: &[u8]) -> Result<Vec<u8>, AllocError> {
-    let mut octets = header.to_vec(alloc)?;
-    octets.extend_from_slice(more)?;
-    Ok(octets)
-}
-
-// What `list_frames` answers of a recording that is read and written in few calls, and what it writes.
-fn listed(
+// The frames of a recording are listed by just these lines, in few calls.
+fn is_listed(
     alloc: Global,
     settings: &str,
-    recording: Vec<u8>,
-) -> Result<(Vec<u8>, Result<u32, RunFault>), Fail> {
-    let settings = settings_of(alloc, settings)?;
-    let mut source = MemorySource::new(recording, 65_536, 0);
-    let mut out = MemoryDrain::new(Vec::new(alloc), 65_536, 0);
-    let answer = list_frames(alloc, &settings, &mut source, &mut out);
-    Ok((out.octets, answer))
+    recording: &str,
+    records: u32,
+    lines: &str,
+) -> Option<bool> {
+    let mut bench = Bench::new(alloc, settings, recording, 65_536)?;
+    let answer = bench.close(alloc, By::Frames);
+    Some(answer == Ok(records) && bench.has_given(lines.as_bytes(), b""))
 }
 
 #[test]
 fn error_control_values(rt: HostRuntime) {
-    assert_eq!(rt; tm_frame::error_control(&[]), 0xFFFF);
-    assert_eq!(rt; tm_frame::error_control(&[0]), 0xE1F0);
+    assert!(rt; tm_frame::error_control(b"") == 0xFFFF);
+    assert!(rt; tm_frame::error_control(b"\0") == 0xE1F0);
+    assert!(rt; tm_frame::error_control(b"123456789") == 0x29B1);
 }
 
 #[test]
-fn two_packets(rt: HostRuntime) -> Result<(), Fail> {
-    let alloc = rt.alloc();
-    let (lines, answer) = listed(alloc, BASE, TWO_PACKETS.to_vec(alloc)?)?;
-    assert_eq!(rt; answer, Ok(1));
-    assert_eq!(rt; lines.as_slice(), TWO_PACKETS_LINE.as_bytes());
-    Ok(())
+fn two_packets(rt: HostRuntime) {
+    let listed = is_listed(rt.alloc(), BASE, TWO_PACKETS, 1, TWO_PACKETS_LINE);
+    assert!(rt; listed == Some(true));
 }
 
 #[test]
-fn empty_recording(rt: HostRuntime) -> Result<(), Fail> {
-    let alloc = rt.alloc();
-    let (lines, answer) = listed(alloc, BASE, Vec::new(alloc))?;
-    assert_eq!(rt; answer, Ok(0));
-    assert!(rt; lines.is_empty());
-    Ok(())
+fn empty_recording(rt: HostRuntime) {
+    assert!(rt; is_listed(rt.alloc(), BASE, "", 0, "") == Some(true));
 }
 
 #[test]
-fn error_control(rt: HostRuntime) -> Result<(), Fail> {
-    let alloc = rt.alloc();
-    assert_eq!(rt; tm_frame::error_control("123456789".as_bytes()), 0x29B1);
+fn error_control(rt: HostRuntime) {
     let settings = "spacecraft = 42\nframe_length = 9\nerror_control = true\n";
-    let recording = [
-        0x02, 0xA0, 0x00, 0x00, 0x1F, 0xFE, 0x55, 0x25, 0xC9, 0x02, 0xA0, 0x00, 0x00, 0x1F, 0xFE,
-        0x54, 0x25, 0xC9,
-    ];
-    let (lines, answer) = listed(alloc, settings, recording.to_vec(alloc)?)?;
-    assert_eq!(rt; answer, Ok(2));
-    let wanted =
+    let recording = "02A000001FFE 55 25C9 02A000001FFE 54 25C9";
+    let lines =
         "frame record=0 channel=0 master=0 count=0 kind=idle place=- secondary=0 ocf=no order=0 segment=3 octets=1\nbad record=1 fault=crc\n";
-    assert_eq!(rt; lines.as_slice(), wanted.as_bytes());
-    Ok(())
+    assert!(rt; is_listed(rt.alloc(), settings, recording, 2, lines) == Some(true));
 }
 
 #[test]
-fn skipped_octets(rt: HostRuntime) -> Result<(), Fail> {
-    let alloc = rt.alloc();
-    let text = format!(in alloc; "{BASE}skip_before = 4\n")?;
-    let settings = settings_of(alloc, text.as_str())?;
-    assert_eq!(rt; settings.layout().record_length(), 28);
-    let mut recording = [0x1A, 0xCF, 0xFC, 0x1D].to_vec(alloc)?;
-    recording.extend_from_slice(&TWO_PACKETS)?;
-    let (lines, answer) = listed(alloc, text.as_str(), recording)?;
-    assert_eq!(rt; answer, Ok(1));
-    assert_eq!(rt; lines.as_slice(), TWO_PACKETS_LINE.as_bytes());
-    Ok(())
+fn skipped_octets(rt: HostRuntime) {
+    let text = "spacecraft = 42\nframe_length = 24\nerror_control = false\nskip_before = 4\n";
+    let settings = settings_of(rt.alloc(), text).expect(&rt, "the settings");
+    assert!(rt; settings.layout().record_length() == 28);
+    let recording = "1ACFFC1D 02A000001800 0064C000000055 0064C00100045555555555";
+    let listed = is_listed(rt.alloc(), text, recording, 1, TWO_PACKETS_LINE);
+    assert!(rt; listed == Some(true));
 }
 
+const ALWAYS: &str =
+    "spacecraft = 42\nframe_length = 24\nerror_control = false\nsecondary = \"always\"\n";
+
+const NEVER: &str = "spacecraft = 42\nframe_length = 24\nerror_control = false\nocf = \"never\"\n";
+
+// One record under its settings, and its line.
+const FAULTS: [(&str, &str, &str); 10] = [
+    (BASE, "42A000001800 55*18", "bad record=0 fault=version\n"),
+    (
+        BASE,
+        "02B000001800 55*18",
+        "bad record=0 fault=spacecraft\n",
+    ),
+    (
+        ALWAYS,
+        "02A000001800 55*18",
+        "bad record=0 fault=secondary-flag\n",
+    ),
+    (NEVER, "02A100001800 55*18", "bad record=0 fault=ocf-flag\n"),
+    (BASE, "02A000001812 55*18", "bad record=0 fault=pointer\n"),
+    (
+        BASE,
+        "02A000001811 55*18",
+        "frame record=0 channel=0 master=0 count=0 kind=packets place=17 secondary=0 ocf=no order=0 segment=3 octets=18\n",
+    ),
+    (
+        BASE,
+        "02A000009800 40 55*17",
+        "bad record=0 fault=secondary-version\n",
+    ),
+    (BASE, "02A000009800 11 55*17", "bad record=0 fault=layout\n"),
+    (
+        BASE,
+        "02A000009800 10 55*17",
+        "frame record=0 channel=0 master=0 count=0 kind=packets place=0 secondary=17 ocf=no order=0 segment=3 octets=1\n",
+    ),
+    (
+        BASE,
+        "02A100001800 0064C0000007 55*12",
+        "frame record=0 channel=0 master=0 count=0 kind=packets place=0 secondary=0 ocf=yes order=0 segment=3 octets=14\n",
+    ),
+];
+
 #[test]
-fn frame_faults(rt: HostRuntime) -> Result<(), Fail> {
-    let alloc = rt.alloc();
-    let always =
-        "spacecraft = 42\nframe_length = 24\nerror_control = false\nsecondary = \"always\"\n";
-    let never = "spacecraft = 42\nframe_length = 24\nerror_control = false\nocf = \"never\"\n";
-    let plain = [0x55u8; 18];
-    let mut version = plain;
-    version[0] = 0x40;
-    let mut long = plain;
-    long[0] = 0x11;
-    let mut short = plain;
-    short[0] = 0x10;
-    let packet = [
-        0x00, 0x64, 0xC0, 0x00, 0x00, 0x07, 0x55, 0x55, 0x55, 0x55, 0x55, 0x55, 0x55, 0x55, 0x55,
-        0x55, 0x55, 0x55,
-    ];
-    let table = [
-        (
-            BASE,
-            [0x42, 0xA0, 0x00, 0x00, 0x18, 0x00],
-            plain,
-            "bad record=0 fault=version\n",
-        ),
-        (
-            BASE,
-            [0x02, 0xB0, 0x00, 0x00, 0x18, 0x00],
-            plain,
-            "bad record=0 fault=spacecraft\n",
-        ),
-        (
-            always,
-            [0x02, 0xA0, 0x00, 0x00, 0x18, 0x00],
-            plain,
-            "bad record=0 fault=secondary-flag\n",
-        ),
-        (
-            never,
-            [0x02, 0xA1, 0x00, 0x00, 0x18, 0x00],
-            plain,
-            "bad record=0 fault=ocf-flag\n",
-        ),
-        (
-            BASE,
-            [0x02, 0xA0, 0x00, 0x00, 0x18, 0x12],
-            plain,
-            "bad record=0 fault=pointer\n",
-        ),
-        (
-            BASE,
-            [0x02, 0xA0, 0x00, 0x00, 0x18, 0x11],
-            plain,
-            "frame record=0 channel=0 master=0 count=0 kind=packets place=17 secondary=0 ocf=no order=0 segment=3 octets=18\n",
-        ),
-        (
-            BASE,
-            [0x02, 0xA0, 0x00, 0x00, 0x98, 0x00],
-            version,
-            "bad record=0 fault=secondary-version\n",
-        ),
-        (
-            BASE,
-            [0x02, 0xA0, 0x00, 0x00, 0x98, 0x00],
-            long,
-            "bad record=0 fault=layout\n",
-        ),
-        (
-            BASE,
-            [0x02, 0xA0, 0x00, 0x00, 0x98, 0x00],
-            short,
-            "frame record=0 channel=0 master=0 count=0 kind=packets place=0 secondary=17 ocf=no order=0 segment=3 octets=1\n",
-        ),
-        (
-            BASE,
-            [0x02, 0xA1, 0x00, 0x00, 0x18, 0x00],
-            packet,
-            "frame record=0 channel=0 master=0 count=0 kind=packets place=0 secondary=0 ocf=yes order=0 segment=3 octets=14\n",
-        ),
-    ];
-    for (settings, header, more, line) in table {
-        let (lines, answer) = listed(alloc, settings, record(alloc, header, &more)?)?;
-        assert_eq!(rt; answer, Ok(1));
-        assert_eq!(rt; lines.as_slice(), line.as_bytes());
+fn frame_faults(rt: HostRuntime) {
+    for (settings, recording, line) in FAULTS {
+        let listed = is_listed(rt.alloc(), settings, recording, 1, line);
+        assert!(rt; listed == Some(true), "{recording} has no {line}");
     }
-    Ok(())
 }
 
 // Two records and ten octets more.
-fn with_rest(alloc: Global) -> Result<Vec<u8>, AllocError> {
-    let mut octets = TWO_PACKETS.to_vec(alloc)?;
-    octets.extend_from_slice(&TWO_PACKETS)?;
-    octets.extend_from_slice(&[0; 10])?;
-    Ok(octets)
-}
+const WITH_REST: &str = "02A000001800 0064C000000055 0064C00100045555555555 \
+    02A000001800 0064C000000055 0064C00100045555555555 00*10";
 
 const WITH_REST_LINES: &str =
     "frame record=0 channel=0 master=0 count=0 kind=packets place=0 secondary=0 ocf=no order=0 segment=3 octets=18\nframe record=1 channel=0 master=0 count=0 kind=packets place=0 secondary=0 ocf=no order=0 segment=3 octets=18\nshort record=2 octets=10\n";
 
+/// What a listing answers under the settings of a text.
+pub(crate) fn listed<R: Source, W: Drain>(
+    alloc: Global,
+    settings: &str,
+    source: &mut R,
+    out: &mut W,
+) -> Option<Result<u32, RunFault>> {
+    let settings = settings_of(alloc, settings)?;
+    Some(list_frames(alloc, &settings, source, out))
+}
+
 #[test]
-fn through_readers_and_writers(rt: HostRuntime) -> Result<(), Fail> {
+fn through_readers_and_writers(rt: HostRuntime) {
     let alloc = rt.alloc();
-    let settings = settings_of(alloc, BASE)?;
-    let octets = with_rest(alloc)?;
+    let octets = octets_of(alloc, WITH_REST).expect(&rt, "octets");
     let mut lines = Vec::new(alloc);
     let mut source = Reading::new(octets.as_slice());
-    let mut out = Writing::new(&mut lines);
-    assert_eq!(rt; list_frames(alloc, &settings, &mut source, &mut out), Ok(2));
-    assert_eq!(rt; lines.as_slice(), WITH_REST_LINES.as_bytes());
-    Ok(())
+    let answer = listed(alloc, BASE, &mut source, &mut Writing::new(&mut lines));
+    assert!(rt; answer == Some(Ok(2)));
+    assert!(rt; lines.as_slice() == WITH_REST_LINES.as_bytes());
 }
 
 // A reader that fails.
@@ -242,26 +182,19 @@ impl Write for Unflushed {
 
 // An error of a reader or a writer is a failure of the device, and so are a write of nothing and a flush that fails.
 #[test]
-fn failing_readers_and_writers(rt: HostRuntime) -> Result<(), Fail> {
+fn failing_readers_and_writers(rt: HostRuntime) {
     let alloc = rt.alloc();
-    let settings = settings_of(alloc, BASE)?;
-    let mut source = Reading::new(Broken);
+    let octets = octets_of(alloc, TWO_PACKETS).expect(&rt, "octets");
     let mut out = Writing::new(Unflushed);
-    assert_eq!(rt;
-        list_frames(alloc, &settings, &mut source, &mut out),
-        Err(RunFault::Read)
+    let answer = listed(alloc, BASE, &mut Reading::new(Broken), &mut out);
+    assert!(rt; answer == Some(Err(RunFault::Read)));
+    let answer = listed(
+        alloc,
+        BASE,
+        &mut Reading::new(octets.as_slice()),
+        &mut Writing::new(Full),
     );
-    let mut source = Reading::new(TWO_PACKETS.as_slice());
-    let mut out = Writing::new(Full);
-    assert_eq!(rt;
-        list_frames(alloc, &settings, &mut source, &mut out),
-        Err(RunFault::Write)
-    );
-    let mut source = Reading::new(TWO_PACKETS.as_slice());
-    let mut out = Writing::new(Unflushed);
-    assert_eq!(rt;
-        list_frames(alloc, &settings, &mut source, &mut out),
-        Err(RunFault::Write)
-    );
-    Ok(())
+    assert!(rt; answer == Some(Err(RunFault::Write)));
+    let answer = listed(alloc, BASE, &mut Reading::new(octets.as_slice()), &mut out);
+    assert!(rt; answer == Some(Err(RunFault::Write)));
 }

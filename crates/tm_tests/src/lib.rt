@@ -8,6 +8,8 @@ pub use memory::{MemoryDrain, MemoryShelf, MemorySource, Put};
 #[cfg(test)]
 mod altered;
 #[cfg(test)]
+mod bench;
+#[cfg(test)]
 mod calls;
 #[cfg(test)]
 mod checkpoints;

@@ -1,9 +1,8 @@
 //! Recordings with their packets, and with the report of what is lost.
 
-use crate::{MemoryDrain, MemorySource};
+use crate::bench::{Bench, By};
 use std::alloc::{AllocError, Global};
-use std::test::Fail;
-use tm_tool::{Command, Done, Ending, Job, RunFault, Settings, run};
+use tm_tool::{Command, Settings};
 
 pub(crate) const BASE: &str = "spacecraft = 42\nframe_length = 24\nerror_control = false\n";
 
@@ -18,7 +17,7 @@ pub(crate) const TWELVE: &str =
 pub(crate) struct Row {
     pub(crate) name: &'static str,
     pub(crate) settings: &'static str,
-    // Each line is a record: its header, and the packets and parts of packets behind it.
+    // Each record: its header, and the packets and parts of packets behind it.
     pub(crate) recording: &'static str,
     pub(crate) records: u32,
     // What is found in it: `packet seen channel first place octets`, `drop seen channel first place octets reason`, and the others likewise.
@@ -285,42 +284,18 @@ const OTHER_VERSION: Row = Row {
     order: "/0-/-0.",
 };
 
-const GREATEST_PACKET: Row = Row {
+pub(crate) const GREATEST_PACKET: Row = Row {
     name: "greatest-packet",
     settings: "spacecraft = 42\nframe_length = 2048\nerror_control = false\n",
     recording: "02A000001800 0064C000072E 55*1839 0064C001FFFF 55*191 \
-        02A001011FFF 55*2042 \
-        02A002021FFF 55*2042 \
-        02A003031FFF 55*2042 \
-        02A004041FFF 55*2042 \
-        02A005051FFF 55*2042 \
-        02A006061FFF 55*2042 \
-        02A007071FFF 55*2042 \
-        02A008081FFF 55*2042 \
-        02A009091FFF 55*2042 \
-        02A00A0A1FFF 55*2042 \
-        02A00B0B1FFF 55*2042 \
-        02A00C0C1FFF 55*2042 \
-        02A00D0D1FFF 55*2042 \
-        02A00E0E1FFF 55*2042 \
-        02A00F0F1FFF 55*2042 \
-        02A010101FFF 55*2042 \
-        02A011111FFF 55*2042 \
-        02A012121FFF 55*2042 \
-        02A013131FFF 55*2042 \
-        02A014141FFF 55*2042 \
-        02A015151FFF 55*2042 \
-        02A016161FFF 55*2042 \
-        02A017171FFF 55*2042 \
-        02A018181FFF 55*2042 \
-        02A019191FFF 55*2042 \
-        02A01A1A1FFF 55*2042 \
-        02A01B1B1FFF 55*2042 \
-        02A01C1C1FFF 55*2042 \
-        02A01D1D1FFF 55*2042 \
-        02A01E1E1FFF 55*2042 \
-        02A01F1F1FFF 55*2042 \
-        02A020201FFF 55*2042 \
+        02A001011FFF 55*2042 02A002021FFF 55*2042 02A003031FFF 55*2042 02A004041FFF 55*2042 \
+        02A005051FFF 55*2042 02A006061FFF 55*2042 02A007071FFF 55*2042 02A008081FFF 55*2042 \
+        02A009091FFF 55*2042 02A00A0A1FFF 55*2042 02A00B0B1FFF 55*2042 02A00C0C1FFF 55*2042 \
+        02A00D0D1FFF 55*2042 02A00E0E1FFF 55*2042 02A00F0F1FFF 55*2042 02A010101FFF 55*2042 \
+        02A011111FFF 55*2042 02A012121FFF 55*2042 02A013131FFF 55*2042 02A014141FFF 55*2042 \
+        02A015151FFF 55*2042 02A016161FFF 55*2042 02A017171FFF 55*2042 02A018181FFF 55*2042 \
+        02A019191FFF 55*2042 02A01A1A1FFF 55*2042 02A01B1B1FFF 55*2042 02A01C1C1FFF 55*2042 \
+        02A01D1D1FFF 55*2042 02A01E1E1FFF 55*2042 02A01F1F1FFF 55*2042 02A020201FFF 55*2042 \
         02A021211801 55 0064C00207F2 55*2035",
     records: 34,
     items: "packet 0 0 0 0 1845\n\
@@ -396,7 +371,7 @@ const GROUPS: Row = Row {
     order: "/001/01/0i.-",
 };
 
-const FIELDS: Row = Row {
+pub(crate) const FIELDS: Row = Row {
     name: "fields",
     settings: "spacecraft = 42\nframe_length = 22\nerror_control = false\n",
     recording: "02A000001800 0064C0000009 07FFF0612C623F800000",
@@ -608,35 +583,35 @@ const MASTER_GAP_UNCHOSEN: Row = Row {
 };
 
 /// All of them.
-pub(crate) fn rows() -> [Row; 27] {
+pub(crate) fn rows() -> [&'static Row; 27] {
     [
-        TWO_PACKETS,
-        EMPTY_RECORDING,
-        SKIPPED_OCTETS,
-        TWO_CHANNELS,
-        PACKET_OVER_THREE_FRAMES,
-        SPLIT_HEADER_OVER_IDLE,
-        POINTER_DISAGREES,
-        NO_START_DROPPED,
-        POINTER_DROP_AND_SEQUENCE_GAP,
-        FRAME_GAP,
-        FRAME_TWICE,
-        OTHER_VERSION,
-        GREATEST_PACKET,
-        GROUP_BROKEN_BY_GAP,
-        GROUPS,
-        FIELDS,
-        VCA_FRAME,
-        SHORT_REST,
-        SPLIT_WITH_IDLE,
-        HELD_AFTER_FIRST_RECORD,
-        ERROR_CONTROL,
-        LONG_AT_ONCE,
-        LONG_SPLIT_HEADER,
-        LONG_SPLIT_HEADER_AND_POINTER,
-        LONG,
-        NOT_LONG,
-        MASTER_GAP_UNCHOSEN,
+        &TWO_PACKETS,
+        &EMPTY_RECORDING,
+        &SKIPPED_OCTETS,
+        &TWO_CHANNELS,
+        &PACKET_OVER_THREE_FRAMES,
+        &SPLIT_HEADER_OVER_IDLE,
+        &POINTER_DISAGREES,
+        &NO_START_DROPPED,
+        &POINTER_DROP_AND_SEQUENCE_GAP,
+        &FRAME_GAP,
+        &FRAME_TWICE,
+        &OTHER_VERSION,
+        &GREATEST_PACKET,
+        &GROUP_BROKEN_BY_GAP,
+        &GROUPS,
+        &FIELDS,
+        &VCA_FRAME,
+        &SHORT_REST,
+        &SPLIT_WITH_IDLE,
+        &HELD_AFTER_FIRST_RECORD,
+        &ERROR_CONTROL,
+        &LONG_AT_ONCE,
+        &LONG_SPLIT_HEADER,
+        &LONG_SPLIT_HEADER_AND_POINTER,
+        &LONG,
+        &NOT_LONG,
+        &MASTER_GAP_UNCHOSEN,
     ]
 }
 
@@ -659,81 +634,50 @@ fn push_octets(octets: &mut Vec<u8>, digits: &str) -> Result<(), AllocError> {
     Ok(())
 }
 
+// Likewise, as often as a number behind `*` says.
+fn push_word(octets: &mut Vec<u8>, word: &str) -> Result<(), AllocError> {
+    let (digits, times) = match word.split_once('*') {
+        Some((digits, times)) => (digits, times.parse::<u32>().unwrap_or(0)),
+        None => (word, 1),
+    };
+    for _ in 0..times {
+        push_octets(octets, digits)?;
+    }
+    Ok(())
+}
+
 /// The octets that a text spells in hexadecimal, word by word.
-pub(crate) fn octets_of(alloc: Global, text: &str) -> Result<Vec<u8>, AllocError> {
+pub(crate) fn octets_of(alloc: Global, text: &str) -> Option<Vec<u8>> {
     let mut octets = Vec::new(alloc);
     for word in text.split_whitespace() {
-        let (digits, times) = match word.split_once('*') {
-            Some((digits, times)) => (digits, times.parse::<u32>().unwrap_or(0)),
-            None => (word, 1),
-        };
-        for _ in 0..times {
-            push_octets(&mut octets, digits)?;
-        }
+        push_word(&mut octets, word).ok()?;
     }
-    Ok(octets)
+    Some(octets)
 }
 
 /// The settings of a text.
-pub(crate) fn settings_of(alloc: Global, text: &str) -> Result<Settings, Fail> {
-    let Ok(settings) = Settings::read(alloc, text.as_bytes()) else {
-        return Err(Fail::from("the settings"));
-    };
-    Ok(settings)
+pub(crate) fn settings_of(alloc: Global, text: &str) -> Option<Settings> {
+    Settings::read(alloc, text.as_bytes()).ok()
 }
 
-/// A job before any record.
-pub(crate) fn new_job(alloc: Global, settings: &str) -> Result<Job, Fail> {
-    let settings = settings_of(alloc, settings)?;
-    match Job::new(alloc, &settings) {
-        Ok(job) => Ok(job),
-        Err(_) => Err(Fail::from("memory")),
-    }
-}
-
-/// How many records are done.
-pub(crate) fn records_of(answer: Result<Done, RunFault>) -> Result<u32, RunFault> {
-    match answer {
-        Ok(done) => Ok(done.records),
-        Err(fault) => Err(fault),
-    }
-}
-
-/// What a run answered, and what it wrote.
-#[derive(Drop)]
-pub(crate) struct Ran {
-    /// How many records are done, or why the run ended before.
-    pub(crate) answer: Result<u32, RunFault>,
-    pub(crate) out: Vec<u8>,
-    pub(crate) report: Vec<u8>,
-}
-
-// The octets of all packets go into a drain that has room for just these, and nothing goes into the report. What is seen here are the
-// answer and the octets, and that the drain didn't grow. That the run takes no memory at all after the job was made isn't seen. It is
-// tried by hand: by `rt try --test --fail-alloc N` the test fails only for an allocation before the run.
-#[test]
-fn reads_no_further(rt: HostRuntime) -> Result<(), Fail> {
-    let alloc = rt.alloc();
+// What `extract` writes of the two channels goes into a drain that has room for just these octets, and nothing goes into the report.
+fn is_in_room(alloc: Global) -> Option<bool> {
     let octets = octets_of(alloc, TWO_CHANNELS.octets)?;
-    assert_eq!(rt; octets.len(), 72);
-    let room = Vec::with_capacity(alloc, 72)?;
-    let capacity = room.capacity();
-    let mut source = MemorySource::new(octets_of(alloc, TWO_CHANNELS.recording)?, 65_536, 0);
-    let mut out = MemoryDrain::new(room, 65_536, 0);
-    let mut report = MemoryDrain::new(Vec::new(alloc), 65_536, 0);
-    let job = new_job(alloc, BASE)?;
-    let answer = run(
-        alloc,
-        job,
-        Command::Extract,
-        &mut source,
-        &mut out,
-        &mut report,
-        Ending::Close,
-    );
-    assert_eq!(rt; records_of(answer), Ok(4));
-    assert_eq!(rt; out.octets.as_slice(), octets.as_slice());
-    assert_eq!(rt; out.octets.capacity(), capacity);
-    assert!(rt; report.octets.is_empty());
-    Ok(())
+    let mut bench = Bench::new(alloc, BASE, TWO_CHANNELS.recording, 65_536)?;
+    bench.out.octets.try_reserve_exact(72).ok()?;
+    let capacity = bench.out.octets.capacity();
+    let answer = bench.close(alloc, By::Run(Command::Extract));
+    Some(
+        octets.len() == 72
+            && answer == Ok(4)
+            && bench.has_given(&octets, b"")
+            && bench.out.octets.capacity() == capacity,
+    )
+}
+
+// What is seen here are the answer and the octets, and that the drain didn't grow. That the run takes no memory at all after the job was
+// made isn't seen. It is tried by hand: by `rt try --test --fail-alloc N` the test fails only for an allocation before the run.
+#[test]
+fn reads_no_further(rt: HostRuntime) {
+    assert!(rt; is_in_room(rt.alloc()) == Some(true));
 }

@@ -1,10 +1,9 @@
 //! Settings that are read, and settings that are refused.
 
 use crate::runs::{BASE, settings_of};
-use std::alloc::Global;
-use std::test::Fail;
+use std::alloc::{AllocError, Global};
 use tm_frame::{Layout, LayoutFault, LayoutParts, Presence};
-use tm_tool::{Key, Settings, SettingsFault};
+use tm_tool::{Settings, SettingsFault};
 
 fn base() -> LayoutParts {
     LayoutParts {
@@ -18,17 +17,23 @@ fn base() -> LayoutParts {
     }
 }
 
+// The text is read as settings of this layout, with records of so many octets and packets of at most so many.
+fn is_read(alloc: Global, text: &str, parts: LayoutParts, record: usize, limit: u32) -> bool {
+    match settings_of(alloc, text) {
+        Some(settings) => {
+            settings.layout().parts() == parts
+                && settings.layout().record_length() == record
+                && settings.max_packet() == limit
+        }
+        None => false,
+    }
+}
+
 #[test]
-fn read_with_defaults_and_without(rt: HostRuntime) -> Result<(), Fail> {
-    let alloc = rt.alloc();
-    let plain = settings_of(alloc, BASE)?;
-    assert_eq!(rt; plain.layout().parts(), base());
-    assert_eq!(rt; plain.layout().record_length(), 24);
-    assert_eq!(rt; plain.max_packet(), 65_542);
-    let text = format!(in alloc;
-        "{BASE}skip_before = 4\nskip_after = 1024\nsecondary = \"always\"\nocf = \"never\"\nchannels = [7, 0]\nmax_packet = 7\n"
-    )?;
-    let full = settings_of(alloc, text.as_str())?;
+fn read_with_defaults_and_without(rt: HostRuntime) {
+    assert!(rt; is_read(rt.alloc(), BASE, base(), 24, 65_542));
+    let text =
+        "spacecraft = 42\nframe_length = 24\nerror_control = false\nskip_before = 4\nskip_after = 1024\nsecondary = \"always\"\nocf = \"never\"\nchannels = [7, 0]\nmax_packet = 7\n";
     let parts = LayoutParts {
         skip_before: 4,
         skip_after: 1024,
@@ -36,43 +41,48 @@ fn read_with_defaults_and_without(rt: HostRuntime) -> Result<(), Fail> {
         ocf: Presence::Never,
         ..base()
     };
-    assert_eq!(rt; full.layout().parts(), parts);
-    assert_eq!(rt; full.layout().record_length(), 1052);
-    assert_eq!(rt; full.max_packet(), 7);
-    Ok(())
+    assert!(rt; is_read(rt.alloc(), text, parts, 1052, 7));
 }
 
 // The fault's name, and the key that it names.
-fn refusal(alloc: Global, text: &str) -> Result<String, Fail> {
-    let words = match Settings::read(alloc, text.as_bytes()) {
-        Ok(_) => String::from_str(alloc, "read")?,
-        Err(SettingsFault::Toml) => String::from_str(alloc, "toml")?,
-        Err(SettingsFault::Unknown(key)) => {
+fn words_of(alloc: Global, fault: SettingsFault) -> Result<String, AllocError> {
+    let (what, key) = match fault {
+        SettingsFault::Toml => ("toml", None),
+        SettingsFault::Unknown(key) => {
             let key = std::str::from_utf8(key.as_slice()).unwrap_or("");
-            format!(in alloc; "unknown {key}")?
+            return format!(in alloc; "unknown {key}");
         }
-        Err(SettingsFault::Missing(key)) => with_key(alloc, "missing", key)?,
-        Err(SettingsFault::Kind(key)) => with_key(alloc, "kind", key)?,
-        Err(SettingsFault::Range(key)) => with_key(alloc, "range", key)?,
-        Err(SettingsFault::NoMemory) => String::from_str(alloc, "no memory")?,
+        SettingsFault::Missing(key) => ("missing ", Some(key)),
+        SettingsFault::Kind(key) => ("kind ", Some(key)),
+        SettingsFault::Range(key) => ("range ", Some(key)),
+        SettingsFault::NoMemory => ("no memory", None),
     };
-    Ok(words)
+    let key = match key {
+        Some(key) => key.word(),
+        None => "",
+    };
+    format!(in alloc; "{what}{key}")
 }
 
-fn with_key(alloc: Global, what: &str, key: Key) -> Result<String, Fail> {
-    let word = key.word();
-    Ok(format!(in alloc; "{what} {word}")?)
+// The settings of a text are refused in these words.
+fn is_refused(alloc: Global, text: &str, words: &str) -> bool {
+    match Settings::read(alloc, text.as_bytes()) {
+        Ok(_) => false,
+        Err(fault) => match words_of(alloc, fault) {
+            Ok(found) => found.as_str() == words,
+            Err(_) => false,
+        },
+    }
 }
 
 #[test]
-fn settings_faults(rt: HostRuntime) -> Result<(), Fail> {
-    let alloc = rt.alloc();
+fn settings_faults(rt: HostRuntime) {
     let parts = LayoutParts {
         frame_length: 8,
         spacecraft: 1024,
         ..base()
     };
-    assert_eq!(rt; Layout::new(parts), Err(LayoutFault::FrameLength));
+    assert!(rt; Layout::new(parts) == Err(LayoutFault::FrameLength));
     let table = [
         (
             "spacecraft = 42\nframe_length = 2049\nerror_control = false\n",
@@ -128,7 +138,9 @@ fn settings_faults(rt: HostRuntime) -> Result<(), Fail> {
         ("spacecraft =", "toml"),
     ];
     for (text, fault) in table {
-        assert_eq!(rt; refusal(alloc, text)?.as_str(), fault);
+        assert!(rt;
+            is_refused(rt.alloc(), text, fault),
+            "{text} isn't refused by {fault}"
+        );
     }
-    Ok(())
 }

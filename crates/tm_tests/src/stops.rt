@@ -1,16 +1,13 @@
 //! Jobs that are stopped and go on: the outputs joined are those of one run.
 
+use crate::bench::{Bench, By, records_of};
 use crate::checkpoints::{CHECKPOINT, LIMITED, VERSION_1, VERSION_2};
 use crate::runs::{
-    BASE, FRAME_GAP, LONG_SPLIT_HEADER, Row, SHORT_REST, TWO_CHANNELS, new_job, octets_of, rows,
-    settings_of,
+    BASE, FRAME_GAP, LONG_SPLIT_HEADER, Row, SHORT_REST, TWO_CHANNELS, octets_of, rows,
 };
-use crate::{MemoryDrain, MemoryShelf, MemorySource};
-use std::alloc::{AllocError, Global};
-use std::process::Abort;
-use std::test::Fail;
+use std::alloc::Global;
 use tm_fields::Definition;
-use tm_tool::{Command, Ending, Job, RunFault, run, split};
+use tm_tool::{Command, Ending, Job, RunFault, Settings};
 
 // How a stopped job goes on.
 #[derive(Clone, Copy, PartialEq, Eq)]
@@ -22,240 +19,143 @@ enum Going {
 }
 
 // The job with which a stopped one goes on.
-fn next_job(alloc: Global, settings: &str, job: Job, going: Going) -> Result<Job, Fail> {
+fn next_job(alloc: Global, settings: &Settings, job: Job, going: Going) -> Option<Job> {
     if going == Going::Kept {
-        return Ok(job);
+        return Some(job);
     }
-    let settings = settings_of(alloc, settings)?;
-    let Ok(octets) = job.checkpoint(alloc) else {
-        return Err(Fail::from("memory"));
-    };
-    match Job::resume(alloc, &settings, octets.as_slice()) {
-        Ok(job) => Ok(job),
-        Err(_) => Err(Fail::from("a checkpoint")),
-    }
+    let octets = job.checkpoint(alloc).ok()?;
+    Job::resume(alloc, settings, &octets).ok()
 }
 
-// The outputs of a job that is stopped after each record and goes on, and then closes the recording, joined.
-fn run_in_steps(
+const EXTRACT: By<'static> = By::Run(Command::Extract);
+
+// Runs a job over the recording up to a record: the job that goes on behind it.
+fn stepped(
     alloc: Global,
-    row: Row,
-    command: Command<'_>,
+    bench: &mut Bench,
+    job: Job,
+    by: By<'_>,
+    ending: Ending,
     going: Going,
-) -> Result<(Vec<u8>, Vec<u8>), Fail> {
-    let mut job = new_job(alloc, row.settings)?;
-    let mut out = MemoryDrain::new(Vec::new(alloc), 65_536, 0);
-    let mut report = MemoryDrain::new(Vec::new(alloc), 65_536, 0);
+) -> Option<Job> {
+    bench.source.at = 0;
+    let kept = bench.run(alloc, job, by, ending).ok()?.kept?;
+    next_job(alloc, &bench.settings, kept, going)
+}
+
+// Runs a job to the end of the recording: how many records are done, where no job is kept.
+fn closed(alloc: Global, bench: &mut Bench, job: Job, by: By<'_>) -> Option<u32> {
+    bench.source.at = 0;
+    let done = bench.run(alloc, job, by, Ending::Close).ok()?;
+    match done.kept {
+        Some(_) => None,
+        None => Some(done.records),
+    }
+}
+
+// A job is stopped after each record and goes on, and then closes the recording: it gives just these octets, and the row's report.
+fn goes_in_steps(
+    alloc: Global,
+    row: &Row,
+    by: By<'_>,
+    going: Going,
+    octets: &[u8],
+) -> Option<bool> {
+    let mut bench = Bench::new(alloc, row.settings, row.recording, 65_536)?;
+    let mut job = Job::new(alloc, &bench.settings).ok()?;
     for records in 1..=row.records {
-        let mut source = MemorySource::new(octets_of(alloc, row.recording)?, 65_536, 0);
-        let ending = Ending::StopAfter(1);
-        let Ok(done) = run(
-            alloc,
-            job,
-            command,
-            &mut source,
-            &mut out,
-            &mut report,
-            ending,
-        ) else {
-            return Err(Fail::from("a run"));
-        };
-        let Some(kept) = done.kept else {
-            return Err(Fail::from("a job"));
-        };
-        if kept.records() != records {
-            return Err(Fail::from("the number of records"));
+        job = stepped(alloc, &mut bench, job, by, Ending::StopAfter(1), going)?;
+        if job.records() != records {
+            return Some(false);
         }
-        job = next_job(alloc, row.settings, kept, going)?;
     }
-    let mut source = MemorySource::new(octets_of(alloc, row.recording)?, 65_536, 0);
-    let ending = Ending::Close;
-    match run(
-        alloc,
-        job,
-        command,
-        &mut source,
-        &mut out,
-        &mut report,
-        ending,
-    ) {
-        Ok(done) if done.kept.is_none() => Ok((out.octets, report.octets)),
-        _ => Err(Fail::from("the last run")),
-    }
+    let records = closed(alloc, &mut bench, job, by)?;
+    Some(records == row.records && bench.has_given(octets, row.report.as_bytes()))
 }
 
-fn row_in_steps(rt: &impl Abort, alloc: Global, row: Row, going: Going) -> Result<(), Fail> {
-    let name = row.name;
+// By `extract` and by `packets`, both as the job goes on itself and from checkpoints.
+fn row_goes_in_steps(alloc: Global, row: &Row, going: Going) -> Option<bool> {
     let octets = octets_of(alloc, row.octets)?;
-    let (out, report) = run_in_steps(alloc, row, Command::Extract, going)?;
-    assert_eq!(rt; out.as_slice(), octets.as_slice(), "{name}");
-    assert_eq!(rt; report.as_slice(), row.report.as_bytes(), "{name}");
-    let (out, report) = run_in_steps(alloc, row, Command::Packets, going)?;
-    assert_eq!(rt; out.as_slice(), row.lines.as_bytes(), "{name}");
-    assert_eq!(rt; report.as_slice(), row.report.as_bytes(), "{name}");
-    Ok(())
-}
-
-fn rows_in_steps(rt: &impl Abort, alloc: Global, going: Going) -> Result<(), Fail> {
-    for row in rows() {
-        row_in_steps(rt, alloc, row, going)?;
-    }
-    Ok(())
+    let lines = row.lines.as_bytes();
+    let packets = By::Run(Command::Packets);
+    Some(
+        goes_in_steps(alloc, row, EXTRACT, going, &octets)?
+            && goes_in_steps(alloc, row, packets, going, lines)?,
+    )
 }
 
 #[test]
-fn worked_rows_in_steps(rt: HostRuntime) -> Result<(), Fail> {
-    rows_in_steps(&rt, rt.alloc(), Going::Kept)?;
-    rows_in_steps(&rt, rt.alloc(), Going::Resumed)
-}
-
-#[test]
-fn rows_of_fields_in_steps(rt: HostRuntime) -> Result<(), Fail> {
+fn worked_rows_in_steps(rt: HostRuntime) {
     let alloc = rt.alloc();
-    let Ok(definition) = Definition::read(alloc, b"name,data_type,bit_length\nA,uint,8\n") else {
-        return Err(Fail::from("the definition"));
-    };
+    for row in rows() {
+        let kept = row_goes_in_steps(alloc, row, Going::Kept);
+        let resumed = row_goes_in_steps(alloc, row, Going::Resumed);
+        assert!(rt; kept == Some(true) && resumed == Some(true), "{}", row.name);
+    }
+}
+
+#[test]
+fn rows_of_fields_in_steps(rt: HostRuntime) {
+    let alloc = rt.alloc();
+    let text = b"name,data_type,bit_length\nA,uint,8\n";
+    let definition = Definition::read(alloc, text).expect(&rt, "the definition");
+    let by = By::Run(Command::Fields(&definition, 100));
     let rows =
-        "tm_record,tm_channel,tm_apid,tm_count,A\n2,1,100,0,85\n2,1,100,1,85\n3,0,100,0,85\n3,0,100,1,85\n";
+        b"tm_record,tm_channel,tm_apid,tm_count,A\n2,1,100,0,85\n2,1,100,1,85\n3,0,100,0,85\n3,0,100,1,85\n";
     for going in [Going::Kept, Going::Resumed] {
-        let command = Command::Fields(&definition, 100);
-        let (out, report) = run_in_steps(alloc, TWO_CHANNELS, command, going)?;
-        assert_eq!(rt; out.as_slice(), rows.as_bytes());
-        assert!(rt; report.is_empty());
-    }
-    Ok(())
-}
-
-// All octets that were put on a shelf, in the order of the puts.
-fn joined(alloc: Global, shelf: &MemoryShelf) -> Result<Vec<u8>, AllocError> {
-    let mut octets = Vec::new(alloc);
-    for put in &shelf.puts {
-        octets.extend_from_slice(put.octets.as_slice())?;
-    }
-    Ok(octets)
-}
-
-// What a job that splits a recording, is stopped after each record and then closes it puts on its shelf and reports.
-fn split_in_steps(alloc: Global, row: Row) -> Result<(MemoryShelf, Vec<u8>), Fail> {
-    let mut job = new_job(alloc, row.settings)?;
-    let mut shelf = MemoryShelf::new(alloc, 0);
-    let mut report = MemoryDrain::new(Vec::new(alloc), 65_536, 0);
-    for _ in 0..row.records {
-        let mut source = MemorySource::new(octets_of(alloc, row.recording)?, 65_536, 0);
-        let ending = Ending::StopAfter(1);
-        let Ok(done) = split(alloc, job, &mut source, &mut shelf, &mut report, ending) else {
-            return Err(Fail::from("a run"));
-        };
-        let Some(kept) = done.kept else {
-            return Err(Fail::from("a job"));
-        };
-        job = next_job(alloc, row.settings, kept, Going::Resumed)?;
-    }
-    let mut source = MemorySource::new(octets_of(alloc, row.recording)?, 65_536, 0);
-    let ending = Ending::Close;
-    match split(alloc, job, &mut source, &mut shelf, &mut report, ending) {
-        Ok(done) if done.records == row.records => Ok((shelf, report.octets)),
-        _ => Err(Fail::from("the last run")),
+        assert!(rt; goes_in_steps(alloc, &TWO_CHANNELS, by, going, rows) == Some(true));
     }
 }
 
 // The octets of all puts, one after the other, are those that `extract` writes.
 #[test]
-fn worked_rows_split_in_steps(rt: HostRuntime) -> Result<(), Fail> {
+fn worked_rows_split_in_steps(rt: HostRuntime) {
     let alloc = rt.alloc();
     for row in rows() {
-        let name = row.name;
-        let octets = octets_of(alloc, row.octets)?;
-        let (shelf, report) = split_in_steps(alloc, row)?;
-        let found = joined(alloc, &shelf)?;
-        assert_eq!(rt; found.as_slice(), octets.as_slice(), "{name} by split");
-        assert_eq!(rt; report.as_slice(), row.report.as_bytes(), "{name} by split");
-    }
-    Ok(())
-}
-
-// What jobs that go on from each other write.
-#[derive(Drop)]
-struct Outputs {
-    out: MemoryDrain,
-    report: MemoryDrain,
-}
-
-impl Outputs {
-    fn new(alloc: Global) -> Outputs {
-        Outputs {
-            out: MemoryDrain::new(Vec::new(alloc), 65_536, 0),
-            report: MemoryDrain::new(Vec::new(alloc), 65_536, 0),
-        }
-    }
-
-    // These octets were written, and this report.
-    fn are(&self, octets: &[u8], report: &str) -> bool {
-        let Outputs { out, report: lines } = self;
-        out.octets.as_slice() == octets && lines.octets.as_slice() == report.as_bytes()
-    }
-
-    // Runs a job by `extract` over a recording, and answers the job that is kept.
-    fn extract(
-        &mut self,
-        alloc: Global,
-        job: Job,
-        recording: &str,
-        ending: Ending,
-    ) -> Result<Option<Job>, Fail> {
-        let mut source = MemorySource::new(octets_of(alloc, recording)?, 65_536, 0);
-        let Ok(done) = run(
-            alloc,
-            job,
-            Command::Extract,
-            &mut source,
-            &mut self.out,
-            &mut self.report,
-            ending,
-        ) else {
-            return Err(Fail::from("a run"));
-        };
-        Ok(done.kept)
-    }
-
-    // Likewise, of an ending that keeps one.
-    fn extract_kept(
-        &mut self,
-        alloc: Global,
-        job: Job,
-        recording: &str,
-        ending: Ending,
-    ) -> Result<Job, Fail> {
-        match self.extract(alloc, job, recording, ending)? {
-            Some(job) => Ok(job),
-            None => Err(Fail::from("a job")),
-        }
+        let octets = octets_of(alloc, row.octets).expect(&rt, "octets");
+        let split = goes_in_steps(alloc, row, By::Split, Going::Resumed, &octets);
+        assert!(rt; split == Some(true), "{} by split", row.name);
     }
 }
 
-// Stops once, after so many records, and goes on from the checkpoint, which is answered.
-fn stopped_once(rt: &impl Abort, alloc: Global, row: Row, records: u32) -> Result<Vec<u8>, Fail> {
-    let mut outputs = Outputs::new(alloc);
-    let job = new_job(alloc, row.settings)?;
+// The checkpoint of a new job behind so many records.
+fn checkpoint_behind(alloc: Global, bench: &mut Bench, records: u32) -> Option<Vec<u8>> {
+    let job = Job::new(alloc, &bench.settings).ok()?;
     let ending = Ending::StopAfter(records);
-    let kept = outputs.extract_kept(alloc, job, row.recording, ending)?;
-    let Ok(checkpoint) = kept.checkpoint(alloc) else {
-        return Err(Fail::from("memory"));
-    };
-    let job = next_job(alloc, row.settings, kept, Going::Resumed)?;
-    let kept = outputs.extract(alloc, job, row.recording, Ending::Close)?;
-    assert!(rt; kept.is_none());
-    let octets = octets_of(alloc, row.octets)?;
-    assert!(rt; outputs.are(&octets, row.report), "after {records} records");
-    Ok(checkpoint)
+    let kept = stepped(alloc, bench, job, EXTRACT, ending, Going::Kept)?;
+    kept.checkpoint(alloc).ok()
+}
+
+// Goes on from a checkpoint to the end of the recording. Then just these octets, in hexadecimal, were given by all, and this report.
+fn goes_on(
+    alloc: Global,
+    bench: &mut Bench,
+    checkpoint: &[u8],
+    octets: &str,
+    report: &str,
+) -> Option<bool> {
+    let job = Job::resume(alloc, &bench.settings, checkpoint).ok()?;
+    closed(alloc, bench, job, EXTRACT)?;
+    let octets = octets_of(alloc, octets)?;
+    Some(bench.has_given(&octets, report.as_bytes()))
+}
+
+// Stops once, after so many records, and goes on from the checkpoint. Where the outputs joined are those of the row, answers the checkpoint.
+fn stopped_once(alloc: Global, row: &Row, records: u32) -> Option<Vec<u8>> {
+    let mut bench = Bench::new(alloc, row.settings, row.recording, 65_536)?;
+    let checkpoint = checkpoint_behind(alloc, &mut bench, records)?;
+    match goes_on(alloc, &mut bench, &checkpoint, row.octets, row.report) {
+        Some(true) => Some(checkpoint),
+        _ => None,
+    }
 }
 
 #[test]
-fn two_channels_stopped_once(rt: HostRuntime) -> Result<(), Fail> {
+fn two_channels_stopped_once(rt: HostRuntime) {
     for records in 1..=4u32 {
-        stopped_once(&rt, rt.alloc(), TWO_CHANNELS, records)?;
+        let checkpoint = stopped_once(rt.alloc(), &TWO_CHANNELS, records);
+        assert!(rt; checkpoint.is_some(), "after {records} records");
     }
-    Ok(())
 }
 
 // Three records are done, and a packet of 14 octets is begun.
@@ -269,130 +169,115 @@ const GAP_1: &str = "544D5843 01 002A 0018 0000 0000 00 00 00 FF 00000003 \
     02 00 00000002 000A 00000008 0064C00300075555 00 00 00 00 00 00 00 0001 0064 0002 FFFF 3FDA";
 
 #[test]
-fn known_checkpoints(rt: HostRuntime) -> Result<(), Fail> {
+fn known_checkpoints(rt: HostRuntime) {
     let alloc = rt.alloc();
     let table = [
-        (TWO_CHANNELS, 3, CHECKPOINT),
-        (FRAME_GAP, 3, GAP),
-        (LONG_SPLIT_HEADER, 1, LIMITED),
+        (&TWO_CHANNELS, 3, CHECKPOINT),
+        (&FRAME_GAP, 3, GAP),
+        (&LONG_SPLIT_HEADER, 1, LIMITED),
     ];
     for (row, records, text) in table {
-        let checkpoint = stopped_once(&rt, alloc, row, records)?;
-        let known = octets_of(alloc, text)?;
-        assert_eq!(rt; checkpoint.as_slice(), known.as_slice(), "{text}");
+        let known = octets_of(alloc, text);
+        assert!(rt;
+            known.is_some() && stopped_once(alloc, row, records) == known,
+            "{text}"
+        );
     }
-    Ok(())
 }
 
-// Goes on from a checkpoint, and closes the recording.
-fn resumed_from(alloc: Global, checkpoint: &str, row: Row) -> Result<Outputs, Fail> {
-    let settings = settings_of(alloc, row.settings)?;
-    let octets = octets_of(alloc, checkpoint)?;
-    let Ok(job) = Job::resume(alloc, &settings, octets.as_slice()) else {
-        return Err(Fail::from("a checkpoint"));
-    };
-    let mut outputs = Outputs::new(alloc);
-    match outputs.extract(alloc, job, row.recording, Ending::Close)? {
-        None => Ok(outputs),
-        Some(_) => Err(Fail::from("a job")),
-    }
+// Devices over a row's recording give just these octets behind a checkpoint, both in hexadecimal, and this report.
+fn goes_on_from(
+    alloc: Global,
+    checkpoint: &str,
+    row: &Row,
+    octets: &str,
+    report: &str,
+) -> Option<bool> {
+    let mut bench = Bench::new(alloc, row.settings, row.recording, 65_536)?;
+    let checkpoint = octets_of(alloc, checkpoint)?;
+    goes_on(alloc, &mut bench, &checkpoint, octets, report)
 }
 
 // Each version of a checkpoint after three records is gone on from. Of the older ones the last count of the master channel isn't known, so that
 // the report lacks its gap.
 #[test]
-fn resumed_from_three_versions(rt: HostRuntime) -> Result<(), Fail> {
-    let alloc = rt.alloc();
+fn resumed_from_three_versions(rt: HostRuntime) {
     let gap = FRAME_GAP.report;
     let older = gap.strip_prefix("mastergap record=3 expected=1 found=2 missing=1\n");
     let older = older.unwrap_or("");
     let joined = "0064C00000135555555555555555555555555555555555555555 0064C001000355555555";
     let last = "0064C0040005555555555555";
     let table = [
-        (CHECKPOINT, TWO_CHANNELS, joined, ""),
-        (VERSION_2, TWO_CHANNELS, joined, ""),
-        (VERSION_1, TWO_CHANNELS, joined, ""),
-        (GAP, FRAME_GAP, last, gap),
-        (GAP_2, FRAME_GAP, last, older),
-        (GAP_1, FRAME_GAP, last, older),
+        (CHECKPOINT, &TWO_CHANNELS, joined, ""),
+        (VERSION_2, &TWO_CHANNELS, joined, ""),
+        (VERSION_1, &TWO_CHANNELS, joined, ""),
+        (GAP, &FRAME_GAP, last, gap),
+        (GAP_2, &FRAME_GAP, last, older),
+        (GAP_1, &FRAME_GAP, last, older),
     ];
     for (checkpoint, row, octets, report) in table {
-        let outputs = resumed_from(alloc, checkpoint, row)?;
-        let octets = octets_of(alloc, octets)?;
-        assert!(rt; outputs.are(&octets, report), "{checkpoint}");
+        let right = goes_on_from(rt.alloc(), checkpoint, row, octets, report);
+        assert!(rt; right == Some(true), "{checkpoint}");
     }
-    Ok(())
+}
+
+// How many octets of the recording of 96 a run reads that is stopped after two of its four records.
+fn octets_read(alloc: Global) -> Option<usize> {
+    let mut bench = Bench::new(alloc, BASE, TWO_CHANNELS.recording, 65_536)?;
+    let job = Job::new(alloc, &bench.settings).ok()?;
+    let answer = records_of(bench.run(alloc, job, EXTRACT, Ending::StopAfter(2)));
+    if answer == Ok(2) && bench.source.octets.len() == 96 {
+        Some(bench.source.at)
+    } else {
+        None
+    }
 }
 
 // Stopped after two records, a run has left the other two unread: 48 octets.
 #[test]
-fn reads_two_records(rt: HostRuntime) -> Result<(), Fail> {
-    let alloc = rt.alloc();
-    let job = new_job(alloc, BASE)?;
-    let recording = octets_of(alloc, TWO_CHANNELS.recording)?;
-    let all = recording.len();
-    let mut source = MemorySource::new(recording, 65_536, 0);
-    let mut out = MemoryDrain::new(Vec::new(alloc), 65_536, 0);
-    let mut report = MemoryDrain::new(Vec::new(alloc), 65_536, 0);
-    let ending = Ending::StopAfter(2);
-    let Ok(done) = run(
-        alloc,
-        job,
-        Command::Extract,
-        &mut source,
-        &mut out,
-        &mut report,
-        ending,
-    ) else {
-        return Err(Fail::from("a run"));
-    };
-    assert_eq!(rt; done.records, 2);
-    assert_eq!(rt; all, 96);
-    assert_eq!(rt; source.at, 48);
-    Ok(())
+fn reads_two_records(rt: HostRuntime) {
+    assert!(rt; octets_read(rt.alloc()) == Some(48));
 }
 
 // Kept at its end, with ten octets left, and gone on with when the recording is longer.
-#[test]
-fn short_rest_kept(rt: HostRuntime) -> Result<(), Fail> {
-    let alloc = rt.alloc();
-    let mut outputs = Outputs::new(alloc);
-    let job = new_job(alloc, BASE)?;
-    let kept = outputs.extract_kept(alloc, job, SHORT_REST.recording, Ending::Keep)?;
-    assert_eq!(rt; kept.records(), 2);
-    assert!(rt; outputs.are(&[], ""));
-    let job = next_job(alloc, BASE, kept, Going::Resumed)?;
-    let kept = outputs.extract(alloc, job, TWO_CHANNELS.recording, Ending::Close)?;
-    assert!(rt; kept.is_none());
+fn rest_is_kept(alloc: Global) -> Option<bool> {
+    let mut bench = Bench::new(alloc, BASE, SHORT_REST.recording, 65_536)?;
+    let job = Job::new(alloc, &bench.settings).ok()?;
+    let job = stepped(
+        alloc,
+        &mut bench,
+        job,
+        EXTRACT,
+        Ending::Keep,
+        Going::Resumed,
+    )?;
+    let has_kept = job.records() == 2 && bench.has_given(b"", b"");
+    let mut bench = Bench::new(alloc, BASE, TWO_CHANNELS.recording, 65_536)?;
+    closed(alloc, &mut bench, job, EXTRACT)?;
     let octets = octets_of(alloc, TWO_CHANNELS.octets)?;
-    assert!(rt; outputs.are(&octets, ""));
-    Ok(())
+    Some(has_kept && bench.has_given(&octets, b""))
 }
 
-// Gone on with where the recording has two records, and three are done.
 #[test]
-fn recording_too_short(rt: HostRuntime) -> Result<(), Fail> {
-    let alloc = rt.alloc();
-    let settings = settings_of(alloc, BASE)?;
+fn short_rest_kept(rt: HostRuntime) {
+    assert!(rt; rest_is_kept(rt.alloc()) == Some(true));
+}
+
+// How a job with three records done is answered where the recording has two, if it writes nothing.
+fn answer_of_two_records(alloc: Global) -> Option<Result<u32, RunFault>> {
+    let mut bench = Bench::new(alloc, BASE, SHORT_REST.recording, 65_536)?;
     let checkpoint = octets_of(alloc, CHECKPOINT)?;
-    let Ok(job) = Job::resume(alloc, &settings, checkpoint.as_slice()) else {
-        return Err(Fail::from("a checkpoint"));
-    };
-    let mut outputs = Outputs::new(alloc);
-    let mut source = MemorySource::new(octets_of(alloc, SHORT_REST.recording)?, 65_536, 0);
-    let answer = run(
-        alloc,
-        job,
-        Command::Extract,
-        &mut source,
-        &mut outputs.out,
-        &mut outputs.report,
-        Ending::Close,
-    );
-    match answer {
-        Err(fault) => assert_eq!(rt; fault, RunFault::ShortRecording),
-        Ok(_) => assert!(rt; false),
+    let job = Job::resume(alloc, &bench.settings, &checkpoint).ok()?;
+    let answer = records_of(bench.run(alloc, job, EXTRACT, Ending::Close));
+    if bench.has_given(b"", b"") {
+        Some(answer)
+    } else {
+        None
     }
-    assert!(rt; outputs.are(&[], ""));
-    Ok(())
+}
+
+#[test]
+fn recording_too_short(rt: HostRuntime) {
+    let wanted = Some(Err(RunFault::ShortRecording));
+    assert!(rt; answer_of_two_records(rt.alloc()) == wanted);
 }

@@ -18,9 +18,9 @@ ghost use Rattle.tm_tool.specs.Seen.{both, shelf_both};
 
 use crate::outlet::{PacketLines, PacketOctets, PacketRows, PacketShelf};
 use crate::recording::{Ended, run_to_end};
-use tm_devices::put_all;
 use crate::{Command, Drain, Ending, RunFault, Shelf, Source};
 use std::alloc::Global;
+use tm_devices::put_all;
 use tm_fields::Definition;
 use tm_packet::Tracker;
 use tm_reassembly::Reassembly;

@@ -10,9 +10,9 @@ ghost use Rattle.tm_tool.specs.Listing.{IsListed, IsStopped, LineStopped, listin
 ghost use Rattle.tm_tool.specs.Records.{record_count};
 
 use crate::lines::{push_bad, push_frame, push_short};
-use tm_devices::{fill, put_all};
 use crate::{Drain, RunFault, Settings, Source};
 use std::alloc::{AllocError, Global};
+use tm_devices::{fill, put_all};
 use tm_frame::{Layout, read};
 
 // Makes the line of a record.

@@ -13,9 +13,9 @@ ghost use Rattle.tm_tool.specs.ShelfLaws.{no_shelf, shelves_nil, shelves_trans};
 ghost use Rattle.tm_tool.specs.Shelves.{Shelved, Shelves, shelf_text};
 
 use crate::lines::{push_packet, push_short_packet};
-use tm_devices::put_all;
 use crate::{DeviceFailed, Drain, RunFault, Shelf};
 use std::alloc::{AllocError, Global};
+use tm_devices::put_all;
 use tm_fields::{Definition, Lead, RowFault};
 use tm_packet::Header;
 

@@ -16,9 +16,9 @@ use crate::lines::{
     push_bad, push_drop, push_gap, push_master_gap, push_note, push_short, push_vca,
 };
 use crate::outlet::Outlet;
-use tm_devices::put_all;
 use crate::{Drain, RunFault};
 use std::alloc::AllocError;
+use tm_devices::put_all;
 use tm_packet::{Header, Notes, Tracker, Unclosed, read_header};
 use tm_reassembly::{Item, Sink};
 

@@ -16,9 +16,9 @@ ghost use Rattle.tm_tool.specs.Seen.{outlet_both};
 
 use crate::outlet::Outlet;
 use crate::output::Output;
-use tm_devices::fill;
 use crate::{Drain, Ending, RunFault, Source};
 use std::alloc::Global;
+use tm_devices::fill;
 use tm_packet::Tracker;
 use tm_reassembly::{Reassembly, StepFault};
 

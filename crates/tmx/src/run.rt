@@ -338,7 +338,14 @@ fn go_on<R: Files + Print + AllocGlobal, S: Read + Drop, V: Write + Drop>(
             let shelf = shelf_in(rt, dir, plan.resume.is_some())?;
             split_packets(rt, job, shelf, recording, report, ending)
         }
-        _ => give_packets(rt, job, command_by(plan, definition), recording, report, ending),
+        _ => give_packets(
+            rt,
+            job,
+            command_by(plan, definition),
+            recording,
+            report,
+            ending,
+        ),
     }
 }
 

@@ -1,5 +1,5 @@
 -- Places for the packets of applications.
-use Rattle.std.specs.Prelude.{◌≡◌, ◌≢◌, ⊤, ℕ, ◌==◌, List, [], ◌∷◌, ◌++◌, map, Option, None, Some, if◌then◌else◌}
+use Rattle.std.specs.Prelude.{◌≡◌, ⊤, ℕ, ◌==◌, List, [], ◌∷◌, ◌++◌, map, Option, None, Some, if◌then◌else◌}
 use Rattle.tm_packet.specs.Header.{header_of}
 use Rattle.tm_reassembly.specs.Item.{Item, Packet}
 use Rattle.tm_tool.specs.Pieces.{Texts, no_remark}

@@ -2,12 +2,8 @@
 #![tactic(auto)]
 
 mod command;
-#[cfg(test)]
-mod refused;
 mod request;
 mod table;
-#[cfg(test)]
-mod tests;
 mod words;
 
 pub use request::{Action, Plan, UsageFault};

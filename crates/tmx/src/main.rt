@@ -1,26 +1,10 @@
 //! `tmx`: reads recordings of TM transfer frames (CCSDS 132.0-B-3).
 #![tactic(auto)]
 
-mod fault;
-mod files;
-mod kept;
-mod lines;
-#[cfg(test)]
-mod refusals;
-mod report;
-mod run;
-mod shelf;
-#[cfg(test)]
-mod tests;
-
-use crate::fault::ToolFault;
-use crate::lines::{fault_line, status};
-use crate::run::run;
 use std::env;
 use std::io::{ErrorKind, Write};
 use std::process::ExitCode;
-use tm_tool::{Octets, RunFault};
-use tm_words::UsageFault;
+use tm_program::{Octets, RunFault, ToolFault, UsageFault, fault_line, run, status};
 
 const NOT_TEXT: &str =
     "error: the arguments are not UTF-8\n\nFor more information, try '--help'.\n";

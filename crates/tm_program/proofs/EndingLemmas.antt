@@ -1,0 +1,22 @@
+-- What is done by a run, of what its contract says.
+use Rattle.std.proofs.Common.{ℕ, Bool, List, Option, None, inl, inr, ⊎_elim}
+use Rattle.tm_tool.specs.declared.job.Ending.{Ending}
+use Rattle.tm_tool.specs.Outputs.{Piece, View}
+use Rattle.tm_tool.specs.Pieces.{Texts, Work}
+use Rattle.tm_tool.specs.Runs.{HasEnded, IsHeadedRun, IsRun}
+use Rattle.tm_program.specs.Endings.{IsDone}
+
+-- what was read, but for what the source tells
+untold : (ending : Ending) (w : Work) (left_old left_new : Option (List ℕ)) (read : List (List ℕ)) (rest : List ℕ) → HasEnded ending w left_old left_new read rest → HasEnded ending w None None read rest
+untold ending w left_old left_new read rest ended = ⊎_elim
+    (λ all. inl (record { octets = record { sized = all.0.octets.sized; octets = tt }; short = all.0.short; ended = tt }, all.1))
+    (λ enough. inr (record { sized = enough.0.sized; octets = tt }, enough.1, enough.2))
+    ended
+
+module _ {A K : Type 0} (grows : K → K → List A → Type 0) (rows : Bool) (text : Texts A) (ending : Ending) (w : Work) (left_old left_new : Option (List ℕ)) where
+  pub run_done : (old new : View K) (records : ℕ) (kept : Option Work) → IsRun grows rows text ending w left_old left_new old new records kept → IsDone ending w records kept
+  run_done old new records kept r = (r.read, r.rest, untold ending w left_old left_new r.read r.rest r.ended, r.passed, r.count_is, r.kept_is)
+
+  -- likewise, where the head of the rows was written before
+  pub headed_run_done : (old new : View K) (head : List (Piece A)) (records : ℕ) (kept : Option Work) → IsHeadedRun grows rows text ending w head left_old left_new old new records kept → IsDone ending w records kept
+  headed_run_done old new head records kept r = run_done r.mid new records kept r.run

@@ -1,0 +1,119 @@
+-- Faults of files and of runs, as faults that may come of a plan.
+use Rattle.std.proofs.Common.{ℕ, ◌≡◌, List, Option, None, Some, inl, inr, refl, subst, sym}
+use Rattle.tm_program.specs.Files.{IsFaultOf, IsFileFault}
+use Rattle.tm_program.specs.Program.{HasFault, HasReadFault, IsAsked, IsNamed, IsNoMemory, IsOfDefinition, IsOfOutputs, IsOfResumed, IsOfSettings, IsReadWhole, IsRunFault, MayCome, MayEnd}
+use Rattle.tm_tool.specs.declared.fault.RunFault.TheVariants.{NoMemory, Read, Report, ShortRecording, TooMany, Write}
+use Rattle.tm_program.specs.declared.fault.ToolFault.{ToolFault}
+use Rattle.tm_program.specs.declared.fault.ToolFault.TheVariants as tool
+use Rattle.tm_words.specs.declared.request.Plan.{Plan}
+
+-- a file that the plan names can't be opened, made or written
+pub file_comes : (p : Plan) (name : List ℕ) (fault : ToolFault) → IsNamed p name → IsFileFault name fault → MayCome p fault
+file_comes p name (tool.Usage f) named h = absurd h
+file_comes p name (tool.Settings f) named h = absurd h
+file_comes p name (tool.Definition f) named h = absurd h
+file_comes p name (tool.Checkpoint f) named h = absurd h
+file_comes p name (tool.File given) named h = subst (λ n. IsNamed p n) (sym h) named
+file_comes p name (tool.TooLong given) named h = absurd h
+file_comes p name (tool.Run f) named h = tt
+
+-- a file that the plan has read whole can't be
+pub whole_comes : (p : Plan) (name : List ℕ) (fault : ToolFault) → IsReadWhole p name → IsFaultOf name fault → MayCome p fault
+whole_comes p name (tool.Usage f) named h = absurd h
+whole_comes p name (tool.Settings f) named h = absurd h
+whole_comes p name (tool.Definition f) named h = absurd h
+whole_comes p name (tool.Checkpoint f) named h = absurd h
+whole_comes p name (tool.File given) named h = inl (subst (λ n. IsReadWhole p n) (sym h) named)
+whole_comes p name (tool.TooLong given) named h = subst (λ n. IsReadWhole p n) (sym h) named
+whole_comes p name (tool.Run f) named h = tt
+
+-- a file that the plan may have can't be opened, made or written
+file_of_comes : (p : Plan) (file : Option (List ℕ)) (fault : ToolFault) → ((name : List ℕ) → file ≡ Some name → IsNamed p name) → HasFault file fault → MayCome p fault
+file_of_comes p None fault named h = absurd h
+file_of_comes p (Some name) fault named h = file_comes p name fault (named name refl) h
+
+-- likewise, one that is read whole
+read_comes : (p : Plan) (file : Option (List ℕ)) (fault : ToolFault) → ((name : List ℕ) → file ≡ Some name → IsReadWhole p name) → HasReadFault file fault → MayCome p fault
+read_comes p None fault named h = absurd h
+read_comes p (Some name) fault named h = whole_comes p name fault (named name refl) h
+
+pub settings_come : (p : Plan) (fault : ToolFault) → IsOfSettings p fault → MayCome p fault
+settings_come p (tool.Settings f) h = tt
+settings_come p (tool.Usage f) h = read_comes p p.settings (tool.Usage f) (λ name is. inl is) h
+settings_come p (tool.Definition f) h = read_comes p p.settings (tool.Definition f) (λ name is. inl is) h
+settings_come p (tool.Checkpoint f) h = read_comes p p.settings (tool.Checkpoint f) (λ name is. inl is) h
+settings_come p (tool.File given) h = read_comes p p.settings (tool.File given) (λ name is. inl is) h
+settings_come p (tool.TooLong given) h = read_comes p p.settings (tool.TooLong given) (λ name is. inl is) h
+settings_come p (tool.Run f) h = tt
+
+pub definition_comes : (p : Plan) (fault : ToolFault) → IsOfDefinition p fault → MayCome p fault
+definition_comes p (tool.Definition f) h = h
+definition_comes p (tool.Usage f) h = read_comes p p.definition (tool.Usage f) (λ name is. inr (inl is)) h
+definition_comes p (tool.Settings f) h = tt
+definition_comes p (tool.Checkpoint f) h = read_comes p p.definition (tool.Checkpoint f) (λ name is. inr (inl is)) h
+definition_comes p (tool.File given) h = read_comes p p.definition (tool.File given) (λ name is. inr (inl is)) h
+definition_comes p (tool.TooLong given) h = read_comes p p.definition (tool.TooLong given) (λ name is. inr (inl is)) h
+definition_comes p (tool.Run f) h = tt
+
+pub resumed_comes : (p : Plan) (fault : ToolFault) → IsOfResumed p fault → MayCome p fault
+resumed_comes p (tool.Checkpoint f) h = h
+resumed_comes p (tool.Usage f) h = read_comes p p.resume (tool.Usage f) (λ name is. inr (inr is)) h
+resumed_comes p (tool.Settings f) h = tt
+resumed_comes p (tool.Definition f) h = read_comes p p.resume (tool.Definition f) (λ name is. inr (inr is)) h
+resumed_comes p (tool.File given) h = read_comes p p.resume (tool.File given) (λ name is. inr (inr is)) h
+resumed_comes p (tool.TooLong given) h = read_comes p p.resume (tool.TooLong given) (λ name is. inr (inr is)) h
+resumed_comes p (tool.Run f) h = tt
+
+-- a run ends in a fault
+pub run_comes : (p : Plan) (fault : ToolFault) → IsRunFault fault → MayCome p fault
+run_comes p (tool.Usage f) h = absurd h
+run_comes p (tool.Settings f) h = absurd h
+run_comes p (tool.Definition f) h = absurd h
+run_comes p (tool.Checkpoint f) h = absurd h
+run_comes p (tool.File given) h = absurd h
+run_comes p (tool.TooLong given) h = absurd h
+run_comes p (tool.Run f) h = tt
+
+pub outputs_come : (p : Plan) (fault : ToolFault) → IsOfOutputs p fault → MayCome p fault
+outputs_come p fault (inl h) = run_comes p fault h
+outputs_come p fault (inr (inl h)) = file_of_comes p p.report fault (λ name is. inr (inr (inl is))) h
+outputs_come p fault (inr (inr (inl h))) = file_of_comes p p.checkpoint fault (λ name is. inr (inr (inr (inl is)))) h
+outputs_come p fault (inr (inr (inr h))) = file_of_comes p p.dir fault (λ name is. inr (inr (inr (inr is)))) h
+
+-- want of memory is a fault of a run, and may come of each file
+pub starved_run : (fault : ToolFault) → IsNoMemory fault → IsRunFault fault
+starved_run (tool.Usage f) h = absurd h
+starved_run (tool.Settings f) h = absurd h
+starved_run (tool.Definition f) h = absurd h
+starved_run (tool.Checkpoint f) h = absurd h
+starved_run (tool.File given) h = absurd h
+starved_run (tool.TooLong given) h = absurd h
+starved_run (tool.Run f) h = tt
+
+pub starved_file : (name : List ℕ) (fault : ToolFault) → IsNoMemory fault → IsFileFault name fault
+starved_file name (tool.Usage f) h = absurd h
+starved_file name (tool.Settings f) h = absurd h
+starved_file name (tool.Definition f) h = absurd h
+starved_file name (tool.Checkpoint f) h = absurd h
+starved_file name (tool.File given) h = absurd h
+starved_file name (tool.TooLong given) h = absurd h
+starved_file name (tool.Run Read) h = absurd h
+starved_file name (tool.Run Write) h = absurd h
+starved_file name (tool.Run Report) h = absurd h
+starved_file name (tool.Run ShortRecording) h = absurd h
+starved_file name (tool.Run TooMany) h = absurd h
+starved_file name (tool.Run NoMemory) h = tt
+
+-- a file that there is
+pub starved_there : (file : Option (List ℕ)) (name : List ℕ) (fault : ToolFault) → file ≡ Some name → IsNoMemory fault → HasFault file fault
+starved_there file name fault is h = subst (λ o. HasFault o fault) (sym is) (starved_file name fault h)
+
+-- what may come of the plan of words may be their end
+pub plan_ends : (words : List (List ℕ)) (p : Plan) (fault : ToolFault) → IsAsked words p → MayCome p fault → MayEnd words fault
+plan_ends words p (tool.Usage f) asked h = absurd h
+plan_ends words p (tool.Settings f) asked h = (p, asked, h)
+plan_ends words p (tool.Definition f) asked h = (p, asked, h)
+plan_ends words p (tool.Checkpoint f) asked h = (p, asked, h)
+plan_ends words p (tool.File given) asked h = (p, asked, h)
+plan_ends words p (tool.TooLong given) asked h = (p, asked, h)
+plan_ends words p (tool.Run f) asked h = (p, asked, h)

@@ -1,0 +1,43 @@
+-- A shelf that doesn't tell what its files have, and what it holds.
+use Rattle.std.proofs.Common.{◌≡◌, ◌≢◌, ◌<◌, ◌+◌, ◌∙◌, ℕ, List, [], length, Option, None, Some, Ok, Err, Result, Vec, refl, sym, subst, ap, arith, ⊎_elim}
+use Rattle.std.specs.Prelude.{OnOk, option_map, slice_get, slice_index_or, vec_len}
+use Rattle.std.proofs.lemmas.Bool.{cases_eq}
+use Rattle.std.proofs.lemmas.List.{nil_from_length}
+use Rattle.std.proofs.lemmas.Option.{slice_get_read}
+use Rattle.tm_devices.specs.Devices.{PutsFront}
+use Rattle.tm_program.specs.Shelves.{HoldsNoneOf}
+
+pub none_put : (new : Option (ℕ → List ℕ)) (application : ℕ) (octets : List ℕ) → PutsFront None new application octets
+none_put new application octets = ([], octets, refl, λ some. some, tt)
+
+module _ {Z : Type 0} where
+  -- what is held of an application has no octets
+  pub none_there : (held : List (Vec ℕ Z)) (application : ℕ) (octets : Vec ℕ Z) → application < length held
+      → octets ≡ slice_index_or held application octets → vec_len octets ≡ 0
+      → option_map (λ octets. octets.items) (slice_get held application) ≡ Some []
+  none_there held application octets below there none =
+      ap (option_map (λ octets. octets.items)) (slice_get_read held (length held) application octets refl below there)
+      ∙ ap Some (nil_from_length octets.items (sym octets.ok.0 ∙ none))
+
+  -- nothing is held of the first n applications, nor of the next
+  pub none_of_next : (held : List (Vec ℕ Z)) (n : ℕ) → HoldsNoneOf n held
+      → option_map (λ octets. octets.items) (slice_get held n) ≡ Some [] → HoldsNoneOf (n + 1) held
+  none_of_next held n before here application below =
+      ⊎_elim (λ same. subst (λ k. option_map (λ octets. octets.items) (slice_get held k) ≡ Some []) (sym same) here)
+      (λ other. before application (omega (arith, below, other)))
+      (cases_eq application n)
+
+  -- likewise, where what is held of the next was changed
+  pub none_of_changed : (old new : List (Vec ℕ Z)) (n : ℕ) → HoldsNoneOf n old
+      → ((other : ℕ) → other ≢ n → slice_get new other ≡ slice_get old other)
+      → option_map (λ octets. octets.items) (slice_get new n) ≡ Some [] → HoldsNoneOf (n + 1) new
+  none_of_changed old new n before others here = none_of_next new n
+      (λ application below. ap (option_map (λ octets. octets.items)) (others application (λ same. omega (arith, below, same))) ∙ before application below)
+      here
+
+  -- likewise, unless something failed by then
+  pub none_so_far : {X Y : Type 0} (done : Result X Y) (old new : List (Vec ℕ Z)) (n : ℕ) → OnOk done (HoldsNoneOf n old)
+      → ((other : ℕ) → other ≢ n → slice_get new other ≡ slice_get old other)
+      → option_map (λ octets. octets.items) (slice_get new n) ≡ Some [] → OnOk done (HoldsNoneOf (n + 1) new)
+  none_so_far (Ok value) old new n before others here = none_of_changed old new n before others here
+  none_so_far (Err fault) old new n before others here = tt

@@ -1,0 +1,16 @@
+-- What a fault says of a file.
+use Rattle.std.specs.Prelude.{◌≡◌, ⊤, ℕ, List}
+use Rattle.tm_tool.specs.declared.fault.RunFault.TheVariants.{NoMemory}
+use Rattle.tm_program.specs.declared.fault.ToolFault.{ToolFault}
+use Rattle.tm_program.specs.declared.fault.ToolFault.TheVariants.{File, TooLong, Run}
+
+-- the file of this name can't be opened, made, read or written, or memory is wanting
+abbrev pub IsFileFault : List ℕ → ToolFault → Type 0
+IsFileFault name (File given) = given ≡ name
+IsFileFault name (Run NoMemory) = ⊤
+IsFileFault name _ = ⊥
+
+-- likewise, of a file that is read whole: it may be too long
+abbrev pub IsFaultOf : List ℕ → ToolFault → Type 0
+IsFaultOf name (TooLong given) = given ≡ name
+IsFaultOf name fault = IsFileFault name fault

@@ -1,0 +1,95 @@
+//! The checkpoint that a run goes on from, and the one that it leaves.
+
+ghost use Rattle.std.specs.Prelude.{◌≡◌, ◌⊎◌, None, Ok, Some, IfErr, IfOk, IfSome, MatchOption, is_some};
+ghost use Rattle.tm_tool.specs.Checkpoints.{checkpoint_of};
+ghost use Rattle.tm_tool.specs.Jobs.{JobState, begun};
+ghost use Rattle.tm_program.specs.Endings.{ending_of};
+ghost use Rattle.tm_program.specs.Program.{HasFault, IsNoMemory, IsOfResumed, IsResumed};
+
+use crate::fault::ToolFault;
+use crate::files::{read_file, replace};
+use std::alloc::Global;
+use std::rt::Files;
+use tm_tool::{Done, Ending, Job, Octets, RunFault, Settings};
+use tm_words::Plan;
+
+/// Where the run of the plan ends: at the end of the recording, which is closed there unless a checkpoint is wanted, or after so many records.
+pub fn ending_by(plan: &Plan) -> Ending
+    ensures { result ≡ ending_of plan.now }
+{
+    match (&plan.checkpoint, plan.stop_after) {
+        (Some(_), Some(records)) => Ending::StopAfter(records),
+        (Some(_), None) => Ending::Keep,
+        (None, _) => Ending::Close,
+    }
+}
+
+/// The job of the checkpoint that the plan goes on from, where it has one.
+pub fn resumed_by<R: Files + AllocGlobal>(
+    rt: &R,
+    plan: &Plan,
+    settings: &Settings,
+) -> Result<Option<Job>, ToolFault>
+    ensures found { IfOk result (λ found. is_some found ≡ is_some plan.now.resume) }
+    ensures job { IfOk result (λ found. IfSome found (IsResumed settings.now)) }
+    ensures refused { IfErr result (IsOfResumed plan.now) }
+{
+    let Some(name) = &plan.resume else {
+        return Ok(None);
+    };
+    let octets = read_file(rt, name)?;
+    match Job::resume(rt.alloc(), settings, octets.as_slice()) {
+        Ok(job) => Ok(Some(job)),
+        Err(fault) => Err(ToolFault::Checkpoint(fault)),
+    }
+}
+
+/// The job to go on with, or else a new one.
+pub fn job_by<R: AllocGlobal>(
+    rt: &R,
+    resumed: Option<Job>,
+    settings: &Settings,
+) -> Result<Job, ToolFault>
+    ensures job { MatchOption resumed (IfOk result (λ job. job ≡ begun settings.now)) (λ job. result ≡ Ok job) }
+    ensures refused { IfErr result IsNoMemory }
+{
+    match resumed {
+        Some(job) => Ok(job),
+        None => match Job::new(rt.alloc(), settings) {
+            Ok(job) => Ok(job),
+            Err(_) => Err(ToolFault::Run(RunFault::NoMemory)),
+        },
+    }
+}
+
+// The checkpoint that the plan wants of what a run kept: the name of its file, and its octets.
+fn wanted<'p>(
+    alloc: Global,
+    plan: &'p Plan,
+    done: &Done,
+) -> Result<Option<(&'p Octets, Vec<u8>)>, ToolFault>
+    ensures unwanted { (plan.now.checkpoint ≡ None) ⊎ (done.now.kept ≡ None) → result ≡ Ok None }
+    ensures octets { IfOk result (λ found. MatchOption found ((plan.now.checkpoint ≡ None) ⊎ (done.now.kept ≡ None))
+        (λ w. (plan.now.checkpoint ≡ Some w.0.now) × ((job : JobState) × (done.now.kept ≡ Some job) × (w.1.items ≡ checkpoint_of job.work)))) }
+    ensures refused { IfErr result IsNoMemory }
+{
+    let (Some(name), Some(job)) = (&plan.checkpoint, &done.kept) else {
+        return Ok(None);
+    };
+    match job.checkpoint(alloc) {
+        Ok(octets) => Ok(Some((name, octets))),
+        Err(_) => Err(ToolFault::Run(RunFault::NoMemory)),
+    }
+}
+
+/// Writes the checkpoint that the plan wants of what a run kept. What the file then holds has no place in a contract.
+#[tactic(auto, using(crate::proofs::ProgramLemmas::starved_there))]
+pub fn keep<R: Files + AllocGlobal>(rt: &R, plan: &Plan, done: &Done) -> Result<(), ToolFault>
+    ensures unwanted { (plan.now.checkpoint ≡ None) ⊎ (done.now.kept ≡ None) → result ≡ Ok tt }
+    ensures refused { IfErr result (HasFault plan.now.checkpoint) }
+{
+    match wanted(rt.alloc(), plan, done)? {
+        Some((name, octets)) => replace(rt, name, octets.as_slice()),
+        None => Ok(()),
+    }
+}

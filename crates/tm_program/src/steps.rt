@@ -1,0 +1,444 @@
+//! The order of steps: command line, settings, definition, checkpoint, recording, report, run, checkpoint of the run.
+
+ghost use Rattle.std.specs.Prelude.{◌≡◌, ◌≢◌, ◌⊎◌, [], Ok, false, IfErr, IfOk, IfSome, IsSome, OnOk, is_some, map, option_map, string_bytes};
+ghost use Rattle.tm_program.specs.Endings.{IsDone};
+ghost use Rattle.tm_program.specs.Files.{IsFileFault};
+ghost use Rattle.tm_program.specs.Program.{HasFault, IsAsked, IsNoMemory, IsOfDefinition, IsOfOutputs, IsOfResumed, IsOfSettings, IsRunFault, MayCome, MayEnd, beside, has_name, is_checkpoint, is_in_the_way, is_read};
+
+use crate::fault::ToolFault;
+use crate::files::{append, create, file_fault, open, read_file};
+use crate::kept::{ending_by, job_by, keep, resumed_by};
+use crate::report::Report;
+use crate::shelf::{FileShelf, ShelfFault};
+use std::alloc::Global;
+use std::io::{self, BufReader, BufWriter, Read, Write};
+use std::rt::Files;
+use tm_fields::Definition;
+use tm_tool::{
+    Command, Done, Ending, Job, Octets, Reading, RunFault, Settings, Writing, list_frames,
+    run as run_job, split,
+};
+use tm_words::{Action, Plan, plan};
+
+// The octets of the buffers behind the recording and before the output.
+const BUFFER: usize = 262_144;
+
+// The octets of the buffer before the report.
+const REPORT_BUFFER: usize = 65_536;
+
+// The system's number of the error that a file isn't open: EBADF.
+const CLOSED: i32 = 9;
+
+// Memory ran out.
+fn no_memory() -> ToolFault
+    ensures { IsNoMemory result }
+{
+    ToolFault::Run(RunFault::NoMemory)
+}
+
+// A source over a buffer behind the recording.
+fn source<S: Read + Drop>(alloc: Global, recording: S) -> Result<Reading<BufReader<S>>, ToolFault>
+    ensures { IfErr result IsNoMemory }
+{
+    match BufReader::with_capacity(alloc, BUFFER, recording) {
+        Ok(reader) => Ok(Reading::new(reader)),
+        Err(_) => Err(no_memory()),
+    }
+}
+
+// A drain into a buffer of this many octets before the writer. What is in the buffer is written when the drain is let go, too.
+fn drain<W: Write + Drop>(
+    alloc: Global,
+    octets: usize,
+    writer: W,
+) -> Result<Writing<BufWriter<W>>, ToolFault>
+    ensures { IfErr result IsNoMemory }
+{
+    match BufWriter::with_capacity(alloc, octets, writer) {
+        Ok(writer) => Ok(Writing::new(writer)),
+        Err(_) => Err(no_memory()),
+    }
+}
+
+// Lists the frames of a recording on standard output.
+#[tactic(auto, using(crate::proofs::ProgramLemmas::starved_run))]
+fn list<R: Print + AllocGlobal, S: Read + Drop>(
+    rt: &R,
+    settings: &Settings,
+    recording: S,
+) -> Result<(), ToolFault>
+    ensures { IfErr result IsRunFault }
+{
+    let alloc = rt.alloc();
+    let mut source = source(alloc, recording)?;
+    let mut out = drain(alloc, BUFFER, io::writer(rt))?;
+    match list_frames(alloc, settings, &mut source, &mut out) {
+        Ok(_) => Ok(()),
+        Err(fault) => Err(ToolFault::Run(fault)),
+    }
+}
+
+// Gives the packets of a recording on standard output.
+#[tactic(auto, using(crate::proofs::EndingLemmas::headed_run_done, crate::proofs::ProgramLemmas::starved_run))]
+fn give_packets<R: Print + AllocGlobal, S: Read + Drop, V: Write + Drop>(
+    rt: &R,
+    job: Job,
+    command: Command<'_>,
+    recording: S,
+    report: V,
+    ending: Ending,
+) -> Result<Done, ToolFault>
+    ensures done { IfOk result (λ done. IsDone ending job.work done.records (option_map (λ kept. kept.work) done.kept)) }
+    ensures refused { IfErr result IsRunFault }
+{
+    let alloc = rt.alloc();
+    let mut source = source(alloc, recording)?;
+    let mut out = drain(alloc, BUFFER, io::writer(rt))?;
+    let mut report = drain(alloc, REPORT_BUFFER, report)?;
+    run_job(
+        alloc,
+        job,
+        command,
+        &mut source,
+        &mut out,
+        &mut report,
+        ending,
+    )
+    .map_err(|fault| ToolFault::Run(fault))
+}
+
+// What splitting ends with, once what the shelf holds is written.
+fn split_end(
+    done: Result<Done, RunFault>,
+    written: Result<(), ShelfFault>,
+    is_starved: bool,
+) -> Result<Done, ToolFault>
+    ensures done { IfOk result (λ d. done ≡ Ok d) }
+    ensures refused { IfErr result IsRunFault }
+{
+    match (done, written) {
+        (Ok(done), Ok(())) => Ok(done),
+        (Ok(_), Err(ShelfFault::NoMemory)) => Err(no_memory()),
+        (Ok(_), Err(ShelfFault::NotWritten)) => Err(ToolFault::Run(RunFault::Write)),
+        (Err(RunFault::Write), _) if is_starved => Err(no_memory()),
+        (Err(fault), _) => Err(ToolFault::Run(fault)),
+    }
+}
+
+// Gives the packets of a recording to a file for each application.
+#[tactic(auto, using(crate::proofs::EndingLemmas::run_done, crate::proofs::ProgramLemmas::starved_run))]
+fn split_packets<R: Files + AllocGlobal, S: Read + Drop, V: Write + Drop>(
+    rt: &R,
+    job: Job,
+    mut shelf: FileShelf<'_, R>,
+    recording: S,
+    report: V,
+    ending: Ending,
+) -> Result<Done, ToolFault>
+    ensures done { IfOk result (λ done. IsDone ending job.work done.records (option_map (λ kept. kept.work) done.kept)) }
+    ensures refused { IfErr result IsRunFault }
+{
+    let alloc = rt.alloc();
+    let mut source = source(alloc, recording)?;
+    let mut report = drain(alloc, REPORT_BUFFER, report)?;
+    let done = split(alloc, job, &mut source, &mut shelf, &mut report, ending);
+    let written = shelf.write_held();
+    split_end(done, written, shelf.is_starved())
+}
+
+// The files for the applications in this folder. An empty name is none: it would stand for the root.
+fn shelf_in<'a, R: Files + AllocGlobal>(
+    rt: &'a R,
+    dir: &'a Octets,
+    goes_on: bool,
+) -> Result<FileShelf<'a, R>, ToolFault>
+    ensures folder { IfOk result (λ s. (s.dir.now ≡ dir.now) × (s.goes_on ≡ goes_on) × (dir.now ≢ [])) }
+    ensures refused { IfErr result (IsFileFault dir.now) }
+{
+    let path = match std::str::from_utf8(dir.as_slice()) {
+        Ok(path) if !path.is_empty() => path,
+        _ => return Err(file_fault(rt.alloc(), dir)),
+    };
+    match FileShelf::new(rt, path, goes_on) {
+        Ok(shelf) => Ok(shelf),
+        Err(_) => Err(ToolFault::Run(RunFault::NoMemory)),
+    }
+}
+
+// There is such a file, and it has this name.
+fn has_name(file: &Option<Octets>, name: &Octets) -> bool
+    ensures { result ≡ has_name name.now file.now }
+{
+    match file {
+        Some(file) => file.as_slice() == name.as_slice(),
+        None => false,
+    }
+}
+
+// A file of this name is read, and so must not be written.
+fn is_read(plan: &Plan, name: &Octets) -> bool
+    ensures { result ≡ is_read plan.now name.now }
+{
+    has_name(&plan.recording, name)
+        || has_name(&plan.settings, name)
+        || has_name(&plan.definition, name)
+}
+
+// A file of this name has the checkpoint, before the run or after it.
+fn is_checkpoint(plan: &Plan, name: &Octets) -> bool
+    ensures { result ≡ is_checkpoint plan.now name.now }
+{
+    has_name(&plan.checkpoint, name) || has_name(&plan.resume, name)
+}
+
+// The name of the file in which a checkpoint is written before it takes its name.
+fn beside(alloc: Global, name: &Octets) -> Result<Octets, ToolFault>
+    ensures name { IfOk result (λ found. found ≡ beside name.now) }
+    ensures refused { IfErr result IsNoMemory }
+{
+    let Ok(mut octets) = Vec::from_slice(alloc, name.as_slice()) else {
+        return Err(no_memory());
+    };
+    match octets.extend_from_slice(b".new") {
+        Ok(()) => Ok(Octets::new(octets)),
+        Err(_) => Err(no_memory()),
+    }
+}
+
+// A file that the plan reads or writes has the name of the checkpoint or of the file beside it.
+fn is_in_the_way(plan: &Plan, name: &Octets, new_name: &Octets) -> bool
+    requires { new_name.now ≡ beside name.now }
+    ensures { result ≡ is_in_the_way plan.now name.now }
+{
+    is_read(plan, name)
+        || is_read(plan, new_name)
+        || has_name(&plan.report, new_name)
+        || has_name(&plan.resume, new_name)
+}
+
+// The checkpoint must not take the place of a file that is read or of the report, nor the file beside it.
+#[tactic(auto, using(crate::proofs::ProgramLemmas::starved_there))]
+fn check_checkpoint(alloc: Global, plan: &Plan) -> Result<(), ToolFault>
+    ensures ok { OnOk result (IfSome plan.now.checkpoint (λ name. is_in_the_way plan.now name ≡ false)) }
+    ensures refused { IfErr result (HasFault plan.now.checkpoint) }
+{
+    let Some(name) = &plan.checkpoint else {
+        return Ok(());
+    };
+    let new_name = beside(alloc, name)?;
+    if is_in_the_way(plan, name, &new_name) {
+        return Err(file_fault(alloc, name));
+    }
+    Ok(())
+}
+
+// Where the plan wants the report.
+fn report_by<R: Files + AllocGlobal, E: Write + Drop>(
+    rt: &R,
+    plan: &Plan,
+    errors: E,
+) -> Result<Report<R::File, E>, ToolFault>
+    ensures ok { OnOk result (IfSome plan.now.report (λ name. (is_read plan.now name ≡ false) × (is_checkpoint plan.now name ≡ false))) }
+    ensures refused { IfErr result (HasFault plan.now.report) }
+{
+    match &plan.report {
+        Some(name) if is_read(plan, name) || is_checkpoint(plan, name) => {
+            Err(file_fault(rt.alloc(), name))
+        }
+        Some(name) if plan.resume.is_some() => Ok(Report::File(append(rt, name)?)),
+        Some(name) => Ok(Report::File(create(rt, name)?)),
+        None => Ok(Report::Errors(errors)),
+    }
+}
+
+// The settings in the plan's file.
+fn settings_by<R: Files + AllocGlobal>(rt: &R, plan: &Plan) -> Result<Settings, ToolFault>
+    requires { IsSome plan.now.settings }
+    ensures { IfErr result (IsOfSettings plan.now) }
+{
+    let Some(name) = &plan.settings else {
+        unreachable!();
+    };
+    let octets = read_file(rt, name)?;
+    match Settings::read(rt.alloc(), octets.as_slice()) {
+        Ok(settings) => Ok(settings),
+        Err(fault) => Err(ToolFault::Settings(fault)),
+    }
+}
+
+// The definition in the plan's file, where it has one.
+fn definition_by<R: Files + AllocGlobal>(
+    rt: &R,
+    plan: &Plan,
+) -> Result<Option<Definition>, ToolFault>
+    ensures found { IfOk result (λ found. is_some found ≡ is_some plan.now.definition) }
+    ensures refused { IfErr result (IsOfDefinition plan.now) }
+{
+    let Some(name) = &plan.definition else {
+        return Ok(None);
+    };
+    let octets = read_file(rt, name)?;
+    match Definition::read(rt.alloc(), octets.as_slice()) {
+        Ok(definition) => Ok(Some(definition)),
+        Err(fault) => Err(ToolFault::Definition(fault)),
+    }
+}
+
+// What the plan wants of the packets on standard output.
+fn command_by<'a>(plan: &Plan, definition: Option<&'a Definition>) -> Command<'a>
+    ensures extract { plan.now.action ≡ Action.Extract → result ≡ Command.Extract }
+    ensures packets { plan.now.action ≡ Action.Packets → result ≡ Command.Packets }
+    ensures fields { plan.now.action ≡ Action.Fields
+        → IfSome definition.entry (λ d. IfSome plan.now.apid (λ application. result ≡ Command.Fields d application)) }
+{
+    match (plan.action, definition, plan.apid) {
+        (Action::Packets, _, _) => Command::Packets,
+        (Action::Fields, Some(definition), Some(apid)) => Command::Fields(definition, apid),
+        _ => Command::Extract,
+    }
+}
+
+// What the files of the plan say.
+#[derive(Drop)]
+struct Inputs {
+    settings: Settings,
+    definition: Option<Definition>,
+    resumed: Option<Job>,
+}
+
+// Reads the files of the plan but for the recording.
+fn inputs_by<R: Files + AllocGlobal>(rt: &R, plan: &Plan) -> Result<Inputs, ToolFault>
+    requires { IsSome plan.now.settings }
+    ensures { IfErr result (λ f. IsOfSettings plan.now f ⊎ IsOfDefinition plan.now f ⊎ IsOfResumed plan.now f) }
+{
+    let settings = settings_by(rt, plan)?;
+    let definition = definition_by(rt, plan)?;
+    let resumed = resumed_by(rt, plan, &settings)?;
+    Ok(Inputs {
+        settings,
+        definition,
+        resumed,
+    })
+}
+
+// Goes on with the job over the recording, to where the plan wants the packets.
+fn go_on<R: Files + Print + AllocGlobal, S: Read + Drop, V: Write + Drop>(
+    rt: &R,
+    plan: &Plan,
+    definition: Option<&Definition>,
+    job: Job,
+    recording: S,
+    report: V,
+) -> Result<Done, ToolFault>
+    ensures { IfErr result (λ fault. IsRunFault fault ⊎ HasFault plan.now.dir fault) }
+{
+    let ending = ending_by(plan);
+    match (plan.action, &plan.dir) {
+        (Action::Split, Some(dir)) => {
+            let shelf = shelf_in(rt, dir, plan.resume.is_some())?;
+            split_packets(rt, job, shelf, recording, report, ending)
+        }
+        _ => give_packets(
+            rt,
+            job,
+            command_by(plan, definition),
+            recording,
+            report,
+            ending,
+        ),
+    }
+}
+
+// Does what the plan asks for with the recording.
+#[tactic(auto, using(crate::proofs::ProgramLemmas::starved_run))]
+fn run_on<R: Files + Print + AllocGlobal, S: Read + Drop, E: Write + Drop>(
+    rt: &R,
+    plan: &Plan,
+    inputs: Inputs,
+    recording: S,
+    errors: E,
+) -> Result<(), ToolFault>
+    ensures { IfErr result (IsOfOutputs plan.now) }
+{
+    if plan.action == Action::Frames {
+        return list(rt, &inputs.settings, recording);
+    }
+    let Inputs {
+        settings,
+        definition,
+        resumed,
+    } = inputs;
+    check_checkpoint(rt.alloc(), plan)?;
+    let report = report_by(rt, plan, errors)?;
+    let job = job_by(rt, resumed, &settings)?;
+    let done = go_on(rt, plan, definition.as_ref(), job, recording, report)?;
+    keep(rt, plan, &done)
+}
+
+// The plan of the words.
+fn plan_by(alloc: Global, words: Vec<String>) -> Result<Plan, ToolFault>
+    ensures ok { IfOk result (IsAsked (map string_bytes words.items)) }
+    ensures refused { IfErr result (MayEnd (map string_bytes words.items)) }
+{
+    match plan(alloc, words) {
+        Ok(plan) => Ok(plan),
+        Err(fault) => Err(ToolFault::Usage(fault)),
+    }
+}
+
+// A writer of a standard stream is closed: a file that is opened would take its place.
+fn is_closed<W: Write>(stream: &mut W) -> bool {
+    match stream.write(&[]) {
+        Ok(_) => false,
+        Err(error) => error.raw_os_error() == Some(CLOSED),
+    }
+}
+
+// The standard streams to which the plan writes are open.
+fn check_streams<R: Print, E: Write>(rt: &R, plan: &Plan, errors: &mut E) -> Result<(), ToolFault>
+    ensures { IfErr result IsRunFault }
+{
+    if plan.action != Action::Split && is_closed(&mut io::writer(rt)) {
+        return Err(ToolFault::Run(RunFault::Write));
+    }
+    if plan.action != Action::Frames && plan.report.is_none() && is_closed(errors) {
+        return Err(ToolFault::Run(RunFault::Report));
+    }
+    Ok(())
+}
+
+// Does what the plan asks for.
+#[tactic(auto, using(crate::proofs::ProgramLemmas::definition_comes, crate::proofs::ProgramLemmas::file_comes, crate::proofs::ProgramLemmas::outputs_come, crate::proofs::ProgramLemmas::resumed_comes, crate::proofs::ProgramLemmas::run_comes, crate::proofs::ProgramLemmas::settings_come))]
+fn run_plan<R: Files + Input + Print + AllocGlobal, E: Write + Drop>(
+    rt: &R,
+    plan: &Plan,
+    mut errors: E,
+) -> Result<(), ToolFault>
+    requires { IsSome plan.now.settings }
+    ensures { IfErr result (MayCome plan.now) }
+{
+    check_streams(rt, plan, &mut errors)?;
+    let inputs = inputs_by(rt, plan)?;
+    match &plan.recording {
+        Some(name) => run_on(rt, plan, inputs, open(rt, name)?, errors),
+        None => run_on(rt, plan, inputs, rt.reader(), errors),
+    }
+}
+
+/// Does what these words of the command line ask for. A report that has no file goes to `errors`, all of it before this returns.
+///
+/// # Errors
+///
+/// `Usage` where the words are no plan; else a fault of a file that the plan names, of what the file says, or of the run.
+#[tactic(auto, using(crate::proofs::ProgramLemmas::plan_ends))]
+pub fn run<R: Files + Input + Print + AllocGlobal, E: Write + Drop>(
+    rt: &R,
+    words: Vec<String>,
+    errors: E,
+) -> Result<(), ToolFault>
+    ensures ok { OnOk result ((p : Plan) × IsAsked (map string_bytes words.items) p) }
+    ensures refused { IfErr result (MayEnd (map string_bytes words.items)) }
+{
+    let plan = plan_by(rt.alloc(), words)?;
+    run_plan(rt, &plan, errors)
+}

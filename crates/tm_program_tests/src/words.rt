@@ -1,0 +1,186 @@
+//! Command lines with their plans and texts.
+
+use std::alloc::Global;
+use tm_program::{Octets, UsageFault};
+use tm_words::{Action, Plan, plan};
+
+/// Words, in just as much memory as they need: so the next ones find place where these were.
+pub(crate) fn owned(alloc: Global, words: &[&str]) -> Option<Vec<String>> {
+    let mut all = Vec::with_capacity(alloc, words.len()).ok()?;
+    for word in words {
+        let text = String::from_str(alloc, word).ok()?;
+        if all.push(text).is_err() {
+            return None;
+        }
+    }
+    Some(all)
+}
+
+// What the words ask for, or why they are none.
+fn planned(alloc: Global, words: &[&str]) -> Result<Plan, UsageFault> {
+    match owned(alloc, words) {
+        Some(words) => plan(alloc, words),
+        None => Err(UsageFault::NoMemory),
+    }
+}
+
+/// There is a value, and it is this text.
+pub(crate) fn is_named(value: &Option<Octets>, text: &str) -> bool {
+    match value {
+        Some(octets) => octets.as_slice() == text.as_bytes(),
+        None => false,
+    }
+}
+
+fn is_frames(plan: &Plan) -> bool {
+    plan.action == Action::Frames
+        && is_named(&plan.settings, "s")
+        && is_named(&plan.recording, "r")
+        && plan.report.is_none()
+}
+
+fn is_extract(plan: &Plan) -> bool {
+    plan.action == Action::Extract && is_named(&plan.report, "r") && is_named(&plan.recording, "x")
+}
+
+fn is_packets(plan: &Plan) -> bool {
+    plan.action == Action::Packets && plan.report.is_none() && plan.recording.is_none()
+}
+
+fn has_checkpoints(plan: &Plan) -> bool {
+    is_named(&plan.checkpoint, "c")
+        && is_named(&plan.resume, "b")
+        && plan.stop_after == Some(4_294_967_295)
+}
+
+fn is_split(plan: &Plan) -> bool {
+    plan.action == Action::Split && is_named(&plan.dir, "d")
+}
+
+fn is_fields(plan: &Plan) -> bool {
+    plan.action == Action::Fields && is_named(&plan.definition, "d") && plan.apid == Some(2047)
+}
+
+#[test]
+fn command_words(rt: HostRuntime) {
+    let frames = planned(rt.alloc(), &["frames", "--settings", "s", "r"]);
+    assert!(rt; frames.is_ok_and(|plan| is_frames(&plan)));
+    let words = ["extract", "--settings", "s", "--report", "r", "x"];
+    let extract = planned(rt.alloc(), &words);
+    assert!(rt; extract.is_ok_and(|plan| is_extract(&plan)));
+    let packets = planned(rt.alloc(), &["packets", "--settings", "s"]);
+    assert!(rt; packets.is_ok_and(|plan| is_packets(&plan)));
+}
+
+#[test]
+fn words_of_checkpoints(rt: HostRuntime) {
+    let words = [
+        "packets",
+        "--settings=s",
+        "--checkpoint=c",
+        "--stop-after=4294967295",
+        "--resume=b",
+    ];
+    let packets = planned(rt.alloc(), &words);
+    assert!(rt; packets.is_ok_and(|plan| has_checkpoints(&plan)));
+}
+
+#[test]
+fn words_of_split_and_fields(rt: HostRuntime) {
+    let words = ["split", "--settings", "s", "--dir", "d"];
+    let split = planned(rt.alloc(), &words);
+    assert!(rt; split.is_ok_and(|plan| is_split(&plan)));
+    let words = [
+        "fields",
+        "--settings",
+        "s",
+        "--definition",
+        "d",
+        "--apid",
+        "2047",
+        "x",
+    ];
+    let fields = planned(rt.alloc(), &words);
+    assert!(rt; fields.is_ok_and(|plan| is_fields(&plan)));
+}
+
+#[test]
+fn stop_without_checkpoint(rt: HostRuntime) {
+    let words = ["extract", "--settings", "s", "--stop-after", "3"];
+    let found = planned(rt.alloc(), &words);
+    assert!(rt; matches!(&found, Err(UsageFault::StopAfter)));
+}
+
+// What the words are refused with as wrong ones, if they are.
+fn usage_of(alloc: Global, words: &[&str]) -> Option<Octets> {
+    match planned(alloc, words) {
+        Err(UsageFault::Usage(text)) => Some(text),
+        _ => None,
+    }
+}
+
+// The help that the words ask for, if they do.
+fn help_of(alloc: Global, words: &[&str]) -> Option<Octets> {
+    match planned(alloc, words) {
+        Err(UsageFault::Help(text)) => Some(text),
+        _ => None,
+    }
+}
+
+#[test]
+fn wrong_words(rt: HostRuntime) {
+    let table = [
+        ["split", "--settings=s"].as_slice(),
+        &["frames", "--settings=s", "--report=r"],
+        &["frames", "--settings=s", "--checkpoint=c"],
+        &["fields", "--settings=s", "--apid=200"],
+    ];
+    for words in table {
+        assert!(rt; usage_of(rt.alloc(), words).is_some());
+    }
+}
+
+#[test]
+fn numbers_that_are_no_stop(rt: HostRuntime) {
+    for number in ["0", "4294967296", "-1", "x"] {
+        let words = [
+            "split",
+            "--settings=s",
+            "--dir=d",
+            "--checkpoint=c",
+            "--stop-after",
+            number,
+        ];
+        assert!(rt; usage_of(rt.alloc(), &words).is_some());
+    }
+}
+
+#[test]
+fn numbers_that_are_no_application(rt: HostRuntime) {
+    for number in ["2048", "-1", "x"] {
+        let words = ["fields", "--settings=s", "--definition=d", "--apid", number];
+        assert!(rt; usage_of(rt.alloc(), &words).is_some());
+    }
+}
+
+pub(crate) const USAGE: &str =
+    "error: unexpected argument 'b' found\n\nUsage: tmx frames --settings <FILE> [RECORDING]\n\nFor more information, try '--help'.\n";
+
+const HELP: &str =
+    "Reads recordings of TM transfer frames (CCSDS 132.0-B-3)\n\nUsage: tmx <COMMAND>\n\nCommands:\n  frames   Lists the frames: one line for each record of the recording\n  packets  Lists the packets of the chosen channels: one line for each\n  extract  Extracts the packets of the chosen channels: their octets, with nothing between them\n  split    Extracts the packets of the chosen channels to a file for each application\n  fields   Reads the fields of an application's packets: a row of CSV for each packet\n\nOptions:\n  -h, --help  Print help\n";
+
+const HELP_OF_FRAMES: &str =
+    "Lists the frames: one line for each record of the recording\n\nUsage: tmx frames --settings <FILE> [RECORDING]\n\nArguments:\n  [RECORDING]  The recording; standard input if it is left out\n\nOptions:\n      --settings <FILE>  The settings of the recording: a TOML file\n  -h, --help             Print help\n";
+
+const HELP_OF_PACKETS: &str =
+    "Lists the packets of the chosen channels: one line for each\n\nUsage: tmx packets [OPTIONS] --settings <FILE> [RECORDING]\n\nArguments:\n  [RECORDING]  The recording; standard input if it is left out\n\nOptions:\n      --settings <FILE>    The settings of the recording: a TOML file\n      --report <FILE>      The report of what is bad or lost; standard error if it is left out\n      --checkpoint <FILE>  The checkpoint, written after the run, from which another run can go on\n      --stop-after <N>     Records to stop after, a number from 1 to 4294967295; needs --checkpoint\n      --resume <FILE>      The checkpoint of an earlier run, to go on from there\n  -h, --help               Print help\n";
+
+#[test]
+fn texts_of_usage_and_help(rt: HostRuntime) {
+    let alloc = rt.alloc();
+    let text = usage_of(alloc, &["frames", "--settings", "s", "a", "b"]);
+    assert!(rt; is_named(&text, USAGE));
+    assert!(rt; is_named(&help_of(alloc, &["--help"]), HELP));
+    assert!(rt; is_named(&help_of(alloc, &["frames", "--help"]), HELP_OF_FRAMES));
+    assert!(rt; is_named(&help_of(alloc, &["packets", "--help"]), HELP_OF_PACKETS));
+}

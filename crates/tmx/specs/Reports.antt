@@ -1,9 +1,0 @@
--- What the report's writer holds.
-use Rattle.std.specs.Prelude.{ℕ, List, Option}
-use Rattle.tmx.specs.declared.report.Report.{Report}
-use Rattle.tmx.specs.declared.report.Report.TheVariants.{File, Errors}
-
--- the octets of the writer that it is, where that one tells them
-abbrev pub contents_of : {F E : Type 0} → (F → Option (List ℕ)) → (E → Option (List ℕ)) → Report F E → Option (List ℕ)
-contents_of of_file of_errors (File file) = of_file file
-contents_of of_file of_errors (Errors errors) = of_errors errors

@@ -1,8 +1,8 @@
 -- What is done by a run, of what its contract says.
 use Rattle.std.proofs.Common.{ℕ, Bool, List, Option, None, inl, inr, ⊎_elim}
-use Rattle.tm_tool.specs.declared.job.Ending.{Ending}
-use Rattle.tm_tool.specs.Outputs.{Piece, View}
-use Rattle.tm_tool.specs.Pieces.{Texts, Work}
+use Rattle.tm_output.specs.declared.command.Ending.{Ending}
+use Rattle.tm_output.specs.Outputs.{Piece, View}
+use Rattle.tm_output.specs.Pieces.{Texts, Work}
 use Rattle.tm_tool.specs.Runs.{HasEnded, IsHeadedRun, IsRun}
 use Rattle.tm_program.specs.Endings.{IsDone}
 

@@ -2,7 +2,7 @@
 use Rattle.std.proofs.Common.{ℕ, ◌≡◌, List, Option, None, Some, inl, inr, refl, subst, sym}
 use Rattle.tm_program.specs.Files.{IsFaultOf, IsFileFault}
 use Rattle.tm_program.specs.Program.{HasFault, HasReadFault, IsAsked, IsNamed, IsNoMemory, IsOfDefinition, IsOfOutputs, IsOfResumed, IsOfSettings, IsReadWhole, IsRunFault, MayCome, MayEnd}
-use Rattle.tm_tool.specs.declared.fault.RunFault.TheVariants.{NoMemory, Read, Report, ShortRecording, TooMany, Write}
+use Rattle.tm_output.specs.declared.fault.RunFault.TheVariants.{NoMemory, Read, Report, ShortRecording, TooMany, Write}
 use Rattle.tm_program.specs.declared.fault.ToolFault.{ToolFault}
 use Rattle.tm_program.specs.declared.fault.ToolFault.TheVariants as tool
 use Rattle.tm_words.specs.declared.request.Plan.{Plan}

@@ -1,9 +1,9 @@
 -- Where the run of a plan ends, and what is done then.
 use Rattle.std.specs.Prelude.{◌≡◌, ◌≤◌, ℕ, List, length, Option, Some, None}
-use Rattle.tm_tool.specs.Pieces.{Work, worked}
+use Rattle.tm_output.specs.Pieces.{Work, worked}
 use Rattle.tm_tool.specs.Runs.{HasEnded, behind, kept_of}
-use Rattle.tm_tool.specs.declared.job.Ending.{Ending}
-use Rattle.tm_tool.specs.declared.job.Ending.TheVariants.{Close, Keep, StopAfter}
+use Rattle.tm_output.specs.declared.command.Ending.{Ending}
+use Rattle.tm_output.specs.declared.command.Ending.TheVariants.{Close, Keep, StopAfter}
 use Rattle.tm_words.specs.declared.request.Plan.{Plan}
 
 -- with a file for the checkpoint or none, and a number of records or none

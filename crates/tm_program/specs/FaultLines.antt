@@ -12,8 +12,8 @@ use Rattle.tm_tool.specs.declared.fault.CheckpointFault.{CheckpointFault}
 use Rattle.tm_tool.specs.declared.fault.CheckpointFault.TheVariants as checkpoint
 use Rattle.tm_settings.specs.declared.fault.SettingsFault.{SettingsFault}
 use Rattle.tm_settings.specs.declared.fault.SettingsFault.TheVariants as settings
-use Rattle.tm_tool.specs.declared.fault.RunFault.{RunFault}
-use Rattle.tm_tool.specs.declared.fault.RunFault.TheVariants as run
+use Rattle.tm_output.specs.declared.fault.RunFault.{RunFault}
+use Rattle.tm_output.specs.declared.fault.RunFault.TheVariants as run
 use Rattle.tm_words.specs.declared.request.UsageFault.{UsageFault}
 use Rattle.tm_words.specs.declared.request.UsageFault.TheVariants as usage
 use Rattle.tm_program.specs.declared.fault.ToolFault.{ToolFault}

@@ -1,6 +1,6 @@
 -- What a fault says of a file.
 use Rattle.std.specs.Prelude.{◌≡◌, ⊤, ℕ, List}
-use Rattle.tm_tool.specs.declared.fault.RunFault.TheVariants.{NoMemory}
+use Rattle.tm_output.specs.declared.fault.RunFault.TheVariants.{NoMemory}
 use Rattle.tm_program.specs.declared.fault.ToolFault.{ToolFault}
 use Rattle.tm_program.specs.declared.fault.ToolFault.TheVariants.{File, TooLong, Run}
 

@@ -4,7 +4,7 @@ use Rattle.std.specs.Str.{bytes_eq}
 use Rattle.tm_tool.specs.Checkpoints.{resumed}
 use Rattle.tm_tool.specs.Jobs.{JobState}
 use Rattle.tm_settings.specs.Settings.{Rules}
-use Rattle.tm_tool.specs.declared.fault.RunFault.TheVariants.{NoMemory}
+use Rattle.tm_output.specs.declared.fault.RunFault.TheVariants.{NoMemory}
 use Rattle.tm_words.specs.CommandLine.{HasRequired, faults_of, is_taken, lacks_checkpoint, plan_of}
 use Rattle.tm_program.specs.Files.{IsFaultOf, IsFileFault}
 use Rattle.tm_program.specs.declared.fault.ToolFault.{ToolFault}

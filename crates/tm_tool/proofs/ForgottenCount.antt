@@ -6,18 +6,18 @@ use Rattle.tm_reassembly.specs.State.{State}
 use Rattle.tm_reassembly.specs.OlderForms as forgotten
 use Rattle.tm_reassembly.specs.OlderForms.{IsMasterGapAtMost, LacksMasterGap}
 use Rattle.tm_reassembly.proofs.OlderForms.{items-lack, states-meet}
-use Rattle.tm_tool.specs.declared.job.Command.{Command}
-use Rattle.tm_tool.specs.declared.job.Ending.{Ending}
-use Rattle.tm_tool.specs.declared.job.Ending.TheVariants.{Close, Keep, StopAfter}
+use Rattle.tm_output.specs.declared.command.Command.{Command}
+use Rattle.tm_output.specs.declared.command.Ending.{Ending}
+use Rattle.tm_output.specs.declared.command.Ending.TheVariants.{Close, Keep, StopAfter}
 use Rattle.tm_tool.specs.Checkpoints.{without_master}
-use Rattle.tm_tool.specs.Lines.{master_gap_line}
+use Rattle.tm_output.specs.Lines.{master_gap_line}
 use Rattle.tm_tool.specs.OlderVersions.{gap_piece, IsGapLineAtMost, LacksGapLine}
-use Rattle.tm_tool.specs.Outlets.{GivesNone, no_text}
-use Rattle.tm_tool.specs.Outputs.{Piece}
-use Rattle.tm_tool.specs.Pieces.{Entries, Texts, Work, chosen, end_pieces, further, items_of, line_of, noted, noted_all, piece_of, pieces, pieces_of, record_pieces, report_of, text_of, worked}
-use Rattle.tm_tool.specs.Records.{rest_of}
-use Rattle.tm_tool.specs.Shelves.{shelf_text}
-use Rattle.tm_tool.specs.ShelfLaws.{no_shelf}
+use Rattle.tm_output.specs.Outlets.{GivesNone, no_text}
+use Rattle.tm_output.specs.Outputs.{Piece}
+use Rattle.tm_output.specs.Pieces.{Entries, Texts, Work, chosen, end_pieces, further, items_of, line_of, noted, noted_all, piece_of, pieces, pieces_of, record_pieces, report_of, text_of, worked}
+use Rattle.tm_output.specs.Records.{rest_of}
+use Rattle.tm_output.specs.Shelves.{shelf_text}
+use Rattle.tm_output.specs.ShelfLaws.{no_shelf}
 use Rattle.tm_tool.proofs.Running.{IsValid, noted-append, pieces-append}
 
 -- a gap of the master channel leaves the entries as they are

@@ -4,14 +4,14 @@ use Rattle.std.specs.Io.KnownBytes.{Appends}
 use Rattle.std.proofs.KnownBytes.{Appends-nil}
 use Rattle.tm_fields.specs.declared.field.Field.{Field}
 use Rattle.tm_fields.specs.Rows.{head_of}
-use Rattle.tm_tool.specs.declared.fault.RunFault.{RunFault}
-use Rattle.tm_tool.specs.declared.job.Ending.{Ending}
+use Rattle.tm_output.specs.declared.fault.RunFault.{RunFault}
+use Rattle.tm_output.specs.declared.command.Ending.{Ending}
 use Rattle.tm_tool.specs.Jobs.{rows_head}
-use Rattle.tm_tool.specs.Outlets.{PutStopped}
-use Rattle.tm_tool.specs.Outputs.{view}
-use Rattle.tm_tool.specs.Pieces.{Texts, Work}
+use Rattle.tm_output.specs.Outlets.{PutStopped}
+use Rattle.tm_output.specs.Outputs.{view}
+use Rattle.tm_output.specs.Pieces.{Texts, Work}
 use Rattle.tm_tool.specs.Runs.{IsHeadedStop}
-use Rattle.tm_tool.proofs.PieceLemmas.{stopped_put}
+use Rattle.tm_output.proofs.PieceLemmas.{stopped_put}
 
 module _ (fields : List Field) (fresh : Bool) (old new report : Option (List ℕ)) (failures failures' report_failures : ℕ) where
   -- writing stopped in it, before anything was read

@@ -2,14 +2,14 @@
 use Rattle.std.proofs.Common.{◌≡◌, ◌<◌, ◌+◌, ◌-◌, ◌^◌, ℕ, Bool, List, [], ◌++◌, length, refl, inl, inr, Option, IfSome}
 use Rattle.std.proofs.KnownBytes.{Appends-trans}
 use Rattle.tm_frame.specs.Layout.{record_length_of}
-use Rattle.tm_tool.specs.declared.fault.RunFault.{RunFault}
-use Rattle.tm_tool.specs.declared.fault.RunFault.TheVariants.{NoMemory, ShortRecording, TooMany}
-use Rattle.tm_tool.specs.declared.job.Ending.{Ending}
-use Rattle.tm_tool.specs.Outputs.{Piece, View, AppendsCut, Took, WantsMemory, outs, reports}
-use Rattle.tm_tool.specs.Pieces.{Texts, Work, chosen, further, pieces, worked}
-use Rattle.tm_tool.specs.Records.{record_count}
+use Rattle.tm_output.specs.declared.fault.RunFault.{RunFault}
+use Rattle.tm_output.specs.declared.fault.RunFault.TheVariants.{NoMemory, ShortRecording, TooMany}
+use Rattle.tm_output.specs.declared.command.Ending.{Ending}
+use Rattle.tm_output.specs.Outputs.{Piece, View, AppendsCut, Took, WantsMemory, outs, reports}
+use Rattle.tm_output.specs.Pieces.{Texts, Work, chosen, further, pieces, worked}
+use Rattle.tm_output.specs.Records.{record_count}
 use Rattle.tm_tool.specs.Runs.{IsRun, IsStoppedAt, IsHeadedRun, IsHeadedStop, kept_of}
-use Rattle.tm_tool.proofs.PieceLemmas.{cut_after, took_none, took_took, stopped_more, wants_after}
+use Rattle.tm_output.proofs.PieceLemmas.{cut_after, took_none, took_took, stopped_more, wants_after}
 use Rattle.tm_tool.proofs.Running.{IsValid}
 use Rattle.tm_tool.proofs.RunPieces.{always, weaker, run_told, run_cut, run_memory, run_many, run_short}
 

@@ -2,11 +2,11 @@
 use Rattle.std.proofs.Common.{◌≡◌, ℕ, sym, ap, ◌∙◌, Option, None, Some, IfSome}
 use Rattle.std.proofs.lemmas.Option.{same_Some}
 use Rattle.tm_frame.specs.Layout.{record_length_of}
-use Rattle.tm_tool.specs.declared.job.Ending.{Ending}
-use Rattle.tm_tool.specs.declared.job.Ending.TheVariants.{Close, Keep, StopAfter}
+use Rattle.tm_output.specs.declared.command.Ending.{Ending}
+use Rattle.tm_output.specs.declared.command.Ending.TheVariants.{Close, Keep, StopAfter}
 use Rattle.tm_tool.specs.declared.recording.Kept.{Kept}
 use Rattle.tm_tool.specs.Keeping.{kept_work}
-use Rattle.tm_tool.specs.Pieces.{Work}
+use Rattle.tm_output.specs.Pieces.{Work}
 use Rattle.tm_tool.specs.Runs.{kept_of}
 
 none_kept : {P : Type 0} (k : Work) → ◌≡◌ {A = Option Work} (Some k) None → P

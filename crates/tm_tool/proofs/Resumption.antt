@@ -7,13 +7,13 @@ use Rattle.tm_frame.specs.Layout.{record_length_of}
 use Rattle.tm_reassembly.specs.Rules.{Rules, IsLimit}
 use Rattle.tm_reassembly.specs.Valid.{AllOctets}
 use Rattle.tm_tool.specs.declared.fault.CheckpointFault.{CheckpointFault}
-use Rattle.tm_tool.specs.declared.job.Ending.{Ending}
-use Rattle.tm_tool.specs.declared.job.Ending.TheVariants.{Close, Keep, StopAfter}
+use Rattle.tm_output.specs.declared.command.Ending.{Ending}
+use Rattle.tm_output.specs.declared.command.Ending.TheVariants.{Close, Keep, StopAfter}
 use Rattle.tm_tool.specs.Checkpoints.{IsWork, checkpoint_of, resumed}
 use Rattle.tm_tool.specs.Jobs.{JobState, begun}
-use Rattle.tm_tool.specs.Outputs.{Piece}
-use Rattle.tm_tool.specs.Pieces.{Texts, Work, chosen, end_pieces, further, pieces, pieces_after, record_pieces, worked}
-use Rattle.tm_tool.specs.Records.{records, rest_of}
+use Rattle.tm_output.specs.Outputs.{Piece}
+use Rattle.tm_output.specs.Pieces.{Texts, Work, chosen, end_pieces, further, pieces, pieces_after, record_pieces, worked}
+use Rattle.tm_output.specs.Records.{records, rest_of}
 use Rattle.tm_tool.specs.Resuming.{Stop, KeepsJob, Follows, left_by, then_pieces, run_pieces, resumed_pieces, done_by, done_in_all, in_one}
 use Rattle.tm_tool.proofs.CheckpointLemmas.{read_again}
 use Rattle.tm_tool.proofs.WorkValid.{begun-work, worked-work}

@@ -2,14 +2,14 @@
 use Rattle.std.proofs.Common.{◌≡◌, ℕ, Bool, List, [], ◌++◌, length, sym, ap, subst, ◌∙◌, append-nil, inr, Option}
 use Rattle.tm_packet.specs.Merge as sequence
 use Rattle.tm_reassembly.specs.Items.{closing}
-use Rattle.tm_tool.specs.declared.fault.RunFault.{RunFault}
-use Rattle.tm_tool.specs.declared.fault.RunFault.TheVariants.{Read, Write, Report, ShortRecording, TooMany, NoMemory}
-use Rattle.tm_tool.specs.declared.job.Ending.{Ending}
-use Rattle.tm_tool.specs.Outputs.{Piece, View, Took, Stopped}
-use Rattle.tm_tool.specs.Pieces.{Entries, Texts, Work, noted_all, pieces_of, unclosed_pieces, worked, record_pieces, closing_pieces, end_pieces}
+use Rattle.tm_output.specs.declared.fault.RunFault.{RunFault}
+use Rattle.tm_output.specs.declared.fault.RunFault.TheVariants.{Read, Write, Report, ShortRecording, TooMany, NoMemory}
+use Rattle.tm_output.specs.declared.command.Ending.{Ending}
+use Rattle.tm_output.specs.Outputs.{Piece, View, Took, Stopped}
+use Rattle.tm_output.specs.Pieces.{Entries, Texts, Work, noted_all, pieces_of, unclosed_pieces, worked, record_pieces, closing_pieces, end_pieces}
 use Rattle.tm_tool.specs.Runs.{IsRun, StopsAtEnd, IsStoppedAt, behind, kept_of}
 use Rattle.tm_tool.specs.Stepping.{HasStepped}
-use Rattle.tm_tool.proofs.PieceLemmas.{took_took, took_stopped, took_failed, stopped_more}
+use Rattle.tm_output.proofs.PieceLemmas.{took_took, took_stopped, took_failed, stopped_more}
 use Rattle.tm_tool.proofs.Running.{behind-counted}
 
 module _ {A K : Type 0} (grows : K → K → List A → Type 0) (grows-nil : (k : K) → grows k k [])

@@ -6,17 +6,17 @@ use Rattle.std.proofs.lemmas.List.{drop-append-le, take-append-le}
 use Rattle.std.proofs.Math.Seq.{take-append-add}
 use Rattle.tm_frame.specs.Layout.{record_length_of}
 use Rattle.tm_reassembly.specs.Recording.{items}
-use Rattle.tm_tool.specs.declared.fault.RunFault.{RunFault}
-use Rattle.tm_tool.specs.declared.fault.RunFault.TheVariants.{Read, Write, Report, ShortRecording, TooMany, NoMemory}
-use Rattle.tm_tool.specs.declared.job.Ending.{Ending}
-use Rattle.tm_tool.specs.declared.job.Ending.TheVariants.{Close, Keep, StopAfter}
-use Rattle.tm_tool.specs.Outputs.{Piece, View, Cut, AppendsCut, Took, WantsMemory, Stopped, outs, reports}
-use Rattle.tm_tool.specs.Pieces.{Texts, Work, chosen, further, worked, record_pieces, end_pieces, pieces_after, pieces}
-use Rattle.tm_tool.specs.Records.{AreRecords, record_count, records, rest_of}
+use Rattle.tm_output.specs.declared.fault.RunFault.{RunFault}
+use Rattle.tm_output.specs.declared.fault.RunFault.TheVariants.{Read, Write, Report, ShortRecording, TooMany, NoMemory}
+use Rattle.tm_output.specs.declared.command.Ending.{Ending}
+use Rattle.tm_output.specs.declared.command.Ending.TheVariants.{Close, Keep, StopAfter}
+use Rattle.tm_output.specs.Outputs.{Piece, View, Cut, AppendsCut, Took, WantsMemory, Stopped, outs, reports}
+use Rattle.tm_output.specs.Pieces.{Texts, Work, chosen, further, worked, record_pieces, end_pieces, pieces_after, pieces}
+use Rattle.tm_output.specs.Records.{AreRecords, record_count, records, rest_of}
 use Rattle.tm_tool.specs.Runs.{HasRead, HasEnded, GoesOn, Suffices, IsRun, StopsAtRead, StopsAtRecord, StopsAtEnd, IsStoppedAt, behind, kept_of}
-use Rattle.tm_tool.proofs.ListingLemmas.{AreRecords-append, concat-one}
-use Rattle.tm_tool.proofs.PieceLemmas.{cut_all, cut_more, cut_none, took_stopped, stopped_more}
-use Rattle.tm_tool.proofs.RecordLemmas.{records_front, rest_front, count_front, count_short, records_short, rest_short}
+use Rattle.tm_output.proofs.ListingLemmas.{AreRecords-append, concat-one}
+use Rattle.tm_output.proofs.PieceLemmas.{cut_all, cut_more, cut_none, took_stopped, stopped_more}
+use Rattle.tm_output.proofs.RecordLemmas.{records_front, rest_front, count_front, count_short, records_short, rest_short}
 use Rattle.tm_tool.specs.Stepping.{Reached}
 use Rattle.tm_tool.proofs.Running.{IsValid, behind-more, behind-none, records-append, wanted_reached, more_reached}
 

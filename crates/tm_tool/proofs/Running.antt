@@ -18,16 +18,16 @@ use Rattle.tm_reassembly.specs.Valid.{IsState}
 use Rattle.tm_reassembly.proofs.OneStep.{after-nil}
 use Rattle.tm_reassembly.proofs.Raw.{items-join, states-join}
 use Rattle.tm_reassembly.proofs.States.{empty-valid, record-valid}
-use Rattle.tm_tool.specs.declared.fault.RunFault.{RunFault}
-use Rattle.tm_tool.specs.declared.fault.RunFault.TheVariants.{Read, Write, Report, ShortRecording, TooMany, NoMemory}
-use Rattle.tm_tool.specs.declared.job.Ending.{Ending}
-use Rattle.tm_tool.specs.declared.job.Ending.TheVariants.{Close, Keep, StopAfter}
-use Rattle.tm_tool.specs.Outputs.{Piece, View, Took, Stopped}
-use Rattle.tm_tool.specs.Pieces.{Entries, Texts, Work, noted, noted_all, piece_of, pieces_of, items_of, worked, record_pieces}
+use Rattle.tm_output.specs.declared.fault.RunFault.{RunFault}
+use Rattle.tm_output.specs.declared.fault.RunFault.TheVariants.{Read, Write, Report, ShortRecording, TooMany, NoMemory}
+use Rattle.tm_output.specs.declared.command.Ending.{Ending}
+use Rattle.tm_output.specs.declared.command.Ending.TheVariants.{Close, Keep, StopAfter}
+use Rattle.tm_output.specs.Outputs.{Piece, View, Took, Stopped}
+use Rattle.tm_output.specs.Pieces.{Entries, Texts, Work, noted, noted_all, piece_of, pieces_of, items_of, worked, record_pieces}
 use Rattle.tm_tool.specs.Runs.{HasRead, GoesOn, Suffices, StopsAtRecord, IsStoppedAt, behind}
 use Rattle.tm_tool.specs.Stepping.{Enough, HasTaken, HasStepped, HasPassed, PassingStopped, Reached, StepStopped, work_of}
-use Rattle.tm_tool.proofs.ListingLemmas.{AreRecords-append, concat-one}
-use Rattle.tm_tool.proofs.PieceLemmas.{took_none, took_took}
+use Rattle.tm_output.proofs.ListingLemmas.{AreRecords-append, concat-one}
+use Rattle.tm_output.proofs.PieceLemmas.{took_none, took_took}
 
 pub none_valid : (rules : Rules) → IsLimit rules.max_packet → IsState rules empty
 none_valid = empty-valid

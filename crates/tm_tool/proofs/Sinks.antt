@@ -2,11 +2,11 @@
 use Rattle.std.proofs.Common.{◌≡◌, Bool, List, [], ◌∷◌, ◌++◌, refl, sym, ap, subst, ◌∙◌, inl, inr}
 use Rattle.tm_reassembly.specs.Item.{Item}
 use Rattle.tm_reassembly.specs.Sinks.{TakesAll, RefusesOne}
-use Rattle.tm_tool.specs.declared.fault.RunFault.{RunFault}
-use Rattle.tm_tool.specs.Outputs.{View, Piece, Took, Stopped}
-use Rattle.tm_tool.specs.Pieces.{Entries, Texts, piece_of, noted, noted_all, pieces_of}
-use Rattle.tm_tool.specs.Sinking.{Takes, Refuses}
-use Rattle.tm_tool.proofs.PieceLemmas.{took_none, took_took, took_stopped, stopped_more}
+use Rattle.tm_output.specs.declared.fault.RunFault.{RunFault}
+use Rattle.tm_output.specs.Outputs.{View, Piece, Took, Stopped}
+use Rattle.tm_output.specs.Pieces.{Entries, Texts, piece_of, noted, noted_all, pieces_of}
+use Rattle.tm_output.specs.Sinking.{Takes, Refuses}
+use Rattle.tm_output.proofs.PieceLemmas.{took_none, took_took, took_stopped, stopped_more}
 
 module _ {A K S J L M N : Type 0} (grows : K → K → List A → Type 0) (grows-nil : (k : K) → grows k k [])
     (grows-trans : (j k l : K) (xs ys : List A) → grows j k xs → grows k l ys → grows j l (xs ++ ys))

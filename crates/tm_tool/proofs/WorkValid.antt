@@ -12,7 +12,7 @@ use Rattle.tm_reassembly.proofs.ItemChannels.{item-channel}
 use Rattle.tm_reassembly.proofs.States.{empty-valid, records-valid}
 use Rattle.tm_tool.specs.Checkpoints.{IsWork}
 use Rattle.tm_tool.specs.Jobs.{begun}
-use Rattle.tm_tool.specs.Pieces.{Entries, Work, sent, noted, noted_all, items_of, worked}
+use Rattle.tm_output.specs.Pieces.{Entries, Work, sent, noted, noted_all, items_of, worked}
 
 -- an item whose channel is one of eight leaves the entries valid
 noted-valid : (entries : Entries) (x : Item) → valid.IsState entries → ((c : ℕ) → is_of c x ≡ true → c < 8) → valid.IsState (noted entries x)

@@ -5,11 +5,11 @@ use Rattle.tm_fields.specs.Rows.{head_of}
 use Rattle.tm_packet.specs.Merge.{no_entries}
 use Rattle.tm_reassembly.specs.Items.{empty}
 use Rattle.tm_reassembly.specs.Rules.{Rules}
-use Rattle.tm_tool.specs.declared.job.Command.{Command}
-use Rattle.tm_tool.specs.declared.job.Command.TheVariants.{Extract, Packets, Fields}
-use Rattle.tm_tool.specs.declared.job.Ending.{Ending}
-use Rattle.tm_tool.specs.Outputs.{Piece}
-use Rattle.tm_tool.specs.Pieces.{Work, pieces, text_of}
+use Rattle.tm_output.specs.declared.command.Command.{Command}
+use Rattle.tm_output.specs.declared.command.Command.TheVariants.{Extract, Packets, Fields}
+use Rattle.tm_output.specs.declared.command.Ending.{Ending}
+use Rattle.tm_output.specs.Outputs.{Piece}
+use Rattle.tm_output.specs.Pieces.{Work, pieces, text_of}
 
 -- how far a job has got, and whether it is fresh: no run has begun with it
 pub record JobState : Type 0 where

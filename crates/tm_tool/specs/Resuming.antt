@@ -2,13 +2,13 @@
 use Rattle.std.specs.Prelude.{⊤, ◌≡◌, ℕ, ◌+◌, ◌-◌, min, Bool, List, [], ◌∷◌, ◌++◌, length, Result, Ok, Err}
 use Rattle.tm_reassembly.specs.Rules.{Rules}
 use Rattle.tm_tool.specs.declared.fault.CheckpointFault.{CheckpointFault}
-use Rattle.tm_tool.specs.declared.job.Ending.{Ending}
-use Rattle.tm_tool.specs.declared.job.Ending.TheVariants.{Close, Keep, StopAfter}
+use Rattle.tm_output.specs.declared.command.Ending.{Ending}
+use Rattle.tm_output.specs.declared.command.Ending.TheVariants.{Close, Keep, StopAfter}
 use Rattle.tm_tool.specs.Checkpoints.{checkpoint_of, resumed}
 use Rattle.tm_tool.specs.Jobs.{JobState}
-use Rattle.tm_tool.specs.Outputs.{Piece}
-use Rattle.tm_tool.specs.Pieces.{Texts, Work, chosen, further, pieces, worked}
-use Rattle.tm_tool.specs.Records.{records}
+use Rattle.tm_output.specs.Outputs.{Piece}
+use Rattle.tm_output.specs.Pieces.{Texts, Work, chosen, further, pieces, worked}
+use Rattle.tm_output.specs.Records.{records}
 
 -- a stop: where a run ended, and the recording as it was then
 pub record Stop : Type 0 where

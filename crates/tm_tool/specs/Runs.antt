@@ -3,13 +3,13 @@ use Rattle.std.specs.Prelude.{⊤, ◌≡◌, ◌≢◌, ◌⊎◌, ◌<◌, ◌
 use Rattle.std.specs.List.{concat}
 use Rattle.std.specs.Io.KnownBytes.{Consumes, IsAtEnd}
 use Rattle.tm_frame.specs.Layout.{record_length_of}
-use Rattle.tm_tool.specs.declared.fault.RunFault.{RunFault}
-use Rattle.tm_tool.specs.declared.fault.RunFault.TheVariants.{Read, Write, Report, ShortRecording, TooMany, NoMemory}
-use Rattle.tm_tool.specs.declared.job.Ending.{Ending}
-use Rattle.tm_tool.specs.declared.job.Ending.TheVariants.{Close, Keep, StopAfter}
-use Rattle.tm_tool.specs.Outputs.{Piece, View, Took, Stopped}
-use Rattle.tm_tool.specs.Pieces.{Texts, Work, worked, record_pieces, end_pieces, pieces_after}
-use Rattle.tm_tool.specs.Records.{AreRecords}
+use Rattle.tm_output.specs.declared.fault.RunFault.{RunFault}
+use Rattle.tm_output.specs.declared.fault.RunFault.TheVariants.{Read, Write, Report, ShortRecording, TooMany, NoMemory}
+use Rattle.tm_output.specs.declared.command.Ending.{Ending}
+use Rattle.tm_output.specs.declared.command.Ending.TheVariants.{Close, Keep, StopAfter}
+use Rattle.tm_output.specs.Outputs.{Piece, View, Took, Stopped}
+use Rattle.tm_output.specs.Pieces.{Texts, Work, worked, record_pieces, end_pieces, pieces_after}
+use Rattle.tm_output.specs.Records.{AreRecords}
 
 -- these records were read, and then these octets
 pub record HasRead (size : ℕ) (left_old left_new : Option (List ℕ)) (read : List (List ℕ)) (part : List ℕ) : Type 0 where

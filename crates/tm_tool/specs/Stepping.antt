@@ -5,13 +5,13 @@ use Rattle.std.specs.Io.KnownBytes.{Consumes}
 use Rattle.tm_frame.specs.Layout.{record_length_of}
 use Rattle.tm_reassembly.specs.Steps.{Progress}
 use Rattle.tm_devices.specs.Devices.{raised}
-use Rattle.tm_tool.specs.declared.fault.RunFault.{RunFault}
-use Rattle.tm_tool.specs.declared.fault.RunFault.TheVariants.{Read, Write, Report, ShortRecording, TooMany, NoMemory}
-use Rattle.tm_tool.specs.declared.job.Ending.{Ending}
-use Rattle.tm_tool.specs.declared.job.Ending.TheVariants.{Close, Keep, StopAfter}
-use Rattle.tm_tool.specs.Outputs.{Piece, View, Took, Stopped}
-use Rattle.tm_tool.specs.Pieces.{Entries, Texts, Work, worked, record_pieces}
-use Rattle.tm_tool.specs.Records.{AreRecords}
+use Rattle.tm_output.specs.declared.fault.RunFault.{RunFault}
+use Rattle.tm_output.specs.declared.fault.RunFault.TheVariants.{Read, Write, Report, ShortRecording, TooMany, NoMemory}
+use Rattle.tm_output.specs.declared.command.Ending.{Ending}
+use Rattle.tm_output.specs.declared.command.Ending.TheVariants.{Close, Keep, StopAfter}
+use Rattle.tm_output.specs.Outputs.{Piece, View, Took, Stopped}
+use Rattle.tm_output.specs.Pieces.{Entries, Texts, Work, worked, record_pieces}
+use Rattle.tm_output.specs.Records.{AreRecords}
 use Rattle.tm_tool.specs.Runs.{HasRead, HasReadAll, HasEnded, behind}
 
 -- how far a reassembly has got, together with the sequence counts

@@ -1,42 +1,6 @@
-//! Why a run ends, and why octets are no checkpoint.
+//! Why octets are no checkpoint.
 
-ghost use Rattle.std.specs.Prelude.{◌≡◌};
-
-use std::alloc::AllocError;
 use thiserror::Error;
-
-/// Why a run ended before its end.
-#[derive(Clone, Copy, Debug, Error, PartialEq, Eq)]
-pub enum RunFault {
-    /// A read of the recording failed.
-    #[error("read failed")]
-    Read,
-    /// A write or a flush of the output failed.
-    #[error("write failed")]
-    Write,
-    /// A write or a flush of the report failed.
-    #[error("report failed")]
-    Report,
-    /// The recording ended before the records that were done in it.
-    #[error("the recording is shorter than the checkpoint")]
-    ShortRecording,
-    /// A whole record followed the greatest number of records, 2^32 - 1.
-    #[error("too many records")]
-    TooMany,
-    /// Memory ran out.
-    #[error("out of memory")]
-    NoMemory,
-}
-
-impl From<AllocError> for RunFault {
-    ghost use Rattle.tm_tool.specs.declared.fault.RunFault.TheVariants.{NoMemory};
-
-    ghost from_gives = { λ _ e. e ≡ NoMemory };
-
-    fn from(_: AllocError) -> Self {
-        RunFault::NoMemory
-    }
-}
 
 /// Why octets are no checkpoint of a job with the settings.
 #[derive(Clone, Copy, Debug, Error, PartialEq, Eq)]

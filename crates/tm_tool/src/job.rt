@@ -4,46 +4,23 @@ ghost use Rattle.std.specs.Prelude.{◌≡◌, ◌+◌, ◌-◌, ◌^◌, ◌<�
 ghost use Rattle.std.specs.Io.KnownBytes.{Appends, Keeps};
 ghost use Rattle.tm_frame.specs.Layout.{record_length_of};
 ghost use Rattle.tm_reassembly.specs.Valid.{IsState};
-ghost use Rattle.tm_tool.specs.Faults.{RunCounted};
+ghost use Rattle.tm_output.specs.Faults.{RunCounted};
 ghost use Rattle.tm_tool.specs.Jobs.{all_pieces, begun, head_pieces};
-ghost use Rattle.tm_tool.specs.Outputs.{AppendsCut, Took, WantsMemory};
+ghost use Rattle.tm_output.specs.Outputs.{AppendsCut, Took, WantsMemory};
 ghost use Rattle.tm_tool.specs.Keeping.{IsGoing, kept_work};
-ghost use Rattle.tm_tool.specs.Pieces.{chosen, further, makes_rows, pieces, text_of, worked};
-ghost use Rattle.tm_tool.specs.Records.{record_count};
+ghost use Rattle.tm_output.specs.Pieces.{chosen, further, makes_rows, pieces, text_of, worked};
+ghost use Rattle.tm_output.specs.Records.{record_count};
 ghost use Rattle.tm_tool.specs.Runs.{IsHeadedRun, IsHeadedStop, IsRun, IsStoppedAt, kept_of};
-ghost use Rattle.tm_tool.specs.Shelves.{Shelves, shelf_text};
-ghost use Rattle.tm_tool.specs.Seen.{both, shelf_both};
+ghost use Rattle.tm_output.specs.Shelves.{Shelves, shelf_text};
+ghost use Rattle.tm_output.specs.Seen.{both, shelf_both};
 
 use crate::commands::{run_by, run_split};
 use crate::recording::{Ended, Kept};
-use crate::{Drain, NoMemory, RunFault, Settings, Shelf, Source};
+use crate::{Command, Drain, Ending, NoMemory, RunFault, Settings, Shelf, Source};
 use std::alloc::Global;
 use std::marker::Model;
-use tm_fields::Definition;
 use tm_packet::Tracker;
 use tm_reassembly::Reassembly;
-
-/// What of the packets is written to the output.
-#[derive(Clone, Copy)]
-pub enum Command<'a> {
-    /// Their octets.
-    Extract,
-    /// A line for each.
-    Packets,
-    /// Behind a head, a row for each packet of this application that has all bits of the definition's fields.
-    Fields(&'a Definition, u16),
-}
-
-/// Where a run ends.
-#[derive(Clone, Copy, Debug, PartialEq, Eq)]
-pub enum Ending {
-    /// At the end of the recording, which is closed there: what is held and what is open then is reported.
-    Close,
-    /// At the end of the recording, of which more may come: a rest of less than a record is left to the job's next run.
-    Keep,
-    /// After so many further records, or at the end as `Keep` where there are fewer.
-    StopAfter(u32),
-}
 
 /// What a run did.
 #[derive(Drop)]

@@ -5,17 +5,17 @@ ghost use Rattle.tm_bits.specs.Bits.{AreOctets};
 ghost use Rattle.tm_frame.specs.Layout.{record_length_of};
 ghost use Rattle.tm_reassembly.specs.Rules.{IsLimit, Rules};
 ghost use Rattle.tm_reassembly.specs.Valid.{AllOctets, IsState};
-ghost use Rattle.tm_tool.specs.declared.job.Command.{Command};
-ghost use Rattle.tm_tool.specs.declared.job.Ending.{Ending};
+ghost use Rattle.tm_output.specs.declared.command.Command.{Command};
+ghost use Rattle.tm_output.specs.declared.command.Ending.{Ending};
 ghost use Rattle.tm_tool.specs.Checkpoints.{IsWork, checkpoint_of, kept_in, resumed, spelled_in, tells, without_master};
 ghost use Rattle.tm_tool.specs.declared.version.Version.{Version};
 ghost use Rattle.tm_tool.specs.declared.version.Version.TheVariants as version;
 ghost use Rattle.tm_tool.specs.Jobs.{JobState, begun, head_pieces};
 ghost use Rattle.tm_tool.specs.OlderVersions.{LacksGapLine};
-ghost use Rattle.tm_tool.specs.Pieces.{Texts, Work, pieces, record_pieces, text_of, worked};
-ghost use Rattle.tm_tool.specs.Records.{records};
+ghost use Rattle.tm_output.specs.Pieces.{Texts, Work, pieces, record_pieces, text_of, worked};
+ghost use Rattle.tm_output.specs.Records.{records};
 ghost use Rattle.tm_tool.specs.Resuming.{Follows, Stop, done_in_all, in_one, no_head, resumed_pieces, run_pieces, then_pieces};
-ghost use Rattle.tm_tool.specs.Shelves.{Shelved, shelf_text};
+ghost use Rattle.tm_output.specs.Shelves.{Shelved, shelf_text};
 
 /// Checkpoints: what is written is read again, with the same settings, as the same work, and the job isn't fresh. So it is for the older
 /// versions, as far as they can tell the settings, but that the last master channel count is lost. And octets that are read are the

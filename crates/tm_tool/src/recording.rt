@@ -6,19 +6,18 @@ ghost use Rattle.tm_frame.specs.Layout.{record_length_of};
 ghost use Rattle.tm_reassembly.specs.Items.{closing};
 ghost use Rattle.tm_reassembly.specs.Steps.{most_records};
 ghost use Rattle.tm_reassembly.specs.Valid.{IsState};
-ghost use Rattle.tm_tool.specs.Faults.{RunCounted};
-ghost use Rattle.tm_tool.specs.Outputs.{SameCounts, Written};
-ghost use Rattle.tm_tool.specs.Pieces.{closing_pieces, end_pieces, noted_all, pieces_of, record_pieces, worked};
+ghost use Rattle.tm_output.specs.Faults.{RunCounted};
+ghost use Rattle.tm_output.specs.Outputs.{SameCounts, Written};
+ghost use Rattle.tm_output.specs.Pieces.{closing_pieces, end_pieces, noted_all, pieces_of, record_pieces, worked};
 ghost use Rattle.tm_tool.specs.Keeping.{IsGoing, kept_work};
 ghost use Rattle.tm_tool.specs.Runs.{GoesOn, IsRun, IsStoppedAt, kept_of};
 ghost use Rattle.tm_tool.specs.Stepping.{Enough, HasPassed, HasStepped, PassCounted, PassingStopped, StepWritten, work_of};
-ghost use Rattle.tm_tool.specs.Seen.{outlet_both};
+ghost use Rattle.tm_output.specs.Seen.{outlet_both};
 
-use crate::outlet::Outlet;
-use crate::output::Output;
 use crate::{Drain, Ending, RunFault, Source};
 use std::alloc::Global;
 use tm_devices::fill;
+use tm_output::{Outlet, Output};
 use tm_packet::Tracker;
 use tm_reassembly::{Reassembly, StepFault};
 

@@ -1,4 +1,4 @@
-use Rattle.tm_tool.specs.Pieces.{rows_text}
+use Rattle.tm_output.specs.Pieces.{rows_text}
 use Rattle.tm_tool.specs.Stepping.{work_of}
 use Rattle.tm_tool.proofs.HeadLemmas.{head_stop}
 use Rattle.tm_tool.proofs.commands.run_fields.Goals as goal

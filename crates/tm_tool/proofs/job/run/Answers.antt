@@ -5,8 +5,8 @@ use Rattle.std.proofs.lemmas.List.{length-take}
 use Rattle.tm_frame.specs.Layout.{record_length_of}
 use Rattle.tm_tool.specs.Jobs.{JobState, head_pieces}
 use Rattle.tm_tool.specs.Keeping.{kept_work}
-use Rattle.tm_tool.specs.Outputs.{view}
-use Rattle.tm_tool.specs.Pieces.{makes_rows, text_of, worked}
+use Rattle.tm_output.specs.Outputs.{view}
+use Rattle.tm_output.specs.Pieces.{makes_rows, text_of, worked}
 use Rattle.tm_tool.specs.Runs.{IsHeadedRun, IsHeadedStop, behind}
 use Rattle.tm_tool.proofs.HeadedRuns.{headed_told, headed_cut, headed_memory, headed_many, headed_short}
 use Rattle.tm_tool.proofs.KeptLemmas.{kept_exact}

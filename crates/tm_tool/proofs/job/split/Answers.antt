@@ -3,11 +3,11 @@ use Rattle.std.proofs.lemmas.List.{length-take}
 use Rattle.tm_frame.specs.Layout.{record_length_of}
 use Rattle.tm_tool.specs.Jobs.{JobState}
 use Rattle.tm_tool.specs.Keeping.{kept_work}
-use Rattle.tm_tool.specs.Outputs.{view}
-use Rattle.tm_tool.specs.Pieces.{worked}
+use Rattle.tm_output.specs.Outputs.{view}
+use Rattle.tm_output.specs.Pieces.{worked}
 use Rattle.tm_tool.specs.Runs.{IsRun, IsStoppedAt, behind}
-use Rattle.tm_tool.specs.Shelves.{Shelves, shelf_text}
-use Rattle.tm_tool.specs.ShelfLaws.{shelves_nil, shelves_trans}
+use Rattle.tm_output.specs.Shelves.{Shelves, shelf_text}
+use Rattle.tm_output.specs.ShelfLaws.{shelves_nil, shelves_trans}
 use Rattle.tm_tool.proofs.KeptLemmas.{kept_exact}
 use Rattle.tm_tool.proofs.Running.{IsValid}
 use Rattle.tm_tool.proofs.RunPieces.{run_told, run_cut, run_memory, run_many, run_short, same_fault}

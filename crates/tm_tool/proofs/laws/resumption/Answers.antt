@@ -1,10 +1,10 @@
 use Rattle.std.proofs.Common.{◌≡◌, [], false, refl}
-use Rattle.tm_tool.specs.declared.job.Command.{Command}
-use Rattle.tm_tool.specs.declared.job.Command.TheVariants.{Extract, Packets, Fields}
+use Rattle.tm_output.specs.declared.command.Command.{Command}
+use Rattle.tm_output.specs.declared.command.Command.TheVariants.{Extract, Packets, Fields}
 use Rattle.tm_tool.specs.Jobs.{begun, head_pieces}
-use Rattle.tm_tool.specs.Pieces.{text_of}
+use Rattle.tm_output.specs.Pieces.{text_of}
 use Rattle.tm_tool.specs.Resuming.{no_head}
-use Rattle.tm_tool.specs.Shelves.{shelf_text}
+use Rattle.tm_output.specs.Shelves.{shelf_text}
 use Rattle.tm_tool.proofs.Resumption.{front-work, joined}
 use Rattle.tm_tool.proofs.Running.{none_valid}
 use Rattle.tm_tool.proofs.laws.resumption.Goals as goal

@@ -2,7 +2,7 @@
 use Rattle.std.proofs.Common.{◌≡◌, ◌-◌, ◌^◌, ◌<◌, length}
 use Rattle.tm_frame.specs.Layout.{record_length_of}
 use Rattle.tm_tool.specs.Keeping.{IsGoing}
-use Rattle.tm_tool.specs.Outputs.{view}
+use Rattle.tm_output.specs.Outputs.{view}
 use Rattle.tm_tool.specs.Stepping.{HasTaken, Reached, work_of}
 use Rattle.tm_tool.proofs.recording.step_records.Given as goal
 

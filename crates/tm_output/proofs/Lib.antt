@@ -1,0 +1,10 @@
+pub mod ListingLemmas
+pub mod RecordLemmas
+pub mod CutLemmas
+pub mod ListingEnds
+pub mod LineLemmas
+pub mod PieceLemmas
+pub mod PacketLemmas
+pub mod OpenGroups
+pub mod RowLemmas
+pub mod ShelfLemmas

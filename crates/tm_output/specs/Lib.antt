@@ -1,0 +1,13 @@
+pub mod Records
+pub mod Lines
+pub mod Cuts
+pub mod Faults
+pub mod Listing
+pub mod Outputs
+pub mod FieldRows
+pub mod Pieces
+pub mod Sinking
+pub mod Outlets
+pub mod Shelves
+pub mod ShelfLaws
+pub mod Seen

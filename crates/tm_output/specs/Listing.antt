@@ -1,0 +1,90 @@
+-- The listing of a recording: a line for each record, and one for a rest.
+use Rattle.std.specs.Prelude.{◌≡◌, ◌≢◌, ◌⊎◌, ◌==◌, if◌then◌else◌, ℕ, ◌+◌, ◌-◌, ◌^◌, ◌<◌, List, [], ◌∷◌, ◌++◌, length, Option, Result, Ok, Err}
+use Rattle.std.specs.List.{concat}
+use Rattle.std.specs.Io.KnownBytes.{Appends, Consumes, IsAtEnd, Keeps}
+use Rattle.tm_frame.specs.declared.fault.FrameFault.{FrameFault}
+use Rattle.tm_frame.specs.declared.layout.LayoutParts.{LayoutParts}
+use Rattle.tm_frame.specs.Fault.{reading_of}
+use Rattle.tm_frame.specs.Frame.{GoodFrame}
+use Rattle.tm_frame.specs.Layout.{record_length_of}
+use Rattle.tm_output.specs.declared.fault.RunFault.{RunFault}
+use Rattle.tm_output.specs.declared.fault.RunFault.TheVariants.{Read, Write, Report, ShortRecording, TooMany, NoMemory}
+use Rattle.tm_devices.specs.Devices.{AppendsFront}
+use Rattle.tm_output.specs.Lines.{bad_line, frame_line, short_line}
+use Rattle.tm_output.specs.Records.{AreRecords, records, rest_of}
+
+-- the line of a record, by what it reads as
+abbrev pub reading_line : ℕ → Result GoodFrame FrameFault → List ℕ
+reading_line seen (Ok frame) = frame_line seen frame
+reading_line seen (Err fault) = bad_line seen fault
+
+unfoldable pub record_line : LayoutParts → ℕ → List ℕ → List ℕ
+record_line layout seen octets = reading_line seen (reading_of layout octets)
+
+-- the lines of records, of which the first is record `seen`
+abbrev pub record_lines : LayoutParts → ℕ → List (List ℕ) → List (List ℕ)
+record_lines layout seen [] = []
+record_lines layout seen (octets ∷ more) = record_line layout seen octets ∷ record_lines layout (seen + 1) more
+
+-- the line of a rest, none for a rest of no octets
+abbrev pub rest_lines : ℕ → ℕ → List (List ℕ)
+rest_lines seen octets = if octets == 0 then [] else short_line seen octets ∷ []
+
+-- the lines of records and a rest of so many octets
+abbrev pub lines_of : LayoutParts → List (List ℕ) → ℕ → List (List ℕ)
+lines_of layout all rest = record_lines layout 0 all ++ rest_lines (length all) rest
+
+-- the lines of a recording
+unfoldable pub listing : LayoutParts → List ℕ → List (List ℕ)
+listing layout recording =
+    lines_of layout (records (record_length_of layout) recording) (length (rest_of (record_length_of layout) recording))
+
+-- writing a text stopped: within it, or before it where there was no memory for it, which takes a text that isn't empty
+abbrev pub LineStopped : Option (List ℕ) → Option (List ℕ) → List ℕ → RunFault → Type 0
+LineStopped old new text Write = AppendsFront old new text
+LineStopped old new text NoMemory = (text ≢ []) × Keeps old new
+LineStopped old new text _ = ⊥
+
+-- ---- what was read and written when a listing ended; of devices that don't tell their octets nothing is said
+
+module _ (layout : LayoutParts) (left_old left_new out_old out_new : Option (List ℕ)) where
+  -- these records were read, and then these octets
+  abbrev pub HasRead : List (List ℕ) → List ℕ → Type 0
+  HasRead read part = AreRecords (record_length_of layout) read × Consumes left_old left_new (concat read ++ part)
+
+  -- these records were read, and then less than a record to the end
+  abbrev pub HasReadAll : List (List ℕ) → List ℕ → Type 0
+  HasReadAll read rest = HasRead read rest × (length rest < record_length_of layout) × IsAtEnd left_new
+
+  -- all was read, and all lines written
+  abbrev pub IsListed : ℕ → Type 0
+  IsListed count =
+      (read : List (List ℕ)) × (rest : List ℕ) × HasReadAll read rest × (count ≡ length read)
+      × Appends out_old out_new (concat (lines_of layout read (length rest)))
+
+  -- after the lines of these records, writing stopped in a text: within it, or before it where there was no memory for it
+  abbrev pub StopsIn : List (List ℕ) → List ℕ → RunFault → Type 0
+  StopsIn read text Write = (front rest : List ℕ) × (text ≡ front ++ rest) × Appends out_old out_new (concat (record_lines layout 0 read) ++ front)
+  StopsIn read text NoMemory = (text ≢ []) × Appends out_old out_new (concat (record_lines layout 0 read))
+  StopsIn read text _ = ⊥
+
+  -- writing stopped in the line of the record that was read last, or, with all read, in the line of the rest
+  abbrev pub StopsWriting : RunFault → Type 0
+  StopsWriting fault =
+      ((read : List (List ℕ)) × (one : List ℕ) × HasRead read one × (length one ≡ record_length_of layout)
+      × StopsIn read (record_line layout (length read) one) fault)
+      ⊎ ((read : List (List ℕ)) × (rest : List ℕ) × HasReadAll read rest × StopsIn read (concat (rest_lines (length read) (length rest))) fault)
+
+  -- where a fault leaves the devices: after a failed read the lines of all whole records that were read are written, after
+  -- the greatest number of records one whole record more was read, and without memory for the first record nothing was
+  abbrev pub IsStopped : RunFault → Type 0
+  IsStopped Read =
+      (read : List (List ℕ)) × (part : List ℕ) × HasRead read part × (length part < record_length_of layout)
+      × Appends out_old out_new (concat (record_lines layout 0 read))
+  IsStopped Write = StopsWriting Write
+  IsStopped Report = ⊥
+  IsStopped ShortRecording = ⊥
+  IsStopped TooMany =
+      (read : List (List ℕ)) × (one : List ℕ) × HasRead read one × (length one ≡ record_length_of layout)
+      × (length read ≡ 2 ^ 32 - 1) × Appends out_old out_new (concat (record_lines layout 0 read))
+  IsStopped NoMemory = StopsWriting NoMemory ⊎ (Keeps left_old left_new × Keeps out_old out_new)

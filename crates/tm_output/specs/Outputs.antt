@@ -1,0 +1,93 @@
+-- Two outputs that grow by pieces, and the one place where writing may stop. The first, `out`, is a device or a set of files: what it
+-- grows by is a list of any kind.
+use Rattle.std.specs.Prelude.{◌≡◌, ◌≢◌, ◌⊎◌, ℕ, Bool, true, List, [], ◌∷◌, ◌++◌, Option, Result, MatchResult}
+use Rattle.std.specs.Io.KnownBytes.{Appends}
+use Rattle.tm_devices.specs.Devices.{raised}
+use Rattle.tm_output.specs.declared.fault.RunFault.{RunFault}
+use Rattle.tm_output.specs.declared.fault.RunFault.TheVariants.{Read, Write, Report, ShortRecording, TooMany, NoMemory}
+
+-- what belongs to `out`, and a text for the report
+pub record Piece (A : Type 0) : Type 0 where
+  pub out : List A
+  pub report : List ℕ
+
+abbrev pub outs : {A : Type 0} → List (Piece A) → List A
+outs [] = []
+outs (p ∷ ps) = p.out ++ outs ps
+
+abbrev pub reports : {A : Type 0} → List (Piece A) → List ℕ
+reports [] = []
+reports (p ∷ ps) = p.report ++ reports ps
+
+-- The pieces up to one place: nothing of no pieces. Else a front of what belongs to `out` of the first, and nothing for the report;
+-- or all of that and a front of its report; or both whole, and then a cut of the others.
+abbrev pub Cut : {A : Type 0} → List (Piece A) → List A → List ℕ → Type 0
+Cut [] out report = (out ≡ []) × (report ≡ [])
+Cut {A} (p ∷ ps) out report =
+    ((rest : List A) × (p.out ≡ out ++ rest) × (report ≡ []))
+    ⊎ (((rest : List ℕ) × (out ≡ p.out) × (p.report ≡ report ++ rest))
+    ⊎ ((more : List A) × (others : List ℕ) × (out ≡ p.out ++ more) × (report ≡ p.report ++ others) × Cut ps more others))
+
+-- what is known of the two outputs: what they hold, where they tell it, and how many calls of each have failed
+pub record View (K : Type 0) : Type 0 where
+  pub out : K
+  pub report : Option (List ℕ)
+  pub out_failures : ℕ
+  pub report_failures : ℕ
+
+abbrev pub view : {K : Type 0} → K → Option (List ℕ) → ℕ → ℕ → View K
+view out report out_failures report_failures =
+    record { out = out; report = report; out_failures = out_failures; report_failures = report_failures }
+
+-- no call of either output failed
+abbrev pub SameCounts : {K : Type 0} → View K → View K → Type 0
+SameCounts old new = (new.out_failures ≡ old.out_failures) × (new.report_failures ≡ old.report_failures)
+
+-- what writing may answer: `Write` where a call of `out` failed, `Report` where one of the report did, or want of memory
+abbrev pub Caused : {K : Type 0} → View K → View K → RunFault → Type 0
+Caused old new Read = ⊥
+Caused old new Write = (new.out_failures ≡ raised old.out_failures) × (new.report_failures ≡ old.report_failures)
+Caused old new Report = (new.out_failures ≡ old.out_failures) × (new.report_failures ≡ raised old.report_failures)
+Caused old new ShortRecording = ⊥
+Caused old new TooMany = ⊥
+Caused old new NoMemory = SameCounts old new
+
+-- for this text of the report memory is wanted; and for each text where what belongs to `out` is made in memory too
+abbrev pub TakesMemory : Bool → List ℕ → Type 0
+TakesMemory rows report = (rows ≡ true) ⊎ (report ≢ [])
+
+module _ {A K : Type 0} (grows : K → K → List A → Type 0) where
+  -- the pieces were written, whole
+  abbrev pub AppendsPieces : View K → View K → List (Piece A) → Type 0
+  AppendsPieces old new pieces = grows old.out new.out (outs pieces) × Appends old.report new.report (reports pieces)
+
+  -- they were written up to one place
+  abbrev pub AppendsCut : View K → View K → List (Piece A) → Type 0
+  AppendsCut old new pieces =
+      (out : List A) × (report : List ℕ) × Cut pieces out report × grows old.out new.out out × Appends old.report new.report report
+
+-- all pieces were written, and no call failed
+pub record Took {A K : Type 0} (grows : K → K → List A → Type 0) (old new : View K) (pieces : List (Piece A)) : Type 0 where
+  pub whole : AppendsPieces grows old new pieces
+  pub counts : SameCounts old new
+
+-- Some pieces were written, whole, from the first on, and nothing of the next one, for which there was no memory. It is made in memory
+-- where `rows` says that what belongs to `out` is, and else only for a text of the report that isn't empty.
+pub record WantsMemory {A K : Type 0} (grows : K → K → List A → Type 0) (rows : Bool) (old new : View K) (pieces : List (Piece A)) : Type 0 where
+  pub done : List (Piece A)
+  pub next : Piece A
+  pub more : List (Piece A)
+  pub split : pieces ≡ done ++ next ∷ more
+  pub wanted : TakesMemory rows next.report
+  pub whole : AppendsPieces grows old new done
+
+-- writing stopped at one place of the pieces, with this fault
+pub record Stopped {A K : Type 0} (grows : K → K → List A → Type 0) (rows : Bool) (old new : View K) (pieces : List (Piece A)) (fault : RunFault)
+    : Type 0 where
+  pub cut : AppendsCut grows old new pieces
+  pub cause : Caused old new fault
+  pub memory : fault ≡ NoMemory → WantsMemory grows rows old new pieces
+
+-- writing all pieces, or up to one place
+abbrev pub Written : {A K T : Type 0} → (K → K → List A → Type 0) → Bool → View K → View K → List (Piece A) → Result T RunFault → Type 0
+Written grows rows old new pieces r = MatchResult r (λ _. Took grows old new pieces) (Stopped grows rows old new pieces)

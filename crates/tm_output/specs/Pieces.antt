@@ -1,0 +1,181 @@
+-- The pieces of a recording: for each item what belongs to `out`, and its lines for the report.
+use Rattle.std.specs.Prelude.{⊤, ℕ, ◌/◌, ◌%◌, Bool, true, false, List, [], ◌∷◌, ◌++◌, length, map, take, drop, Option}
+use Rattle.std.specs.List.{flat_map}
+use Rattle.tm_frame.specs.Layout.{record_length_of}
+use Rattle.tm_fields.specs.declared.field.Field.{Field}
+use Rattle.tm_packet.specs.declared.notes.Note.{Note}
+use Rattle.tm_packet.specs.declared.tracker.Last.{Last}
+use Rattle.tm_packet.specs.declared.tracker.Unclosed.{Unclosed}
+use Rattle.tm_packet.specs.Header.{header_of}
+use Rattle.tm_packet.specs.Merge as sequence
+use Rattle.tm_packet.specs.Merge.{Sent}
+use Rattle.tm_reassembly.specs.Item.{Item, Bad, MasterGap, Gap, Vca, Dropped, Packet, Short}
+use Rattle.tm_reassembly.specs.Items.{closing}
+use Rattle.tm_reassembly.specs.Recording.{items, after}
+use Rattle.tm_reassembly.specs.Rules.{Rules}
+use Rattle.tm_reassembly.specs.State.{State}
+use Rattle.tm_output.specs.declared.command.Command.{Command}
+use Rattle.tm_output.specs.declared.command.Command.TheVariants.{Extract, Packets, Fields}
+use Rattle.tm_output.specs.declared.command.Ending.{Ending}
+use Rattle.tm_output.specs.declared.command.Ending.TheVariants.{Close, Keep, StopAfter}
+use Rattle.tm_output.specs.FieldRows.{tabled, too_short}
+use Rattle.tm_output.specs.Lines.{bad_line, drop_line, gap_line, master_gap_line, note_line, note_lines, packet_line, short_line, vca_line}
+use Rattle.tm_output.specs.Outputs.{Piece}
+use Rattle.tm_output.specs.Records.{records, rest_of}
+
+-- for each key what is kept of the sequence counts of its channel and application
+abbrev pub Entries : Type 0
+Entries = List (Option Last)
+
+-- the packet of a channel as its sequence counts see it
+abbrev pub sent : ℕ → List ℕ → Sent
+sent channel octets = record { channel = channel; header = header_of octets }
+
+-- the entries after an item: a packet's header is noted, and nothing else
+unfoldable pub noted : Entries → Item → Entries
+noted entries (Bad seen fault) = entries
+noted entries (MasterGap seen expected found missing) = entries
+noted entries (Gap seen channel expected found missing) = entries
+noted entries (Vca seen channel) = entries
+noted entries (Dropped seen channel first place octets reason) = entries
+noted entries (Packet seen channel first place octets) = sequence.after entries (sent channel octets ∷ [])
+noted entries (Short seen octets) = entries
+
+-- the notes of a packet
+unfoldable pub notes_of : Entries → Sent → List Note
+notes_of entries p = flat_map (λ ns. ns) (sequence.notes entries (p ∷ []))
+
+-- the line of an item; a packet has none
+unfoldable pub line_of : Item → List ℕ
+line_of (Bad seen fault) = bad_line seen fault
+line_of (MasterGap seen expected found missing) = master_gap_line seen expected found missing
+line_of (Gap seen channel expected found missing) = gap_line seen channel expected found missing
+line_of (Vca seen channel) = vca_line seen channel
+line_of (Dropped seen channel first place octets reason) = drop_line seen channel first place octets reason
+line_of (Packet seen channel first place octets) = []
+line_of (Short seen octets) = short_line seen octets
+
+-- an item that has a line
+abbrev pub HasLine : Item → Type 0
+HasLine (Packet seen channel first place octets) = ⊥
+HasLine _ = ⊤
+
+-- what an item gives the report: its line, and a packet the lines of its notes
+unfoldable pub report_of : Entries → Item → List ℕ
+report_of entries (Packet seen channel first place octets) =
+    note_lines seen channel (header_of octets).application (notes_of entries (sent channel octets))
+report_of entries x = line_of x
+
+-- what is given of an item: to `out`, and to the report behind the item's line or notes
+pub record Texts (A : Type 0) : Type 0 where
+  pub out : Item → List A
+  pub remark : Item → List ℕ
+
+-- the octets of a packet
+unfoldable pub octets_of : Item → List ℕ
+octets_of (Packet seen channel first place octets) = octets
+octets_of _ = []
+
+-- the line of a packet
+unfoldable pub listed : Item → List ℕ
+listed (Packet seen channel first place octets) = packet_line seen channel first place (header_of octets) (length octets)
+listed _ = []
+
+-- nothing more for the report
+abbrev pub no_remark : Item → List ℕ
+no_remark _ = []
+
+-- the row of a packet, and the line of one that is too short
+abbrev pub rows_text : List Field → ℕ → Texts ℕ
+rows_text fields application = record { out = tabled fields application; remark = too_short fields application }
+
+-- what a command gives of an item
+abbrev pub text_of : Command → Texts ℕ
+text_of Extract = record { out = octets_of; remark = no_remark }
+text_of Packets = record { out = listed; remark = no_remark }
+text_of (Fields definition application) = rows_text definition.now application
+
+-- what belongs to `out` is made in memory: lines are, a packet's own octets are not
+abbrev pub makes_rows : Command → Bool
+makes_rows Extract = false
+makes_rows Packets = true
+makes_rows (Fields definition application) = true
+
+-- ---- of items, by what is given of each
+
+module _ {A : Type 0} (text : Texts A) where
+  abbrev pub piece_of : Entries → Item → Piece A
+  piece_of entries x = record { out = text.out x; report = report_of entries x ++ text.remark x }
+
+  abbrev pub pieces_of : Entries → List Item → List (Piece A)
+  pieces_of entries [] = []
+  pieces_of entries (x ∷ xs) = piece_of entries x ∷ pieces_of (noted entries x) xs
+
+abbrev pub noted_all : Entries → List Item → Entries
+noted_all entries [] = entries
+noted_all entries (x ∷ xs) = noted_all (noted entries x) xs
+
+-- a group that is open at a closed end, of which so many records are done
+unfoldable pub unclosed_piece : {A : Type 0} → ℕ → Unclosed → Piece A
+unclosed_piece seen u = record { out = []; report = note_line seen (u.key / 2048) (u.key % 2048) u.note }
+
+-- those of all keys, by rising key
+abbrev pub unclosed_pieces : {A : Type 0} → ℕ → List Unclosed → List (Piece A)
+unclosed_pieces seen us = map (unclosed_piece seen) us
+
+-- ---- of records
+
+-- how far a job has got: what the settings say, the state of the channels, and the entries of the sequence counts
+pub record Work : Type 0 where
+  pub rules : Rules
+  pub state : State
+  pub entries : Entries
+
+abbrev pub items_of : Work → List (List ℕ) → List Item
+items_of w rs = items w.rules w.state rs
+
+-- the job after more records
+abbrev pub worked : Work → List (List ℕ) → Work
+worked w rs = record {
+  rules = w.rules;
+  state = after w.rules w.state rs;
+  entries = noted_all w.entries (items_of w rs);
+}
+
+-- ---- endings
+
+-- of the records that follow those that are done an ending takes so many, or all
+abbrev pub chosen : {X : Type 0} → Ending → List X → List X
+chosen Close rs = rs
+chosen Keep rs = rs
+chosen (StopAfter n) rs = take n rs
+
+-- the records of a recording that follow those that are done
+abbrev pub further : Work → List ℕ → List (List ℕ)
+further w recording = drop w.state.records (records (record_length_of w.rules.layout) recording)
+
+module _ {A : Type 0} (text : Texts A) where
+  -- the pieces of records
+  abbrev pub record_pieces : Work → List (List ℕ) → List (Piece A)
+  record_pieces w rs = pieces_of text w.entries (items_of w rs)
+
+  -- the pieces of a closed end, where so many octets are left: its items, and then the groups that are open
+  abbrev pub closing_pieces : Work → ℕ → List (Piece A)
+  closing_pieces w rest =
+      pieces_of text w.entries (closing w.state rest)
+      ++ unclosed_pieces w.state.records (sequence.unclosed 0 (noted_all w.entries (closing w.state rest)))
+
+  -- what follows the records at an ending: a closed end has its pieces, where a job is kept there is nothing
+  abbrev pub end_pieces : Ending → Work → ℕ → List (Piece A)
+  end_pieces Close w rest = closing_pieces w rest
+  end_pieces Keep w rest = []
+  end_pieces (StopAfter n) w rest = []
+
+  -- the pieces of records and of the ending, where so many octets are left
+  abbrev pub pieces_after : Ending → Work → List (List ℕ) → ℕ → List (Piece A)
+  pieces_after ending w rs rest = record_pieces w rs ++ end_pieces ending (worked w rs) rest
+
+  -- the pieces of a recording, from where the job has got
+  unfoldable pub pieces : Ending → Work → List ℕ → List (Piece A)
+  pieces ending w recording =
+      pieces_after ending w (chosen ending (further w recording)) (length (rest_of (record_length_of w.rules.layout) recording))

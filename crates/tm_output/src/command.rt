@@ -1,0 +1,25 @@
+//! What is asked of a run.
+
+use tm_fields::Definition;
+
+/// What of the packets is written to the output.
+#[derive(Clone, Copy)]
+pub enum Command<'a> {
+    /// Their octets.
+    Extract,
+    /// A line for each.
+    Packets,
+    /// Behind a head, a row for each packet of this application that has all bits of the definition's fields.
+    Fields(&'a Definition, u16),
+}
+
+/// Where a run ends.
+#[derive(Clone, Copy, Debug, PartialEq, Eq)]
+pub enum Ending {
+    /// At the end of the recording, which is closed there: what is held and what is open then is reported.
+    Close,
+    /// At the end of the recording, of which more may come: a rest of less than a record is left to the job's next run.
+    Keep,
+    /// After so many further records, or at the end as `Keep` where there are fewer.
+    StopAfter(u32),
+}

@@ -1,0 +1,15 @@
+//! What a run writes: lines, and where they and the packets go.
+#![tactic(auto)]
+
+mod command;
+mod fault;
+mod lines;
+mod listing;
+mod outlet;
+mod output;
+
+pub use command::{Command, Ending};
+pub use fault::RunFault;
+pub use listing::list_frames;
+pub use outlet::{Outlet, PacketLines, PacketOctets, PacketRows, PacketShelf};
+pub use output::Output;

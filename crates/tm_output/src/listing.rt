@@ -1,0 +1,141 @@
+//! A line for each frame of a recording.
+
+ghost use Rattle.std.specs.Prelude.{◌≡◌, ◌<◌, ◌-◌, ◌^◌, ◌++◌, length, IfOk, IfErr, OnOk, IfSome, IsErrOf, string_bytes};
+ghost use Rattle.std.specs.List.{concat};
+ghost use Rattle.std.specs.Io.KnownBytes.{Appends, Keeps};
+ghost use Rattle.tm_frame.specs.Layout.{record_length_of};
+ghost use Rattle.tm_output.specs.Cuts.{AppendsCut, AppendsWhole};
+ghost use Rattle.tm_output.specs.Faults.{FaultsCounted, WritesCounted};
+ghost use Rattle.tm_output.specs.Listing.{IsListed, IsStopped, LineStopped, listing, record_line, rest_lines};
+ghost use Rattle.tm_output.specs.Records.{record_count};
+
+use crate::RunFault;
+use crate::lines::{push_bad, push_frame, push_short};
+use std::alloc::{AllocError, Global};
+use tm_devices::{Drain, Source, fill, put_all};
+use tm_frame::{Layout, read};
+use tm_settings::Settings;
+
+// Makes the line of a record.
+#[tactic(auto, unfolding(crate::specs::Listing::record_line))]
+fn push_record(
+    line: &mut String,
+    layout: &Layout,
+    seen: u32,
+    octets: &[u8],
+) -> Result<(), AllocError>
+    requires { length octets.now ≡ record_length_of layout.now }
+    ensures { OnOk result (string_bytes line.new ≡ string_bytes line.old ++ record_line layout.now seen octets.now) }
+{
+    match read(layout, octets) {
+        Ok(frame) => push_frame(line, seen, &frame),
+        Err(fault) => push_bad(line, seen, fault),
+    }
+}
+
+// Writes the line of a record.
+#[tactic(auto, using(crate::proofs::ListingLemmas::some_record_line))]
+fn put_record<W: Drain>(
+    line: &mut String,
+    layout: &Layout,
+    seen: u32,
+    octets: &[u8],
+    out: &mut W,
+) -> Result<(), RunFault>
+    requires { length octets.now ≡ record_length_of layout.now }
+    ensures whole { OnOk result (Appends (W.written out.old) (W.written out.new) (record_line layout.now seen octets.now)) }
+    ensures stopped { IfErr result (LineStopped (W.written out.old) (W.written out.new) (record_line layout.now seen octets.now)) }
+    ensures counts { WritesCounted (W.failures out.old) (W.failures out.new) result }
+{
+    line.clear();
+    push_record(line, layout, seen, octets)?;
+    put_all(out, line.as_bytes()).map_err(|_| RunFault::Write)
+}
+
+// Writes the line of a rest, if there is one, and flushes.
+#[tactic(auto, using(crate::proofs::ListingLemmas::some_rest_line))]
+fn put_end<W: Drain>(
+    line: &mut String,
+    seen: u32,
+    octets: usize,
+    out: &mut W,
+) -> Result<(), RunFault>
+    ensures whole { OnOk result (Appends (W.written out.old) (W.written out.new) (concat (rest_lines seen octets))) }
+    ensures flushed { OnOk result (Keeps (W.flushed out.new) (W.written out.new)) }
+    ensures stopped { IfErr result (LineStopped (W.written out.old) (W.written out.new) (concat (rest_lines seen octets))) }
+    ensures counts { WritesCounted (W.failures out.old) (W.failures out.new) result }
+{
+    if octets > 0 {
+        line.clear();
+        push_short(line, seen, octets)?;
+        put_all(out, line.as_bytes()).map_err(|_| RunFault::Write)?;
+    }
+    out.flush().map_err(|_| RunFault::Write)
+}
+
+// Lists records that are read one at a time into this buffer.
+fn list_records<R: Source, W: Drain>(
+    alloc: Global,
+    layout: &Layout,
+    buffer: &mut [u8],
+    recording: &mut R,
+    out: &mut W,
+) -> Result<u32, RunFault>
+    requires exact { length buffer.old ≡ record_length_of layout.now }
+    requires some { 0 < length buffer.old }
+    ensures listed { IfOk result (IsListed layout.now (R.left recording.old) (R.left recording.new) (W.written out.old) (W.written out.new)) }
+    ensures flushed { OnOk result (Keeps (W.flushed out.new) (W.written out.new)) }
+    ensures stopped { IfErr result (IsStopped layout.now (R.left recording.old) (R.left recording.new) (W.written out.old) (W.written out.new)) }
+    ensures counts { FaultsCounted (R.failures recording.old) (R.failures recording.new) (W.failures out.old) (W.failures out.new) result }
+{
+    let mut line = String::new(alloc);
+    let mut seen = 0u32;
+    loop {
+        let Ok(octets) = fill(recording, buffer) else {
+            return Err(RunFault::Read);
+        };
+        if octets < buffer.len() {
+            put_end(&mut line, seen, octets, out)?;
+            return Ok(seen);
+        }
+        if seen == u32::MAX {
+            return Err(RunFault::TooMany);
+        }
+        put_record(&mut line, layout, seen, buffer, out)?;
+        seen += 1;
+    }
+}
+
+/// Writes a line for each record of the recording, of any channel, and one for octets that are left,
+/// and flushes. It answers the number of records. One record is read at a time.
+pub fn list_frames<R: Source, W: Drain>(
+    alloc: Global,
+    settings: &Settings,
+    recording: &mut R,
+    out: &mut W,
+) -> Result<u32, RunFault>
+    // With Ok all was read, and just the lines of the recording were written, and passed on.
+    ensures all { IfOk result (IsListed settings.now.layout (R.left recording.old) (R.left recording.new) (W.written out.old) (W.written out.new)) }
+    ensures listed { IfOk result (λ count. IfSome (R.left recording.old) (λ all.
+        Appends (W.written out.old) (W.written out.new) (concat (listing settings.now.layout all))
+        × (count ≡ record_count (record_length_of settings.now.layout) all))) }
+    ensures flushed { OnOk result (Keeps (W.flushed out.new) (W.written out.new)) }
+
+    // After a fault there is one place up to which these lines were written; without memory it is a line's end.
+    ensures cut { IfErr result (λ _. IfSome (R.left recording.old) (λ all.
+        AppendsCut (W.written out.old) (W.written out.new) (listing settings.now.layout all))) }
+    ensures memory { IsErrOf result RunFault.NoMemory → IfSome (R.left recording.old) (λ all.
+        AppendsWhole (W.written out.old) (W.written out.new) (listing settings.now.layout all)) }
+
+    // What was read by then: nothing past the record whose line was being written.
+    ensures stopped { IfErr result (IsStopped settings.now.layout (R.left recording.old) (R.left recording.new) (W.written out.old) (W.written out.new)) }
+    ensures too_many { IsErrOf result RunFault.TooMany → IfSome (R.left recording.old) (λ all.
+        2 ^ 32 - 1 < record_count (record_length_of settings.now.layout) all) }
+
+    // A device is blamed only where a call of it failed.
+    ensures counts { FaultsCounted (R.failures recording.old) (R.failures recording.new) (W.failures out.old) (W.failures out.new) result }
+{
+    let layout = settings.layout();
+    let mut record = vec![in alloc; 0u8; layout.record_length()]?;
+    list_records(alloc, &layout, record.as_mut_slice(), recording, out)
+}

@@ -1,0 +1,418 @@
+//! Where packets go: their octets into a drain or a shelf, or a line or a row for each into a drain.
+
+ghost use Rattle.std.specs.Prelude.{◌≡◌, ◌≢◌, ◌++◌, ◌==◌, [], ◌∷◌, ℕ, Bool, true, false, List, Option, OnOk, OnErr, IfErr, string_bytes};
+ghost use Rattle.std.specs.Io.KnownBytes.{Appends, Keeps};
+ghost use Rattle.std.proofs.KnownBytes.{Appends-nil, Appends-trans};
+ghost use Rattle.tm_packet.specs.Header.{header_of};
+ghost use Rattle.tm_reassembly.specs.Item as value;
+ghost use Rattle.tm_reassembly.specs.Item.{Item};
+ghost use Rattle.tm_devices.specs.Devices.{Counts};
+ghost use Rattle.tm_output.specs.Outlets.{GivesNone, PutStopped, no_text};
+ghost use Rattle.tm_output.specs.Pieces.{HasLine, Texts, text_of};
+ghost use Rattle.tm_output.specs.ShelfLaws.{no_shelf, shelves_nil, shelves_trans};
+ghost use Rattle.tm_output.specs.Shelves.{Shelved, Shelves, shelf_text};
+
+use crate::RunFault;
+use crate::lines::{push_packet, push_short_packet};
+use std::alloc::{AllocError, Global};
+use tm_devices::{DeviceFailed, Drain, Shelf, put_all};
+use tm_fields::{Definition, Lead, RowFault};
+use tm_packet::Header;
+
+/// Where packets go.
+pub trait Outlet {
+    /// What belongs here is a list of these.
+    ghost Part: { Type 0 };
+
+    /// What is known of what is held here.
+    ghost Held: { Type 0 };
+
+    /// What stays the same: the name of the reference to the device, and what the texts are made by.
+    ghost Fixed: { Type 0 };
+
+    ghost fixed: { Self → Self.Fixed };
+
+    /// How many calls of the device have failed.
+    ghost failures: { Self → ℕ };
+
+    ghost held: { Self → Self.Held };
+
+    /// What is held has grown by these.
+    ghost grows: { Self.Held → Self.Held → List Self.Part → Type 0 };
+
+    /// What is given of an item: here, and to the report.
+    ghost text: { Self.Fixed → Texts Self.Part };
+
+    /// What belongs here is made in memory.
+    ghost rows: { Bool };
+
+    /// All that is held was passed on.
+    ghost passed: { Self → Type 0 };
+
+    /// Writes what the report says of a packet, behind the lines of its notes.
+    fn remark(
+        &self,
+        lines: &mut String,
+        seen: u32,
+        channel: u8,
+        first: u32,
+        place: u16,
+        header: &Header,
+        octets: &[u8],
+    ) -> Result<(), AllocError>
+        requires { header.now ≡ header_of octets.now }
+        ensures line { OnOk result (string_bytes lines.new ≡ string_bytes lines.old
+            ++ (Self.text (Self.fixed self.now)).remark (value.Packet seen channel first place octets.now)) }
+        ensures memory { OnErr result ((Self.text (Self.fixed self.now)).remark (value.Packet seen channel first place octets.now) ≢ []) };
+
+    /// Writes what of a packet belongs here.
+    fn put(
+        &mut self,
+        seen: u32,
+        channel: u8,
+        first: u32,
+        place: u16,
+        header: &Header,
+        octets: &[u8],
+    ) -> Result<(), RunFault>
+        requires { header.now ≡ header_of octets.now }
+        ensures same { Self.fixed self.new ≡ Self.fixed self.old }
+        ensures whole { OnOk result (Self.grows (Self.held self.old) (Self.held self.new) ((Self.text (Self.fixed self.old)).out (value.Packet seen channel first place octets.now))
+            × (Self.failures self.new ≡ Self.failures self.old)) }
+        ensures stopped { IfErr result (PutStopped Self.grows Self.rows (Self.held self.old) (Self.held self.new) (Self.failures self.old) (Self.failures self.new)
+            ((Self.text (Self.fixed self.old)).out (value.Packet seen channel first place octets.now))) };
+
+    /// Passes on all that was written.
+    fn flush(&mut self) -> Result<(), DeviceFailed>
+        ensures same { Self.fixed self.new ≡ Self.fixed self.old }
+        ensures kept { Self.grows (Self.held self.old) (Self.held self.new) [] }
+        ensures passed { OnOk result (Self.passed self.new) }
+        ensures counts { Counts (Self.failures self.old) (Self.failures self.new) result };
+
+    /// Of an item that has a line nothing belongs here, and nothing more is reported.
+    ghost text_none: { (f : Fixed) (x : Item) → HasLine x → GivesNone (text f) x };
+
+    /// Nothing is added by nothing.
+    ghost grows_nil: { (k : Held) → grows k k [] };
+
+    /// What is added after other parts is added to them.
+    ghost grows_trans: { (j k l : Held) (xs ys : List Part) → grows j k xs → grows k l ys → grows j l (xs ++ ys) };
+}
+
+/// Packets' octets into a drain.
+#[derive(Drop)]
+pub struct PacketOctets<'a, W> {
+    pub out: &'a mut W,
+}
+
+impl<W: Drain> Outlet for PacketOctets<'_, W> {
+    ghost use Rattle.tm_output.specs.declared.command.Command.TheVariants.{Extract};
+
+    ghost Part = { ℕ };
+
+    ghost Held = { Option (List ℕ) };
+
+    ghost Fixed = { ℕ };
+
+    ghost fixed = { λ o. o.out.ghost_name };
+
+    ghost failures = { λ o. W.failures o.out.now };
+
+    ghost held = { λ o. W.written o.out.now };
+
+    ghost grows = { Appends };
+
+    ghost text = { λ _. text_of Extract };
+
+    ghost rows = { false };
+
+    ghost passed = { λ o. Keeps (W.flushed o.out.now) (W.written o.out.now) };
+
+    ghost text_none = { λ _. no_text Extract };
+
+    ghost grows_nil = { Appends-nil };
+
+    ghost grows_trans = { Appends-trans };
+
+    fn remark(
+        &self,
+        _lines: &mut String,
+        _seen: u32,
+        _channel: u8,
+        _first: u32,
+        _place: u16,
+        _header: &Header,
+        _octets: &[u8],
+    ) -> Result<(), AllocError> {
+        Ok(())
+    }
+
+    #[tactic(auto, unfolding(crate::specs::Pieces::octets_of))]
+    fn put(
+        &mut self,
+        _seen: u32,
+        _channel: u8,
+        _first: u32,
+        _place: u16,
+        _header: &Header,
+        octets: &[u8],
+    ) -> Result<(), RunFault> {
+        match put_all(self.out, octets) {
+            Ok(()) => Ok(()),
+            Err(_) => Err(RunFault::Write),
+        }
+    }
+
+    fn flush(&mut self) -> Result<(), DeviceFailed> {
+        self.out.flush()
+    }
+}
+
+/// A line for each packet into a drain.
+#[derive(Drop)]
+pub struct PacketLines<'a, W> {
+    pub line: &'a mut String,
+    pub out: &'a mut W,
+}
+
+impl<W: Drain> Outlet for PacketLines<'_, W> {
+    ghost use Rattle.tm_output.specs.declared.command.Command.TheVariants.{Packets};
+
+    ghost Part = { ℕ };
+
+    ghost Held = { Option (List ℕ) };
+
+    ghost Fixed = { ℕ };
+
+    ghost fixed = { λ o. o.out.ghost_name };
+
+    ghost failures = { λ o. W.failures o.out.now };
+
+    ghost held = { λ o. W.written o.out.now };
+
+    ghost grows = { Appends };
+
+    ghost text = { λ _. text_of Packets };
+
+    ghost rows = { true };
+
+    ghost passed = { λ o. Keeps (W.flushed o.out.now) (W.written o.out.now) };
+
+    ghost text_none = { λ _. no_text Packets };
+
+    ghost grows_nil = { Appends-nil };
+
+    ghost grows_trans = { Appends-trans };
+
+    fn remark(
+        &self,
+        _lines: &mut String,
+        _seen: u32,
+        _channel: u8,
+        _first: u32,
+        _place: u16,
+        _header: &Header,
+        _octets: &[u8],
+    ) -> Result<(), AllocError> {
+        Ok(())
+    }
+
+    #[tactic(auto, unfolding(crate::specs::Pieces::listed))]
+    fn put(
+        &mut self,
+        seen: u32,
+        channel: u8,
+        first: u32,
+        place: u16,
+        header: &Header,
+        octets: &[u8],
+    ) -> Result<(), RunFault> {
+        self.line.clear();
+        let length = octets.len();
+        if let Err(_) = push_packet(self.line, seen, channel, first, place, header, length) {
+            return Err(RunFault::NoMemory);
+        }
+        match put_all(self.out, self.line.as_bytes()) {
+            Ok(()) => Ok(()),
+            Err(_) => Err(RunFault::Write),
+        }
+    }
+
+    fn flush(&mut self) -> Result<(), DeviceFailed> {
+        self.out.flush()
+    }
+}
+
+/// Packets' octets into a shelf.
+#[derive(Drop)]
+pub struct PacketShelf<'a, H> {
+    pub shelf: &'a mut H,
+}
+
+impl<H: Shelf> Outlet for PacketShelf<'_, H> {
+    ghost use Rattle.std.specs.Prelude.{⊤};
+
+    ghost Part = { Shelved };
+
+    ghost Held = { Option (ℕ → List ℕ) };
+
+    ghost Fixed = { ℕ };
+
+    ghost fixed = { λ o. o.shelf.ghost_name };
+
+    ghost failures = { λ o. H.refusals o.shelf.now };
+
+    ghost held = { λ o. H.kept o.shelf.now };
+
+    ghost grows = { Shelves };
+
+    ghost text = { λ _. shelf_text };
+
+    ghost rows = { false };
+
+    ghost passed = { λ _. ⊤ };
+
+    ghost text_none = { λ _. no_shelf };
+
+    ghost grows_nil = { shelves_nil };
+
+    ghost grows_trans = { shelves_trans };
+
+    fn remark(
+        &self,
+        _lines: &mut String,
+        _seen: u32,
+        _channel: u8,
+        _first: u32,
+        _place: u16,
+        _header: &Header,
+        _octets: &[u8],
+    ) -> Result<(), AllocError> {
+        Ok(())
+    }
+
+    #[tactic(auto, using(crate::proofs::ShelfLemmas::shelf_stopped, crate::specs::ShelfLaws::shelves_put), unfolding(crate::specs::Shelves::shelved_of))]
+    fn put(
+        &mut self,
+        _seen: u32,
+        _channel: u8,
+        _first: u32,
+        _place: u16,
+        header: &Header,
+        octets: &[u8],
+    ) -> Result<(), RunFault> {
+        if let Err(_) = self.shelf.put(header.application(), octets) {
+            return Err(RunFault::Write);
+        }
+        Ok(())
+    }
+
+    fn flush(&mut self) -> Result<(), DeviceFailed> {
+        Ok(())
+    }
+}
+
+/// A row for each packet of an application into a drain.
+#[derive(Drop)]
+pub struct PacketRows<'a, W> {
+    pub alloc: Global,
+    pub definition: &'a Definition,
+    pub application: u16,
+    pub out: &'a mut W,
+}
+
+impl<W> PacketRows<'_, W> {
+    // The packet of this header is of the application.
+    fn is_wanted(&self, header: &Header) -> bool
+        ensures { result ≡ (header.now.application == self.now.application) }
+    {
+        header.application() == self.application
+    }
+}
+
+impl<W: Drain> Outlet for PacketRows<'_, W> {
+    ghost use Rattle.tm_output.specs.FieldRows.{RowsBy};
+    ghost use Rattle.tm_output.specs.Outlets.{no_row};
+    ghost use Rattle.tm_output.specs.Pieces.{rows_text};
+
+    ghost Part = { ℕ };
+
+    ghost Held = { Option (List ℕ) };
+
+    ghost Fixed = { RowsBy };
+
+    ghost fixed = { λ o. record { out = o.out.ghost_name; fields = o.definition.now; application = o.application } };
+
+    ghost failures = { λ o. W.failures o.out.now };
+
+    ghost held = { λ o. W.written o.out.now };
+
+    ghost grows = { Appends };
+
+    ghost text = { λ f. rows_text f.fields f.application };
+
+    ghost rows = { true };
+
+    ghost passed = { λ o. Keeps (W.flushed o.out.now) (W.written o.out.now) };
+
+    ghost text_none = { λ f. no_row f.fields f.application };
+
+    ghost grows_nil = { Appends-nil };
+
+    ghost grows_trans = { Appends-trans };
+
+    #[tactic(auto, using(crate::proofs::LineLemmas::some_short_packet), unfolding(crate::specs::FieldRows::too_short))]
+    fn remark(
+        &self,
+        lines: &mut String,
+        seen: u32,
+        channel: u8,
+        first: u32,
+        place: u16,
+        header: &Header,
+        octets: &[u8],
+    ) -> Result<(), AllocError> {
+        if !self.is_wanted(header) {
+            return Ok(());
+        }
+        let needed = self.definition.bits_needed();
+        if octets.len() >= needed.div_ceil(8) as usize {
+            return Ok(());
+        }
+        let found = 8 * octets.len() as u64;
+        push_short_packet(lines, seen, channel, first, place, u64::from(needed), found)
+    }
+
+    #[tactic(auto, unfolding(crate::specs::FieldRows::tabled))]
+    fn put(
+        &mut self,
+        seen: u32,
+        channel: u8,
+        _first: u32,
+        _place: u16,
+        header: &Header,
+        octets: &[u8],
+    ) -> Result<(), RunFault> {
+        if !self.is_wanted(header) {
+            return Ok(());
+        }
+        let lead = Lead {
+            seen,
+            channel,
+            application: header.application(),
+            count: header.count(),
+        };
+        match self.definition.row(self.alloc, lead, octets) {
+            Ok(row) => match put_all(self.out, row.as_slice()) {
+                Ok(()) => Ok(()),
+                Err(_) => Err(RunFault::Write),
+            },
+            Err(RowFault::ShortPacket { .. }) => Ok(()),
+            Err(RowFault::NoMemory) => Err(RunFault::NoMemory),
+        }
+    }
+
+    fn flush(&mut self) -> Result<(), DeviceFailed> {
+        self.out.flush()
+    }
+}

@@ -1,0 +1,279 @@
+//! Where the texts of items go.
+
+ghost use Rattle.std.specs.Prelude.{◌≡◌, ◌≢◌, ◌<◌, ◌++◌, ◌∷◌, [], OnOk, OnErr, string_bytes};
+ghost use Rattle.std.specs.Io.KnownBytes.{Keeps};
+ghost use Rattle.tm_packet.specs.Merge as sequence;
+ghost use Rattle.tm_reassembly.specs.Item as value;
+ghost use Rattle.tm_packet.specs.Header.{header_of};
+ghost use Rattle.tm_reassembly.specs.Sinks.{item_of, IsOnePacket};
+ghost use Rattle.tm_output.specs.Lines.{note_lines};
+ghost use Rattle.tm_output.specs.Outputs.{Written};
+ghost use Rattle.tm_output.specs.Pieces.{HasLine, line_of, noted, notes_of, piece_of, unclosed_piece, unclosed_pieces};
+ghost use Rattle.tm_output.specs.Sinking.{Refuses, Takes};
+ghost use Rattle.tm_output.specs.Seen.{outlet_both};
+
+use crate::RunFault;
+use crate::lines::{
+    push_bad, push_drop, push_gap, push_master_gap, push_note, push_short, push_vca,
+};
+use crate::outlet::Outlet;
+use std::alloc::AllocError;
+use tm_devices::{Drain, put_all};
+use tm_packet::{Header, Notes, Tracker, Unclosed, read_header};
+use tm_reassembly::{Item, Sink};
+
+/// Writes the texts of the items that it takes. Lines are made in memory that is kept from item to item.
+#[derive(Drop)]
+pub struct Output<'a, O, V> {
+    pub tracker: &'a mut Tracker,
+    pub notes: &'a mut String,
+    pub outlet: &'a mut O,
+    pub report: &'a mut V,
+}
+
+// Makes the lines of notes, one after the other.
+#[tactic(auto, using(crate::proofs::PacketLemmas::some_notes))]
+fn push_notes(
+    text: &mut String,
+    seen: u32,
+    channel: u8,
+    apid: u16,
+    notes: &Notes,
+) -> Result<(), AllocError>
+    ensures lines { OnOk result (string_bytes text.new ≡ string_bytes text.old ++ note_lines seen channel apid notes.now) }
+    ensures memory { OnErr result (note_lines seen channel apid notes.now ≢ []) }
+{
+    for i in 0..notes.len() {
+        if let Some(note) = notes.get(i) {
+            if let Err(error) = push_note(text, seen, channel, apid, note) {
+                return Err(error);
+            }
+        }
+    }
+    Ok(())
+}
+
+// Makes the line of an item, none of a packet.
+#[tactic(auto, using(crate::proofs::LineLemmas::some_bad, crate::proofs::LineLemmas::some_master_gap, crate::proofs::LineLemmas::some_gap, crate::proofs::LineLemmas::some_vca, crate::proofs::LineLemmas::some_drop, crate::proofs::LineLemmas::some_short), unfolding(crate::specs::Pieces::line_of))]
+fn push_item(text: &mut String, item: Item<'_>) -> Result<(), AllocError>
+    ensures line { OnOk result (string_bytes text.new ≡ string_bytes text.old ++ line_of (item_of item.entry)) }
+    ensures memory { OnErr result (line_of (item_of item.entry) ≢ []) }
+{
+    match item {
+        Item::Bad { seen, fault } => push_bad(text, seen, fault),
+        Item::MasterGap {
+            seen,
+            expected,
+            found,
+            missing,
+        } => push_master_gap(text, seen, expected, found, missing),
+        Item::Gap {
+            seen,
+            channel,
+            expected,
+            found,
+            missing,
+        } => push_gap(text, seen, channel, expected, found, missing),
+        Item::Vca { seen, channel } => push_vca(text, seen, channel),
+        Item::Dropped {
+            seen,
+            channel,
+            first,
+            place,
+            octets,
+            reason,
+        } => push_drop(text, seen, channel, first, place, octets, reason),
+        Item::Packet { .. } => Ok(()),
+        Item::Short { seen, octets } => push_short(text, seen, octets as usize),
+    }
+}
+
+// The header of a whole packet.
+#[tactic(auto, using(crate::proofs::PacketLemmas::packet_read, crate::proofs::PacketLemmas::packet_not))]
+fn header_in(octets: &[u8]) -> Header
+    requires { IsOnePacket octets.now }
+    ensures { result ≡ header_of octets.now }
+{
+    match read_header(octets) {
+        Ok(header) => header,
+        Err(_) => unreachable!(),
+    }
+}
+
+// Takes note of a packet, and makes the lines of its notes.
+#[tactic(auto, using(crate::proofs::PacketLemmas::notes_one))]
+fn note_packet(
+    tracker: &mut Tracker,
+    lines: &mut String,
+    seen: u32,
+    channel: u8,
+    header: Header,
+) -> Result<(), AllocError>
+    requires { channel < 8 }
+    ensures noted { tracker.new ≡ sequence.after tracker.old (record { channel = channel; header = header } ∷ []) }
+    ensures lines { OnOk result (string_bytes lines.new
+        ≡ note_lines seen channel header.application (notes_of tracker.old (record { channel = channel; header = header }))) }
+    ensures memory { OnErr result (note_lines seen channel header.application (notes_of tracker.old (record { channel = channel; header = header })) ≢ []) }
+{
+    lines.clear();
+    let notes = tracker.take(channel, header);
+    push_notes(lines, seen, channel, header.application(), &notes)
+}
+
+impl<O: Outlet, V: Drain> Output<'_, O, V> {
+    // Takes a packet.
+    #[tactic(auto, unfolding(crate::specs::Pieces::report_of, crate::specs::Pieces::noted))]
+    fn put_packet(
+        &mut self,
+        seen: u32,
+        channel: u8,
+        first: u32,
+        place: u16,
+        octets: &[u8],
+    ) -> Result<(), RunFault>
+        requires channel { channel < 8 }
+        requires packet { IsOnePacket octets.now }
+        ensures same_tracker { self.new.tracker.ghost_name ≡ self.old.tracker.ghost_name }
+        ensures same_outlet { self.new.outlet.ghost_name ≡ self.old.outlet.ghost_name }
+        ensures same_out { O.fixed self.new.outlet.now ≡ O.fixed self.old.outlet.now }
+        ensures same_report { self.new.report.ghost_name ≡ self.old.report.ghost_name }
+        ensures noted { self.new.tracker.now ≡ noted self.old.tracker.now (value.Packet seen channel first place octets.now) }
+        ensures written { Written O.grows O.rows (outlet_both O.Outlet V.Drain self.old.outlet.now self.old.report.now)
+            (outlet_both O.Outlet V.Drain self.new.outlet.now self.new.report.now) (piece_of (O.text (O.fixed self.old.outlet.now)) self.old.tracker.now (value.Packet seen channel first place octets.now) ∷ []) result }
+    {
+        let header = header_in(octets);
+        if let Err(_) = note_packet(self.tracker, self.notes, seen, channel, header) {
+            return Err(RunFault::NoMemory);
+        }
+        if let Err(_) = self
+            .outlet
+            .remark(self.notes, seen, channel, first, place, &header, octets)
+        {
+            return Err(RunFault::NoMemory);
+        }
+        if let Err(fault) = self
+            .outlet
+            .put(seen, channel, first, place, &header, octets)
+        {
+            return Err(fault);
+        }
+        if let Err(_) = put_all(self.report, self.notes.as_bytes()) {
+            return Err(RunFault::Report);
+        }
+        Ok(())
+    }
+
+    // Writes the line of an item that is no packet.
+    #[tactic(auto, unfolding(crate::specs::Pieces::report_of, crate::specs::Pieces::noted))]
+    fn put_line(&mut self, item: Item<'_>) -> Result<(), RunFault>
+        requires { HasLine (item_of item) }
+        ensures same_tracker { self.new.tracker.ghost_name ≡ self.old.tracker.ghost_name }
+        ensures same_outlet { self.new.outlet.ghost_name ≡ self.old.outlet.ghost_name }
+        ensures same_out { O.fixed self.new.outlet.now ≡ O.fixed self.old.outlet.now }
+        ensures same_report { self.new.report.ghost_name ≡ self.old.report.ghost_name }
+        ensures noted { self.new.tracker.now ≡ noted self.old.tracker.now (item_of item.entry) }
+        ensures written { Written O.grows O.rows (outlet_both O.Outlet V.Drain self.old.outlet.now self.old.report.now)
+            (outlet_both O.Outlet V.Drain self.new.outlet.now self.new.report.now) (piece_of (O.text (O.fixed self.old.outlet.now)) self.old.tracker.now (item_of item.entry) ∷ []) result }
+    {
+        self.notes.clear();
+        if let Err(_) = push_item(self.notes, item) {
+            return Err(RunFault::NoMemory);
+        }
+        if let Err(_) = put_all(self.report, self.notes.as_bytes()) {
+            return Err(RunFault::Report);
+        }
+        Ok(())
+    }
+
+    // Writes the line of a group that is open at a closed end.
+    #[tactic(auto, using(crate::proofs::LineLemmas::some_note), unfolding(crate::specs::Pieces::unclosed_piece))]
+    fn put_unclosed(&mut self, seen: u32, unclosed: Unclosed) -> Result<(), RunFault>
+        requires { unclosed.key < 16384 }
+        ensures same_tracker { self.new.tracker.ghost_name ≡ self.old.tracker.ghost_name }
+        ensures same_outlet { self.new.outlet.ghost_name ≡ self.old.outlet.ghost_name }
+        ensures same_out { O.fixed self.new.outlet.now ≡ O.fixed self.old.outlet.now }
+        ensures same_report { self.new.report.ghost_name ≡ self.old.report.ghost_name }
+        ensures tracker { self.new.tracker.now ≡ self.old.tracker.now }
+        ensures written { Written O.grows O.rows (outlet_both O.Outlet V.Drain self.old.outlet.now self.old.report.now)
+            (outlet_both O.Outlet V.Drain self.new.outlet.now self.new.report.now) (unclosed_piece seen unclosed ∷ []) result }
+    {
+        self.notes.clear();
+        let channel = (unclosed.key / 2048) as u8;
+        let apid = unclosed.key % 2048;
+        if let Err(_) = push_note(self.notes, seen, channel, apid, unclosed.note) {
+            return Err(RunFault::NoMemory);
+        }
+        if let Err(_) = put_all(self.report, self.notes.as_bytes()) {
+            return Err(RunFault::Report);
+        }
+        Ok(())
+    }
+
+    /// Writes the lines of the groups that are open at a closed end of so many records, by rising key.
+    pub fn put_all_unclosed(&mut self, seen: u32) -> Result<(), RunFault>
+        ensures same_tracker { self.new.tracker.ghost_name ≡ self.old.tracker.ghost_name }
+        ensures same_outlet { self.new.outlet.ghost_name ≡ self.old.outlet.ghost_name }
+        ensures same_out { O.fixed self.new.outlet.now ≡ O.fixed self.old.outlet.now }
+        ensures same_report { self.new.report.ghost_name ≡ self.old.report.ghost_name }
+        ensures written { Written O.grows O.rows (outlet_both O.Outlet V.Drain self.old.outlet.now self.old.report.now)
+            (outlet_both O.Outlet V.Drain self.new.outlet.now self.new.report.now) (unclosed_pieces seen (sequence.unclosed 0 self.old.tracker.now)) result }
+    {
+        let mut at = 0;
+        while let Some(unclosed) = self.tracker.next_unclosed(at) {
+            if let Err(fault) = self.put_unclosed(seen, unclosed) {
+                return Err(fault);
+            }
+            at = unclosed.key + 1;
+        }
+        Ok(())
+    }
+
+    /// Flushes both outputs.
+    pub fn flush(&mut self) -> Result<(), RunFault>
+        ensures same_tracker { self.new.tracker.ghost_name ≡ self.old.tracker.ghost_name }
+        ensures same_outlet { self.new.outlet.ghost_name ≡ self.old.outlet.ghost_name }
+        ensures same_out { O.fixed self.new.outlet.now ≡ O.fixed self.old.outlet.now }
+        ensures same_report { self.new.report.ghost_name ≡ self.old.report.ghost_name }
+        ensures tracker { self.new.tracker.now ≡ self.old.tracker.now }
+        ensures flushed_out { OnOk result (O.passed self.new.outlet.now) }
+        ensures flushed_report { OnOk result (Keeps (V.flushed self.new.report.now) (V.written self.new.report.now)) }
+        ensures written { Written O.grows O.rows (outlet_both O.Outlet V.Drain self.old.outlet.now self.old.report.now)
+            (outlet_both O.Outlet V.Drain self.new.outlet.now self.new.report.now) [] result }
+    {
+        if let Err(_) = self.outlet.flush() {
+            return Err(RunFault::Write);
+        }
+        if let Err(_) = self.report.flush() {
+            return Err(RunFault::Report);
+        }
+        Ok(())
+    }
+}
+
+impl<O: Outlet, V: Drain> Sink for Output<'_, O, V> {
+    type Fault = RunFault;
+
+    ghost takes = { Takes O.grows O.text O.rows (λ s. s.tracker.ghost_name) (λ s. s.outlet.ghost_name) (λ s. O.fixed s.outlet.now) (λ s. s.report.ghost_name) (λ s. s.tracker.now)
+        (λ s. outlet_both O.Outlet V.Drain s.outlet.now s.report.now) };
+
+    ghost refuses = { Refuses O.grows O.text O.rows (λ s. s.tracker.ghost_name) (λ s. s.outlet.ghost_name) (λ s. O.fixed s.outlet.now) (λ s. s.report.ghost_name) (λ s. s.tracker.now)
+        (λ s. outlet_both O.Outlet V.Drain s.outlet.now s.report.now) };
+
+    fn take(&mut self, item: Item<'_>) -> Result<(), RunFault> {
+        match item {
+            Item::Packet {
+                seen,
+                channel,
+                first,
+                place,
+                octets,
+            } => self.put_packet(seen, channel, first, place, octets),
+            Item::Bad { .. }
+            | Item::MasterGap { .. }
+            | Item::Gap { .. }
+            | Item::Vca { .. }
+            | Item::Dropped { .. }
+            | Item::Short { .. } => self.put_line(item),
+        }
+    }
+}

@@ -78,33 +78,50 @@ fn list<R: Print + AllocGlobal, S: Read + Drop>(
     }
 }
 
+// The devices of every run of a job: the recording, and the report.
+#[derive(Drop)]
+struct Ends<S: Read + Drop, V: Write + Drop> {
+    source: Reading<BufReader<S>>,
+    report: Writing<BufWriter<V>>,
+}
+
+// Buffers behind the recording and before the report.
+fn ends_with<S: Read + Drop, V: Write + Drop>(
+    alloc: Global,
+    recording: S,
+    report: V,
+) -> Result<Ends<S, V>, ToolFault>
+    ensures { IfErr result IsNoMemory }
+{
+    let source = source(alloc, recording)?;
+    let report = drain(alloc, REPORT_BUFFER, report)?;
+    Ok(Ends { source, report })
+}
+
 // Gives the packets of a recording on standard output.
 #[tactic(auto, using(crate::proofs::EndingLemmas::headed_run_done, crate::proofs::ProgramLemmas::starved_run))]
 fn give_packets<R: Print + AllocGlobal, S: Read + Drop, V: Write + Drop>(
     rt: &R,
     job: Job,
     command: Command<'_>,
-    recording: S,
-    report: V,
+    mut ends: Ends<S, V>,
     ending: Ending,
 ) -> Result<Done, ToolFault>
     ensures done { IfOk result (λ done. IsDone ending job.work done.records (option_map (λ kept. kept.work) done.kept)) }
     ensures refused { IfErr result IsRunFault }
 {
     let alloc = rt.alloc();
-    let mut source = source(alloc, recording)?;
     let mut out = drain(alloc, BUFFER, io::writer(rt))?;
-    let mut report = drain(alloc, REPORT_BUFFER, report)?;
-    run_job(
+    let done = run_job(
         alloc,
         job,
         command,
-        &mut source,
+        &mut ends.source,
         &mut out,
-        &mut report,
+        &mut ends.report,
         ending,
-    )
-    .map_err(|fault| ToolFault::Run(fault))
+    );
+    done.map_err(|fault| ToolFault::Run(fault))
 }
 
 // What splitting ends with, once what the shelf holds is written.
@@ -131,17 +148,15 @@ fn split_packets<R: Files + AllocGlobal, S: Read + Drop, V: Write + Drop>(
     rt: &R,
     job: Job,
     mut shelf: FileShelf<'_, R>,
-    recording: S,
-    report: V,
+    mut ends: Ends<S, V>,
     ending: Ending,
 ) -> Result<Done, ToolFault>
     ensures done { IfOk result (λ done. IsDone ending job.work done.records (option_map (λ kept. kept.work) done.kept)) }
     ensures refused { IfErr result IsRunFault }
 {
     let alloc = rt.alloc();
-    let mut source = source(alloc, recording)?;
-    let mut report = drain(alloc, REPORT_BUFFER, report)?;
-    let done = split(alloc, job, &mut source, &mut shelf, &mut report, ending);
+    let source = &mut ends.source;
+    let done = split(alloc, job, source, &mut shelf, &mut ends.report, ending);
     let written = shelf.write_held();
     split_end(done, written, shelf.is_starved())
 }
@@ -333,19 +348,13 @@ fn go_on<R: Files + Print + AllocGlobal, S: Read + Drop, V: Write + Drop>(
     ensures { IfErr result (λ fault. IsRunFault fault ⊎ HasFault plan.now.dir fault) }
 {
     let ending = ending_by(plan);
+    let ends = ends_with(rt.alloc(), recording, report)?;
     match (plan.action, &plan.dir) {
         (Action::Split, Some(dir)) => {
             let shelf = shelf_in(rt, dir, plan.resume.is_some())?;
-            split_packets(rt, job, shelf, recording, report, ending)
+            split_packets(rt, job, shelf, ends, ending)
         }
-        _ => give_packets(
-            rt,
-            job,
-            command_by(plan, definition),
-            recording,
-            report,
-            ending,
-        ),
+        _ => give_packets(rt, job, command_by(plan, definition), ends, ending),
     }
 }
 

@@ -12,7 +12,7 @@ use Rattle.tm_packet.specs.Merge.{Sent}
 use Rattle.tm_reassembly.specs.Item.{Item, Bad, MasterGap, Gap, Vca, Dropped, Packet, Short}
 use Rattle.tm_reassembly.specs.Items.{closing}
 use Rattle.tm_reassembly.specs.Recording.{items, after}
-use Rattle.tm_reassembly.specs.Rules.{Rules}
+use Rattle.tm_rules.specs.Rules.{Rules}
 use Rattle.tm_reassembly.specs.State.{State}
 use Rattle.tm_output.specs.declared.command.Command.{Command}
 use Rattle.tm_output.specs.declared.command.Command.TheVariants.{Extract, Packets, Fields}

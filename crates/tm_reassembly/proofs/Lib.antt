@@ -32,7 +32,6 @@ pub mod LeadsInText
 pub mod Gaps
 pub mod Slots
 pub mod OneRecord
-pub mod ChannelSets
 pub mod Blocks
 pub mod OneHeld
 pub mod Merged

@@ -13,7 +13,7 @@ use Rattle.tm_reassembly.specs.Items.{master_gap_item, gap_item, gap_at, vca_at,
 use Rattle.tm_reassembly.specs.Parts.{Part, Fate, Given, Lost, Held, reach, is_long, begins_packet, agrees, lead_part}
 use Rattle.tm_reassembly.specs.Readings.{Reading}
 use Rattle.tm_reassembly.specs.Recording as raw
-use Rattle.tm_reassembly.specs.Rules.{Rules, chooses}
+use Rattle.tm_rules.specs.Rules.{Rules, chooses}
 use Rattle.tm_reassembly.specs.Sinks.{part_items}
 use Rattle.tm_reassembly.specs.State.{State, Tail}
 use Rattle.tm_reassembly.specs.Valid.{IsFit, AllFit, IsState}

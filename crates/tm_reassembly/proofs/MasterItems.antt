@@ -12,7 +12,7 @@ use Rattle.tm_reassembly.specs.Item.{Item}
 use Rattle.tm_reassembly.specs.Items.{seen_at, master_gap_item, gap_at, gaps, master_items, channel_items, record_items, items, after}
 use Rattle.tm_reassembly.specs.Readings.{Reading}
 use Rattle.tm_reassembly.specs.Recording as raw
-use Rattle.tm_reassembly.specs.Rules.{Rules, chooses}
+use Rattle.tm_rules.specs.Rules.{Rules, chooses}
 use Rattle.tm_reassembly.specs.State.{State}
 use Rattle.tm_reassembly.specs.Valid.{AllFit, IsState}
 use Rattle.tm_reassembly.proofs.Fits.{readings-fit}

@@ -14,7 +14,7 @@ use Rattle.tm_reassembly.specs.Chain.{Member, has_gap, chain, frames, member, ma
 use Rattle.tm_reassembly.specs.Parts.{Part, Fate, Given, Lost, Held}
 use Rattle.tm_reassembly.specs.Field.{chain_tail_at}
 use Rattle.tm_reassembly.specs.Items.{part_item, seen_at, gap_item, master_gap_item, gaps, gap_at, vca_at, master_items, channel_items, chain_parts, record_items, merged}
-use Rattle.tm_reassembly.specs.Rules.{Rules, chooses}
+use Rattle.tm_rules.specs.Rules.{Rules, chooses}
 use Rattle.tm_reassembly.specs.Recording.{readings, items}
 use Rattle.tm_reassembly.specs.Sinks.{part_items}
 use Rattle.tm_reassembly.specs.Valid.{AllFit, PlaceFits, IsState}

@@ -12,7 +12,7 @@ use Rattle.tm_reassembly.specs.Item.{Item}
 use Rattle.tm_reassembly.specs.Items.{master_gap_item, gap_at, items, after}
 use Rattle.tm_reassembly.specs.OlderForms.{without_master, IsMasterGapAtMost, LacksMasterGap, one_octet_more}
 use Rattle.tm_reassembly.specs.Recording as raw
-use Rattle.tm_reassembly.specs.Rules.{Rules, chooses}
+use Rattle.tm_rules.specs.Rules.{Rules, chooses}
 use Rattle.tm_reassembly.specs.Valid.{HasShape, IsFit, AllFit, IsState}
 use Rattle.tm_reassembly.proofs.Fits.{readings-fit}
 use Rattle.tm_reassembly.proofs.Joining.{before_of, tail_of, member_items}

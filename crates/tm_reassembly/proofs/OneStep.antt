@@ -10,7 +10,7 @@ use Rattle.tm_reassembly.specs.Readings.{Reading}
 use Rattle.tm_reassembly.specs.Item as item
 use Rattle.tm_reassembly.specs.Chain.{Member, has_gap, member, member_of, is_vca_kind, chain, master_member, master_stem}
 use Rattle.tm_reassembly.specs.Field.{chain_tail_at}
-use Rattle.tm_reassembly.specs.Channels.{eight}
+use Rattle.tm_rules.specs.Channels.{eight}
 use Rattle.tm_reassembly.specs.Items.{seen_at, channel_items, channel_after, after, master_gap_item, gap_at, last_count, record_items, items, last_with}
 use Rattle.tm_reassembly.specs.Valid.{HasShape}
 use Rattle.tm_reassembly.proofs.Chained.{IsOpenTail}

@@ -11,7 +11,7 @@ use Rattle.tm_reassembly.specs.Item.{Item}
 use Rattle.tm_reassembly.specs.Chain.{Member, has_gap, stem_of, stem_with, chain, frames, member_of, member, Unended}
 use Rattle.tm_reassembly.specs.Parts.{Part}
 use Rattle.tm_reassembly.specs.Field.{chain_parts_at, chain_tail_at}
-use Rattle.tm_reassembly.specs.Channels.{eight}
+use Rattle.tm_rules.specs.Channels.{eight}
 use Rattle.tm_reassembly.specs.Items.{seen_at, held_part, channel_items, chain_parts, last_count, last_with, first_of, channel_after, after, record_items, merged, items}
 use Rattle.tm_reassembly.proofs.Step.{PlaceFits}
 use Rattle.tm_reassembly.proofs.Chained.{IsOpenTail, chained, chained_step, chained_end, chain_parts-stem, chain_parts-fresh, left_parts}

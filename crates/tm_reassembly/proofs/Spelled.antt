@@ -9,7 +9,7 @@ use Rattle.tm_bits.specs.Bits.{AreOctets}
 use Rattle.tm_bits.proofs.PartLemmas.{octets_behind}
 use Rattle.tm_frame.specs.declared.layout.LayoutParts.{LayoutParts}
 use Rattle.tm_reassembly.specs.declared.fault.StateFault.{StateFault}
-use Rattle.tm_reassembly.specs.Rules.{Rules, chooses}
+use Rattle.tm_rules.specs.Rules.{Rules, chooses}
 use Rattle.tm_reassembly.specs.State.{Tail}
 use Rattle.tm_reassembly.specs.Checkpoint.{two, four, block, master_octets, spelling, old_spelling, four_at, two_at, Read, ReadAll, Decoded, is_unfinished, block_read, blocks_read, in_front, and_then, ReadMaster, master_read, with_channels, with_master, decoding_of, old_decoding_of}
 

@@ -26,7 +26,7 @@ use Rattle.tm_reassembly.proofs.Joining.{before_of, tail_of}
 use Rattle.tm_reassembly.proofs.Records.{after-append}
 use Rattle.tm_reassembly.proofs.OneStep.{valid-from, after-nil, after-one, after-bad, after-other, get_set-same, get_set-other}
 use Rattle.tm_reassembly.proofs.Long.{begins-short}
-use Rattle.tm_reassembly.specs.Rules.{Rules, IsLimit, chooses}
+use Rattle.tm_rules.specs.Rules.{Rules, IsLimit, chooses}
 use Rattle.tm_reassembly.proofs.Fits.{IsGood, IsRead, reading-fit, reading-good, octets_append}
 
 no_octets : AreOctets []

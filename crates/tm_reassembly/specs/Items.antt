@@ -5,7 +5,7 @@ use Rattle.tm_reassembly.specs.Readings.{Reading}
 use Rattle.tm_reassembly.specs.declared.items.Reason.TheVariants as why
 use Rattle.tm_reassembly.specs.Item.{Item, Bad, MasterGap, Gap, Vca, Dropped, Packet, Short, seen_of}
 use Rattle.tm_reassembly.specs.State.{State, Last, Tail}
-use Rattle.tm_reassembly.specs.Channels.{eight}
+use Rattle.tm_rules.specs.Channels.{eight}
 use Rattle.tm_reassembly.specs.Chain.{Member, chain, master_chain, runs, has_gap, next_count}
 use Rattle.tm_reassembly.specs.Parts.{Part, Fate, Given, Lost, Held, parts}
 

@@ -3,8 +3,6 @@ pub mod Item
 pub mod State
 pub mod Chain
 pub mod Parts
-pub mod Channels
-pub mod Rules
 pub mod Items
 pub mod Recording
 pub mod Field

@@ -6,7 +6,7 @@ use Rattle.tm_reassembly.specs.Readings.{Reading}
 use Rattle.tm_reassembly.specs.State.{State, Last, Tail}
 use Rattle.tm_reassembly.specs.Chain.{Member, place_of, counted_field}
 use Rattle.tm_reassembly.specs.Parts.{begins_packet, reach}
-use Rattle.tm_reassembly.specs.Rules.{Rules, IsLimit, chooses}
+use Rattle.tm_rules.specs.Rules.{Rules, IsLimit, chooses}
 
 -- ---- records
 

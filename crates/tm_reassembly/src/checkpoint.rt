@@ -3,13 +3,13 @@
 ghost use Rattle.std.specs.Prelude.{◌≡◌, ◌+◌, ◌<◌, ◌≤◌, ◌++◌, None, Some, Ok, Err, true, length, slice_index, vec_len, vec_capacity, IfOk, IfErr};
 ghost use Rattle.tm_reassembly.specs.Checkpoint.{two, four, two_at, four_at, is_unfinished, master_octets, master_read, tail_read, flagged, block_read};
 ghost use Rattle.tm_reassembly.specs.Blocks.{kept_of};
-ghost use Rattle.tm_reassembly.specs.Rules.{chooses};
+ghost use Rattle.tm_rules.specs.Rules.{chooses};
 ghost use Rattle.tm_reassembly.specs.Valid.{IsCount};
 ghost use Rattle.tm_reassembly.specs.declared.fault.StateFault.TheVariants as found;
 
 use crate::fault::StateFault;
 use crate::packets::measure;
-use crate::rules::Rules;
+use tm_rules::Rules;
 
 /// What is spelled of a channel: the last count, if there is one, and the tail, whose octets are lent from the checkpoint.
 #[derive(Clone, Copy)]

@@ -8,7 +8,7 @@ ghost use Rattle.tm_reassembly.specs.Field.{chain_parts_at, chain_tail_at, ended
 ghost use Rattle.tm_reassembly.specs.Items.{gap_item, master_gap_item, gap_at, vca_at, close_last};
 ghost use Rattle.tm_reassembly.specs.Item as value;
 ghost use Rattle.tm_reassembly.specs.Kept.{Slot, last_of, octets_in, count_in, tail_in, kept_items, kept_after, counted, missed, member_at};
-ghost use Rattle.tm_reassembly.specs.Rules.{IsLimit};
+ghost use Rattle.tm_rules.specs.Rules.{IsLimit};
 ghost use Rattle.tm_reassembly.specs.Sinks.{TakesAll, RefusesOne, part_items};
 ghost use Rattle.tm_reassembly.specs.State.{Last};
 ghost use Rattle.tm_reassembly.specs.Valid.{PlaceFits, IsOpenTail};

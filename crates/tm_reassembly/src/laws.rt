@@ -4,7 +4,7 @@ ghost use Rattle.std.specs.Prelude.{◌≡◌, ◌⊎◌, ℕ, ◌+◌, ◌^◌,
 ghost use Rattle.std.specs.List.{flat_map, filter};
 ghost use Rattle.tm_bits.specs.Bits.{AreOctets};
 ghost use Rattle.tm_frame.specs.declared.layout.LayoutParts.{LayoutParts};
-ghost use Rattle.tm_reassembly.specs.Rules.{Rules, IsLimit, chooses};
+ghost use Rattle.tm_rules.specs.Rules.{Rules, IsLimit, chooses};
 ghost use Rattle.tm_reassembly.specs.State.{State, Last, Tail};
 ghost use Rattle.tm_reassembly.specs.Valid.{IsState, AllOctets};
 ghost use Rattle.tm_reassembly.specs.Checkpoint.{spelling, old_spelling, Decoded, decoding_of, old_decoding_of};

@@ -1,7 +1,6 @@
 //! The packets and the lost parts of channels (CCSDS 132.0-B-3, section 4.1 and packet extraction).
 #![tactic(auto)]
 
-mod channels;
 mod checkpoint;
 mod fault;
 mod items;
@@ -9,10 +8,9 @@ mod kept;
 pub mod laws;
 mod packets;
 mod reassembly;
-mod rules;
 mod tail;
 
-pub use channels::Channels;
 pub use fault::{NoMemory, StateFault, StepFault};
 pub use items::{Item, Reason, Sink};
 pub use reassembly::Reassembly;
+pub use tm_rules::Channels;

@@ -5,7 +5,7 @@ ghost use Rattle.tm_reassembly.specs.Field.{field_parts, unfinished, left_in, fr
 ghost use Rattle.tm_reassembly.specs.Kept.{member_at};
 ghost use Rattle.tm_reassembly.specs.Parts as model;
 ghost use Rattle.tm_reassembly.specs.Parts.{begins_packet, unread_reason, lead_part, front_of};
-ghost use Rattle.tm_reassembly.specs.Rules.{IsLimit};
+ghost use Rattle.tm_rules.specs.Rules.{IsLimit};
 ghost use Rattle.tm_reassembly.specs.Sinks.{TakesAll, RefusesOne, part_items};
 ghost use Rattle.tm_reassembly.specs.Valid.{PlaceFits};
 

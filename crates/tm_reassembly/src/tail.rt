@@ -8,7 +8,7 @@ ghost use Rattle.tm_reassembly.specs.Item as value;
 ghost use Rattle.tm_reassembly.specs.Kept.{Buffer, tail_of_octets, octets_in, grown, completed, member_at};
 ghost use Rattle.tm_reassembly.specs.Parts as model;
 ghost use Rattle.tm_reassembly.specs.Parts.{lead_part, front_of};
-ghost use Rattle.tm_reassembly.specs.Rules.{IsLimit};
+ghost use Rattle.tm_rules.specs.Rules.{IsLimit};
 ghost use Rattle.tm_reassembly.specs.Sinks.{IsOnePacket, TakesAll, RefusesOne, part_items};
 ghost use Rattle.tm_reassembly.specs.State as state;
 ghost use Rattle.tm_reassembly.specs.Valid.{PlaceFits, IsOpenTail};

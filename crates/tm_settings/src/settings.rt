@@ -6,7 +6,7 @@ ghost use Rattle.std.specs.String.{string_cmp};
 ghost use Rattle.toml.specs.Parse.{parse_document};
 ghost use Rattle.toml.specs.View.{table_view};
 ghost use Rattle.tm_frame.specs.Layout.{IsInRange};
-ghost use Rattle.tm_reassembly.specs.Rules.{IsLimit};
+ghost use Rattle.tm_rules.specs.Rules.{IsLimit};
 ghost use Rattle.tm_settings.specs.Keys.{is_name};
 ghost use Rattle.tm_settings.specs.Settings.{choices_from, layout_from, least, settings_from, unknown_keys};
 
@@ -16,7 +16,7 @@ use std::alloc::Global;
 use std::marker::Model;
 use tm_fields::Octets;
 use tm_frame::{Layout, LayoutParts};
-use tm_reassembly::Channels;
+use tm_rules::Channels;
 use toml::Table;
 
 /// The settings of a recording.
@@ -28,7 +28,7 @@ pub struct Settings {
 }
 
 impl Model for Settings {
-    ghost use Rattle.tm_reassembly.specs.Rules.{Rules, IsLimit};
+    ghost use Rattle.tm_rules.specs.Rules.{Rules, IsLimit};
 
     ghost Value = { Rules };
 

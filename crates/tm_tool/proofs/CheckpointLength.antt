@@ -7,7 +7,7 @@ use Rattle.tm_packet.specs.declared.tracker.Last as counted
 use Rattle.tm_packet.specs.Spelling as sequence
 use Rattle.tm_packet.specs.Valid as valid
 use Rattle.tm_reassembly.specs.Checkpoint.{block, with_tail, master_octets, spelling}
-use Rattle.tm_reassembly.specs.Rules.{Rules}
+use Rattle.tm_rules.specs.Rules.{Rules}
 use Rattle.tm_reassembly.specs.State.{State, Last, Tail}
 use Rattle.tm_reassembly.specs.Valid.{IsState}
 use Rattle.tm_reassembly.proofs.States.{short-tails}

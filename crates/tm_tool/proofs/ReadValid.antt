@@ -5,7 +5,7 @@ use Rattle.tm_bits.specs.Bits.{AreOctets}
 use Rattle.tm_bits.proofs.PartLemmas.{octets_behind}
 use Rattle.tm_reassembly.specs.declared.fault.StateFault.{StateFault}
 use Rattle.tm_reassembly.specs.Checkpoint.{Decoded, ReadAll, ReadMaster, four_at, blocks_read, master_read, with_channels, with_master, decoding_of, old_decoding_of}
-use Rattle.tm_reassembly.specs.Rules.{Rules, IsLimit}
+use Rattle.tm_rules.specs.Rules.{Rules, IsLimit}
 use Rattle.tm_reassembly.specs.Valid.{IsCount, IsState}
 use Rattle.tm_reassembly.proofs.Decoding.{blocks_valid}
 use Rattle.tm_tool.specs.declared.version.Version.{Version}

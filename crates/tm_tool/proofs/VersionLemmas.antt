@@ -4,7 +4,7 @@ use Rattle.std.specs.Prelude.{if◌then◌else◌}
 use Rattle.std.proofs.lemmas.Bool.{eqb-true}
 use Rattle.tm_bits.specs.Bits.{AreOctets}
 use Rattle.tm_reassembly.specs.Checkpoint.{Decoded}
-use Rattle.tm_reassembly.specs.Rules.{Rules}
+use Rattle.tm_rules.specs.Rules.{Rules}
 use Rattle.tm_reassembly.specs.State.{State}
 use Rattle.tm_reassembly.specs.Valid.{IsState}
 use Rattle.tm_reassembly.proofs.Spelled.{spelled-again, old-spelled-again}

@@ -8,11 +8,11 @@ use Rattle.tm_packet.specs.declared.tracker.TrackerFault.{TrackerFault}
 use Rattle.tm_packet.specs.Spelling as sequence
 use Rattle.tm_packet.specs.Valid as valid
 use Rattle.tm_reassembly.specs.declared.fault.StateFault.{StateFault}
-use Rattle.tm_reassembly.specs.Channels.{mask_of}
+use Rattle.tm_rules.specs.Channels.{mask_of}
 use Rattle.tm_reassembly.specs.Checkpoint as reassembly
 use Rattle.tm_reassembly.specs.Checkpoint.{two, two_at}
 use Rattle.tm_reassembly.specs.OlderForms as forgotten
-use Rattle.tm_reassembly.specs.Rules.{Rules}
+use Rattle.tm_rules.specs.Rules.{Rules}
 use Rattle.tm_reassembly.specs.State.{State}
 use Rattle.tm_reassembly.specs.Valid.{IsState}
 use Rattle.tm_tool.specs.declared.fault.CheckpointFault.{CheckpointFault}

@@ -4,7 +4,7 @@ use Rattle.tm_fields.specs.declared.field.Field.{Field}
 use Rattle.tm_fields.specs.Rows.{head_of}
 use Rattle.tm_packet.specs.Merge.{no_entries}
 use Rattle.tm_reassembly.specs.Items.{empty}
-use Rattle.tm_reassembly.specs.Rules.{Rules}
+use Rattle.tm_rules.specs.Rules.{Rules}
 use Rattle.tm_output.specs.declared.command.Command.{Command}
 use Rattle.tm_output.specs.declared.command.Command.TheVariants.{Extract, Packets, Fields}
 use Rattle.tm_output.specs.declared.command.Ending.{Ending}

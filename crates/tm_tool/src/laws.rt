@@ -3,7 +3,7 @@
 ghost use Rattle.std.specs.Prelude.{◌≡◌, ◌<◌, ◌≤◌, ◌+◌, ◌*◌, ◌^◌, ℕ, true, false, Ok, List, [], ◌++◌, length};
 ghost use Rattle.tm_bits.specs.Bits.{AreOctets};
 ghost use Rattle.tm_frame.specs.Layout.{record_length_of};
-ghost use Rattle.tm_reassembly.specs.Rules.{IsLimit, Rules};
+ghost use Rattle.tm_rules.specs.Rules.{IsLimit, Rules};
 ghost use Rattle.tm_reassembly.specs.Valid.{AllOctets, IsState};
 ghost use Rattle.tm_output.specs.declared.command.Command.{Command};
 ghost use Rattle.tm_output.specs.declared.command.Ending.{Ending};

@@ -1,4 +1,4 @@
-//! The runs over a recording, their checkpoints and their lines.
+//! The runs over a recording, and their checkpoints.
 #![tactic(auto)]
 
 mod checkpoint;

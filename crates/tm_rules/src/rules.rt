@@ -1,6 +1,6 @@
 //! What the settings say of records, channels and packets.
 
-ghost use Rattle.tm_reassembly.specs.Rules as value;
+ghost use Rattle.tm_rules.specs.Rules as value;
 
 use crate::channels::Channels;
 use std::marker::Model;

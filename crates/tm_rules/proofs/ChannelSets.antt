@@ -4,7 +4,7 @@ use Rattle.std.specs.Prelude.{slice_set, slice_index_or, nat_lt, Some, None}
 use Rattle.std.proofs.lemmas.List.{take_all}
 use Rattle.std.proofs.Math.Seq.{take-suc}
 use Rattle.std.proofs.lemmas.Bool.{eq-eqb, ne_eqb, eqb-true, cond-true, cond-false, lt-ltb, le-ltb}
-use Rattle.tm_reassembly.specs.Channels.{holds, is_wrong, eight, channels_of}
+use Rattle.tm_rules.specs.Channels.{holds, is_wrong, eight, channels_of}
 
 split_at : (xs : List ℕ) (i : ℕ) → i < length xs → xs ≡ take i xs ++ get_or xs i 0 ∷ drop (suc i) xs
 split_at [] i h = absurd (omega arith)

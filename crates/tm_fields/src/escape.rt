@@ -1,6 +1,6 @@
 //! Octets as printed text.
 
-ghost use Rattle.std.specs.Prelude.{◌≡◌, ◌+◌, ◌<◌, ◌≤◌, ◌++◌, ◌∷◌, [], length, OnOk, OnErr, vec_len, vec_capacity};
+ghost use Rattle.std.specs.Prelude.{◌≡◌, ◌+◌, ◌<◌, ◌≤◌, ◌++◌, ◌∷◌, [], length, take, OnOk, OnErr, vec_len, vec_capacity};
 ghost use Rattle.hex.specs.Hex.{encode_lower};
 ghost use Rattle.tm_fields.specs.Escape.{escaped, is_plain, octet_text};
 ghost use Rattle.tm_fields.specs.Rows.{raw};
@@ -19,6 +19,7 @@ fn push_digits(text: &mut Vec<u8>, octet: u8) -> Result<(), AllocError>
     ensures appended { OnOk result (text.new.items ≡ text.old.items ++ encode_lower (octet ∷ [])) }
     ensures room { vec_capacity text.old ≤ vec_capacity text.new }
     ensures full { OnErr result (vec_capacity text.old < vec_len text.old + 2) }
+    ensures kept { OnErr result (text.new.items ≡ text.old.items) }
 {
     let mut digits = [0u8; 2];
     let _ = hex::encode_to_slice([octet], &mut digits);
@@ -30,6 +31,7 @@ fn push_octet(text: &mut Vec<u8>, octet: u8) -> Result<(), AllocError>
     ensures appended { OnOk result (text.new.items ≡ text.old.items ++ octet_text octet) }
     ensures room { vec_capacity text.old ≤ vec_capacity text.new }
     ensures full { OnErr result (vec_capacity text.old < vec_len text.old + length (octet_text octet)) }
+    ensures front { OnErr result (take (vec_len text.old) text.new.items ≡ text.old.items) }
 {
     if is_plain_octet(octet) {
         text.push(octet)?;
@@ -50,6 +52,7 @@ fn push_octet(text: &mut Vec<u8>, octet: u8) -> Result<(), AllocError>
 pub fn push_escaped(text: &mut Vec<u8>, octets: &[u8]) -> Result<(), AllocError>
     ensures appended { OnOk result (text.new.items ≡ text.old.items ++ escaped octets.now) }
     ensures full { OnErr result (vec_capacity text.old < vec_len text.old + length (escaped octets.now)) }
+    ensures front { OnErr result (take (vec_len text.old) text.new.items ≡ text.old.items) }
 {
     for octet in octets {
         push_octet(text, *octet)?;

@@ -1,15 +1,15 @@
 -- Words that give no error have a plan, with what its action needs.
-use Rattle.std.proofs.Common.{◌≡◌, ◌∙◌, ◌||◌, ◌&&◌, Bool, sym, List, [], ◌∷◌, true, false, not, refl, Option, Some, None, is_some, option_map, option_and_then, Result, Ok, Err, IfOk, codes, inl, inr, ap, subst, ℕ, ◌++◌, ◌^◌, drop, take, slice_index_or}
+use Rattle.std.proofs.Common.{◌≡◌, ◌∙◌, ◌||◌, ◌&&◌, Bool, sym, List, [], ◌∷◌, true, false, not, refl, Option, Some, None, is_some, option_map, option_and_then, Result, Ok, Err, IfErr, IfOk, codes, inl, inr, ap, subst, ℕ, ◌++◌, ◌^◌, drop, take, slice_index_or}
 use Rattle.std.specs.Prelude.{⊤, if◌then◌else◌, find, IfSome}
 use Rattle.std.specs.List.{AllByRecursion, list_all}
 use Rattle.std.specs.Option.{option_map_or}
 use Rattle.std.proofs.lemmas.Bool.{and_parts, cases_Bool, false≢true}
 use Rattle.std.proofs.lemmas.Option.{same_Some}
 use borrow.Author.Tests.{ltb-true}
-use Rattle.clap.specs.Kinds.{Kinds, FailsBy}
+use Rattle.clap.specs.Kinds.{Kinds, FailsBy, HasKind}
 use Rattle.clap.specs.declared.error.Error.{Error}
-use Rattle.clap.specs.declared.error.kind.ErrorKind.TheVariants.{MissingRequiredArgument, MissingSubcommand}
-use Rattle.clap.specs.Words.{Rule, is_simple, is_simple_and_free}
+use Rattle.clap.specs.declared.error.kind.ErrorKind.TheVariants.{MissingRequiredArgument, MissingSubcommand, OutOfMemory}
+use Rattle.clap.specs.Words.{Rule, kind_of, is_simple, is_simple_and_free}
 use Rattle.clap.specs.Walk.{Row, Text, answers_to, first_of, nothing_held, one_of, rows_after, walk}
 use Rattle.clap.specs.Simple.{App, Shape, built, entered, label_of, names_of, new_rule, rows_at}
 use Rattle.clap.specs.Takes.{is_given}
@@ -18,6 +18,9 @@ use Rattle.clap.proofs.OnLiterals.{clap_on_literals}
 use Rattle.tm_words.specs.declared.request.Action.{Action}
 use Rattle.tm_words.specs.declared.request.Action.TheVariants.{Frames, Packets, Extract, Split, Fields}
 use Rattle.tm_words.specs.declared.request.Plan.{Plan}
+use Rattle.tm_words.specs.declared.request.UsageFault.{UsageFault}
+use Rattle.tm_words.specs.declared.request.UsageFault.TheVariants.{NoMemory}
+use Rattle.tm_words.specs.Refusals.{IsFaultOf, IsFaultOfOne}
 use Rattle.tm_words.specs.CommandLine.{tmx, plan_with, action_named, decimal, faults_of, matches_of, plan_of, HasNeeds, HasRequired, HasStop, IsBetween}
 use Rattle.tm_words.proofs.Filled.{Filled, IsRuled, OfRange, Range, is_sized, level-filled, given-first, given-number, range_of, read-number}
 
@@ -33,6 +36,17 @@ tmx_free = refl
 pub whole_of : {T : Type 0} (r : Result T Error) (a b : Kinds) → a ≡ b → FailsBy a r → IfOk r (λ _. b ≡ [])
 whole_of (Ok x) a b e h = sym e ∙ h
 whole_of (Err x) a b e h = tt
+
+-- an `Err` has one of the kinds
+pub kinds_of : {T : Type 0} (r : Result T Error) (a b : Kinds) → a ≡ b → FailsBy a r → IfErr r (HasKind b)
+kinds_of (Ok x) a b e h = tt
+kinds_of (Err x) a b e h = subst (λ (kinds : Kinds). HasKind kinds x) e h
+
+-- the fault that is made of such an error
+pub fault_of_one : (kinds : Kinds) (e : Error) (f : UsageFault) → HasKind kinds e → (kind_of e ≡ OutOfMemory → f ≡ NoMemory) → IsFaultOf (kind_of e) f
+    → IsFaultOfOne kinds f
+fault_of_one kinds e f (inl out) memory is = inl (memory out)
+fault_of_one kinds e f (inr among) memory is = inr (kind_of e, among, is)
 
 abbrev tmx_built : App
 tmx_built = built tmx

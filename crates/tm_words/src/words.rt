@@ -1,7 +1,8 @@
 //! The plan of the words.
 
 ghost use Rattle.std.specs.Prelude.{◌≡◌, ◌≢◌, ◌⊎◌, true, false, Err, Some, [], map, IfOk, IfErr, option_and_then, string_bytes};
-ghost use Rattle.clap.specs.Words.{first_of, found_of, kind_of, one_of, rows_of, subcommand_rows_of};
+ghost use Rattle.clap.specs.Words.{HasKind, first_of, found_of, kind_of, one_of, rows_of, subcommand_rows_of};
+ghost use Rattle.tm_words.specs.Refusals.{IsFaultOf, IsFaultOfOne};
 ghost use Rattle.tm_words.specs.CommandLine.{HasRequired, HasStop, action_named, decimal, faults_of, is_taken, lacks_checkpoint, matches_of, plan_in, plan_of};
 
 use crate::command::tmx_command;
@@ -103,7 +104,7 @@ fn plan_by(alloc: Global, matches: &ArgMatches<'_>) -> Result<Option<Plan>, Allo
 // The text of an error, unless memory runs out.
 fn fault_by(alloc: Global, error: &Error) -> UsageFault
     ensures memory { kind_of error.now ≡ ErrorKind.OutOfMemory → result ≡ UsageFault.NoMemory }
-    ensures text { result ≢ UsageFault.StopAfter }
+    ensures kind { IsFaultOf (kind_of error.now) result }
 {
     if error.kind() == ErrorKind::OutOfMemory {
         return UsageFault::NoMemory;
@@ -125,6 +126,7 @@ fn matches_by<'a>(alloc: Global, words: &'a [String]) -> Result<ArgMatches<'a>, 
     ensures whole { IfOk result (λ _. faults_of (map string_bytes words.entry.now) ≡ []) }
     ensures taken { IfErr result (λ e. is_taken (map string_bytes words.entry.now) ≡ true
         → kind_of e ≡ ErrorKind.OutOfMemory) }
+    ensures kinds { IfErr result (HasKind (faults_of (map string_bytes words.entry.now))) }
 {
     tmx_command(alloc)?.try_get_matches_from(words)
 }
@@ -135,7 +137,7 @@ fn matched_plan(alloc: Global, words: Vec<String>) -> Result<Plan, UsageFault>
     ensures required { IfOk result HasRequired }
     ensures whole { IfOk result (λ _. faults_of (map string_bytes words.items) ≡ []) }
     ensures stop { IfOk result (HasStop (map string_bytes words.items)) }
-    ensures text { IfErr result (λ f. f ≢ UsageFault.StopAfter) }
+    ensures kinds { IfErr result (IsFaultOfOne (faults_of (map string_bytes words.items))) }
     ensures taken { IfErr result (λ f. is_taken (map string_bytes words.items) ≡ true → f ≡ UsageFault.NoMemory) }
 {
     let matches = match matches_by(alloc, words.as_slice()) {
@@ -173,6 +175,9 @@ pub fn plan(alloc: Global, words: Vec<String>) -> Result<Plan, UsageFault>
     // `StopAfter` comes only where `clap`'s matches of the words say a plan that stops and has no such file.
     ensures stop_after { result ≡ Err UsageFault.StopAfter → (faults_of (map string_bytes words.items) ≡ [])
         × ((p : Plan) × (plan_of (map string_bytes words.items) ≡ Some p) × (lacks_checkpoint p ≡ true)) }
+
+    // All else that is refused goes by `clap`'s kind of error: `Help` where the words ask for it, and else `Usage`.
+    ensures kinds { IfErr result (λ f. (f ≡ UsageFault.StopAfter) ⊎ IsFaultOfOne (faults_of (map string_bytes words.items)) f) }
 
     // Words that the command takes, by `clap`'s own definition, are refused for that and for want of memory alone.
     ensures taken { IfErr result (λ f. is_taken (map string_bytes words.items) ≡ true

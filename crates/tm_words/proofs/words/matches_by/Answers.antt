@@ -2,7 +2,7 @@ use Rattle.std.proofs.Common.{◌≡◌, ◌∙◌, ap, List, map, string_bytes}
 use Rattle.std.proofs.lemmas.Result.{IfErr-weaker, IfOk-weaker}
 use Rattle.clap.specs.Words.{App, Text, app_of, fault_of, is_simple, is_simple_and_free, subcommand_of, takes}
 use Rattle.tm_words.specs.CommandLine.{tmx, is_taken, faults_of, matches_of}
-use Rattle.tm_words.proofs.Required.{tmx_simple, tmx_free, whole_of}
+use Rattle.tm_words.proofs.Required.{kinds_of, tmx_simple, tmx_free, whole_of}
 use Rattle.tm_words.proofs.words.matches_by.Goals as goal
 
 pub returns : goal.returns
@@ -15,4 +15,5 @@ returns c =
       rows = IfOk-weaker parse.result _ _ (λ m h. (h (ap is_simple app_is ∙ tmx_simple)).1 ∙ ap (λ (a : App). subcommand_of a words) app_is) parse.ensures.matches;
       whole = whole_of parse.result _ _ (ap (λ (a : App). fault_of a words) app_is) (parse.ensures.kinds (ap is_simple_and_free app_is ∙ tmx_free));
       taken = IfErr-weaker parse.result _ _ (λ e h t. h (ap (λ (a : App). takes a words) app_is ∙ t)) parse.ensures.passes;
+      kinds = kinds_of parse.result _ _ (ap (λ (a : App). fault_of a words) app_is) (parse.ensures.kinds (ap is_simple_and_free app_is ∙ tmx_free));
     }

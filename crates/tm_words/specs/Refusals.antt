@@ -1,0 +1,22 @@
+-- The fault of words in which `clap` finds something wrong, by its kind of error.
+use Rattle.std.specs.Prelude.{⊤, ◌≡◌, ◌≢◌, ◌⊎◌}
+use Rattle.clap.specs.Kinds.{IsAmong, Kinds}
+use Rattle.clap.specs.declared.error.kind.ErrorKind.{ErrorKind}
+use Rattle.clap.specs.declared.error.kind.ErrorKind.TheVariants.{DisplayHelp, DisplayVersion}
+use Rattle.tm_words.specs.declared.request.UsageFault.{UsageFault}
+use Rattle.tm_words.specs.declared.request.UsageFault.TheVariants.{Usage, Help, StopAfter, NoMemory}
+
+-- an error of this kind says what is wrong with the words; of the others it answers what they ask for
+abbrev pub IsMistake : ErrorKind → Type 0
+IsMistake kind = (kind ≢ DisplayHelp) × (kind ≢ DisplayVersion)
+
+-- the fault that an error of this kind makes
+abbrev pub IsFaultOf : ErrorKind → UsageFault → Type 0
+IsFaultOf kind (Usage text) = IsMistake kind
+IsFaultOf kind (Help text) = ¬ (IsMistake kind)
+IsFaultOf kind NoMemory = ⊤
+IsFaultOf kind StopAfter = ⊥
+
+-- memory ran out, or an error of one of these kinds makes the fault
+abbrev pub IsFaultOfOne : Kinds → UsageFault → Type 0
+IsFaultOfOne kinds fault = (fault ≡ NoMemory) ⊎ ((kind : ErrorKind) × IsAmong kind kinds × IsFaultOf kind fault)

@@ -1,6 +1,6 @@
 //! A file for each application.
 
-ghost use Rattle.std.specs.Prelude.{◌≡◌, ◌≢◌, ◌<◌, ◌+◌, ◌++◌, ◌⊎◌, ℕ, [], Some, true, false, length, vec_len, slice_get, option_map, replicate, IfErr, IfOk, OnOk};
+ghost use Rattle.std.specs.Prelude.{◌≡◌, ◌≢◌, ◌<◌, ◌+◌, ◌++◌, ◌⊎◌, ℕ, [], Some, true, false, length, vec_len, slice_get, replicate, IfErr, IfOk, OnOk};
 ghost use Rattle.tm_program.specs.Shelves.{HoldsNone, IsAdded};
 
 use std::alloc::{AllocError, Global};
@@ -24,63 +24,23 @@ pub enum ShelfFault {
     NoMemory,
 }
 
-/// The files `apid-NNNN.pkt` of a folder. A file is made at its application's first packet, or gone on with where a run goes on. Octets are held in memory and written
-/// from time to time, with one file open at a time.
+// The folder of the files `apid-NNNN.pkt`, and how they are made and written there.
 #[derive(Drop)]
-pub struct FileShelf<'a, R> {
+struct Folder<'a, R> {
     rt: &'a R,
     alloc: Global,
     dir: &'a str,
     goes_on: bool,
-    // For each application what is not written yet, and whether its file was begun.
-    held: Vec<Vec<u8>>,
-    begun: Vec<bool>,
-    octets: usize,
-    refused: u64,
-    // A put was refused for want of memory.
-    starved: bool,
-    ghost all_held: { vec_len held ≡ 2048 },
-    ghost all_begun: { vec_len begun ≡ 2048 },
 }
 
-impl<'a, R: Files + AllocGlobal> FileShelf<'a, R> {
-    /// Files in this folder, none begun. Those that are there are gone on with where the run goes on, and else begin empty.
-    #[tactic(auto, using(crate::proofs::ShelfLemmas::none_of_next))]
-    pub fn new(rt: &'a R, dir: &'a str, goes_on: bool) -> Result<Self, AllocError>
-        ensures folder { IfOk result (λ s. (s.dir ≡ dir.entry) × (s.goes_on ≡ goes_on)) }
-        ensures counts { IfOk result (λ s. (s.octets ≡ 0) × (s.refused ≡ 0) × (s.starved ≡ false)) }
-        ensures begun { IfOk result (λ s. s.begun.items ≡ replicate 2048 false) }
-        ensures held { IfOk result (λ s. HoldsNone s.held.items) }
-    {
-        let alloc = rt.alloc();
-        let mut held = Vec::with_capacity(alloc, APPLICATIONS)?;
-        for application in 0..APPLICATIONS {
-            held.push(Vec::new(alloc))?;
-        }
-        Ok(FileShelf {
-            rt,
-            alloc,
-            dir,
-            goes_on,
-            held,
-            begun: vec![in alloc; false; APPLICATIONS]?,
-            octets: 0,
-            refused: 0,
-            starved: false,
-        })
-    }
-
-    /// A put was refused for want of memory.
-    pub fn is_starved(&self) -> bool
-        ensures { result ≡ self.now.starved }
-    {
-        self.starved
-    }
-
+impl<R: Files + AllocGlobal> Folder<'_, R> {
     // The name of an application's file.
     fn name_of(&self, application: usize) -> Result<String, ShelfFault> {
         let dir = self.dir;
-        format!(in self.alloc; "{dir}/apid-{application:04}.pkt").map_err(|_| ShelfFault::NoMemory)
+        match format!(in self.alloc; "{dir}/apid-{application:04}.pkt") {
+            Ok(name) => Ok(name),
+            Err(_) => Err(ShelfFault::NoMemory),
+        }
     }
 
     // Opens the file of this name, which is empty from then on unless the run goes on.
@@ -95,92 +55,154 @@ impl<'a, R: Files + AllocGlobal> FileShelf<'a, R> {
         }
     }
 
-    // Makes the file of an application at its first packet.
-    fn begin(&mut self, application: usize) -> Result<(), ShelfFault>
-        requires { application < 2048 }
-        ensures begun { OnOk result (slice_get self.new.begun.items application ≡ Some true) }
-        ensures others { (other : ℕ) → other ≢ application → slice_get self.new.begun.items other ≡ slice_get self.old.begun.items other }
-        ensures held { (self.new.held ≡ self.old.held) × (self.new.octets ≡ self.old.octets) }
-        ensures same { (self.new.dir ≡ self.old.dir) × (self.new.goes_on ≡ self.old.goes_on) × (self.new.refused ≡ self.old.refused) × (self.new.starved ≡ self.old.starved) }
+    // Makes the file of an application, unless it was begun.
+    fn begin(&self, application: usize, begun: &mut bool) -> Result<(), ShelfFault>
+        ensures { OnOk result (begun.new ≡ true) }
     {
-        if self.begun[application] {
+        if *begun {
             return Ok(());
         }
         let name = self.name_of(application)?;
         match self.make(name.as_str()) {
             Ok(_) => {
-                self.begun[application] = true;
+                *begun = true;
                 Ok(())
             }
             Err(_) => Err(ShelfFault::NotWritten),
         }
     }
 
-    // Writes what is held of an application behind what its file has, and holds it no more.
-    fn write_one(&mut self, application: usize) -> Result<(), ShelfFault>
-        requires { application < 2048 }
-        ensures own { OnOk result (option_map (λ held. held.items) (slice_get self.new.held.items application) ≡ Some []) }
-        ensures others { (other : ℕ) → other ≢ application → slice_get self.new.held.items other ≡ slice_get self.old.held.items other }
-        ensures begun { (self.new.begun ≡ self.old.begun) × (self.new.octets ≡ self.old.octets) }
-        ensures same { (self.new.dir ≡ self.old.dir) × (self.new.goes_on ≡ self.old.goes_on) × (self.new.refused ≡ self.old.refused) × (self.new.starved ≡ self.old.starved) }
-    {
+    // Opens the file of an application, to write behind what it has.
+    fn open(&self, application: usize) -> Result<R::File, ShelfFault> {
         let name = self.name_of(application)?;
-        let opened = OpenOptions::new().append(true).open(self.rt, name.as_str());
-        let Ok(mut file) = opened else {
-            return Err(ShelfFault::NotWritten);
-        };
-        let written = file.write_all(self.held[application].as_slice());
-        self.held[application].clear();
-        written.map_err(|_| ShelfFault::NotWritten)
+        match OpenOptions::new().append(true).open(self.rt, name.as_str()) {
+            Ok(file) => Ok(file),
+            Err(_) => Err(ShelfFault::NotWritten),
+        }
+    }
+
+    // Writes what is held of an application behind what its file has, and holds it no more.
+    fn write_one(&self, application: usize, held: &mut Vec<u8>) -> Result<(), ShelfFault>
+        ensures { OnOk result (held.new.items ≡ []) }
+    {
+        let mut file = self.open(application)?;
+        let written = file.write_all(held.as_slice());
+        held.clear();
+        match written {
+            Ok(()) => Ok(()),
+            Err(_) => Err(ShelfFault::NotWritten),
+        }
     }
 
     // Likewise, where anything is held.
-    #[tactic(auto, using(crate::proofs::ShelfLemmas::none_there))]
-    fn write_any(&mut self, application: usize) -> Result<(), ShelfFault>
-        requires { application < 2048 }
-        ensures own { OnOk result (option_map (λ held. held.items) (slice_get self.new.held.items application) ≡ Some []) }
-        ensures others { (other : ℕ) → other ≢ application → slice_get self.new.held.items other ≡ slice_get self.old.held.items other }
-        ensures begun { (self.new.begun ≡ self.old.begun) × (self.new.octets ≡ self.old.octets) }
-        ensures same { (self.new.dir ≡ self.old.dir) × (self.new.goes_on ≡ self.old.goes_on) × (self.new.refused ≡ self.old.refused) × (self.new.starved ≡ self.old.starved) }
+    fn write_any(&self, application: usize, held: &mut Vec<u8>) -> Result<(), ShelfFault>
+        ensures { OnOk result (held.new.items ≡ []) }
     {
-        if self.held[application].is_empty() {
+        if held.is_empty() {
             return Ok(());
         }
-        self.write_one(application)
+        self.write_one(application, held)
+    }
+
+    // Writes what is held of all applications. Where a file can't be written the others still are.
+    #[tactic(auto, using(crate::proofs::ShelfLemmas::none_so_far))]
+    fn write_all(&self, held: &mut [Vec<u8>]) -> Result<(), ShelfFault>
+        requires { length held.now ≡ 2048 }
+        ensures { OnOk result (HoldsNone held.new) }
+    {
+        let mut done = Ok(());
+        for application in 0..APPLICATIONS {
+            if let Err(fault) = self.write_any(application, &mut held[application]) {
+                done = Err(fault);
+            }
+        }
+        done
+    }
+}
+
+// As many empty buffers as there are applications.
+#[tactic(auto, using(crate::proofs::ShelfLemmas::none_of_next))]
+fn none_held(alloc: Global) -> Result<Vec<Vec<u8>>, AllocError>
+    ensures count { IfOk result (λ held. vec_len held ≡ 2048) }
+    ensures none { IfOk result (λ held. HoldsNone held.items) }
+{
+    let mut held = Vec::with_capacity(alloc, APPLICATIONS)?;
+    for application in 0..APPLICATIONS {
+        held.push(Vec::new(alloc))?;
+    }
+    Ok(held)
+}
+
+// Holds octets behind those that are held.
+fn add(held: &mut Vec<u8>, octets: &[u8]) -> Result<(), ShelfFault>
+    ensures whole { OnOk result (held.new.items ≡ held.old.items ++ octets.now) }
+    ensures refused { IfErr result (λ fault. fault ≡ ShelfFault.NoMemory) }
+{
+    match held.extend_from_slice(octets) {
+        Ok(()) => Ok(()),
+        Err(_) => Err(ShelfFault::NoMemory),
+    }
+}
+
+/// The files `apid-NNNN.pkt` of a folder. A file is made at its application's first packet, or gone on with where a run goes on. Octets are held in memory and written
+/// from time to time, with one file open at a time.
+#[derive(Drop)]
+pub struct FileShelf<'a, R> {
+    folder: Folder<'a, R>,
+    // For each application what is not written yet, and whether its file was begun.
+    held: Vec<Vec<u8>>,
+    begun: Vec<bool>,
+    octets: usize,
+    refused: u64,
+    // A put was refused for want of memory.
+    starved: bool,
+    ghost all_held: { vec_len held ≡ 2048 },
+    ghost all_begun: { vec_len begun ≡ 2048 },
+}
+
+impl<'a, R: Files + AllocGlobal> FileShelf<'a, R> {
+    /// Files in this folder, none begun. Those that are there are gone on with where the run goes on, and else begin empty.
+    pub fn new(rt: &'a R, dir: &'a str, goes_on: bool) -> Result<Self, AllocError>
+        ensures folder { IfOk result (λ s. (s.folder.dir ≡ dir.entry) × (s.folder.goes_on ≡ goes_on)) }
+        ensures counts { IfOk result (λ s. (s.octets ≡ 0) × (s.refused ≡ 0) × (s.starved ≡ false)) }
+        ensures begun { IfOk result (λ s. s.begun.items ≡ replicate 2048 false) }
+        ensures held { IfOk result (λ s. HoldsNone s.held.items) }
+    {
+        let alloc = rt.alloc();
+        let held = none_held(alloc)?;
+        let begun = vec![in alloc; false; APPLICATIONS]?;
+        let folder = Folder {
+            rt,
+            alloc,
+            dir,
+            goes_on,
+        };
+        Ok(FileShelf {
+            folder,
+            held,
+            begun,
+            octets: 0,
+            refused: 0,
+            starved: false,
+        })
+    }
+
+    /// A put was refused for want of memory.
+    pub fn is_starved(&self) -> bool
+        ensures { result ≡ self.now.starved }
+    {
+        self.starved
     }
 
     /// Writes all that is held. Where a file can't be written the others still are.
-    #[tactic(auto, using(crate::proofs::ShelfLemmas::none_so_far))]
     pub fn write_held(&mut self) -> Result<(), ShelfFault>
         ensures held { OnOk result (HoldsNone self.new.held.items) }
         ensures octets { self.new.octets ≡ 0 }
         ensures begun { self.new.begun ≡ self.old.begun }
-        ensures same { (self.new.dir ≡ self.old.dir) × (self.new.goes_on ≡ self.old.goes_on) × (self.new.refused ≡ self.old.refused) × (self.new.starved ≡ self.old.starved) }
+        ensures same { (self.new.folder ≡ self.old.folder) × (self.new.refused ≡ self.old.refused) × (self.new.starved ≡ self.old.starved) }
     {
-        let mut done = Ok(());
-        for application in 0..APPLICATIONS {
-            if let Err(fault) = self.write_any(application) {
-                done = Err(fault);
-            }
-        }
         self.octets = 0;
-        done
-    }
-
-    // Holds octets behind those that are held of an application.
-    fn add(&mut self, application: usize, octets: &[u8]) -> Result<(), ShelfFault>
-        requires { application < 2048 }
-        ensures begun { (self.new.begun ≡ self.old.begun) × (self.new.octets ≡ self.old.octets) }
-        ensures same { (self.new.dir ≡ self.old.dir) × (self.new.goes_on ≡ self.old.goes_on) × (self.new.refused ≡ self.old.refused) × (self.new.starved ≡ self.old.starved) }
-        ensures own { OnOk result (option_map (λ held. held.items) (slice_get self.new.held.items application)
-            ≡ option_map (λ held. held.items ++ octets.now) (slice_get self.old.held.items application)) }
-        ensures others { (other : ℕ) → other ≢ application → slice_get self.new.held.items other ≡ slice_get self.old.held.items other }
-        ensures refused { IfErr result (λ fault. fault ≡ ShelfFault.NoMemory) }
-    {
-        match self.held[application].extend_from_slice(octets) {
-            Ok(()) => Ok(()),
-            Err(_) => Err(ShelfFault::NoMemory),
-        }
+        self.folder.write_all(self.held.as_mut_slice())
     }
 
     // Holds octets of an application, whose file is made at the first, and writes what is held where that is much.
@@ -191,10 +213,11 @@ impl<'a, R: Files + AllocGlobal> FileShelf<'a, R> {
         ensures held { OnOk result ((IsAdded self.old.held.items self.new.held.items application octets.now × (self.new.octets ≡ self.old.octets + length octets.now))
             ⊎ HoldsNone self.new.held.items) }
         ensures few { OnOk result (self.new.octets < 8388608) }
-        ensures same { (self.new.dir ≡ self.old.dir) × (self.new.goes_on ≡ self.old.goes_on) × (self.new.refused ≡ self.old.refused) × (self.new.starved ≡ self.old.starved) }
+        ensures same { (self.new.folder ≡ self.old.folder) × (self.new.refused ≡ self.old.refused) × (self.new.starved ≡ self.old.starved) }
     {
-        self.begin(application)?;
-        self.add(application, octets)?;
+        self.folder
+            .begin(application, &mut self.begun[application])?;
+        add(&mut self.held[application], octets)?;
         self.octets = self.octets.saturating_add(octets.len());
         if self.octets < MOST_HELD {
             return Ok(());

@@ -167,7 +167,7 @@ fn shelf_in<'a, R: Files + AllocGlobal>(
     dir: &'a Octets,
     goes_on: bool,
 ) -> Result<FileShelf<'a, R>, ToolFault>
-    ensures folder { IfOk result (λ s. (s.dir.now ≡ dir.now) × (s.goes_on ≡ goes_on) × (dir.now ≢ [])) }
+    ensures folder { IfOk result (λ s. (s.folder.dir.now ≡ dir.now) × (s.folder.goes_on ≡ goes_on) × (dir.now ≢ [])) }
     ensures refused { IfErr result (IsFileFault dir.now) }
 {
     let path = match std::str::from_utf8(dir.as_slice()) {

@@ -2,9 +2,9 @@
 use Rattle.std.proofs.Common.{◌≡◌}
 use Rattle.std.specs.Prelude.{vec_len}
 use Rattle.tm_program.specs.Shelves.{HoldsNoneOf}
-use Rattle.tm_program.proofs.shelf.FileShelf.new.Given as goal
+use Rattle.tm_program.proofs.shelf.none_held.Given as goal
 
 abbrev pub invariant-loop-application : goal.invariant-loop-application
-invariant-loop-application g l =
+invariant-loop-application l =
     (vec_len l.held ≡ l.application)
     × HoldsNoneOf l.application l.held.items

@@ -133,12 +133,13 @@ fn none_held(alloc: Global) -> Result<Vec<Vec<u8>>, AllocError>
     Ok(held)
 }
 
-// Holds octets behind those that are held.
-fn add(held: &mut Vec<u8>, octets: &[u8]) -> Result<(), ShelfFault>
-    ensures whole { OnOk result (held.new.items ≡ held.old.items ++ octets.now) }
+// Holds octets behind those that are held of an application.
+fn add(held: &mut [Vec<u8>], application: usize, octets: &[u8]) -> Result<(), ShelfFault>
+    requires { application < length held.now }
+    ensures added { OnOk result (IsAdded held.old held.new application octets.now) }
     ensures refused { IfErr result (λ fault. fault ≡ ShelfFault.NoMemory) }
 {
-    match held.extend_from_slice(octets) {
+    match held[application].extend_from_slice(octets) {
         Ok(()) => Ok(()),
         Err(_) => Err(ShelfFault::NoMemory),
     }
@@ -217,7 +218,7 @@ impl<'a, R: Files + AllocGlobal> FileShelf<'a, R> {
     {
         self.folder
             .begin(application, &mut self.begun[application])?;
-        add(&mut self.held[application], octets)?;
+        add(self.held.as_mut_slice(), application, octets)?;
         self.octets = self.octets.saturating_add(octets.len());
         if self.octets < MOST_HELD {
             return Ok(());

@@ -1,9 +1,7 @@
 -- A shelf that doesn't tell what its files have, and what it holds.
 use Rattle.std.proofs.Common.{◌≡◌, ◌≢◌, ◌<◌, ◌+◌, ◌∙◌, ℕ, List, [], length, Option, None, Some, Ok, Err, Result, Vec, refl, sym, subst, ap, arith, ⊎_elim}
-use Rattle.std.specs.Prelude.{OnOk, option_map, slice_get, slice_index_or, vec_len}
+use Rattle.std.specs.Prelude.{OnOk, option_map, slice_get}
 use Rattle.std.proofs.lemmas.Bool.{cases_eq}
-use Rattle.std.proofs.lemmas.List.{nil_from_length}
-use Rattle.std.proofs.lemmas.Option.{slice_get_read}
 use Rattle.tm_devices.specs.Devices.{PutsFront}
 use Rattle.tm_program.specs.Shelves.{HoldsNoneOf}
 
@@ -11,14 +9,6 @@ pub none_put : (new : Option (ℕ → List ℕ)) (application : ℕ) (octets : L
 none_put new application octets = ([], octets, refl, λ some. some, tt)
 
 module _ {Z : Type 0} where
-  -- what is held of an application has no octets
-  pub none_there : (held : List (Vec ℕ Z)) (application : ℕ) (octets : Vec ℕ Z) → application < length held
-      → octets ≡ slice_index_or held application octets → vec_len octets ≡ 0
-      → option_map (λ octets. octets.items) (slice_get held application) ≡ Some []
-  none_there held application octets below there none =
-      ap (option_map (λ octets. octets.items)) (slice_get_read held (length held) application octets refl below there)
-      ∙ ap Some (nil_from_length octets.items (sym octets.ok.0 ∙ none))
-
   -- nothing is held of the first n applications, nor of the next
   pub none_of_next : (held : List (Vec ℕ Z)) (n : ℕ) → HoldsNoneOf n held
       → option_map (λ octets. octets.items) (slice_get held n) ≡ Some [] → HoldsNoneOf (n + 1) held

@@ -15,8 +15,8 @@ use std::io::{self, BufReader, BufWriter, Read, Write};
 use std::rt::Files;
 use tm_fields::Definition;
 use tm_tool::{
-    Command, Done, Ending, Job, Octets, Reading, RunFault, Settings, Writing, list_frames,
-    run as run_job, split,
+    Command, Done, Drain, Ending, Job, Octets, Reading, RunFault, Settings, Shelf, Source, Writing,
+    list_frames, run as run_job, split,
 };
 use tm_words::{Action, Plan, plan};
 
@@ -98,8 +98,28 @@ fn ends_with<S: Read + Drop, V: Write + Drop>(
     Ok(Ends { source, report })
 }
 
+// Gives the packets of a recording to a drain.
+#[tactic(auto, using(crate::proofs::EndingLemmas::headed_run_done))]
+fn give_to<S: Source, W: Drain, V: Drain>(
+    alloc: Global,
+    job: Job,
+    command: Command<'_>,
+    source: &mut S,
+    out: &mut W,
+    report: &mut V,
+    ending: Ending,
+) -> Result<Done, ToolFault>
+    ensures done { IfOk result (λ done. IsDone ending job.work done.records (option_map (λ kept. kept.work) done.kept)) }
+    ensures refused { IfErr result IsRunFault }
+{
+    match run_job(alloc, job, command, source, out, report, ending) {
+        Ok(done) => Ok(done),
+        Err(fault) => Err(ToolFault::Run(fault)),
+    }
+}
+
 // Gives the packets of a recording on standard output.
-#[tactic(auto, using(crate::proofs::EndingLemmas::headed_run_done, crate::proofs::ProgramLemmas::starved_run))]
+#[tactic(auto, using(crate::proofs::ProgramLemmas::starved_run))]
 fn give_packets<R: Print + AllocGlobal, S: Read + Drop, V: Write + Drop>(
     rt: &R,
     job: Job,
@@ -112,16 +132,9 @@ fn give_packets<R: Print + AllocGlobal, S: Read + Drop, V: Write + Drop>(
 {
     let alloc = rt.alloc();
     let mut out = drain(alloc, BUFFER, io::writer(rt))?;
-    let done = run_job(
-        alloc,
-        job,
-        command,
-        &mut ends.source,
-        &mut out,
-        &mut ends.report,
-        ending,
-    );
-    done.map_err(|fault| ToolFault::Run(fault))
+    let source = &mut ends.source;
+    let report = &mut ends.report;
+    give_to(alloc, job, command, source, &mut out, report, ending)
 }
 
 // What splitting ends with, once what the shelf holds is written.
@@ -142,8 +155,22 @@ fn split_end(
     }
 }
 
+// Gives the packets of a recording to a shelf.
+#[tactic(auto, using(crate::proofs::EndingLemmas::run_done))]
+fn split_to<S: Source, H: Shelf, V: Drain>(
+    alloc: Global,
+    job: Job,
+    source: &mut S,
+    shelf: &mut H,
+    report: &mut V,
+    ending: Ending,
+) -> Result<Done, RunFault>
+    ensures { IfOk result (λ done. IsDone ending job.work done.records (option_map (λ kept. kept.work) done.kept)) }
+{
+    split(alloc, job, source, shelf, report, ending)
+}
+
 // Gives the packets of a recording to a file for each application.
-#[tactic(auto, using(crate::proofs::EndingLemmas::run_done, crate::proofs::ProgramLemmas::starved_run))]
 fn split_packets<R: Files + AllocGlobal, S: Read + Drop, V: Write + Drop>(
     rt: &R,
     job: Job,
@@ -156,7 +183,7 @@ fn split_packets<R: Files + AllocGlobal, S: Read + Drop, V: Write + Drop>(
 {
     let alloc = rt.alloc();
     let source = &mut ends.source;
-    let done = split(alloc, job, source, &mut shelf, &mut ends.report, ending);
+    let done = split_to(alloc, job, source, &mut shelf, &mut ends.report, ending);
     let written = shelf.write_held();
     split_end(done, written, shelf.is_starved())
 }

@@ -1,5 +1,5 @@
 -- A shelf that doesn't tell what its files have, and what it holds.
-use Rattle.std.proofs.Common.{◌≡◌, ◌≢◌, ◌<◌, ◌+◌, ◌∙◌, ℕ, List, [], length, Option, None, Some, Ok, Err, Result, Vec, refl, sym, subst, ap, arith, ⊎_elim}
+use Rattle.std.proofs.Common.{◌≡◌, ◌≢◌, ◌+◌, ◌∙◌, ℕ, List, [], Option, None, Some, Ok, Err, Result, Vec, refl, sym, subst, ap, arith, ⊎_elim}
 use Rattle.std.specs.Prelude.{OnOk, option_map, slice_get}
 use Rattle.std.proofs.lemmas.Bool.{cases_eq}
 use Rattle.tm_devices.specs.Devices.{PutsFront}

@@ -1,10 +1,14 @@
 -- What is done by a run, of what its contract says.
-use Rattle.std.proofs.Common.{ℕ, Bool, List, Option, None, inl, inr, ⊎_elim}
+use Rattle.std.proofs.Common.{◌≡◌, ℕ, Bool, List, Option, None, Some, Result, Ok, inl, inr, subst, ⊎_elim}
+use Rattle.std.specs.Prelude.{IfOk, MatchOption}
 use Rattle.tm_output.specs.declared.command.Ending.{Ending}
 use Rattle.tm_output.specs.Outputs.{Piece, View}
 use Rattle.tm_output.specs.Pieces.{Texts, Work}
 use Rattle.tm_tool.specs.Runs.{HasEnded, IsHeadedRun, IsRun}
-use Rattle.tm_program.specs.Endings.{IsDone}
+use Rattle.tm_settings.specs.Settings.{Rules}
+use Rattle.tm_tool.specs.Jobs.{JobState, begun}
+use Rattle.tm_program.specs.Endings.{HasDone, IsDone, ending_of}
+use Rattle.tm_words.specs.declared.request.Plan.{Plan}
 
 -- what was read, but for what the source tells
 untold : (ending : Ending) (w : Work) (left_old left_new : Option (List ℕ)) (read : List (List ℕ)) (rest : List ℕ) → HasEnded ending w left_old left_new read rest → HasEnded ending w None None read rest
@@ -20,3 +24,14 @@ module _ {A K : Type 0} (grows : K → K → List A → Type 0) (rows : Bool) (t
   -- likewise, where the head of the rows was written before
   pub headed_run_done : (old new : View K) (head : List (Piece A)) (records : ℕ) (kept : Option Work) → IsHeadedRun grows rows text ending w head left_old left_new old new records kept → IsDone ending w records kept
   headed_run_done old new head records kept r = run_done r.mid new records kept r.run
+
+-- what is done from the job that is gone on with, or else from a new one
+pub done_from : {E : Type 0} (found : Result JobState E) (p : Plan) (settings : Rules) (resumed : Option JobState) (job : JobState) (records : ℕ) (kept : Option Work)
+    → MatchOption resumed (IfOk found (λ j. j ≡ begun settings)) (λ j. found ≡ Ok j) → found ≡ Ok job → IsDone (ending_of p) job.work records kept
+    → HasDone p settings resumed records kept
+done_from {E} found p settings None job records kept from is d =
+    let new : job ≡ begun settings = subst (λ (r : Result JobState E). IfOk r (λ j. j ≡ begun settings)) is from in
+    subst (λ (j : JobState). IsDone (ending_of p) j.work records kept) new d
+done_from found p settings (Some old) job records kept from is d =
+    let same : job ≡ old = cc in
+    subst (λ (j : JobState). IsDone (ending_of p) j.work records kept) same d

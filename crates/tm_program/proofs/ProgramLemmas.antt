@@ -1,7 +1,7 @@
 -- Faults of files and of runs, as faults that may come of a plan.
 use Rattle.std.proofs.Common.{ℕ, ◌≡◌, List, Option, None, Some, inl, inr, refl, subst, sym}
 use Rattle.tm_program.specs.Files.{IsFaultOf, IsFileFault}
-use Rattle.tm_program.specs.Program.{HasFault, HasReadFault, IsAsked, IsNamed, IsNoMemory, IsOfDefinition, IsOfOutputs, IsOfResumed, IsOfSettings, IsReadWhole, IsRunFault, MayCome, MayEnd}
+use Rattle.tm_program.specs.Program.{HasFault, HasReadFault, IsAsked, IsNamed, IsNoMemory, IsOfDefinition, IsOfOutputs, IsOfResumed, IsOfSettings, IsOfStreams, IsReadWhole, IsRunFault, MayCome, MayEnd}
 use Rattle.tm_output.specs.declared.fault.RunFault.TheVariants.{NoMemory, Read, Report, ShortRecording, TooMany, Write}
 use Rattle.tm_program.specs.declared.fault.ToolFault.{ToolFault}
 use Rattle.tm_program.specs.declared.fault.ToolFault.TheVariants as tool
@@ -73,6 +73,16 @@ run_comes p (tool.Checkpoint f) h = absurd h
 run_comes p (tool.File given) h = absurd h
 run_comes p (tool.TooLong given) h = absurd h
 run_comes p (tool.Run f) h = tt
+
+-- a standard stream is closed
+pub streams_come : (p : Plan) (fault : ToolFault) → IsOfStreams p fault → MayCome p fault
+streams_come p (tool.Usage f) h = absurd h
+streams_come p (tool.Settings f) h = absurd h
+streams_come p (tool.Definition f) h = absurd h
+streams_come p (tool.Checkpoint f) h = absurd h
+streams_come p (tool.File given) h = absurd h
+streams_come p (tool.TooLong given) h = absurd h
+streams_come p (tool.Run f) h = tt
 
 pub outputs_come : (p : Plan) (fault : ToolFault) → IsOfOutputs p fault → MayCome p fault
 outputs_come p fault (inl h) = run_comes p fault h

@@ -1,7 +1,9 @@
 -- Where the run of a plan ends, and what is done then.
 use Rattle.std.specs.Prelude.{◌≡◌, ◌≤◌, ℕ, List, length, Option, Some, None}
 use Rattle.tm_output.specs.Pieces.{Work, worked}
+use Rattle.tm_tool.specs.Jobs.{JobState, begun}
 use Rattle.tm_tool.specs.Runs.{HasEnded, behind, kept_of}
+use Rattle.tm_settings.specs.Settings.{Rules}
 use Rattle.tm_output.specs.declared.command.Ending.{Ending}
 use Rattle.tm_output.specs.declared.command.Ending.TheVariants.{Close, Keep, StopAfter}
 use Rattle.tm_words.specs.declared.request.Plan.{Plan}
@@ -20,3 +22,12 @@ ending_of p = ending_with p.checkpoint p.stop_after
 abbrev pub IsDone : Ending → Work → ℕ → Option Work → Type 0
 IsDone ending w records kept = (read : List (List ℕ)) × (rest : List ℕ) × HasEnded ending w None None read rest
     × (w.state.records ≤ length read) × (records ≡ length read) × (kept ≡ kept_of ending (worked w (behind w read)))
+
+-- the work of the job that is gone on with, or else of a new one
+abbrev pub work_from : Rules → Option JobState → Work
+work_from settings None = (begun settings).work
+work_from settings (Some job) = job.work
+
+-- So much is done by a run of the plan with these settings, from this job where there is one.
+abbrev pub HasDone : Plan → Rules → Option JobState → ℕ → Option Work → Type 0
+HasDone p settings resumed records kept = IsDone (ending_of p) (work_from settings resumed) records kept

@@ -1,4 +1,4 @@
--- What a fault says of a file.
+-- What a fault says of a file, and how long a file may be that is read whole.
 use Rattle.std.specs.Prelude.{◌≡◌, ⊤, ℕ, List}
 use Rattle.tm_output.specs.declared.fault.RunFault.TheVariants.{NoMemory}
 use Rattle.tm_program.specs.declared.fault.ToolFault.{ToolFault}
@@ -14,3 +14,7 @@ IsFileFault name _ = ⊥
 abbrev pub IsFaultOf : List ℕ → ToolFault → Type 0
 IsFaultOf name (TooLong given) = given ≡ name
 IsFaultOf name fault = IsFileFault name fault
+
+-- the most octets of such a file
+abbrev pub most_octets : ℕ
+most_octets = 1048576

@@ -1,14 +1,15 @@
 -- What comes of the words of the command line, so far as a contract can say it: what files hold and streams take has no place in one.
-use Rattle.std.specs.Prelude.{◌≡◌, ◌⊎◌, ⊤, ℕ, Bool, ◌||◌, true, false, List, [], ◌++◌, codes, Option, Some, None, Ok, IsSome}
+use Rattle.std.specs.Prelude.{◌≡◌, ◌≢◌, ◌⊎◌, ⊤, ℕ, Bool, ◌||◌, true, false, List, [], ◌++◌, codes, Option, Some, None, Ok, IfSome, IsSome}
 use Rattle.std.specs.Str.{bytes_eq}
 use Rattle.tm_tool.specs.Checkpoints.{resumed}
 use Rattle.tm_tool.specs.Jobs.{JobState}
 use Rattle.tm_settings.specs.Settings.{Rules}
-use Rattle.tm_output.specs.declared.fault.RunFault.TheVariants.{NoMemory}
+use Rattle.tm_output.specs.declared.fault.RunFault.TheVariants.{NoMemory, Report, Write}
 use Rattle.tm_words.specs.CommandLine.{HasRequired, faults_of, is_taken, lacks_checkpoint, plan_of}
 use Rattle.tm_program.specs.Files.{IsFaultOf, IsFileFault}
 use Rattle.tm_program.specs.declared.fault.ToolFault.{ToolFault}
 use Rattle.tm_program.specs.declared.fault.ToolFault.TheVariants as tool
+use Rattle.tm_words.specs.declared.request.Action.TheVariants.{Frames, Split}
 use Rattle.tm_words.specs.declared.request.Plan.{Plan}
 use Rattle.tm_words.specs.declared.request.UsageFault.{UsageFault}
 use Rattle.tm_words.specs.declared.request.UsageFault.TheVariants as usage
@@ -43,6 +44,11 @@ beside name = name ++ codes ".new"
 -- a file that the plan reads or writes has the name of the checkpoint or of the file beside it
 abbrev pub is_in_the_way : Plan → List ℕ → Bool
 is_in_the_way p name = is_read p name || is_read p (beside name) || has_name (beside name) p.report || has_name (beside name) p.resume
+
+-- nothing that the plan reads, and nothing else that it writes, has the name of its checkpoint or of its report; lists of frames have neither
+abbrev pub IsClear : Plan → Type 0
+IsClear p = (p.action ≡ Frames)
+    ⊎ (IfSome p.checkpoint (λ name. is_in_the_way p name ≡ false) × IfSome p.report (λ name. (is_read p name ≡ false) × (is_checkpoint p name ≡ false)))
 
 -- ---- what comes of a plan
 
@@ -90,6 +96,12 @@ IsNoMemory _ = ⊥
 abbrev pub IsRunFault : ToolFault → Type 0
 IsRunFault (tool.Run fault) = ⊤
 IsRunFault _ = ⊥
+
+-- a standard stream is closed to which the plan writes: standard output, or standard error where that takes the report
+abbrev pub IsOfStreams : Plan → ToolFault → Type 0
+IsOfStreams p (tool.Run Write) = p.action ≢ Split
+IsOfStreams p (tool.Run Report) = (p.action ≢ Frames) × (p.report ≡ None)
+IsOfStreams p _ = ⊥
 
 -- the run ended before its end, or a file or the folder that it writes can't be opened, made or written
 abbrev pub IsOfOutputs : Plan → ToolFault → Type 0

@@ -1,7 +1,7 @@
 //! Files that are opened by their names, and files that are read whole.
 
 ghost use Rattle.std.specs.Prelude.{◌≡◌, ◌<◌, ◌≤◌, length, vec_len, IfOk, IfErr, IfSome, MatchOption};
-ghost use Rattle.tm_program.specs.Files.{IsFaultOf, IsFileFault};
+ghost use Rattle.tm_program.specs.Files.{IsFaultOf, IsFileFault, most_octets};
 
 use crate::fault::ToolFault;
 use std::alloc::Global;
@@ -16,8 +16,8 @@ const MOST_OCTETS: usize = 1_048_576;
 // Reads to the end, and answers no octets where there are more than a file may have.
 fn read_short<R: Read + Drop>(alloc: Global, reader: R) -> io::Result<Option<Vec<u8>>>
     ensures whole { IfOk result (λ found. IfSome (R.remaining reader) (λ all.
-        MatchOption found (MOST_OCTETS < length all) (λ octets. octets.items ≡ all))) }
-    ensures short { IfOk result (λ found. IfSome found (λ octets. vec_len octets ≤ MOST_OCTETS)) }
+        MatchOption found (most_octets < length all) (λ octets. octets.items ≡ all))) }
+    ensures short { IfOk result (λ found. IfSome found (λ octets. vec_len octets ≤ most_octets)) }
 {
     let mut octets = Vec::new(alloc);
     reader
@@ -135,7 +135,7 @@ pub fn replace<R: Files + AllocGlobal>(
 /// The octets of a file, of which there may be 1,048,576. A fault names the file as it was given.
 pub fn read_file<R: Files + AllocGlobal>(rt: &R, name: &Octets) -> Result<Vec<u8>, ToolFault>
     ensures named { IfErr result (IsFaultOf name.now) }
-    ensures short { IfOk result (λ octets. vec_len octets ≤ MOST_OCTETS) }
+    ensures short { IfOk result (λ octets. vec_len octets ≤ most_octets) }
 {
     let alloc = rt.alloc();
     let file = open(rt, name)?;

@@ -1,9 +1,11 @@
 //! The order of steps: command line, settings, definition, checkpoint, recording, report, run, checkpoint of the run.
 
-ghost use Rattle.std.specs.Prelude.{◌≡◌, ◌≢◌, ◌⊎◌, [], Ok, false, IfErr, IfOk, IfSome, IsSome, OnOk, is_some, map, option_map, string_bytes};
-ghost use Rattle.tm_program.specs.Endings.{IsDone};
+ghost use Rattle.std.specs.Prelude.{◌≡◌, ◌≢◌, ◌⊎◌, [], Ok, false, IfErr, IfOk, IfSome, IsSome, MatchOption, OnOk, is_some, map, option_map, string_bytes};
+ghost use Rattle.tm_program.specs.Endings.{HasDone, IsDone, ending_of};
 ghost use Rattle.tm_program.specs.Files.{IsFileFault};
-ghost use Rattle.tm_program.specs.Program.{HasFault, IsAsked, IsNoMemory, IsOfDefinition, IsOfOutputs, IsOfResumed, IsOfSettings, IsRunFault, MayCome, MayEnd, beside, has_name, is_checkpoint, is_in_the_way, is_read};
+ghost use Rattle.tm_program.specs.Reports.{is_file};
+ghost use Rattle.tm_program.specs.Shelves.{HoldsNone};
+ghost use Rattle.tm_program.specs.Program.{HasFault, IsAsked, IsClear, IsNoMemory, IsOfDefinition, IsOfOutputs, IsOfResumed, IsOfSettings, IsOfStreams, IsResumed, IsRunFault, MayCome, MayEnd, beside, has_name, is_checkpoint, is_in_the_way, is_read};
 
 use crate::fault::ToolFault;
 use crate::files::{append, create, file_fault, open, read_file};
@@ -38,7 +40,8 @@ fn no_memory() -> ToolFault
 
 // A source over a buffer behind the recording.
 fn source<S: Read + Drop>(alloc: Global, recording: S) -> Result<Reading<BufReader<S>>, ToolFault>
-    ensures { IfErr result IsNoMemory }
+    ensures left { IfOk result (λ s. ⟦<Reading<BufReader<S>> as Source>⟧.left s ≡ S.remaining recording) }
+    ensures refused { IfErr result IsNoMemory }
 {
     match BufReader::with_capacity(alloc, BUFFER, recording) {
         Ok(reader) => Ok(Reading::new(reader)),
@@ -144,6 +147,7 @@ fn split_end(
     is_starved: bool,
 ) -> Result<Done, ToolFault>
     ensures done { IfOk result (λ d. done ≡ Ok d) }
+    ensures written { OnOk result (written ≡ Ok tt) }
     ensures refused { IfErr result IsRunFault }
 {
     match (done, written) {
@@ -174,16 +178,17 @@ fn split_to<S: Source, H: Shelf, V: Drain>(
 fn split_packets<R: Files + AllocGlobal, S: Read + Drop, V: Write + Drop>(
     rt: &R,
     job: Job,
-    mut shelf: FileShelf<'_, R>,
+    shelf: &mut FileShelf<'_, R>,
     mut ends: Ends<S, V>,
     ending: Ending,
 ) -> Result<Done, ToolFault>
     ensures done { IfOk result (λ done. IsDone ending job.work done.records (option_map (λ kept. kept.work) done.kept)) }
+    ensures written { OnOk result (HoldsNone shelf.new.held.items) }
     ensures refused { IfErr result IsRunFault }
 {
     let alloc = rt.alloc();
     let source = &mut ends.source;
-    let done = split_to(alloc, job, source, &mut shelf, &mut ends.report, ending);
+    let done = split_to(alloc, job, source, shelf, &mut ends.report, ending);
     let written = shelf.write_held();
     split_end(done, written, shelf.is_starved())
 }
@@ -281,6 +286,7 @@ fn report_by<R: Files + AllocGlobal, E: Write + Drop>(
     errors: E,
 ) -> Result<Report<R::File, E>, ToolFault>
     ensures ok { OnOk result (IfSome plan.now.report (λ name. (is_read plan.now name ≡ false) × (is_checkpoint plan.now name ≡ false))) }
+    ensures file { IfOk result (λ report. is_file report ≡ is_some plan.now.report) }
     ensures refused { IfErr result (HasFault plan.now.report) }
 {
     match &plan.report {
@@ -351,7 +357,9 @@ struct Inputs {
 // Reads the files of the plan but for the recording.
 fn inputs_by<R: Files + AllocGlobal>(rt: &R, plan: &Plan) -> Result<Inputs, ToolFault>
     requires { IsSome plan.now.settings }
-    ensures { IfErr result (λ f. IsOfSettings plan.now f ⊎ IsOfDefinition plan.now f ⊎ IsOfResumed plan.now f) }
+    ensures found { IfOk result (λ i. (is_some i.definition ≡ is_some plan.now.definition) × (is_some i.resumed ≡ is_some plan.now.resume)) }
+    ensures job { IfOk result (λ i. IfSome i.resumed (IsResumed i.settings)) }
+    ensures refused { IfErr result (λ f. IsOfSettings plan.now f ⊎ IsOfDefinition plan.now f ⊎ IsOfResumed plan.now f) }
 {
     let settings = settings_by(rt, plan)?;
     let definition = definition_by(rt, plan)?;
@@ -372,32 +380,37 @@ fn go_on<R: Files + Print + AllocGlobal, S: Read + Drop, V: Write + Drop>(
     recording: S,
     report: V,
 ) -> Result<Done, ToolFault>
-    ensures { IfErr result (λ fault. IsRunFault fault ⊎ HasFault plan.now.dir fault) }
+    ensures done { IfOk result (λ done. IsDone (ending_of plan.now) job.work done.records (option_map (λ kept. kept.work) done.kept)) }
+    ensures refused { IfErr result (λ fault. IsRunFault fault ⊎ HasFault plan.now.dir fault) }
 {
     let ending = ending_by(plan);
     let ends = ends_with(rt.alloc(), recording, report)?;
     match (plan.action, &plan.dir) {
         (Action::Split, Some(dir)) => {
-            let shelf = shelf_in(rt, dir, plan.resume.is_some())?;
-            split_packets(rt, job, shelf, ends, ending)
+            let mut shelf = shelf_in(rt, dir, plan.resume.is_some())?;
+            split_packets(rt, job, &mut shelf, ends, ending)
         }
         _ => give_packets(rt, job, command_by(plan, definition), ends, ending),
     }
 }
 
-// Does what the plan asks for with the recording.
-#[tactic(auto, using(crate::proofs::ProgramLemmas::starved_run))]
+// Does what the plan asks for with the recording, and answers what was done, but for a list of frames.
+#[tactic(auto, using(crate::proofs::ProgramLemmas::starved_run, crate::proofs::EndingLemmas::done_from))]
 fn run_on<R: Files + Print + AllocGlobal, S: Read + Drop, E: Write + Drop>(
     rt: &R,
     plan: &Plan,
     inputs: Inputs,
     recording: S,
     errors: E,
-) -> Result<(), ToolFault>
-    ensures { IfErr result (IsOfOutputs plan.now) }
+) -> Result<Option<Done>, ToolFault>
+    ensures ok { OnOk result (IsClear plan.now) }
+    ensures done { IfOk result (λ found. MatchOption found (plan.now.action ≡ Action.Frames)
+        (λ done. HasDone plan.now inputs.settings inputs.resumed done.records (option_map (λ kept. kept.work) done.kept))) }
+    ensures refused { IfErr result (IsOfOutputs plan.now) }
 {
     if plan.action == Action::Frames {
-        return list(rt, &inputs.settings, recording);
+        list(rt, &inputs.settings, recording)?;
+        return Ok(None);
     }
     let Inputs {
         settings,
@@ -408,7 +421,8 @@ fn run_on<R: Files + Print + AllocGlobal, S: Read + Drop, E: Write + Drop>(
     let report = report_by(rt, plan, errors)?;
     let job = job_by(rt, resumed, &settings)?;
     let done = go_on(rt, plan, definition.as_ref(), job, recording, report)?;
-    keep(rt, plan, &done)
+    keep(rt, plan, &done)?;
+    Ok(Some(done))
 }
 
 // The plan of the words.
@@ -432,7 +446,7 @@ fn is_closed<W: Write>(stream: &mut W) -> bool {
 
 // The standard streams to which the plan writes are open.
 fn check_streams<R: Print, E: Write>(rt: &R, plan: &Plan, errors: &mut E) -> Result<(), ToolFault>
-    ensures { IfErr result IsRunFault }
+    ensures { IfErr result (IsOfStreams plan.now) }
 {
     if plan.action != Action::Split && is_closed(&mut io::writer(rt)) {
         return Err(ToolFault::Run(RunFault::Write));
@@ -444,20 +458,25 @@ fn check_streams<R: Print, E: Write>(rt: &R, plan: &Plan, errors: &mut E) -> Res
 }
 
 // Does what the plan asks for.
-#[tactic(auto, using(crate::proofs::ProgramLemmas::definition_comes, crate::proofs::ProgramLemmas::file_comes, crate::proofs::ProgramLemmas::outputs_come, crate::proofs::ProgramLemmas::resumed_comes, crate::proofs::ProgramLemmas::run_comes, crate::proofs::ProgramLemmas::settings_come))]
+#[tactic(auto, using(crate::proofs::ProgramLemmas::definition_comes, crate::proofs::ProgramLemmas::file_comes, crate::proofs::ProgramLemmas::outputs_come, crate::proofs::ProgramLemmas::resumed_comes, crate::proofs::ProgramLemmas::run_comes, crate::proofs::ProgramLemmas::settings_come, crate::proofs::ProgramLemmas::streams_come))]
 fn run_plan<R: Files + Input + Print + AllocGlobal, E: Write + Drop>(
     rt: &R,
     plan: &Plan,
     mut errors: E,
 ) -> Result<(), ToolFault>
     requires { IsSome plan.now.settings }
-    ensures { IfErr result (MayCome plan.now) }
+    ensures ok { OnOk result (IsClear plan.now) }
+    ensures refused { IfErr result (MayCome plan.now) }
 {
     check_streams(rt, plan, &mut errors)?;
     let inputs = inputs_by(rt, plan)?;
-    match &plan.recording {
+    let done = match &plan.recording {
         Some(name) => run_on(rt, plan, inputs, open(rt, name)?, errors),
         None => run_on(rt, plan, inputs, rt.reader(), errors),
+    };
+    match done {
+        Ok(_) => Ok(()),
+        Err(fault) => Err(fault),
     }
 }
 
@@ -472,7 +491,7 @@ pub fn run<R: Files + Input + Print + AllocGlobal, E: Write + Drop>(
     words: Vec<String>,
     errors: E,
 ) -> Result<(), ToolFault>
-    ensures ok { OnOk result ((p : Plan) × IsAsked (map string_bytes words.items) p) }
+    ensures ok { OnOk result ((p : Plan) × IsAsked (map string_bytes words.items) p × IsClear p) }
     ensures refused { IfErr result (MayEnd (map string_bytes words.items)) }
 {
     let plan = plan_by(rt.alloc(), words)?;

@@ -45,7 +45,7 @@ beside name = name ++ codes ".new"
 abbrev pub is_in_the_way : Plan → List ℕ → Bool
 is_in_the_way p name = is_read p name || is_read p (beside name) || has_name (beside name) p.report || has_name (beside name) p.resume
 
--- nothing that the plan reads, and nothing else that it writes, has the name of its checkpoint or of its report; lists of frames have neither
+-- neither the checkpoint nor the report takes the place of a file that is read, or of one another; a list of frames has neither
 abbrev pub IsClear : Plan → Type 0
 IsClear p = (p.action ≡ Frames)
     ⊎ (IfSome p.checkpoint (λ name. is_in_the_way p name ≡ false) × IfSome p.report (λ name. (is_read p name ≡ false) × (is_checkpoint p name ≡ false)))

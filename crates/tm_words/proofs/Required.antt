@@ -20,7 +20,7 @@ use Rattle.tm_words.specs.declared.request.Action.TheVariants.{Frames, Packets, 
 use Rattle.tm_words.specs.declared.request.Plan.{Plan}
 use Rattle.tm_words.specs.declared.request.UsageFault.{UsageFault}
 use Rattle.tm_words.specs.declared.request.UsageFault.TheVariants.{NoMemory}
-use Rattle.tm_words.specs.Refusals.{IsFaultOf, IsFaultOfOne}
+use Rattle.tm_words.specs.Refusals.{IsOfKind, IsOfOneKind}
 use Rattle.tm_words.specs.CommandLine.{tmx, plan_with, action_named, decimal, faults_of, matches_of, plan_of, HasNeeds, HasRequired, HasStop, IsBetween}
 use Rattle.tm_words.proofs.Filled.{Filled, IsRuled, OfRange, Range, is_sized, level-filled, given-first, given-number, range_of, read-number}
 
@@ -43,8 +43,8 @@ kinds_of (Ok x) a b e h = tt
 kinds_of (Err x) a b e h = subst (λ (kinds : Kinds). HasKind kinds x) e h
 
 -- the fault that is made of such an error
-pub fault_of_one : (kinds : Kinds) (e : Error) (f : UsageFault) → HasKind kinds e → (kind_of e ≡ OutOfMemory → f ≡ NoMemory) → IsFaultOf (kind_of e) f
-    → IsFaultOfOne kinds f
+pub fault_of_one : (kinds : Kinds) (e : Error) (f : UsageFault) → HasKind kinds e → (kind_of e ≡ OutOfMemory → f ≡ NoMemory) → IsOfKind (kind_of e) f
+    → IsOfOneKind kinds f
 fault_of_one kinds e f (inl out) memory is = inl (memory out)
 fault_of_one kinds e f (inr among) memory is = inr (kind_of e, among, is)
 

@@ -11,12 +11,12 @@ abbrev pub IsMistake : ErrorKind → Type 0
 IsMistake kind = (kind ≢ DisplayHelp) × (kind ≢ DisplayVersion)
 
 -- the fault that an error of this kind makes
-abbrev pub IsFaultOf : ErrorKind → UsageFault → Type 0
-IsFaultOf kind (Usage text) = IsMistake kind
-IsFaultOf kind (Help text) = ¬ (IsMistake kind)
-IsFaultOf kind NoMemory = ⊤
-IsFaultOf kind StopAfter = ⊥
+abbrev pub IsOfKind : ErrorKind → UsageFault → Type 0
+IsOfKind kind (Usage text) = IsMistake kind
+IsOfKind kind (Help text) = ¬ (IsMistake kind)
+IsOfKind kind NoMemory = ⊤
+IsOfKind kind StopAfter = ⊥
 
 -- memory ran out, or an error of one of these kinds makes the fault
-abbrev pub IsFaultOfOne : Kinds → UsageFault → Type 0
-IsFaultOfOne kinds fault = (fault ≡ NoMemory) ⊎ ((kind : ErrorKind) × IsAmong kind kinds × IsFaultOf kind fault)
+abbrev pub IsOfOneKind : Kinds → UsageFault → Type 0
+IsOfOneKind kinds fault = (fault ≡ NoMemory) ⊎ ((kind : ErrorKind) × IsAmong kind kinds × IsOfKind kind fault)

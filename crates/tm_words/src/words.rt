@@ -2,7 +2,7 @@
 
 ghost use Rattle.std.specs.Prelude.{◌≡◌, ◌≢◌, ◌⊎◌, true, false, Err, Some, [], map, IfOk, IfErr, option_and_then, string_bytes};
 ghost use Rattle.clap.specs.Words.{HasKind, first_of, found_of, kind_of, one_of, rows_of, subcommand_rows_of};
-ghost use Rattle.tm_words.specs.Refusals.{IsFaultOf, IsFaultOfOne};
+ghost use Rattle.tm_words.specs.Refusals.{IsOfKind, IsOfOneKind};
 ghost use Rattle.tm_words.specs.CommandLine.{HasRequired, HasStop, action_named, decimal, faults_of, is_taken, lacks_checkpoint, matches_of, plan_in, plan_of};
 
 use crate::command::tmx_command;
@@ -104,7 +104,7 @@ fn plan_by(alloc: Global, matches: &ArgMatches<'_>) -> Result<Option<Plan>, Allo
 // The text of an error, unless memory runs out.
 fn fault_by(alloc: Global, error: &Error) -> UsageFault
     ensures memory { kind_of error.now ≡ ErrorKind.OutOfMemory → result ≡ UsageFault.NoMemory }
-    ensures kind { IsFaultOf (kind_of error.now) result }
+    ensures kind { IsOfKind (kind_of error.now) result }
 {
     if error.kind() == ErrorKind::OutOfMemory {
         return UsageFault::NoMemory;
@@ -137,7 +137,7 @@ fn matched_plan(alloc: Global, words: Vec<String>) -> Result<Plan, UsageFault>
     ensures required { IfOk result HasRequired }
     ensures whole { IfOk result (λ _. faults_of (map string_bytes words.items) ≡ []) }
     ensures stop { IfOk result (HasStop (map string_bytes words.items)) }
-    ensures kinds { IfErr result (IsFaultOfOne (faults_of (map string_bytes words.items))) }
+    ensures kinds { IfErr result (IsOfOneKind (faults_of (map string_bytes words.items))) }
     ensures taken { IfErr result (λ f. is_taken (map string_bytes words.items) ≡ true → f ≡ UsageFault.NoMemory) }
 {
     let matches = match matches_by(alloc, words.as_slice()) {
@@ -177,7 +177,7 @@ pub fn plan(alloc: Global, words: Vec<String>) -> Result<Plan, UsageFault>
         × ((p : Plan) × (plan_of (map string_bytes words.items) ≡ Some p) × (lacks_checkpoint p ≡ true)) }
 
     // All else that is refused goes by `clap`'s kind of error: `Help` where the words ask for it, and else `Usage`.
-    ensures kinds { IfErr result (λ f. (f ≡ UsageFault.StopAfter) ⊎ IsFaultOfOne (faults_of (map string_bytes words.items)) f) }
+    ensures kinds { IfErr result (λ f. (f ≡ UsageFault.StopAfter) ⊎ IsOfOneKind (faults_of (map string_bytes words.items)) f) }
 
     // Words that the command takes, by `clap`'s own definition, are refused for that and for want of memory alone.
     ensures taken { IfErr result (λ f. is_taken (map string_bytes words.items) ≡ true

@@ -18,9 +18,9 @@ Counts old new r = MatchResult r (λ _. new ≡ old) (λ _. new ≡ raised old)
 abbrev pub TakesSome : ℕ → ℕ → Type 0
 TakesSome n all = (n ≤ all) × (0 < all → 0 < n)
 
--- known octets grew by the front of these
+-- known octets grew by a front of these, by a proper one if there are any
 abbrev pub AppendsFront : Option (List ℕ) → Option (List ℕ) → List ℕ → Type 0
-AppendsFront old new octets = (front rest : List ℕ) × (octets ≡ front ++ rest) × Appends old new front
+AppendsFront old new octets = (front rest : List ℕ) × (octets ≡ front ++ rest) × (octets ≢ [] → rest ≢ []) × Appends old new front
 
 -- known places grow by octets of one application, and no other place changes
 abbrev pub Puts : Option (ℕ → List ℕ) → Option (ℕ → List ℕ) → ℕ → List ℕ → Type 0
@@ -28,6 +28,6 @@ Puts None new application octets = ⊤
 Puts (Some held) None application octets = ⊥
 Puts (Some held) (Some now) application octets = (k : ℕ) → now k ≡ held k ++ (if application == k then octets else [])
 
--- by a front of them, by a proper one if there are any
+-- likewise by a front of them
 abbrev pub PutsFront : Option (ℕ → List ℕ) → Option (ℕ → List ℕ) → ℕ → List ℕ → Type 0
 PutsFront old new application octets = (front rest : List ℕ) × (octets ≡ front ++ rest) × (octets ≢ [] → rest ≢ []) × Puts old new application front

@@ -9,7 +9,7 @@ use crate::{DeviceFailed, Drain, Source};
 /// Writes all the octets, by as many writes as it takes.
 pub fn put_all<W: Drain>(out: &mut W, octets: &[u8]) -> Result<(), DeviceFailed>
     ensures whole { OnOk result (Appends (W.written out.old) (W.written out.new) octets.now) }
-    ensures front { AppendsFront (W.written out.old) (W.written out.new) octets.now }
+    ensures front { OnErr result (AppendsFront (W.written out.old) (W.written out.new) octets.now) }
     ensures counts { Counts (W.failures out.old) (W.failures out.new) result }
 {
     let mut rest = octets;

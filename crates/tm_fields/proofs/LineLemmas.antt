@@ -1,6 +1,6 @@
 -- Lines, value by value.
 use Rattle.std.proofs.Common.{◌≡◌, ℕ, zero, suc, ◌-◌, ◌^◌, ◌≤◌, min, Bool, true, false, List, [], ◌∷◌, ◌++◌, length, refl, sym, ap, ◌∙◌, arith, None, Some}
-use Rattle.std.specs.Prelude.{Option}
+use Rattle.std.specs.Prelude.{◌≢◌, Option}
 use Rattle.std.specs.Io.KnownBytes.{Appends}
 use Rattle.std.proofs.lemmas.Bool.{ne_eqb}
 use Rattle.csv.specs.Writing.{default_writer, end_text, field_text, is_blank, next_sep, row_body, row_text, tail_text}
@@ -42,6 +42,17 @@ line_end old None values wrote written h e n a = absurd (rw e at a)
 line_end old (Some y) values wrote written h e n a =
     let whole : y ≡ row_body default_writer values ++ tail_text default_writer wrote written = rw e at a in
     ap Some (whole ∙ ap (λ t. row_body default_writer values ++ t) (ended wrote written (omega arith)) ∙ sym (row_is values h))
+
+behind : (xs ys : List ℕ) → ys ≢ [] → xs ++ ys ≢ []
+behind [] ys some e = some e
+behind (x ∷ xs) ys some e = cc
+
+-- no line is empty: a line feed ends it
+pub some_text : (values : List (List ℕ)) → row_text default_writer values ≢ []
+some_text values = behind (row_body default_writer values) _ (behind _ (end_text default_writer.terminator) line_feed)
+  where
+    line_feed : end_text default_writer.terminator ≢ []
+    line_feed e = cc
 
 -- texts that are known to be the same
 pub text_of : (xs ys : List ℕ) → Some xs ≡ Some ys → xs ≡ ys

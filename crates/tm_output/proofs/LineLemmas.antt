@@ -2,11 +2,12 @@
 use Rattle.std.proofs.Common.{◌≡◌, ◌≢◌, ℕ, List, [], ◌∷◌, ◌++◌, sym, ap, ◌∙◌, append_assoc, append-nil}
 use Rattle.std.specs.List.{concat}
 use Rattle.tm_frame.specs.declared.fault.FrameFault.{FrameFault}
+use Rattle.tm_packet.specs.Header.{Fields}
 use Rattle.tm_packet.specs.declared.notes.Note.{Note}
 use Rattle.tm_packet.specs.declared.notes.Note.TheVariants.{Gap, Broken, Whole, Stray}
 use Rattle.tm_reassembly.specs.declared.items.Reason.{Reason}
 use Rattle.tm_output.proofs.ListingLemmas.{concat-append, concat-one}
-use Rattle.tm_output.specs.Lines.{bad_line, drop_line, gap_line, master_gap_line, note_line, short_line, short_packet_line, vca_line}
+use Rattle.tm_output.specs.Lines.{bad_line, drop_line, gap_line, master_gap_line, note_line, packet_line, short_line, short_packet_line, vca_line}
 
 pub some_bad : (seen : ℕ) (fault : FrameFault) → bad_line seen fault ≢ []
 unfolding bad_line
@@ -42,6 +43,10 @@ some_note seen channel application (Gap expected found missing) e = cc
 some_note seen channel application (Broken first last why) e = cc
 some_note seen channel application (Whole first last) e = cc
 some_note seen channel application (Stray count flags) e = cc
+
+pub some_packet : (seen channel first place : ℕ) (header : Fields) (octets : ℕ) → packet_line seen channel first place header octets ≢ []
+unfolding packet_line
+some_packet seen channel first place header octets e = cc
 
 -- ---- a line that is put together from names and what stands behind them
 

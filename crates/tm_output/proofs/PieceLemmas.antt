@@ -1,13 +1,12 @@
 -- Pieces that are written one after the other, and where writing stops.
-use Rattle.std.proofs.Common.{◌≡◌, ℕ, Bool, List, [], ◌∷◌, ◌++◌, refl, sym, ap, subst, ◌∙◌, append_assoc, append-nil, inl, inr, Option}
-use Rattle.std.specs.Prelude.{⊤}
+use Rattle.std.proofs.Common.{◌≡◌, ℕ, true, false, List, [], ◌∷◌, ◌++◌, refl, sym, ap, subst, ◌∙◌, append_assoc, append-nil, inl, inr, Option}
 use Rattle.std.specs.Io.KnownBytes.{Appends, Keeps}
 use Rattle.std.proofs.KnownBytes.{Appends-nil, Appends-kept, Appends-trans}
 use Rattle.tm_devices.specs.Devices.{raised, AppendsFront}
 use Rattle.tm_output.specs.declared.fault.RunFault.{RunFault}
 use Rattle.tm_output.specs.declared.fault.RunFault.TheVariants.{Read, Write, Report, ShortRecording, TooMany, NoMemory}
 use Rattle.tm_output.specs.Outlets.{PutStopped}
-use Rattle.tm_output.specs.Outputs.{Piece, View, outs, reports, Cut, SameCounts, Caused, TakesMemory, AppendsPieces, Took, WantsMemory, Stopped}
+use Rattle.tm_output.specs.Outputs.{Piece, View, outs, reports, Cut, SameCounts, Caused, TakesMemory, AppendsPieces, Took, StopsAtPiece, Stopped, Way}
 
 module _ {A : Type 0} where
   pub outs-append : (ps qs : List (Piece A)) → outs (ps ++ qs) ≡ outs ps ++ outs qs
@@ -41,6 +40,23 @@ module _ {A : Type 0} where
   cut_more (p ∷ ps) qs out report (inr (inl h)) = inr (inl h)
   cut_more (p ∷ ps) qs out report (inr (inr h)) = inr (inr (h.0, h.1, h.2, h.3, cut_more ps qs h.0 h.1 h.4))
 
+-- ---- faults are not one another
+
+memory_write : NoMemory ≡ Write → ⊥
+memory_write e = cc
+
+write_memory : Write ≡ NoMemory → ⊥
+write_memory e = cc
+
+report_memory : Report ≡ NoMemory → ⊥
+report_memory e = cc
+
+report_write : Report ≡ Write → ⊥
+report_write e = cc
+
+true_false : true ≡ false → ⊥
+true_false e = cc
+
 -- `out` may be anything that grows by nothing, and by one list after another
 module _ {A K : Type 0} (grows : K → K → List A → Type 0) (grows-nil : (k : K) → grows k k [])
     (grows-trans : (j k l : K) (xs ys : List A) → grows j k xs → grows k l ys → grows j l (xs ++ ys)) where
@@ -71,86 +87,110 @@ module _ {A K : Type 0} (grows : K → K → List A → Type 0) (grows-nil : (k 
   caused_after old mid new TooMany s c = c
   caused_after old mid new NoMemory s c = (c.0 ∙ s.0, c.1 ∙ s.1)
 
-  module _ (rows : Bool) (old mid new : View K) (ps qs : List (Piece A)) (a : Took grows old mid ps) where
-    pub wants_after : WantsMemory grows rows mid new qs → WantsMemory grows rows old new (ps ++ qs)
-    wants_after w = record {
-      done = ps ++ w.done;
-      next = w.next;
-      more = w.more;
-      split = ap (λ (l : List (Piece A)). ps ++ l) w.split ∙ sym (append_assoc ps w.done (w.next ∷ w.more));
-      wanted = w.wanted;
-      whole = pieces_pieces old mid new ps w.done a.whole w.whole;
-    }
+  -- some pieces were written whole, and writing stopped in one of the next
+  pub stops_after : {stop : View K → Piece A → Type 0} (old mid : View K) (ps qs : List (Piece A)) → Took grows old mid ps
+      → StopsAtPiece grows stop mid qs → StopsAtPiece grows stop old (ps ++ qs)
+  stops_after old mid ps qs a h = record {
+    done = ps ++ h.done;
+    next = h.next;
+    more = h.more;
+    split = ap (λ (l : List (Piece A)). ps ++ l) h.split ∙ sym (append_assoc ps h.done (h.next ∷ h.more));
+    mid = h.mid;
+    whole = pieces_pieces old mid h.mid ps h.done a.whole h.whole;
+    stopped = h.stopped;
+  }
 
-    -- some pieces were written whole, and writing stopped among the next
-    pub took_stopped : (fault : RunFault) → Stopped grows rows mid new qs fault → Stopped grows rows old new (ps ++ qs) fault
-    took_stopped fault b =
-        let (out, report, cut, outs_new, reports_new) = b.cut in record {
-          cut = (
-            outs ps ++ out,
-            reports ps ++ report,
-            cut_after ps qs out report cut,
-            grows-trans old.out mid.out new.out (outs ps) out a.whole.0 outs_new,
-            Appends-trans old.report mid.report new.report (reports ps) report a.whole.1 reports_new,
-          );
-          cause = caused_after old mid new fault a.counts b.cause;
-          memory = λ e. wants_after (b.memory e);
-        }
+  -- and more pieces would have followed
+  stops_more : {stop : View K → Piece A → Type 0} (old : View K) (ps qs : List (Piece A)) → StopsAtPiece grows stop old ps
+      → StopsAtPiece grows stop old (ps ++ qs)
+  stops_more old ps qs h = record {
+    done = h.done;
+    next = h.next;
+    more = h.more ++ qs;
+    split = ap (λ (l : List (Piece A)). l ++ qs) h.split ∙ append_assoc h.done (h.next ∷ h.more) qs;
+    mid = h.mid;
+    whole = h.whole;
+    stopped = h.stopped;
+  }
 
-  module _ (rows : Bool) (old new : View K) (ps qs : List (Piece A)) where
-    wants_more : WantsMemory grows rows old new ps → WantsMemory grows rows old new (ps ++ qs)
-    wants_more w = record {
-      done = w.done;
-      next = w.next;
-      more = w.more ++ qs;
-      split = ap (λ (l : List (Piece A)). l ++ qs) w.split ∙ append_assoc w.done (w.next ∷ w.more) qs;
-      wanted = w.wanted;
-      whole = w.whole;
-    }
+  pub took_stopped : (way : Way) (old mid new : View K) (ps qs : List (Piece A)) → Took grows old mid ps → (fault : RunFault)
+      → Stopped grows way mid new qs fault → Stopped grows way old new (ps ++ qs) fault
+  took_stopped way old mid new ps qs a fault b =
+      let (out, report, cut, outs_new, reports_new) = b.cut in record {
+        cut = (
+          outs ps ++ out,
+          reports ps ++ report,
+          cut_after ps qs out report cut,
+          grows-trans old.out mid.out new.out (outs ps) out a.whole.0 outs_new,
+          Appends-trans old.report mid.report new.report (reports ps) report a.whole.1 reports_new,
+        );
+        cause = caused_after old mid new fault a.counts b.cause;
+        memory = λ e. stops_after old mid ps qs a (b.memory e);
+        refused = λ e f. stops_after old mid ps qs a (b.refused e f);
+      }
 
-    -- and more pieces would have followed
-    pub stopped_more : (fault : RunFault) → Stopped grows rows old new ps fault → Stopped grows rows old new (ps ++ qs) fault
-    stopped_more fault b =
-        let (out, report, cut, outs_new, reports_new) = b.cut in record {
-          cut = (out, report, cut_more ps qs out report cut, outs_new, reports_new);
-          cause = b.cause;
-          memory = λ e. wants_more (b.memory e);
-        }
+  pub stopped_more : (way : Way) (old new : View K) (ps qs : List (Piece A)) (fault : RunFault) → Stopped grows way old new ps fault
+      → Stopped grows way old new (ps ++ qs) fault
+  stopped_more way old new ps qs fault b =
+      let (out, report, cut, outs_new, reports_new) = b.cut in record {
+        cut = (out, report, cut_more ps qs out report cut, outs_new, reports_new);
+        cause = b.cause;
+        memory = λ e. stops_more old ps qs (b.memory e);
+        refused = λ e f. stops_more old ps qs (b.refused e f);
+      }
+
+  -- it stopped in the only piece
+  stops_here : {stop : View K → Piece A → Type 0} (old mid : View K) (p : Piece A) → AppendsPieces grows old mid [] → stop mid p
+      → StopsAtPiece grows stop old (p ∷ [])
+  stops_here old mid p none h = record {
+    done = [];
+    next = p;
+    more = [];
+    split = refl;
+    mid = mid;
+    whole = none;
+    stopped = h;
+  }
 
   -- there was no memory for a piece
-  pub no_room : (rows : Bool) (v : View K) (p : Piece A) → TakesMemory rows p.report → Stopped grows rows v v (p ∷ []) NoMemory
-  no_room rows v p wanted = record {
+  pub no_room : (way : Way) (v : View K) (p : Piece A) → TakesMemory way p → Stopped grows way v v (p ∷ []) NoMemory
+  no_room way v p wanted = record {
     cut = ([], [], inl (p.out, refl, refl), grows-nil v.out, Appends-nil v.report);
     cause = (refl, refl);
-    memory = λ e. record {
-      done = [];
-      next = p;
-      more = [];
-      split = refl;
-      wanted = wanted;
-      whole = pieces_none v;
-    };
+    memory = λ e. stops_here v v p (pieces_none v) (refl, wanted);
+    refused = λ e. absurd (memory_write e);
   }
 
   -- all pieces were written, and then a call failed without any
-  pub took_failed : (rows : Bool) (old mid new : View K) (ps : List (Piece A)) (fault : RunFault) → Took grows old mid ps → Stopped grows rows mid new [] fault
-      → Stopped grows rows old new ps fault
-  took_failed rows old mid new ps fault a b =
-      subst (λ (l : List (Piece A)). Stopped grows rows old new l fault) (append-nil ps) (took_stopped rows old mid new ps [] a fault b)
+  pub took_failed : (way : Way) (old mid new : View K) (ps : List (Piece A)) (fault : RunFault) → Took grows old mid ps → Stopped grows way mid new [] fault
+      → Stopped grows way old new ps fault
+  took_failed way old mid new ps fault a b =
+      subst (λ (l : List (Piece A)). Stopped grows way old new l fault) (append-nil ps) (took_stopped way old mid new ps [] a fault b)
+
+  -- writing stopped in what belongs to `out`
+  pub stopped_put : (way : Way) (old new : View K) (p : Piece A) (fault : RunFault)
+      → PutStopped grows way old.out new.out old.out_failures new.out_failures p.out fault → Appends old.report new.report [] → new.report_failures ≡ old.report_failures
+      → Stopped grows way old new (p ∷ []) fault
+  stopped_put way old new p Read h kept report = absurd h
+  stopped_put way old new p Write h kept report =
+      let (some, rest, parts, proper, grown) = h.1 in record {
+        cut = (some, [], inl (rest, parts, refl), grown, kept);
+        cause = (h.0, report);
+        memory = λ e. absurd (write_memory e);
+        refused = λ e f. stops_here old old p (pieces_none old) (h.1, kept);
+      }
+  stopped_put way old new p Report h kept report = absurd h
+  stopped_put way old new p ShortRecording h kept report = absurd h
+  stopped_put way old new p TooMany h kept report = absurd h
+  stopped_put way old new p NoMemory h kept report =
+      let (made, some, counts, grown) = h in record {
+        cut = ([], [], inl (p.out, refl, refl), grown, kept);
+        cause = (counts, report);
+        memory = λ e. stops_here old new p (grown, kept) (refl, inl (made, some));
+        refused = λ e. absurd (memory_write e);
+      }
 
 -- ---- one piece
-
--- no fault of a device is want of memory
-abbrev IsDevice : RunFault → Type 0
-IsDevice Read = ⊤
-IsDevice Write = ⊤
-IsDevice Report = ⊤
-IsDevice ShortRecording = ⊤
-IsDevice TooMany = ⊤
-IsDevice NoMemory = ⊥
-
-not_memory : {P : Type 0} (fault : RunFault) → IsDevice fault → fault ≡ NoMemory → P
-not_memory fault device e = absurd (subst IsDevice e device)
 
 keeps_nil : (old new : Option (List ℕ)) → Keeps old new → Appends old new []
 keeps_nil old new kept = Appends-kept old old new [] (Appends-nil old) kept
@@ -163,51 +203,37 @@ module _ {A K : Type 0} (grows : K → K → List A → Type 0) (old new : View 
     counts = counts;
   }
 
-  -- writing stopped in what belongs to `out`
-  pub stopped_put : (rows : Bool) (fault : RunFault)
-      → PutStopped grows rows old.out new.out old.out_failures new.out_failures p.out fault → Appends old.report new.report [] → new.report_failures ≡ old.report_failures
-      → Stopped grows rows old new (p ∷ []) fault
-  stopped_put rows Read h kept report = absurd h
-  stopped_put rows Write h kept report =
-      let (some, rest, parts, grown) = h.1 in record {
-        cut = (some, [], inl (rest, parts, refl), grown, kept);
-        cause = (h.0, report);
-        memory = not_memory Write tt;
-      }
-  stopped_put rows Report h kept report = absurd h
-  stopped_put rows ShortRecording h kept report = absurd h
-  stopped_put rows TooMany h kept report = absurd h
-  stopped_put rows NoMemory h kept report = record {
-    cut = ([], [], inl (p.out, refl, refl), h.2, kept);
-    cause = (h.1, report);
-    memory = λ e. record {
-      done = [];
-      next = p;
-      more = [];
-      split = refl;
-      wanted = inl h.0;
-      whole = (h.2, kept);
-    };
-  }
-
   -- writing stopped in the text for the report
-  pub stopped_lines : (rows : Bool) → grows old.out new.out p.out → AppendsFront old.report new.report p.report
-      → new.out_failures ≡ old.out_failures → new.report_failures ≡ raised old.report_failures → Stopped grows rows old new (p ∷ []) Report
-  stopped_lines rows whole front out report =
-      let (some, rest, parts, grown) = front in record {
+  pub stopped_lines : (way : Way) → grows old.out new.out p.out → AppendsFront old.report new.report p.report
+      → new.out_failures ≡ old.out_failures → new.report_failures ≡ raised old.report_failures → Stopped grows way old new (p ∷ []) Report
+  stopped_lines way whole front out report =
+      let (some, rest, parts, proper, grown) = front in record {
         cut = (p.out, some, inr (inl (rest, refl, parts)), whole, grown);
         cause = (out, report);
-        memory = not_memory Report tt;
+        memory = λ e. absurd (report_memory e);
+        refused = λ e. absurd (report_write e);
       }
 
 -- ---- flushes
 
 module _ {A K : Type 0} (grows : K → K → List A → Type 0) (old new : View K) (a : grows old.out new.out []) (b : Appends old.report new.report []) where
-  pub flush_out : (rows : Bool) → new.out_failures ≡ raised old.out_failures → new.report_failures ≡ old.report_failures → Stopped grows rows old new [] Write
-  flush_out rows out report = record { cut = ([], [], (refl, refl), a, b); cause = (out, report); memory = not_memory Write tt }
+  -- only what may wait for a flush can be refused by one
+  pub flush_out : (way : Way) → way.flush ≡ true → new.out_failures ≡ raised old.out_failures → new.report_failures ≡ old.report_failures
+      → Stopped grows way old new [] Write
+  flush_out way waits out report = record {
+    cut = ([], [], (refl, refl), a, b);
+    cause = (out, report);
+    memory = λ e. absurd (write_memory e);
+    refused = λ e f. absurd (true_false (sym waits ∙ f));
+  }
 
-  pub flush_report : (rows : Bool) → new.out_failures ≡ old.out_failures → new.report_failures ≡ raised old.report_failures → Stopped grows rows old new [] Report
-  flush_report rows out report = record { cut = ([], [], (refl, refl), a, b); cause = (out, report); memory = not_memory Report tt }
+  pub flush_report : (way : Way) → new.out_failures ≡ old.out_failures → new.report_failures ≡ raised old.report_failures → Stopped grows way old new [] Report
+  flush_report way out report = record {
+    cut = ([], [], (refl, refl), a, b);
+    cause = (out, report);
+    memory = λ e. absurd (report_memory e);
+    refused = λ e. absurd (report_write e);
+  }
 
   pub flushed : SameCounts old new → Took grows old new []
   flushed counts = record { whole = (a, b); counts = counts }

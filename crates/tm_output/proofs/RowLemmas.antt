@@ -1,9 +1,14 @@
 -- The row of a packet.
-use Rattle.std.proofs.Common.{◌≡◌, ℕ, Bool, true, List, [], sym, ap, subst, ◌∙◌, Ok}
-use Rattle.std.specs.Prelude.{◌==◌, if◌then◌else◌}
+use Rattle.std.proofs.Common.{◌≡◌, ◌≢◌, ◌<◌, ℕ, Bool, true, false, List, [], ◌++◌, refl, sym, ap, subst, ◌∙◌, Ok, Err}
+use Rattle.std.specs.Prelude.{◌==◌, if◌then◌else◌, nat_lt}
+use Rattle.std.specs.List.{flat_map}
+use Rattle.std.proofs.lemmas.Bool.{ltb-true}
+use Rattle.tm_fields.specs.declared.faults.RowFault.TheVariants.{ShortPacket}
 use Rattle.tm_fields.specs.declared.field.Field.{Field}
 use Rattle.tm_fields.specs.declared.lead.Lead.{Lead}
-use Rattle.tm_fields.specs.Rows.{row_from}
+use Rattle.tm_fields.specs.Numbers.{bits_in}
+use Rattle.tm_fields.specs.Rows.{bits_needed, lead_texts, printed, row_from, row_of}
+use Rattle.tm_fields.proofs.LineLemmas.{some_text}
 use Rattle.tm_packet.specs.Header.{Fields, header_of}
 use Rattle.tm_reassembly.specs.Item.{Packet}
 use Rattle.tm_output.specs.FieldRows.{lead_of, row_in, tabled}
@@ -21,3 +26,19 @@ tabled_is fields wanted seen channel first place application count octets row h 
     ∙ ap (λ (n : ℕ). record { seen = seen; channel = channel; application = (header_of octets).application; count = n }) (same_count ∙ ap (λ (k : Fields). k.count) is) in
     ap (λ (b : Bool). if b then row_in (row_from fields (lead_of seen channel octets) octets) else []) here
     ∙ ap (λ (l : Lead). row_in (row_from fields l octets)) (sym lead) ∙ ap row_in made
+
+-- a packet that isn't too short has a row
+some_made : (fields : List Field) (lead : Lead) (octets : List ℕ) (short : Bool) → nat_lt (bits_in octets) (bits_needed fields) ≡ short
+    → (bits_in octets < bits_needed fields → ⊥)
+    → row_in (if short then Err (ShortPacket (bits_needed fields) (bits_in octets)) else Ok (row_of fields lead octets)) ≢ []
+some_made fields lead octets true e long none = long (ltb-true (bits_in octets) (bits_needed fields) e)
+some_made fields lead octets false e long none = some_text (lead_texts lead ++ flat_map (printed octets) fields) none
+
+-- and one of the application has one here
+pub some_tabled : (fields : List Field) (wanted seen channel first place : ℕ) (octets : List ℕ) (h : Fields) → h ≡ header_of octets
+    → (h.application == wanted) ≡ true → (bits_in octets < bits_needed fields → ⊥) → tabled fields wanted (Packet seen channel first place octets) ≢ []
+unfolding tabled
+some_tabled fields wanted seen channel first place octets h is test long none =
+    let here : ((header_of octets).application == wanted) ≡ true = subst (λ (k : Fields). (k.application == wanted) ≡ true) is test in
+    some_made fields (lead_of seen channel octets) octets _ refl long
+    (sym (ap (λ (b : Bool). if b then row_in (row_from fields (lead_of seen channel octets) octets) else []) here) ∙ none)

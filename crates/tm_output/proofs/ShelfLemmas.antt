@@ -1,15 +1,26 @@
 -- A shelf that refuses.
-use Rattle.std.proofs.Common.{◌≡◌, ℕ, Bool, List, ap, ◌∙◌, Option}
+use Rattle.std.proofs.Common.{◌≡◌, ◌≢◌, ℕ, List, [], ◌∷◌, refl, ap, ◌∙◌, Option}
 use Rattle.std.proofs.lemmas.List.{map-append}
 use Rattle.tm_devices.specs.Devices.{PutsFront, raised}
 use Rattle.tm_output.specs.declared.fault.RunFault.TheVariants.{Write}
 use Rattle.tm_output.specs.Outlets.{PutStopped}
-use Rattle.tm_output.specs.Shelves.{shelved, Shelves}
+use Rattle.tm_output.specs.Outputs.{Way}
+use Rattle.tm_output.specs.Shelves.{Shelved, shelved, Shelves}
 use Rattle.tm_output.specs.ShelfLaws.{shelves_put}
 
-pub shelf_stopped : (rows : Bool) (old new : Option (ℕ → List ℕ)) (failures failures' : ℕ) (application : ℕ) (octets : List ℕ)
+no_shelved : (application : ℕ) (octets : List ℕ) → shelved application octets ≡ [] → octets ≡ []
+no_shelved application [] none = refl
+no_shelved application (octet ∷ octets) none = absurd (some_none none)
+  where
+    some_none : {x : Shelved} {xs : List Shelved} → x ∷ xs ≡ [] → ⊥
+    some_none e = cc
+
+pub shelf_stopped : (way : Way) (old new : Option (ℕ → List ℕ)) (failures failures' : ℕ) (application : ℕ) (octets : List ℕ)
     → PutsFront old new application octets → failures' ≡ raised failures
-    → PutStopped Shelves rows old new failures failures' (shelved application octets) Write
-shelf_stopped rows old new failures failures' application octets h rose =
+    → PutStopped Shelves way old new failures failures' (shelved application octets) Write
+shelf_stopped way old new failures failures' application octets h rose =
     let (front, rest, parts, some, grown) = h in
-    (rose, (shelved application front, shelved application rest, ap (shelved application) parts ∙ map-append _ front rest, shelves_put old new application front grown))
+    let all = ap (shelved application) parts ∙ map-append _ front rest in
+    let proper : shelved application octets ≢ [] → shelved application rest ≢ [] =
+    λ full empty. some (λ none. full (ap (shelved application) none)) (no_shelved application rest empty) in
+    (rose, (shelved application front, shelved application rest, all, proper, shelves_put old new application front grown))

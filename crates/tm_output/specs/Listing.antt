@@ -9,7 +9,6 @@ use Rattle.tm_frame.specs.Frame.{GoodFrame}
 use Rattle.tm_frame.specs.Layout.{record_length_of}
 use Rattle.tm_output.specs.declared.fault.RunFault.{RunFault}
 use Rattle.tm_output.specs.declared.fault.RunFault.TheVariants.{Read, Write, Report, ShortRecording, TooMany, NoMemory}
-use Rattle.tm_devices.specs.Devices.{AppendsFront}
 use Rattle.tm_output.specs.Lines.{bad_line, frame_line, short_line}
 use Rattle.tm_output.specs.Records.{AreRecords, records, rest_of}
 
@@ -41,7 +40,7 @@ listing layout recording =
 
 -- writing a text stopped: within it, or before it where there was no memory for it, which takes a text that isn't empty
 abbrev pub LineStopped : Option (List ℕ) → Option (List ℕ) → List ℕ → RunFault → Type 0
-LineStopped old new text Write = AppendsFront old new text
+LineStopped old new text Write = (front rest : List ℕ) × (text ≡ front ++ rest) × Appends old new front
 LineStopped old new text NoMemory = (text ≢ []) × Keeps old new
 LineStopped old new text _ = ⊥
 

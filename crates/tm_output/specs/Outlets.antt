@@ -1,24 +1,25 @@
 -- Where packets go: what is known of it, and how it grows.
-use Rattle.std.specs.Prelude.{◌≡◌, refl, ℕ, Bool, true, List, [], ◌++◌}
+use Rattle.std.specs.Prelude.{◌≡◌, ◌≢◌, refl, ℕ, true, List, []}
 use Rattle.tm_fields.specs.declared.field.Field.{Field}
 use Rattle.tm_reassembly.specs.Item.{Item, Bad, MasterGap, Gap, Vca, Dropped, Packet, Short}
 use Rattle.tm_devices.specs.Devices.{raised}
 use Rattle.tm_output.specs.declared.command.Command.{Command}
 use Rattle.tm_output.specs.declared.command.Command.TheVariants.{Extract, Packets, Fields}
 use Rattle.tm_output.specs.FieldRows.{tabled, too_short}
+use Rattle.tm_output.specs.Outputs.{PutsPart, Way}
 use Rattle.tm_output.specs.Pieces.{HasLine, Texts, listed, octets_of, rows_text, text_of}
 use Rattle.tm_output.specs.declared.fault.RunFault.{RunFault}
 use Rattle.tm_output.specs.declared.fault.RunFault.TheVariants.{Read, Write, Report, ShortRecording, TooMany, NoMemory}
 
--- writing stopped in what belongs there: a call of it failed after a front of that, or there was no memory to make it
-abbrev pub PutStopped : {A K : Type 0} → (K → K → List A → Type 0) → Bool → K → K → ℕ → ℕ → List A → RunFault → Type 0
-PutStopped grows rows old new failures_old failures_new text Read = ⊥
-PutStopped {A} grows rows old new failures_old failures_new text Write =
-    (failures_new ≡ raised failures_old) × ((front rest : List A) × (text ≡ front ++ rest) × grows old new front)
-PutStopped grows rows old new failures_old failures_new text Report = ⊥
-PutStopped grows rows old new failures_old failures_new text ShortRecording = ⊥
-PutStopped grows rows old new failures_old failures_new text TooMany = ⊥
-PutStopped grows rows old new failures_old failures_new text NoMemory = (rows ≡ true) × (failures_new ≡ failures_old) × grows old new []
+-- writing stopped in what belongs there: a call of it failed after a part of that, or there was no memory to make it, where there is any
+abbrev pub PutStopped : {A K : Type 0} → (K → K → List A → Type 0) → Way → K → K → ℕ → ℕ → List A → RunFault → Type 0
+PutStopped grows way old new failures_old failures_new text Read = ⊥
+PutStopped grows way old new failures_old failures_new text Write = (failures_new ≡ raised failures_old) × PutsPart grows old new text
+PutStopped grows way old new failures_old failures_new text Report = ⊥
+PutStopped grows way old new failures_old failures_new text ShortRecording = ⊥
+PutStopped grows way old new failures_old failures_new text TooMany = ⊥
+PutStopped grows way old new failures_old failures_new text NoMemory =
+    (way.memory ≡ true) × (text ≢ []) × (failures_new ≡ failures_old) × grows old new []
 
 -- of an item that has a line nothing belongs to a drain, and nothing more to the report
 abbrev pub GivesNone : {A : Type 0} → Texts A → Item → Type 0

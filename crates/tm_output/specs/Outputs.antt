@@ -1,6 +1,6 @@
 -- Two outputs that grow by pieces, and the one place where writing may stop. The first, `out`, is a device or a set of files: what it
 -- grows by is a list of any kind.
-use Rattle.std.specs.Prelude.{◌≡◌, ◌≢◌, ◌⊎◌, ℕ, Bool, true, List, [], ◌∷◌, ◌++◌, Option, Result, MatchResult}
+use Rattle.std.specs.Prelude.{◌≡◌, ◌≢◌, ◌⊎◌, ℕ, Bool, true, false, List, [], ◌∷◌, ◌++◌, Option, Result, MatchResult}
 use Rattle.std.specs.Io.KnownBytes.{Appends}
 use Rattle.tm_devices.specs.Devices.{raised}
 use Rattle.tm_output.specs.declared.fault.RunFault.{RunFault}
@@ -52,14 +52,30 @@ Caused old new ShortRecording = ⊥
 Caused old new TooMany = ⊥
 Caused old new NoMemory = SameCounts old new
 
--- for this text of the report memory is wanted; and for each text where what belongs to `out` is made in memory too
-abbrev pub TakesMemory : Bool → List ℕ → Type 0
-TakesMemory rows report = (rows ≡ true) ⊎ (report ≢ [])
+-- How an outlet is written: what belongs there is made in memory; and it may wait there for a flush.
+pub record Way : Type 0 where
+  pub memory : Bool
+  pub flush : Bool
+
+-- octets go as they are, lines are made first, and both may wait
+abbrev pub octets_way : Way
+octets_way = record { memory = false; flush = true }
+
+abbrev pub lines_way : Way
+lines_way = record { memory = true; flush = true }
+
+-- something of this piece is made in memory: its text for the report, or what belongs to `out`, where that is made there
+abbrev pub TakesMemory : {A : Type 0} → Way → Piece A → Type 0
+TakesMemory way piece = ((way.memory ≡ true) × (piece.out ≢ [])) ⊎ (piece.report ≢ [])
 
 module _ {A K : Type 0} (grows : K → K → List A → Type 0) where
   -- the pieces were written, whole
   abbrev pub AppendsPieces : View K → View K → List (Piece A) → Type 0
   AppendsPieces old new pieces = grows old.out new.out (outs pieces) × Appends old.report new.report (reports pieces)
+
+  -- a part of what belongs to `out` was written: a front, a proper one if there is any
+  abbrev pub PutsPart : K → K → List A → Type 0
+  PutsPart old new all = (front rest : List A) × (all ≡ front ++ rest) × (all ≢ [] → rest ≢ []) × grows old new front
 
   -- they were written up to one place
   abbrev pub AppendsCut : View K → View K → List (Piece A) → Type 0
@@ -71,23 +87,34 @@ pub record Took {A K : Type 0} (grows : K → K → List A → Type 0) (old new 
   pub whole : AppendsPieces grows old new pieces
   pub counts : SameCounts old new
 
--- Some pieces were written, whole, from the first on, and nothing of the next one, for which there was no memory. It is made in memory
--- where `rows` says that what belongs to `out` is, and else only for a text of the report that isn't empty.
-pub record WantsMemory {A K : Type 0} (grows : K → K → List A → Type 0) (rows : Bool) (old new : View K) (pieces : List (Piece A)) : Type 0 where
+-- writing stopped in one piece: those before it were written whole, and this holds of it
+pub record StopsAtPiece {A K : Type 0} (grows : K → K → List A → Type 0) (stop : View K → Piece A → Type 0) (old : View K)
+    (pieces : List (Piece A)) : Type 0 where
   pub done : List (Piece A)
   pub next : Piece A
   pub more : List (Piece A)
   pub split : pieces ≡ done ++ next ∷ more
-  pub wanted : TakesMemory rows next.report
-  pub whole : AppendsPieces grows old new done
+  pub mid : View K
+  pub whole : AppendsPieces grows old mid done
+  pub stopped : stop mid next
+
+module _ {A K : Type 0} (grows : K → K → List A → Type 0) where
+  -- nothing was written of a piece of which something is made in memory
+  abbrev pub WantsMemory : Way → View K → View K → List (Piece A) → Type 0
+  WantsMemory way old new pieces = StopsAtPiece grows (λ mid next. (new ≡ mid) × TakesMemory way next) old pieces
+
+  -- a part of what belongs to `out` was written of a piece, and nothing of it for the report
+  abbrev pub RefusesPut : View K → View K → List (Piece A) → Type 0
+  RefusesPut old new pieces = StopsAtPiece grows (λ mid next. PutsPart grows mid.out new.out next.out × Appends mid.report new.report []) old pieces
 
 -- writing stopped at one place of the pieces, with this fault
-pub record Stopped {A K : Type 0} (grows : K → K → List A → Type 0) (rows : Bool) (old new : View K) (pieces : List (Piece A)) (fault : RunFault)
+pub record Stopped {A K : Type 0} (grows : K → K → List A → Type 0) (way : Way) (old new : View K) (pieces : List (Piece A)) (fault : RunFault)
     : Type 0 where
   pub cut : AppendsCut grows old new pieces
   pub cause : Caused old new fault
-  pub memory : fault ≡ NoMemory → WantsMemory grows rows old new pieces
+  pub memory : fault ≡ NoMemory → WantsMemory grows way old new pieces
+  pub refused : fault ≡ Write → way.flush ≡ false → RefusesPut grows old new pieces
 
 -- writing all pieces, or up to one place
-abbrev pub Written : {A K T : Type 0} → (K → K → List A → Type 0) → Bool → View K → View K → List (Piece A) → Result T RunFault → Type 0
-Written grows rows old new pieces r = MatchResult r (λ _. Took grows old new pieces) (Stopped grows rows old new pieces)
+abbrev pub Written : {A K T : Type 0} → (K → K → List A → Type 0) → Way → View K → View K → List (Piece A) → Result T RunFault → Type 0
+Written grows way old new pieces r = MatchResult r (λ _. Took grows old new pieces) (Stopped grows way old new pieces)

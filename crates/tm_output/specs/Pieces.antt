@@ -20,7 +20,7 @@ use Rattle.tm_output.specs.declared.command.Ending.{Ending}
 use Rattle.tm_output.specs.declared.command.Ending.TheVariants.{Close, Keep, StopAfter}
 use Rattle.tm_output.specs.FieldRows.{tabled, too_short}
 use Rattle.tm_output.specs.Lines.{bad_line, drop_line, gap_line, master_gap_line, note_line, note_lines, packet_line, short_line, vca_line}
-use Rattle.tm_output.specs.Outputs.{Piece}
+use Rattle.tm_output.specs.Outputs.{Piece, Way, lines_way, octets_way}
 use Rattle.tm_output.specs.Records.{records, rest_of}
 
 -- for each key what is kept of the sequence counts of its channel and application
@@ -95,11 +95,11 @@ text_of Extract = record { out = octets_of; remark = no_remark }
 text_of Packets = record { out = listed; remark = no_remark }
 text_of (Fields definition application) = rows_text definition.now application
 
--- what belongs to `out` is made in memory: lines are, a packet's own octets are not
-abbrev pub makes_rows : Command → Bool
-makes_rows Extract = false
-makes_rows Packets = true
-makes_rows (Fields definition application) = true
+-- how it is written
+abbrev pub way_of : Command → Way
+way_of Extract = octets_way
+way_of Packets = lines_way
+way_of (Fields definition application) = lines_way
 
 -- ---- of items, by what is given of each
 

@@ -1,7 +1,8 @@
 -- Places for the packets of applications.
-use Rattle.std.specs.Prelude.{◌≡◌, ⊤, ℕ, ◌==◌, List, [], ◌∷◌, ◌++◌, map, Option, None, Some, if◌then◌else◌}
+use Rattle.std.specs.Prelude.{◌≡◌, ⊤, ℕ, false, ◌==◌, List, [], ◌∷◌, ◌++◌, map, Option, None, Some, if◌then◌else◌}
 use Rattle.tm_packet.specs.Header.{header_of}
 use Rattle.tm_reassembly.specs.Item.{Item, Packet}
+use Rattle.tm_output.specs.Outputs.{Way}
 use Rattle.tm_output.specs.Pieces.{Texts, no_remark}
 
 -- an octet of an application
@@ -27,6 +28,10 @@ Shelves (Some held) (Some now) xs = (k : ℕ) → now k ≡ held k ++ of_applica
 unfoldable pub shelved_of : Item → List Shelved
 shelved_of (Packet seen channel first place octets) = shelved (header_of octets).application octets
 shelved_of _ = []
+
+-- octets go as they are, and none of them waits
+abbrev pub shelf_way : Way
+shelf_way = record { memory = false; flush = false }
 
 -- what is given of an item
 abbrev pub shelf_text : Texts Shelved

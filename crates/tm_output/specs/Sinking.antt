@@ -1,13 +1,13 @@
 -- What a sink of texts does with an item.
-use Rattle.std.specs.Prelude.{◌≡◌, Bool, List, [], ◌∷◌}
+use Rattle.std.specs.Prelude.{◌≡◌, List, [], ◌∷◌}
 use Rattle.tm_reassembly.specs.Item.{Item}
 use Rattle.tm_output.specs.declared.fault.RunFault.{RunFault}
-use Rattle.tm_output.specs.Outputs.{View, Took, Stopped}
+use Rattle.tm_output.specs.Outputs.{View, Way, Took, Stopped}
 use Rattle.tm_output.specs.Pieces.{Entries, Texts, noted, piece_of}
 
 -- Of a sink are known the names of the references that it holds, what of its outlet stays the same, which says what is given of an item, the
 -- entries of its tracker, and its two outputs.
-module _ {A K S J L M N : Type 0} (grows : K → K → List A → Type 0) (text : M → Texts A) (rows : Bool)
+module _ {A K S J L M N : Type 0} (grows : K → K → List A → Type 0) (text : M → Texts A) (way : Way)
     (tracker_name : S → J) (outlet_name : S → L) (out_fixed : S → M) (report_name : S → N) (entries : S → Entries) (seen : S → View K) where
   -- it takes an item: its two texts were written
   pub record Takes (s : S) (x : Item) (t : S) : Type 0 where
@@ -24,4 +24,4 @@ module _ {A K S J L M N : Type 0} (grows : K → K → List A → Type 0) (text 
     pub outlet : outlet_name t ≡ outlet_name s
     pub out : out_fixed t ≡ out_fixed s
     pub report : report_name t ≡ report_name s
-    pub stopped : Stopped grows rows (seen s) (seen t) (piece_of (text (out_fixed s)) (entries s) x ∷ []) fault
+    pub stopped : Stopped grows way (seen s) (seen t) (piece_of (text (out_fixed s)) (entries s) x ∷ []) fault

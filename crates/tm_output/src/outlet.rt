@@ -1,6 +1,6 @@
 //! Where packets go: their octets into a drain or a shelf, or a line or a row for each into a drain.
 
-ghost use Rattle.std.specs.Prelude.{◌≡◌, ◌≢◌, ◌++◌, ◌==◌, [], ◌∷◌, ℕ, Bool, true, false, List, Option, OnOk, OnErr, IfErr, string_bytes};
+ghost use Rattle.std.specs.Prelude.{◌≡◌, ◌≢◌, ◌++◌, ◌==◌, [], ◌∷◌, ℕ, true, List, Option, OnOk, OnErr, IfErr, string_bytes};
 ghost use Rattle.std.specs.Io.KnownBytes.{Appends, Keeps};
 ghost use Rattle.std.proofs.KnownBytes.{Appends-nil, Appends-trans};
 ghost use Rattle.tm_packet.specs.Header.{header_of};
@@ -8,9 +8,10 @@ ghost use Rattle.tm_reassembly.specs.Item as value;
 ghost use Rattle.tm_reassembly.specs.Item.{Item};
 ghost use Rattle.tm_devices.specs.Devices.{Counts};
 ghost use Rattle.tm_output.specs.Outlets.{GivesNone, PutStopped, no_text};
+ghost use Rattle.tm_output.specs.Outputs.{Way, lines_way, octets_way};
 ghost use Rattle.tm_output.specs.Pieces.{HasLine, Texts, text_of};
 ghost use Rattle.tm_output.specs.ShelfLaws.{no_shelf, shelves_nil, shelves_trans};
-ghost use Rattle.tm_output.specs.Shelves.{Shelved, Shelves, shelf_text};
+ghost use Rattle.tm_output.specs.Shelves.{Shelved, Shelves, shelf_text, shelf_way};
 
 use crate::RunFault;
 use crate::lines::{push_packet, push_short_packet};
@@ -43,8 +44,8 @@ pub trait Outlet {
     /// What is given of an item: here, and to the report.
     ghost text: { Self.Fixed → Texts Self.Part };
 
-    /// What belongs here is made in memory.
-    ghost rows: { Bool };
+    /// Whether what belongs here is made in memory, and whether it may wait for a flush.
+    ghost way: { Way };
 
     /// All that is held was passed on.
     ghost passed: { Self → Type 0 };
@@ -79,7 +80,7 @@ pub trait Outlet {
         ensures same { Self.fixed self.new ≡ Self.fixed self.old }
         ensures whole { OnOk result (Self.grows (Self.held self.old) (Self.held self.new) ((Self.text (Self.fixed self.old)).out (value.Packet seen channel first place octets.now))
             × (Self.failures self.new ≡ Self.failures self.old)) }
-        ensures stopped { IfErr result (PutStopped Self.grows Self.rows (Self.held self.old) (Self.held self.new) (Self.failures self.old) (Self.failures self.new)
+        ensures stopped { IfErr result (PutStopped Self.grows Self.way (Self.held self.old) (Self.held self.new) (Self.failures self.old) (Self.failures self.new)
             ((Self.text (Self.fixed self.old)).out (value.Packet seen channel first place octets.now))) };
 
     /// Passes on all that was written.
@@ -87,6 +88,7 @@ pub trait Outlet {
         ensures same { Self.fixed self.new ≡ Self.fixed self.old }
         ensures kept { Self.grows (Self.held self.old) (Self.held self.new) [] }
         ensures passed { OnOk result (Self.passed self.new) }
+        ensures failed { OnErr result (Self.way.flush ≡ true) }
         ensures counts { Counts (Self.failures self.old) (Self.failures self.new) result };
 
     /// Of an item that has a line nothing belongs here, and nothing more is reported.
@@ -124,7 +126,7 @@ impl<W: Drain> Outlet for PacketOctets<'_, W> {
 
     ghost text = { λ _. text_of Extract };
 
-    ghost rows = { false };
+    ghost way = { octets_way };
 
     ghost passed = { λ o. Keeps (W.flushed o.out.now) (W.written o.out.now) };
 
@@ -194,7 +196,7 @@ impl<W: Drain> Outlet for PacketLines<'_, W> {
 
     ghost text = { λ _. text_of Packets };
 
-    ghost rows = { true };
+    ghost way = { lines_way };
 
     ghost passed = { λ o. Keeps (W.flushed o.out.now) (W.written o.out.now) };
 
@@ -268,7 +270,7 @@ impl<H: Shelf> Outlet for PacketShelf<'_, H> {
 
     ghost text = { λ _. shelf_text };
 
-    ghost rows = { false };
+    ghost way = { shelf_way };
 
     ghost passed = { λ _. ⊤ };
 
@@ -351,7 +353,7 @@ impl<W: Drain> Outlet for PacketRows<'_, W> {
 
     ghost text = { λ f. rows_text f.fields f.application };
 
-    ghost rows = { true };
+    ghost way = { lines_way };
 
     ghost passed = { λ o. Keeps (W.flushed o.out.now) (W.written o.out.now) };
 
@@ -372,11 +374,8 @@ impl<W: Drain> Outlet for PacketRows<'_, W> {
         header: &Header,
         octets: &[u8],
     ) -> Result<(), AllocError> {
-        if !self.is_wanted(header) {
-            return Ok(());
-        }
         let needed = self.definition.bits_needed();
-        if octets.len() >= needed.div_ceil(8) as usize {
+        if !self.is_wanted(header) || octets.len() >= needed.div_ceil(8) as usize {
             return Ok(());
         }
         let found = 8 * octets.len() as u64;

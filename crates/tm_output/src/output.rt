@@ -138,7 +138,7 @@ impl<O: Outlet, V: Drain> Output<'_, O, V> {
         ensures same_out { O.fixed self.new.outlet.now ≡ O.fixed self.old.outlet.now }
         ensures same_report { self.new.report.ghost_name ≡ self.old.report.ghost_name }
         ensures noted { self.new.tracker.now ≡ noted self.old.tracker.now (value.Packet seen channel first place octets.now) }
-        ensures written { Written O.grows O.rows (outlet_both O.Outlet V.Drain self.old.outlet.now self.old.report.now)
+        ensures written { Written O.grows O.way (outlet_both O.Outlet V.Drain self.old.outlet.now self.old.report.now)
             (outlet_both O.Outlet V.Drain self.new.outlet.now self.new.report.now) (piece_of (O.text (O.fixed self.old.outlet.now)) self.old.tracker.now (value.Packet seen channel first place octets.now) ∷ []) result }
     {
         let header = header_in(octets);
@@ -172,7 +172,7 @@ impl<O: Outlet, V: Drain> Output<'_, O, V> {
         ensures same_out { O.fixed self.new.outlet.now ≡ O.fixed self.old.outlet.now }
         ensures same_report { self.new.report.ghost_name ≡ self.old.report.ghost_name }
         ensures noted { self.new.tracker.now ≡ noted self.old.tracker.now (item_of item.entry) }
-        ensures written { Written O.grows O.rows (outlet_both O.Outlet V.Drain self.old.outlet.now self.old.report.now)
+        ensures written { Written O.grows O.way (outlet_both O.Outlet V.Drain self.old.outlet.now self.old.report.now)
             (outlet_both O.Outlet V.Drain self.new.outlet.now self.new.report.now) (piece_of (O.text (O.fixed self.old.outlet.now)) self.old.tracker.now (item_of item.entry) ∷ []) result }
     {
         self.notes.clear();
@@ -194,7 +194,7 @@ impl<O: Outlet, V: Drain> Output<'_, O, V> {
         ensures same_out { O.fixed self.new.outlet.now ≡ O.fixed self.old.outlet.now }
         ensures same_report { self.new.report.ghost_name ≡ self.old.report.ghost_name }
         ensures tracker { self.new.tracker.now ≡ self.old.tracker.now }
-        ensures written { Written O.grows O.rows (outlet_both O.Outlet V.Drain self.old.outlet.now self.old.report.now)
+        ensures written { Written O.grows O.way (outlet_both O.Outlet V.Drain self.old.outlet.now self.old.report.now)
             (outlet_both O.Outlet V.Drain self.new.outlet.now self.new.report.now) (unclosed_piece seen unclosed ∷ []) result }
     {
         self.notes.clear();
@@ -215,7 +215,7 @@ impl<O: Outlet, V: Drain> Output<'_, O, V> {
         ensures same_outlet { self.new.outlet.ghost_name ≡ self.old.outlet.ghost_name }
         ensures same_out { O.fixed self.new.outlet.now ≡ O.fixed self.old.outlet.now }
         ensures same_report { self.new.report.ghost_name ≡ self.old.report.ghost_name }
-        ensures written { Written O.grows O.rows (outlet_both O.Outlet V.Drain self.old.outlet.now self.old.report.now)
+        ensures written { Written O.grows O.way (outlet_both O.Outlet V.Drain self.old.outlet.now self.old.report.now)
             (outlet_both O.Outlet V.Drain self.new.outlet.now self.new.report.now) (unclosed_pieces seen (sequence.unclosed 0 self.old.tracker.now)) result }
     {
         let mut at = 0;
@@ -237,7 +237,7 @@ impl<O: Outlet, V: Drain> Output<'_, O, V> {
         ensures tracker { self.new.tracker.now ≡ self.old.tracker.now }
         ensures flushed_out { OnOk result (O.passed self.new.outlet.now) }
         ensures flushed_report { OnOk result (Keeps (V.flushed self.new.report.now) (V.written self.new.report.now)) }
-        ensures written { Written O.grows O.rows (outlet_both O.Outlet V.Drain self.old.outlet.now self.old.report.now)
+        ensures written { Written O.grows O.way (outlet_both O.Outlet V.Drain self.old.outlet.now self.old.report.now)
             (outlet_both O.Outlet V.Drain self.new.outlet.now self.new.report.now) [] result }
     {
         if let Err(_) = self.outlet.flush() {
@@ -253,10 +253,10 @@ impl<O: Outlet, V: Drain> Output<'_, O, V> {
 impl<O: Outlet, V: Drain> Sink for Output<'_, O, V> {
     type Fault = RunFault;
 
-    ghost takes = { Takes O.grows O.text O.rows (λ s. s.tracker.ghost_name) (λ s. s.outlet.ghost_name) (λ s. O.fixed s.outlet.now) (λ s. s.report.ghost_name) (λ s. s.tracker.now)
+    ghost takes = { Takes O.grows O.text O.way (λ s. s.tracker.ghost_name) (λ s. s.outlet.ghost_name) (λ s. O.fixed s.outlet.now) (λ s. s.report.ghost_name) (λ s. s.tracker.now)
         (λ s. outlet_both O.Outlet V.Drain s.outlet.now s.report.now) };
 
-    ghost refuses = { Refuses O.grows O.text O.rows (λ s. s.tracker.ghost_name) (λ s. s.outlet.ghost_name) (λ s. O.fixed s.outlet.now) (λ s. s.report.ghost_name) (λ s. s.tracker.now)
+    ghost refuses = { Refuses O.grows O.text O.way (λ s. s.tracker.ghost_name) (λ s. s.outlet.ghost_name) (λ s. O.fixed s.outlet.now) (λ s. s.report.ghost_name) (λ s. s.tracker.now)
         (λ s. outlet_both O.Outlet V.Drain s.outlet.now s.report.now) };
 
     fn take(&mut self, item: Item<'_>) -> Result<(), RunFault> {

@@ -1,8 +1,8 @@
 -- What is done by a run, of what its contract says.
-use Rattle.std.proofs.Common.{◌≡◌, ℕ, Bool, List, Option, None, Some, Result, Ok, inl, inr, subst, ⊎_elim}
+use Rattle.std.proofs.Common.{◌≡◌, ℕ, List, Option, None, Some, Result, Ok, inl, inr, subst, ⊎_elim}
 use Rattle.std.specs.Prelude.{IfOk, MatchOption}
 use Rattle.tm_output.specs.declared.command.Ending.{Ending}
-use Rattle.tm_output.specs.Outputs.{Piece, View}
+use Rattle.tm_output.specs.Outputs.{Piece, View, Way}
 use Rattle.tm_output.specs.Pieces.{Texts, Work}
 use Rattle.tm_tool.specs.Runs.{HasEnded, IsHeadedRun, IsRun}
 use Rattle.tm_settings.specs.Settings.{Rules}
@@ -17,12 +17,12 @@ untold ending w left_old left_new read rest ended = ⊎_elim
     (λ enough. inr (record { sized = enough.0.sized; octets = tt }, enough.1, enough.2))
     ended
 
-module _ {A K : Type 0} (grows : K → K → List A → Type 0) (rows : Bool) (text : Texts A) (ending : Ending) (w : Work) (left_old left_new : Option (List ℕ)) where
-  pub run_done : (old new : View K) (records : ℕ) (kept : Option Work) → IsRun grows rows text ending w left_old left_new old new records kept → IsDone ending w records kept
+module _ {A K : Type 0} (grows : K → K → List A → Type 0) (way : Way) (text : Texts A) (ending : Ending) (w : Work) (left_old left_new : Option (List ℕ)) where
+  pub run_done : (old new : View K) (records : ℕ) (kept : Option Work) → IsRun grows way text ending w left_old left_new old new records kept → IsDone ending w records kept
   run_done old new records kept r = (r.read, r.rest, untold ending w left_old left_new r.read r.rest r.ended, r.passed, r.count_is, r.kept_is)
 
   -- likewise, where the head of the rows was written before
-  pub headed_run_done : (old new : View K) (head : List (Piece A)) (records : ℕ) (kept : Option Work) → IsHeadedRun grows rows text ending w head left_old left_new old new records kept → IsDone ending w records kept
+  pub headed_run_done : (old new : View K) (head : List (Piece A)) (records : ℕ) (kept : Option Work) → IsHeadedRun grows way text ending w head left_old left_new old new records kept → IsDone ending w records kept
   headed_run_done old new head records kept r = run_done r.mid new records kept r.run
 
 -- what is done from the job that is gone on with, or else from a new one

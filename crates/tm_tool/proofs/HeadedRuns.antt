@@ -1,38 +1,38 @@
 -- A run behind a head, in the words of the whole recording.
-use Rattle.std.proofs.Common.{◌≡◌, ◌<◌, ◌+◌, ◌-◌, ◌^◌, ℕ, Bool, List, [], ◌++◌, length, refl, inl, inr, Option, IfSome}
+use Rattle.std.proofs.Common.{◌≡◌, ◌<◌, ◌+◌, ◌-◌, ◌^◌, ℕ, List, [], ◌++◌, length, refl, inl, inr, Option, IfSome}
 use Rattle.std.proofs.KnownBytes.{Appends-trans}
 use Rattle.tm_frame.specs.Layout.{record_length_of}
 use Rattle.tm_output.specs.declared.fault.RunFault.{RunFault}
 use Rattle.tm_output.specs.declared.fault.RunFault.TheVariants.{NoMemory, ShortRecording, TooMany}
 use Rattle.tm_output.specs.declared.command.Ending.{Ending}
-use Rattle.tm_output.specs.Outputs.{Piece, View, AppendsCut, Took, WantsMemory, outs, reports}
+use Rattle.tm_output.specs.Outputs.{Piece, View, AppendsCut, Took, WantsMemory, outs, reports, Way}
 use Rattle.tm_output.specs.Pieces.{Texts, Work, chosen, further, pieces, worked}
 use Rattle.tm_output.specs.Records.{record_count}
 use Rattle.tm_tool.specs.Runs.{IsRun, IsStoppedAt, IsHeadedRun, IsHeadedStop, kept_of}
-use Rattle.tm_output.proofs.PieceLemmas.{cut_after, took_none, took_took, stopped_more, wants_after}
+use Rattle.tm_output.proofs.PieceLemmas.{cut_after, took_none, took_took, stopped_more, stops_after}
 use Rattle.tm_tool.proofs.Running.{IsValid}
 use Rattle.tm_tool.proofs.RunPieces.{always, weaker, run_told, run_cut, run_memory, run_many, run_short}
 
 module _ {A K : Type 0} (grows : K → K → List A → Type 0) (grows-nil : (k : K) → grows k k [])
     (grows-trans : (j k l : K) (xs ys : List A) → grows j k xs → grows k l ys → grows j l (xs ++ ys))
-    (rows : Bool) (text : Texts A) (ending : Ending) (w : Work) where
+    (way : Way) (text : Texts A) (ending : Ending) (w : Work) where
   -- where there is no head
-  pub unheaded_run : (first next : Option (List ℕ)) (old new : View K) (count : ℕ) (kept : Option Work) → IsRun grows rows text ending w first next old new count kept
-      → IsHeadedRun grows rows text ending w [] first next old new count kept
+  pub unheaded_run : (first next : Option (List ℕ)) (old new : View K) (count : ℕ) (kept : Option Work) → IsRun grows way text ending w first next old new count kept
+      → IsHeadedRun grows way text ending w [] first next old new count kept
   unheaded_run first next old new count kept h = record { mid = old; headed = took_none grows grows-nil grows-trans old; run = h }
 
-  pub unheaded_stop : (first next : Option (List ℕ)) (old new : View K) (fault : RunFault) → IsStoppedAt grows rows text ending w first next old new fault
-      → IsHeadedStop grows rows text ending w [] first next old new fault
+  pub unheaded_stop : (first next : Option (List ℕ)) (old new : View K) (fault : RunFault) → IsStoppedAt grows way text ending w first next old new fault
+      → IsHeadedStop grows way text ending w [] first next old new fault
   unheaded_stop first next old new fault h = inr (record { mid = old; headed = took_none grows grows-nil grows-trans old; stopped = h })
 
   module _ (head : List (Piece A)) (valid : IsValid w) (some : 0 < record_length_of w.rules.layout) (first next : Option (List ℕ)) (old new : View K) where
-    pub headed_told : (count : ℕ) (kept : Option Work) → IsHeadedRun grows rows text ending w head first next old new count kept
+    pub headed_told : (count : ℕ) (kept : Option Work) → IsHeadedRun grows way text ending w head first next old new count kept
         → IfSome first (λ octets. Took grows old new (head ++ pieces text ending w octets)
         × (count ≡ w.state.records + length (chosen ending (further w octets)))
         × (kept ≡ kept_of ending (worked w (chosen ending (further w octets)))))
     headed_told count kept h =
         weaker first (λ octets told. (took_took grows grows-nil grows-trans old h.mid new head (pieces text ending w octets) h.headed told.0, told.1, told.2))
-        (run_told grows grows-nil grows-trans rows text ending w valid some first next h.mid new count kept h.run)
+        (run_told grows grows-nil grows-trans way text ending w valid some first next h.mid new count kept h.run)
 
     cut_behind : (mid : View K) (ps : List (Piece A)) → Took grows old mid head → AppendsCut grows mid new ps → AppendsCut grows old new (head ++ ps)
     cut_behind mid ps headed h =
@@ -44,28 +44,28 @@ module _ {A K : Type 0} (grows : K → K → List A → Type 0) (grows-nil : (k 
           Appends-trans old.report mid.report new.report (reports head) report headed.whole.1 reports_new,
         )
 
-    pub headed_cut : (fault : RunFault) → IsHeadedStop grows rows text ending w head first next old new fault
+    pub headed_cut : (fault : RunFault) → IsHeadedStop grows way text ending w head first next old new fault
         → IfSome first (λ octets. AppendsCut grows old new (head ++ pieces text ending w octets))
     headed_cut fault (inl h) =
-        always first (λ octets. (stopped_more grows grows-nil grows-trans rows old new head (pieces text ending w octets) fault h.stopped).cut)
+        always first (λ octets. (stopped_more grows grows-nil grows-trans way old new head (pieces text ending w octets) fault h.stopped).cut)
     headed_cut fault (inr h) =
         weaker first (λ octets cut. cut_behind h.mid (pieces text ending w octets) h.headed cut)
-        (run_cut grows grows-nil grows-trans rows text ending w valid some first next h.mid new fault h.stopped)
+        (run_cut grows grows-nil grows-trans way text ending w valid some first next h.mid new fault h.stopped)
 
-    pub headed_memory : IsHeadedStop grows rows text ending w head first next old new NoMemory
-        → IfSome first (λ octets. WantsMemory grows rows old new (head ++ pieces text ending w octets))
+    pub headed_memory : IsHeadedStop grows way text ending w head first next old new NoMemory
+        → IfSome first (λ octets. WantsMemory grows way old new (head ++ pieces text ending w octets))
     headed_memory (inl h) =
-        always first (λ octets. (stopped_more grows grows-nil grows-trans rows old new head (pieces text ending w octets) NoMemory h.stopped).memory refl)
+        always first (λ octets. (stopped_more grows grows-nil grows-trans way old new head (pieces text ending w octets) NoMemory h.stopped).memory refl)
     headed_memory (inr h) =
-        weaker first (λ octets wants. wants_after grows grows-nil grows-trans rows old h.mid new head (pieces text ending w octets) h.headed wants)
-        (run_memory grows grows-nil grows-trans rows text ending w valid some first next h.mid new h.stopped)
+        weaker first (λ octets wants. stops_after grows grows-nil grows-trans old h.mid head (pieces text ending w octets) h.headed wants)
+        (run_memory grows grows-nil grows-trans way text ending w valid some first next h.mid new h.stopped)
 
-    pub headed_many : IsHeadedStop grows rows text ending w head first next old new TooMany
+    pub headed_many : IsHeadedStop grows way text ending w head first next old new TooMany
         → IfSome first (λ octets. 2 ^ 32 - 1 < record_count (record_length_of w.rules.layout) octets)
     headed_many (inl h) = absurd h.stopped.cause
-    headed_many (inr h) = run_many grows grows-nil grows-trans rows text ending w valid some first next h.mid new h.stopped
+    headed_many (inr h) = run_many grows grows-nil grows-trans way text ending w valid some first next h.mid new h.stopped
 
-    pub headed_short : IsHeadedStop grows rows text ending w head first next old new ShortRecording
+    pub headed_short : IsHeadedStop grows way text ending w head first next old new ShortRecording
         → IfSome first (λ octets. record_count (record_length_of w.rules.layout) octets < w.state.records)
     headed_short (inl h) = absurd h.stopped.cause
-    headed_short (inr h) = run_short grows grows-nil grows-trans rows text ending w valid some first next h.mid new h.stopped
+    headed_short (inr h) = run_short grows grows-nil grows-trans way text ending w valid some first next h.mid new h.stopped

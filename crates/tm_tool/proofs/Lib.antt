@@ -17,3 +17,4 @@ pub mod StateFaults
 pub mod CheckpointExamples
 pub mod WorkValid
 pub mod ForgottenCount
+pub mod NoteLemmas

@@ -1,11 +1,11 @@
 -- The end of a run, after all records that it reads were taken.
-use Rattle.std.proofs.Common.{◌≡◌, ℕ, Bool, List, [], ◌++◌, length, sym, ap, subst, ◌∙◌, append-nil, inr, Option}
+use Rattle.std.proofs.Common.{◌≡◌, ℕ, List, [], ◌++◌, length, sym, ap, subst, ◌∙◌, append-nil, inr, Option}
 use Rattle.tm_packet.specs.Merge as sequence
 use Rattle.tm_reassembly.specs.Items.{closing}
 use Rattle.tm_output.specs.declared.fault.RunFault.{RunFault}
 use Rattle.tm_output.specs.declared.fault.RunFault.TheVariants.{Read, Write, Report, ShortRecording, TooMany, NoMemory}
 use Rattle.tm_output.specs.declared.command.Ending.{Ending}
-use Rattle.tm_output.specs.Outputs.{Piece, View, Took, Stopped}
+use Rattle.tm_output.specs.Outputs.{Piece, View, Took, Stopped, Way}
 use Rattle.tm_output.specs.Pieces.{Entries, Texts, Work, noted_all, pieces_of, unclosed_pieces, worked, record_pieces, closing_pieces, end_pieces}
 use Rattle.tm_tool.specs.Runs.{IsRun, StopsAtEnd, IsStoppedAt, behind, kept_of}
 use Rattle.tm_tool.specs.Stepping.{HasStepped}
@@ -16,15 +16,15 @@ module _ {A K : Type 0} (grows : K → K → List A → Type 0) (grows-nil : (k 
     (grows-trans : (j k l : K) (xs ys : List A) → grows j k xs → grows k l ys → grows j l (xs ++ ys)) where
   -- ---- a closed end: its items, and then the groups that are open after them
 
-  module _ (rows : Bool) (text : Texts A) (work : Work) (n : ℕ) (old : View K) where
+  module _ (way : Way) (text : Texts A) (work : Work) (n : ℕ) (old : View K) where
     abbrev items_end : List (Piece A)
     items_end = pieces_of text work.entries (closing work.state n)
 
     abbrev groups_end : List (Piece A)
     groups_end = unclosed_pieces work.state.records (sequence.unclosed 0 (noted_all work.entries (closing work.state n)))
 
-    pub stopped_items : (new : View K) (fault : RunFault) → Stopped grows rows old new items_end fault → Stopped grows rows old new (closing_pieces text work n) fault
-    stopped_items new fault h = stopped_more grows grows-nil grows-trans rows old new items_end groups_end fault h
+    pub stopped_items : (new : View K) (fault : RunFault) → Stopped grows way old new items_end fault → Stopped grows way old new (closing_pieces text work n) fault
+    stopped_items new fault h = stopped_more grows grows-nil grows-trans way old new items_end groups_end fault h
 
     module _ (mid : View K) (entries : Entries) (seen : ℕ) (took_items : Took grows old mid items_end)
         (noted : entries ≡ noted_all work.entries (closing work.state n)) (count : seen ≡ work.state.records) where
@@ -33,25 +33,25 @@ module _ {A K : Type 0} (grows : K → K → List A → Type 0) (grows-nil : (k 
           ap (λ (m : ℕ). unclosed_pieces {A = A} m (sequence.unclosed 0 entries)) count
           ∙ ap (λ (e : Entries). unclosed_pieces {A = A} work.state.records (sequence.unclosed 0 e)) noted
 
-      pub stopped_groups : (new : View K) (fault : RunFault) → Stopped grows rows mid new (unclosed_pieces seen (sequence.unclosed 0 entries)) fault
-          → Stopped grows rows old new (closing_pieces text work n) fault
+      pub stopped_groups : (new : View K) (fault : RunFault) → Stopped grows way mid new (unclosed_pieces seen (sequence.unclosed 0 entries)) fault
+          → Stopped grows way old new (closing_pieces text work n) fault
       stopped_groups new fault h =
-          took_stopped grows grows-nil grows-trans rows old mid new items_end groups_end took_items fault
-          (subst (λ (ps : List (Piece A)). Stopped grows rows mid new ps fault) groups_same h)
+          took_stopped grows grows-nil grows-trans way old mid new items_end groups_end took_items fault
+          (subst (λ (ps : List (Piece A)). Stopped grows way mid new ps fault) groups_same h)
 
       pub took_groups : (new : View K) → Took grows mid new (unclosed_pieces seen (sequence.unclosed 0 entries)) → Took grows old new (closing_pieces text work n)
       took_groups new h = took_took grows grows-nil grows-trans old mid new items_end groups_end took_items (subst (Took grows mid new) groups_same h)
 
   -- ---- the end of a run
 
-  module _ (rows : Bool) (text : Texts A) (ending : Ending) (w : Work) (first next : Option (List ℕ)) (old mid : View K) (work : Work) (n : ℕ)
+  module _ (way : Way) (text : Texts A) (ending : Ending) (w : Work) (first next : Option (List ℕ)) (old mid : View K) (work : Work) (n : ℕ)
       (stepped : HasStepped grows text ending w first next old mid work n) where
     end_same : end_pieces text ending work n ≡ end_pieces text ending (worked w (behind w stepped.read)) (length stepped.rest)
     end_same =
         ap (λ (x : Work). end_pieces text ending x n) stepped.work ∙ ap (end_pieces text ending (worked w (behind w stepped.read))) (sym stepped.left)
 
-    at_end : (new : View K) (fault : RunFault) → Stopped grows rows mid new (end_pieces text ending work n) fault
-        → StopsAtEnd grows rows text ending w first next old new fault
+    at_end : (new : View K) (fault : RunFault) → Stopped grows way mid new (end_pieces text ending work n) fault
+        → StopsAtEnd grows way text ending w first next old new fault
     at_end new fault h = record {
       read = stepped.read;
       rest = stepped.rest;
@@ -59,12 +59,12 @@ module _ {A K : Type 0} (grows : K → K → List A → Type 0) (grows-nil : (k 
       ended = stepped.ended;
       mid = mid;
       took = stepped.took;
-      stopped = subst (λ (ps : List (Piece A)). Stopped grows rows mid new ps fault) end_same h;
+      stopped = subst (λ (ps : List (Piece A)). Stopped grows way mid new ps fault) end_same h;
     }
 
     -- writing stopped at a piece of the ending
-    pub end_stopped : (new : View K) (fault : RunFault) → Stopped grows rows mid new (end_pieces text ending work n) fault
-        → IsStoppedAt grows rows text ending w first next old new fault
+    pub end_stopped : (new : View K) (fault : RunFault) → Stopped grows way mid new (end_pieces text ending work n) fault
+        → IsStoppedAt grows way text ending w first next old new fault
     end_stopped new Read h = absurd h.cause
     end_stopped new Write h = inr (at_end new Write h)
     end_stopped new Report h = inr (at_end new Report h)
@@ -74,12 +74,12 @@ module _ {A K : Type 0} (grows : K → K → List A → Type 0) (grows-nil : (k 
 
     module _ (ended : View K) (took_end : Took grows mid ended (end_pieces text ending work n)) where
       -- nothing was left to write, and a flush failed
-      pub stopped_flush : (new : View K) (fault : RunFault) → Stopped grows rows ended new [] fault → IsStoppedAt grows rows text ending w first next old new fault
-      stopped_flush new fault h = end_stopped new fault (took_failed grows grows-nil grows-trans rows mid ended new (end_pieces text ending work n) fault took_end h)
+      pub stopped_flush : (new : View K) (fault : RunFault) → Stopped grows way ended new [] fault → IsStoppedAt grows way text ending w first next old new fault
+      stopped_flush new fault h = end_stopped new fault (took_failed grows grows-nil grows-trans way mid ended new (end_pieces text ending work n) fault took_end h)
 
       -- all was written, and passed on
       pub has_run : (new : View K) (count : ℕ) (kept : Option Work) → Took grows ended new [] → count ≡ work.state.records → kept ≡ kept_of ending work
-          → IsRun grows rows text ending w first next old new count kept
+          → IsRun grows way text ending w first next old new count kept
       has_run new count kept h number same = record {
         read = stepped.read;
         rest = stepped.rest;

@@ -1,5 +1,5 @@
 -- How a run ended, in the words of the whole recording.
-use Rattle.std.proofs.Common.{◌≡◌, ◌⊎◌, ◌<◌, ◌≤◌, ◌+◌, ◌-◌, ◌^◌, ℕ, zero, suc, Bool, List, [], ◌∷◌, ◌++◌, length, take, drop, refl, sym, ap, subst, ◌∙◌, append_assoc, append-nil, length-append, length-drop, take_all, arith, inl, inr, Option, None, Some, IfSome, Result, Err}
+use Rattle.std.proofs.Common.{◌≡◌, ◌⊎◌, ◌<◌, ◌≤◌, ◌+◌, ◌-◌, ◌^◌, ℕ, zero, suc, false, List, [], ◌∷◌, ◌++◌, length, take, drop, refl, sym, ap, subst, ◌∙◌, append_assoc, append-nil, length-append, length-drop, take_all, arith, inl, inr, Option, None, Some, IfSome, Result, Err}
 use Rattle.std.specs.List.{concat}
 use Rattle.std.specs.Io.KnownBytes.{Consumes, IsAtEnd}
 use Rattle.std.proofs.lemmas.List.{drop-append-le, take-append-le}
@@ -10,7 +10,7 @@ use Rattle.tm_output.specs.declared.fault.RunFault.{RunFault}
 use Rattle.tm_output.specs.declared.fault.RunFault.TheVariants.{Read, Write, Report, ShortRecording, TooMany, NoMemory}
 use Rattle.tm_output.specs.declared.command.Ending.{Ending}
 use Rattle.tm_output.specs.declared.command.Ending.TheVariants.{Close, Keep, StopAfter}
-use Rattle.tm_output.specs.Outputs.{Piece, View, Cut, AppendsCut, Took, WantsMemory, Stopped, outs, reports}
+use Rattle.tm_output.specs.Outputs.{Piece, View, Cut, AppendsCut, Took, RefusesPut, WantsMemory, Stopped, outs, reports, Way}
 use Rattle.tm_output.specs.Pieces.{Texts, Work, chosen, further, worked, record_pieces, end_pieces, pieces_after, pieces}
 use Rattle.tm_output.specs.Records.{AreRecords, record_count, records, rest_of}
 use Rattle.tm_tool.specs.Runs.{HasRead, HasEnded, GoesOn, Suffices, IsRun, StopsAtRead, StopsAtRecord, StopsAtEnd, IsStoppedAt, behind, kept_of}
@@ -99,7 +99,7 @@ nat_le_or_lt (suc a) (suc b) =
 
 module _ {A K : Type 0} (grows : K → K → List A → Type 0) (grows-nil : (k : K) → grows k k [])
     (grows-trans : (j k l : K) (xs ys : List A) → grows j k xs → grows k l ys → grows j l (xs ++ ys))
-    (rows : Bool) (text : Texts A) (ending : Ending) (w : Work) (valid : IsValid w) (some : 0 < record_length_of w.rules.layout) where
+    (way : Way) (text : Texts A) (ending : Ending) (w : Work) (valid : IsValid w) (some : 0 < record_length_of w.rules.layout) where
   -- the records that follow those that are done
   further_front : (read : List (List ℕ)) (more : List ℕ) → AreRecords (record_length_of w.rules.layout) read → w.state.records ≤ length read
       → further w (concat read ++ more) ≡ behind w read ++ records (record_length_of w.rules.layout) more
@@ -192,7 +192,7 @@ module _ {A K : Type 0} (grows : K → K → List A → Type 0) (grows-nil : (k 
         told_left P (concat read ++ rest) first next (subst (λ (l : List ℕ). Consumes first next (concat read ++ l)) (sym h.1) h.0.octets)
         (λ left end. f left end h.0.sized)
 
-    pub run_told : (count : ℕ) (kept : Option Work) → IsRun grows rows text ending w first next old new count kept
+    pub run_told : (count : ℕ) (kept : Option Work) → IsRun grows way text ending w first next old new count kept
         → IfSome first (λ octets. Took grows old new (pieces text ending w octets)
         × (count ≡ w.state.records + length (chosen ending (further w octets)))
         × (kept ≡ kept_of ending (worked w (chosen ending (further w octets)))))
@@ -225,7 +225,7 @@ module _ {A K : Type 0} (grows : K → K → List A → Type 0) (grows-nil : (k 
     unfolding items
     none_took read few took = subst (λ (rs : List (List ℕ)). Took grows old new (record_pieces text w rs)) (behind-none w read few) took
 
-    read_cut : StopsAtRead grows rows text ending w first next old new → IfSome first (λ octets. AppendsCut grows old new (pieces text ending w octets))
+    read_cut : StopsAtRead grows way text ending w first next old new → IfSome first (λ octets. AppendsCut grows old new (pieces text ending w octets))
     read_cut h = by_cases (nat_le_or_lt w.state.records (length h.read))
       where
         reached : ((length h.read < w.state.records) ⊎ GoesOn ending w.state.records (length h.read)) → w.state.records ≤ length h.read → Reached ending w.state.records (length h.read)
@@ -237,28 +237,28 @@ module _ {A K : Type 0} (grows : K → K → List A → Type 0) (grows-nil : (k 
         by_cases (inr few) = none_cut (none_took h.read (omega (arith, few)) h.took)
 
     -- a stop at a record, and at the end
-    record_stopped : (fault : RunFault) → StopsAtRecord grows rows text ending w first next old new fault → IfSome first (λ octets. Stopped grows rows old new (pieces text ending w octets) fault)
+    record_stopped : (fault : RunFault) → StopsAtRecord grows way text ending w first next old new fault → IfSome first (λ octets. Stopped grows way old new (pieces text ending w octets) fault)
     record_stopped fault h =
         told _ (concat h.read ++ h.one) first next h.octets.octets (λ left.
         let (others, split) = pieces_next h.read h.one left h.octets.sized h.exact h.passed h.wanted in
         let here : List (Piece A) = record_pieces text w (behind w h.read) in
         let there : List (Piece A) = record_pieces text (worked w (behind w h.read)) (h.one ∷ []) in
-        subst (λ (ps : List (Piece A)). Stopped grows rows old new ps fault) (sym split)
-        (stopped_more grows grows-nil grows-trans rows old new (here ++ there) others fault
-        (took_stopped grows grows-nil grows-trans rows old h.mid new here there h.took fault h.stopped)))
+        subst (λ (ps : List (Piece A)). Stopped grows way old new ps fault) (sym split)
+        (stopped_more grows grows-nil grows-trans way old new (here ++ there) others fault
+        (took_stopped grows grows-nil grows-trans way old h.mid new here there h.took fault h.stopped)))
 
-    end_stopped : (fault : RunFault) → StopsAtEnd grows rows text ending w first next old new fault → IfSome first (λ octets. Stopped grows rows old new (pieces text ending w octets) fault)
+    end_stopped : (fault : RunFault) → StopsAtEnd grows way text ending w first next old new fault → IfSome first (λ octets. Stopped grows way old new (pieces text ending w octets) fault)
     end_stopped fault h =
         ended_told _ h.read h.rest h.ended (λ left end sized.
-        subst (λ (ps : List (Piece A)). Stopped grows rows old new ps fault) (sym (pieces_ended h.read h.rest first next left h.passed h.ended end sized))
-        (took_stopped grows grows-nil grows-trans rows old h.mid new (record_pieces text w (behind w h.read)) (end_pieces text ending (worked w (behind w h.read)) (length h.rest)) h.took fault h.stopped))
+        subst (λ (ps : List (Piece A)). Stopped grows way old new ps fault) (sym (pieces_ended h.read h.rest first next left h.passed h.ended end sized))
+        (took_stopped grows grows-nil grows-trans way old h.mid new (record_pieces text w (behind w h.read)) (end_pieces text ending (worked w (behind w h.read)) (length h.rest)) h.took fault h.stopped))
 
-    stopped_at : (fault : RunFault) → (StopsAtRecord grows rows text ending w first next old new fault ⊎ StopsAtEnd grows rows text ending w first next old new fault)
-        → IfSome first (λ octets. Stopped grows rows old new (pieces text ending w octets) fault)
+    stopped_at : (fault : RunFault) → (StopsAtRecord grows way text ending w first next old new fault ⊎ StopsAtEnd grows way text ending w first next old new fault)
+        → IfSome first (λ octets. Stopped grows way old new (pieces text ending w octets) fault)
     stopped_at fault (inl h) = record_stopped fault h
     stopped_at fault (inr h) = end_stopped fault h
 
-    pub run_cut : (fault : RunFault) → IsStoppedAt grows rows text ending w first next old new fault → IfSome first (λ octets. AppendsCut grows old new (pieces text ending w octets))
+    pub run_cut : (fault : RunFault) → IsStoppedAt grows way text ending w first next old new fault → IfSome first (λ octets. AppendsCut grows old new (pieces text ending w octets))
     run_cut Read h = read_cut h
     run_cut Write h = weaker first (λ octets s. s.cut) (stopped_at Write h)
     run_cut Report h = weaker first (λ octets s. s.cut) (stopped_at Report h)
@@ -270,11 +270,15 @@ module _ {A K : Type 0} (grows : K → K → List A → Type 0) (grows-nil : (k 
         by_cases (inr few) = none_cut (none_took h.read (omega (arith, few)) h.took)
     run_cut NoMemory h = weaker first (λ octets s. s.cut) (stopped_at NoMemory h)
 
-    pub run_memory : IsStoppedAt grows rows text ending w first next old new NoMemory → IfSome first (λ octets. WantsMemory grows rows old new (pieces text ending w octets))
+    pub run_memory : IsStoppedAt grows way text ending w first next old new NoMemory → IfSome first (λ octets. WantsMemory grows way old new (pieces text ending w octets))
     run_memory h = weaker first (λ octets s. s.memory refl) (stopped_at NoMemory h)
 
+    -- a put was refused, of an outlet of which nothing waits for a flush
+    pub run_refused : way.flush ≡ false → IsStoppedAt grows way text ending w first next old new Write → IfSome first (λ octets. RefusesPut grows old new (pieces text ending w octets))
+    run_refused kept h = weaker first (λ octets s. s.refused refl kept) (stopped_at Write h)
+
     -- the recording has more records than can be counted
-    pub run_many : IsStoppedAt grows rows text ending w first next old new TooMany → IfSome first (λ octets. 2 ^ 32 - 1 < record_count (record_length_of w.rules.layout) octets)
+    pub run_many : IsStoppedAt grows way text ending w first next old new TooMany → IfSome first (λ octets. 2 ^ 32 - 1 < record_count (record_length_of w.rules.layout) octets)
     run_many h =
         let n : ℕ = record_length_of w.rules.layout in
         told _ (concat h.read ++ h.one) first next h.octets.octets (λ left.
@@ -285,7 +289,7 @@ module _ {A K : Type 0} (grows : K → K → List A → Type 0) (grows-nil : (k 
         omega (arith, all, length-append h.read (h.one ∷ []), h.most))
 
     -- the recording has fewer records than are done
-    pub run_short : IsStoppedAt grows rows text ending w first next old new ShortRecording → IfSome first (λ octets. record_count (record_length_of w.rules.layout) octets < w.state.records)
+    pub run_short : IsStoppedAt grows way text ending w first next old new ShortRecording → IfSome first (λ octets. record_count (record_length_of w.rules.layout) octets < w.state.records)
     run_short h =
         let n : ℕ = record_length_of w.rules.layout in
         told_all _ (concat h.read ++ h.rest) first next h.all.octets.octets h.all.ended

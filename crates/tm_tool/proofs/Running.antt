@@ -1,5 +1,5 @@
 -- How a loop over records stands.
-use Rattle.std.proofs.Common.{◌≡◌, ◌<◌, ◌≤◌, ◌+◌, ℕ, Bool, List, [], ◌∷◌, ◌++◌, length, refl, sym, ap, subst, ◌∙◌, Option, inl, inr, arith, append-nil, length-append, length-drop}
+use Rattle.std.proofs.Common.{◌≡◌, ◌<◌, ◌≤◌, ◌+◌, ℕ, List, [], ◌∷◌, ◌++◌, length, refl, sym, ap, subst, ◌∙◌, Option, inl, inr, arith, append-nil, length-append, length-drop}
 use Rattle.std.proofs.lemmas.List.{drop-append-le, length-map}
 use Rattle.std.proofs.Math.ListN.{drop_of_length-le}
 use Rattle.std.specs.List.{concat}
@@ -22,7 +22,7 @@ use Rattle.tm_output.specs.declared.fault.RunFault.{RunFault}
 use Rattle.tm_output.specs.declared.fault.RunFault.TheVariants.{Read, Write, Report, ShortRecording, TooMany, NoMemory}
 use Rattle.tm_output.specs.declared.command.Ending.{Ending}
 use Rattle.tm_output.specs.declared.command.Ending.TheVariants.{Close, Keep, StopAfter}
-use Rattle.tm_output.specs.Outputs.{Piece, View, Took, Stopped}
+use Rattle.tm_output.specs.Outputs.{Piece, View, Took, Stopped, Way}
 use Rattle.tm_output.specs.Pieces.{Entries, Texts, Work, noted, noted_all, piece_of, pieces_of, items_of, worked, record_pieces}
 use Rattle.tm_tool.specs.Runs.{HasRead, GoesOn, Suffices, StopsAtRecord, IsStoppedAt, behind}
 use Rattle.tm_tool.specs.Stepping.{Enough, HasTaken, HasStepped, HasPassed, PassingStopped, Reached, StepStopped, work_of}
@@ -45,14 +45,14 @@ stepped_valid p q octets valid are few left =
     (record-valid p.rules p.state octets valid are (omega (arith, few)))
 
 -- a fault of writing is a fault of stepping
-pub step_stopped : {A K : Type 0} (grows : K → K → List A → Type 0) (rows : Bool) (records : ℕ) (old new : View K) (ps : List (Piece A)) (fault : RunFault)
-    → Stopped grows rows old new ps fault → StepStopped grows rows records old new ps fault
-step_stopped grows rows records old new ps Read s = absurd s.cause
-step_stopped grows rows records old new ps Write s = s
-step_stopped grows rows records old new ps Report s = s
-step_stopped grows rows records old new ps ShortRecording s = absurd s.cause
-step_stopped grows rows records old new ps TooMany s = absurd s.cause
-step_stopped grows rows records old new ps NoMemory s = s
+pub step_stopped : {A K : Type 0} (grows : K → K → List A → Type 0) (way : Way) (records : ℕ) (old new : View K) (ps : List (Piece A)) (fault : RunFault)
+    → Stopped grows way old new ps fault → StepStopped grows way records old new ps fault
+step_stopped grows way records old new ps Read s = absurd s.cause
+step_stopped grows way records old new ps Write s = s
+step_stopped grows way records old new ps Report s = s
+step_stopped grows way records old new ps ShortRecording s = absurd s.cause
+step_stopped grows way records old new ps TooMany s = absurd s.cause
+step_stopped grows way records old new ps NoMemory s = s
 
 -- ---- joining, for pieces
 
@@ -147,9 +147,9 @@ module _ {A K : Type 0} (grows : K → K → List A → Type 0) (grows-nil : (k 
       }
 
   -- they could not be
-  pub passing_stopped : (rows : Bool) (first next : Option (List ℕ)) (v : View K) (fault : RunFault)
-      → PassingStopped (record_length_of w.rules.layout) w.state.records first next fault → IsStoppedAt grows rows text ending w first next v v fault
-  passing_stopped rows first next v Read h =
+  pub passing_stopped : (way : Way) (first next : Option (List ℕ)) (v : View K) (fault : RunFault)
+      → PassingStopped (record_length_of w.rules.layout) w.state.records first next fault → IsStoppedAt grows way text ending w first next v v fault
+  passing_stopped way first next v Read h =
       let none : behind w h.read ≡ [] = behind-none w h.read (omega (arith, h.few)) in record {
         read = h.read;
         part = h.part;
@@ -158,12 +158,12 @@ module _ {A K : Type 0} (grows : K → K → List A → Type 0) (grows-nil : (k 
         wanted = inl h.few;
         took = subst (λ (rs : List (List ℕ)). Took grows v v (record_pieces text w rs)) (sym none) (nothing v);
       }
-  passing_stopped rows first next v Write h = absurd h
-  passing_stopped rows first next v Report h = absurd h
-  passing_stopped rows first next v ShortRecording h =
+  passing_stopped way first next v Write h = absurd h
+  passing_stopped way first next v Report h = absurd h
+  passing_stopped way first next v ShortRecording h =
       record { read = h.read; rest = h.rest; all = h.all; few = h.few; took = took_none grows grows-nil grows-trans v }
-  passing_stopped rows first next v TooMany h = absurd h
-  passing_stopped rows first next v NoMemory h = absurd h
+  passing_stopped way first next v TooMany h = absurd h
+  passing_stopped way first next v NoMemory h = absurd h
 
   module _ (first left next : Option (List ℕ)) (old now new : View K) (work : Work) (octets : List ℕ)
       (taken : HasTaken grows text w first left old now work) (got : Consumes left next octets) where
@@ -195,9 +195,9 @@ module _ {A K : Type 0} (grows : K → K → List A → Type 0) (grows-nil : (k 
       goes_on : GoesOn ending w.state.records (length taken.read)
       goes_on = subst (GoesOn ending w.state.records) counted wanted
 
-      at_record : (rows : Bool) (fault : RunFault) → length octets ≡ record_length_of w.rules.layout → Stopped grows rows now new (record_pieces text work (octets ∷ [])) fault
-          → StopsAtRecord grows rows text ending w first next old new fault
-      at_record rows fault exact h = record {
+      at_record : (way : Way) (fault : RunFault) → length octets ≡ record_length_of w.rules.layout → Stopped grows way now new (record_pieces text work (octets ∷ [])) fault
+          → StopsAtRecord grows way text ending w first next old new fault
+      at_record way fault exact h = record {
         read = taken.read;
         one = octets;
         octets = has_read;
@@ -206,18 +206,18 @@ module _ {A K : Type 0} (grows : K → K → List A → Type 0) (grows-nil : (k 
         wanted = goes_on;
         mid = now;
         took = taken.took;
-        stopped = subst (λ (x : Work). Stopped grows rows now new (record_pieces text x (octets ∷ [])) fault) taken.work h;
+        stopped = subst (λ (x : Work). Stopped grows way now new (record_pieces text x (octets ∷ [])) fault) taken.work h;
       }
 
       -- writing stopped in its pieces, or the record was one too many
-      pub taken_stopped : (rows : Bool) (fault : RunFault) → length octets ≡ record_length_of w.rules.layout
-          → StepStopped grows rows work.state.records now new (record_pieces text work (octets ∷ [])) fault
-          → IsStoppedAt grows rows text ending w first next old new fault
-      taken_stopped rows Read exact h = absurd h
-      taken_stopped rows Write exact h = inl (at_record rows Write exact h)
-      taken_stopped rows Report exact h = inl (at_record rows Report exact h)
-      taken_stopped rows ShortRecording exact h = absurd h
-      taken_stopped rows TooMany exact h = record {
+      pub taken_stopped : (way : Way) (fault : RunFault) → length octets ≡ record_length_of w.rules.layout
+          → StepStopped grows way work.state.records now new (record_pieces text work (octets ∷ [])) fault
+          → IsStoppedAt grows way text ending w first next old new fault
+      taken_stopped way Read exact h = absurd h
+      taken_stopped way Write exact h = inl (at_record way Write exact h)
+      taken_stopped way Report exact h = inl (at_record way Report exact h)
+      taken_stopped way ShortRecording exact h = absurd h
+      taken_stopped way TooMany exact h = record {
         read = taken.read;
         one = octets;
         octets = has_read;
@@ -226,11 +226,11 @@ module _ {A K : Type 0} (grows : K → K → List A → Type 0) (grows-nil : (k 
         wanted = goes_on;
         took = subst (λ (v : View K). Took grows old v (record_pieces text w (behind w taken.read))) (sym h.1) taken.took;
       }
-      taken_stopped rows NoMemory exact h = inl (at_record rows NoMemory exact h)
+      taken_stopped way NoMemory exact h = inl (at_record way NoMemory exact h)
 
       -- a read failed in a record
-      pub taken_read : (rows : Bool) → length octets < record_length_of w.rules.layout → IsStoppedAt grows rows text ending w first next old now Read
-      taken_read rows short =
+      pub taken_read : (way : Way) → length octets < record_length_of w.rules.layout → IsStoppedAt grows way text ending w first next old now Read
+      taken_read way short =
           record { read = taken.read; part = octets; octets = has_read; short = short; wanted = inr goes_on; took = taken.took }
 
       -- all was read, and so many octets are left

@@ -15,7 +15,7 @@ use Rattle.tm_tool.specs.Jobs.{begun}
 use Rattle.tm_output.specs.Pieces.{Entries, Work, sent, noted, noted_all, items_of, worked}
 
 -- an item whose channel is one of eight leaves the entries valid
-noted-valid : (entries : Entries) (x : Item) → valid.IsState entries → ((c : ℕ) → is_of c x ≡ true → c < 8) → valid.IsState (noted entries x)
+pub noted-valid : (entries : Entries) (x : Item) → valid.IsState entries → ((c : ℕ) → is_of c x ≡ true → c < 8) → valid.IsState (noted entries x)
 unfolding noted
 noted-valid entries (Bad seen fault) v h = v
 noted-valid entries (MasterGap seen expected found missing) v h = v

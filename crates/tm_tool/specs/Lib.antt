@@ -5,3 +5,4 @@ pub mod Keeping
 pub mod Checkpoints
 pub mod Resuming
 pub mod OlderVersions
+pub mod NotesInAll

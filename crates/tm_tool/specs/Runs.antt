@@ -1,5 +1,5 @@
 -- What was read and written when a run ended. Of a source that doesn't tell its octets nothing is said of what was read.
-use Rattle.std.specs.Prelude.{⊤, ◌≡◌, ◌≢◌, ◌⊎◌, ◌<◌, ◌≤◌, ◌+◌, ◌-◌, ◌^◌, ℕ, Bool, List, [], ◌∷◌, ◌++◌, length, drop, Option, None, Some}
+use Rattle.std.specs.Prelude.{⊤, ◌≡◌, ◌≢◌, ◌⊎◌, ◌<◌, ◌≤◌, ◌+◌, ◌-◌, ◌^◌, ℕ, List, [], ◌∷◌, ◌++◌, length, drop, Option, None, Some}
 use Rattle.std.specs.List.{concat}
 use Rattle.std.specs.Io.KnownBytes.{Consumes, IsAtEnd}
 use Rattle.tm_frame.specs.Layout.{record_length_of}
@@ -7,7 +7,7 @@ use Rattle.tm_output.specs.declared.fault.RunFault.{RunFault}
 use Rattle.tm_output.specs.declared.fault.RunFault.TheVariants.{Read, Write, Report, ShortRecording, TooMany, NoMemory}
 use Rattle.tm_output.specs.declared.command.Ending.{Ending}
 use Rattle.tm_output.specs.declared.command.Ending.TheVariants.{Close, Keep, StopAfter}
-use Rattle.tm_output.specs.Outputs.{Piece, View, Took, Stopped}
+use Rattle.tm_output.specs.Outputs.{Piece, View, Took, Stopped, Way}
 use Rattle.tm_output.specs.Pieces.{Texts, Work, worked, record_pieces, end_pieces, pieces_after}
 use Rattle.tm_output.specs.Records.{AreRecords}
 
@@ -52,7 +52,7 @@ HasEnded ending w left_old left_new read rest =
 
 -- Records and what the ending has are written one after the other, from where the job has got. The recording is read from its beginning:
 -- the records that are done come first, and nothing is written of them.
-module _ {A K : Type 0} (grows : K → K → List A → Type 0) (rows : Bool) (text : Texts A) (ending : Ending) (w : Work) where
+module _ {A K : Type 0} (grows : K → K → List A → Type 0) (way : Way) (text : Texts A) (ending : Ending) (w : Work) where
   -- it was read, and all pieces were written, the ending's too
   pub record IsRun (left_old left_new : Option (List ℕ)) (old new : View K) (count : ℕ) (kept : Option Work) : Type 0 where
     pub read : List (List ℕ)
@@ -100,7 +100,7 @@ module _ {A K : Type 0} (grows : K → K → List A → Type 0) (rows : Bool) (t
     pub wanted : GoesOn ending w.state.records (length read)
     pub mid : View K
     pub took : Took grows old mid (record_pieces text w (behind w read))
-    pub stopped : Stopped grows rows mid new (record_pieces text (worked w (behind w read)) (one ∷ [])) fault
+    pub stopped : Stopped grows way mid new (record_pieces text (worked w (behind w read)) (one ∷ [])) fault
 
   -- what the ending reads was read, and writing stopped at a piece of the ending, or no piece was left and a flush failed
   pub record StopsAtEnd (left_old left_new : Option (List ℕ)) (old new : View K) (fault : RunFault) : Type 0 where
@@ -110,7 +110,7 @@ module _ {A K : Type 0} (grows : K → K → List A → Type 0) (rows : Bool) (t
     pub ended : HasEnded ending w left_old left_new read rest
     pub mid : View K
     pub took : Took grows old mid (record_pieces text w (behind w read))
-    pub stopped : Stopped grows rows mid new (end_pieces text ending (worked w (behind w read)) (length rest)) fault
+    pub stopped : Stopped grows way mid new (end_pieces text ending (worked w (behind w read)) (length rest)) fault
 
   abbrev pub StopsWriting : Option (List ℕ) → Option (List ℕ) → View K → View K → RunFault → Type 0
   StopsWriting left_old left_new old new fault =
@@ -137,7 +137,7 @@ module _ {A K : Type 0} (grows : K → K → List A → Type 0) (rows : Bool) (t
   pub record StopsAtHead (head : List (Piece A)) (left_old left_new : Option (List ℕ)) (old new : View K) (fault : RunFault) : Type 0 where
     pub some : head ≢ []
     pub unread : left_new ≡ left_old
-    pub stopped : Stopped grows rows old new head fault
+    pub stopped : Stopped grows way old new head fault
 
   -- or it was written, and the run stopped
   pub record StopsBehindHead (head : List (Piece A)) (left_old left_new : Option (List ℕ)) (old new : View K) (fault : RunFault) : Type 0 where

@@ -1,5 +1,5 @@
 -- Records between what was read and what is still to come: for private contracts.
-use Rattle.std.specs.Prelude.{⊤, ◌≡◌, ◌<◌, ◌≤◌, ◌+◌, ◌-◌, ◌^◌, ℕ, Bool, List, length, Option, Result, MatchResult}
+use Rattle.std.specs.Prelude.{⊤, ◌≡◌, ◌<◌, ◌≤◌, ◌+◌, ◌-◌, ◌^◌, ℕ, List, length, Option, Result, MatchResult}
 use Rattle.std.specs.List.{concat}
 use Rattle.std.specs.Io.KnownBytes.{Consumes}
 use Rattle.tm_frame.specs.Layout.{record_length_of}
@@ -9,7 +9,7 @@ use Rattle.tm_output.specs.declared.fault.RunFault.{RunFault}
 use Rattle.tm_output.specs.declared.fault.RunFault.TheVariants.{Read, Write, Report, ShortRecording, TooMany, NoMemory}
 use Rattle.tm_output.specs.declared.command.Ending.{Ending}
 use Rattle.tm_output.specs.declared.command.Ending.TheVariants.{Close, Keep, StopAfter}
-use Rattle.tm_output.specs.Outputs.{Piece, View, Took, Stopped}
+use Rattle.tm_output.specs.Outputs.{Piece, View, Way, Took, Stopped}
 use Rattle.tm_output.specs.Pieces.{Entries, Texts, Work, worked, record_pieces}
 use Rattle.tm_output.specs.Records.{AreRecords}
 use Rattle.tm_tool.specs.Runs.{HasRead, HasReadAll, HasEnded, behind}
@@ -44,17 +44,17 @@ PassCounted old new r = MatchResult r (λ _. new ≡ old) (PassCaused old new)
 
 module _ {A K : Type 0} (grows : K → K → List A → Type 0) where
   -- a step stopped: while writing, or before a record that is one too many
-  abbrev pub StepStopped : Bool → ℕ → View K → View K → List (Piece A) → RunFault → Type 0
-  StepStopped rows records old new pieces Read = ⊥
-  StepStopped rows records old new pieces Write = Stopped grows rows old new pieces Write
-  StepStopped rows records old new pieces Report = Stopped grows rows old new pieces Report
-  StepStopped rows records old new pieces ShortRecording = ⊥
-  StepStopped rows records old new pieces TooMany = (records ≡ 2 ^ 32 - 1) × (new ≡ old)
-  StepStopped rows records old new pieces NoMemory = Stopped grows rows old new pieces NoMemory
+  abbrev pub StepStopped : Way → ℕ → View K → View K → List (Piece A) → RunFault → Type 0
+  StepStopped way records old new pieces Read = ⊥
+  StepStopped way records old new pieces Write = Stopped grows way old new pieces Write
+  StepStopped way records old new pieces Report = Stopped grows way old new pieces Report
+  StepStopped way records old new pieces ShortRecording = ⊥
+  StepStopped way records old new pieces TooMany = (records ≡ 2 ^ 32 - 1) × (new ≡ old)
+  StepStopped way records old new pieces NoMemory = Stopped grows way old new pieces NoMemory
 
-  abbrev pub StepWritten : {T : Type 0} → Bool → ℕ → View K → View K → List (Piece A) → Result T RunFault → Type 0
-  StepWritten rows records old new pieces r =
-      MatchResult r (λ _. Took grows old new pieces) (StepStopped rows records old new pieces)
+  abbrev pub StepWritten : {T : Type 0} → Way → ℕ → View K → View K → List (Piece A) → Result T RunFault → Type 0
+  StepWritten way records old new pieces r =
+      MatchResult r (λ _. Took grows old new pieces) (StepStopped way records old new pieces)
 
   -- these records were read, nothing else, and those behind the ones that are done were taken
   pub record HasTaken (text : Texts A) (w : Work) (left_old left_new : Option (List ℕ)) (old new : View K) (now : Work) : Type 0 where

@@ -10,9 +10,10 @@ ghost use Rattle.tm_output.specs.Faults.{RunCounted};
 ghost use Rattle.tm_tool.specs.Jobs.{head_pieces, rows_head};
 ghost use Rattle.tm_tool.specs.Keeping.{IsGoing, kept_work};
 ghost use Rattle.tm_output.specs.Outlets.{PutStopped};
-ghost use Rattle.tm_output.specs.Pieces.{makes_rows, rows_text, text_of};
+ghost use Rattle.tm_output.specs.Outputs.{lines_way};
+ghost use Rattle.tm_output.specs.Pieces.{way_of, rows_text, text_of};
 ghost use Rattle.tm_tool.specs.Runs.{IsHeadedRun, IsHeadedStop, IsRun, IsStoppedAt};
-ghost use Rattle.tm_output.specs.Shelves.{Shelves, shelf_text};
+ghost use Rattle.tm_output.specs.Shelves.{Shelves, shelf_text, shelf_way};
 ghost use Rattle.tm_tool.specs.Stepping.{work_of};
 ghost use Rattle.tm_output.specs.Seen.{both, shelf_both};
 
@@ -35,7 +36,7 @@ fn put_head<W: Drain>(
     ensures whole { OnOk result (Appends (W.written out.old) (W.written out.new) (if fresh then head_of definition.now else [])
         × (W.failures out.new ≡ W.failures out.old)) }
     ensures stopped { IfErr result (λ fault. (fresh ≡ true)
-        × PutStopped Appends true (W.written out.old) (W.written out.new) (W.failures out.old) (W.failures out.new) (head_of definition.now) fault) }
+        × PutStopped Appends lines_way (W.written out.old) (W.written out.new) (W.failures out.old) (W.failures out.new) (head_of definition.now) fault) }
 {
     if !fresh {
         return Ok(());
@@ -67,14 +68,14 @@ fn run_fields<R: Source, W: Drain, V: Drain>(
     requires some { 0 < length buffer.old }
     requires going { reassembly.failed ≡ false }
     requires valid { IsState reassembly.rules reassembly.state }
-    ensures run { IfOk result (λ ended. IsHeadedRun Appends true (rows_text definition.now application) ending (work_of reassembly tracker) (rows_head definition.now fresh)
+    ensures run { IfOk result (λ ended. IsHeadedRun Appends lines_way (rows_text definition.now application) ending (work_of reassembly tracker) (rows_head definition.now fresh)
         (R.left recording.old) (R.left recording.new)
         (both W.Drain V.Drain out.old report.old)
         (both W.Drain V.Drain out.new report.new) ended.records (kept_work ended.kept)) }
     ensures going_on { IfOk result (λ ended. IfSome ended.kept (λ k. IsGoing k.reassembly)) }
     ensures flushed_out { OnOk result (Keeps (W.flushed out.new) (W.written out.new)) }
     ensures flushed_report { OnOk result (Keeps (V.flushed report.new) (V.written report.new)) }
-    ensures stopped { IfErr result (IsHeadedStop Appends true (rows_text definition.now application) ending (work_of reassembly tracker) (rows_head definition.now fresh)
+    ensures stopped { IfErr result (IsHeadedStop Appends lines_way (rows_text definition.now application) ending (work_of reassembly tracker) (rows_head definition.now fresh)
         (R.left recording.old) (R.left recording.new)
         (both W.Drain V.Drain out.old report.old)
         (both W.Drain V.Drain out.new report.new)) }
@@ -120,14 +121,14 @@ pub fn run_by<R: Source, W: Drain, V: Drain>(
     requires some { 0 < length buffer.old }
     requires going { reassembly.failed ≡ false }
     requires valid { IsState reassembly.rules reassembly.state }
-    ensures run { IfOk result (λ ended. IsHeadedRun Appends (makes_rows command.entry) (text_of command.entry) ending (work_of reassembly tracker) (head_pieces command.entry fresh)
+    ensures run { IfOk result (λ ended. IsHeadedRun Appends (way_of command.entry) (text_of command.entry) ending (work_of reassembly tracker) (head_pieces command.entry fresh)
         (R.left recording.old) (R.left recording.new)
         (both W.Drain V.Drain out.old report.old)
         (both W.Drain V.Drain out.new report.new) ended.records (kept_work ended.kept)) }
     ensures going_on { IfOk result (λ ended. IfSome ended.kept (λ k. IsGoing k.reassembly)) }
     ensures flushed_out { OnOk result (Keeps (W.flushed out.new) (W.written out.new)) }
     ensures flushed_report { OnOk result (Keeps (V.flushed report.new) (V.written report.new)) }
-    ensures stopped { IfErr result (IsHeadedStop Appends (makes_rows command.entry) (text_of command.entry) ending (work_of reassembly tracker) (head_pieces command.entry fresh)
+    ensures stopped { IfErr result (IsHeadedStop Appends (way_of command.entry) (text_of command.entry) ending (work_of reassembly tracker) (head_pieces command.entry fresh)
         (R.left recording.old) (R.left recording.new)
         (both W.Drain V.Drain out.old report.old)
         (both W.Drain V.Drain out.new report.new)) }
@@ -197,13 +198,13 @@ pub fn run_split<R: Source, H: Shelf, V: Drain>(
     requires some { 0 < length buffer.old }
     requires going { reassembly.failed ≡ false }
     requires valid { IsState reassembly.rules reassembly.state }
-    ensures run { IfOk result (λ ended. IsRun Shelves false shelf_text ending (work_of reassembly tracker)
+    ensures run { IfOk result (λ ended. IsRun Shelves shelf_way shelf_text ending (work_of reassembly tracker)
         (R.left recording.old) (R.left recording.new)
         (shelf_both H.Shelf V.Drain shelf.old report.old)
         (shelf_both H.Shelf V.Drain shelf.new report.new) ended.records (kept_work ended.kept)) }
     ensures going_on { IfOk result (λ ended. IfSome ended.kept (λ k. IsGoing k.reassembly)) }
     ensures flushed_report { OnOk result (Keeps (V.flushed report.new) (V.written report.new)) }
-    ensures stopped { IfErr result (IsStoppedAt Shelves false shelf_text ending (work_of reassembly tracker)
+    ensures stopped { IfErr result (IsStoppedAt Shelves shelf_way shelf_text ending (work_of reassembly tracker)
         (R.left recording.old) (R.left recording.new)
         (shelf_both H.Shelf V.Drain shelf.old report.old)
         (shelf_both H.Shelf V.Drain shelf.new report.new)) }

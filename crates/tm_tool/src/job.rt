@@ -6,12 +6,12 @@ ghost use Rattle.tm_frame.specs.Layout.{record_length_of};
 ghost use Rattle.tm_reassembly.specs.Valid.{IsState};
 ghost use Rattle.tm_output.specs.Faults.{RunCounted};
 ghost use Rattle.tm_tool.specs.Jobs.{all_pieces, begun, head_pieces};
-ghost use Rattle.tm_output.specs.Outputs.{AppendsCut, Took, WantsMemory};
+ghost use Rattle.tm_output.specs.Outputs.{AppendsCut, RefusesPut, Took, WantsMemory};
 ghost use Rattle.tm_tool.specs.Keeping.{IsGoing, kept_work};
-ghost use Rattle.tm_output.specs.Pieces.{chosen, further, makes_rows, pieces, text_of, worked};
+ghost use Rattle.tm_output.specs.Pieces.{chosen, further, way_of, pieces, text_of, worked};
 ghost use Rattle.tm_output.specs.Records.{record_count};
 ghost use Rattle.tm_tool.specs.Runs.{IsHeadedRun, IsHeadedStop, IsRun, IsStoppedAt, kept_of};
-ghost use Rattle.tm_output.specs.Shelves.{Shelves, shelf_text};
+ghost use Rattle.tm_output.specs.Shelves.{Shelves, shelf_text, shelf_way};
 ghost use Rattle.tm_output.specs.Seen.{both, shelf_both};
 
 use crate::commands::{run_by, run_split};
@@ -150,7 +150,7 @@ pub fn run<R: Source, W: Drain, V: Drain>(
     ending: Ending,
 ) -> Result<Done, RunFault>
     // With Ok what the ending wants was read, and just its pieces were written, and passed on.
-    ensures all { IfOk result (λ done. IsHeadedRun Appends (makes_rows command.entry) (text_of command.entry) ending job.work (head_pieces command.entry job.fresh) (R.left recording.old) (R.left recording.new)
+    ensures all { IfOk result (λ done. IsHeadedRun Appends (way_of command.entry) (text_of command.entry) ending job.work (head_pieces command.entry job.fresh) (R.left recording.old) (R.left recording.new)
         (both W.Drain V.Drain out.old report.old)
         (both W.Drain V.Drain out.new report.new) done.records (option_map (λ j. j.work) done.kept)) }
     ensures done { IfOk result (λ done. IfSome (R.left recording.old) (λ octets.
@@ -172,7 +172,7 @@ pub fn run<R: Source, W: Drain, V: Drain>(
         AppendsCut Appends (both W.Drain V.Drain out.old report.old)
         (both W.Drain V.Drain out.new report.new) (all_pieces command.entry ending job octets))) }
     ensures memory { IsErrOf result RunFault.NoMemory → IfSome (R.left recording.old) (λ octets.
-        WantsMemory Appends (makes_rows command.entry) (both W.Drain V.Drain out.old report.old)
+        WantsMemory Appends (way_of command.entry) (both W.Drain V.Drain out.old report.old)
         (both W.Drain V.Drain out.new report.new) (all_pieces command.entry ending job octets)) }
     ensures too_many { IsErrOf result RunFault.TooMany → IfSome (R.left recording.old) (λ octets.
         2 ^ 32 - 1 < record_count (record_length_of job.work.rules.layout) octets) }
@@ -180,7 +180,7 @@ pub fn run<R: Source, W: Drain, V: Drain>(
         record_count (record_length_of job.work.rules.layout) octets < job.work.state.records) }
 
     // What was read by then, and written: nothing past the record at a piece of which writing stopped.
-    ensures stopped { IfErr result (IsHeadedStop Appends (makes_rows command.entry) (text_of command.entry) ending job.work (head_pieces command.entry job.fresh) (R.left recording.old) (R.left recording.new)
+    ensures stopped { IfErr result (IsHeadedStop Appends (way_of command.entry) (text_of command.entry) ending job.work (head_pieces command.entry job.fresh) (R.left recording.old) (R.left recording.new)
         (both W.Drain V.Drain out.old report.old)
         (both W.Drain V.Drain out.new report.new)) }
 {
@@ -222,7 +222,7 @@ pub fn split<R: Source, H: Shelf, V: Drain>(
     ending: Ending,
 ) -> Result<Done, RunFault>
     // With Ok what the ending wants was read, and just its pieces were written, and passed on.
-    ensures all { IfOk result (λ done. IsRun Shelves false shelf_text ending job.work (R.left recording.old) (R.left recording.new)
+    ensures all { IfOk result (λ done. IsRun Shelves shelf_way shelf_text ending job.work (R.left recording.old) (R.left recording.new)
         (shelf_both H.Shelf V.Drain shelf.old report.old)
         (shelf_both H.Shelf V.Drain shelf.new report.new) done.records (option_map (λ j. j.work) done.kept)) }
     ensures done { IfOk result (λ done. IfSome (R.left recording.old) (λ octets.
@@ -239,11 +239,15 @@ pub fn split<R: Source, H: Shelf, V: Drain>(
         (shelf_both H.Shelf V.Drain shelf.new report.new) result }
 
     // After a fault there is one place up to which these pieces were written. Without memory it is a piece's end; and a text was to be made.
+    // Where a put was refused, some octets of that packet aren't there, and nothing of it is reported.
     ensures cut { IfErr result (λ fault. IfSome (R.left recording.old) (λ octets.
         AppendsCut Shelves (shelf_both H.Shelf V.Drain shelf.old report.old)
         (shelf_both H.Shelf V.Drain shelf.new report.new) (pieces shelf_text ending job.work octets))) }
     ensures memory { IsErrOf result RunFault.NoMemory → IfSome (R.left recording.old) (λ octets.
-        WantsMemory Shelves false (shelf_both H.Shelf V.Drain shelf.old report.old)
+        WantsMemory Shelves shelf_way (shelf_both H.Shelf V.Drain shelf.old report.old)
+        (shelf_both H.Shelf V.Drain shelf.new report.new) (pieces shelf_text ending job.work octets)) }
+    ensures refused { IsErrOf result RunFault.Write → IfSome (R.left recording.old) (λ octets.
+        RefusesPut Shelves (shelf_both H.Shelf V.Drain shelf.old report.old)
         (shelf_both H.Shelf V.Drain shelf.new report.new) (pieces shelf_text ending job.work octets)) }
     ensures too_many { IsErrOf result RunFault.TooMany → IfSome (R.left recording.old) (λ octets.
         2 ^ 32 - 1 < record_count (record_length_of job.work.rules.layout) octets) }
@@ -251,7 +255,7 @@ pub fn split<R: Source, H: Shelf, V: Drain>(
         record_count (record_length_of job.work.rules.layout) octets < job.work.state.records) }
 
     // What was read by then, and written: nothing past the record at a piece of which writing stopped.
-    ensures stopped { IfErr result (IsStoppedAt Shelves false shelf_text ending job.work (R.left recording.old) (R.left recording.new)
+    ensures stopped { IfErr result (IsStoppedAt Shelves shelf_way shelf_text ending job.work (R.left recording.old) (R.left recording.new)
         (shelf_both H.Shelf V.Drain shelf.old report.old)
         (shelf_both H.Shelf V.Drain shelf.new report.new)) }
 {

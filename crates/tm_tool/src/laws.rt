@@ -4,6 +4,8 @@ ghost use Rattle.std.specs.Prelude.{◌≡◌, ◌<◌, ◌≤◌, ◌+◌, ◌*
 ghost use Rattle.tm_bits.specs.Bits.{AreOctets};
 ghost use Rattle.tm_frame.specs.Layout.{record_length_of};
 ghost use Rattle.tm_rules.specs.Rules.{IsLimit, Rules};
+ghost use Rattle.tm_packet.specs.Merge as sequence;
+ghost use Rattle.tm_reassembly.specs.Items.{closing};
 ghost use Rattle.tm_reassembly.specs.Valid.{AllOctets, IsState};
 ghost use Rattle.tm_output.specs.declared.command.Command.{Command};
 ghost use Rattle.tm_output.specs.declared.command.Ending.{Ending};
@@ -11,8 +13,9 @@ ghost use Rattle.tm_tool.specs.Checkpoints.{IsWork, checkpoint_of, kept_in, resu
 ghost use Rattle.tm_tool.specs.declared.version.Version.{Version};
 ghost use Rattle.tm_tool.specs.declared.version.Version.TheVariants as version;
 ghost use Rattle.tm_tool.specs.Jobs.{JobState, begun, head_pieces};
+ghost use Rattle.tm_tool.specs.NotesInAll.{pieces_with, sent_among};
 ghost use Rattle.tm_tool.specs.OlderVersions.{LacksGapLine};
-ghost use Rattle.tm_output.specs.Pieces.{Texts, Work, pieces, record_pieces, text_of, worked};
+ghost use Rattle.tm_output.specs.Pieces.{Texts, Work, items_of, noted_all, pieces, record_pieces, text_of, worked};
 ghost use Rattle.tm_output.specs.Records.{records};
 ghost use Rattle.tm_tool.specs.Resuming.{Follows, Stop, done_in_all, in_one, no_head, resumed_pieces, run_pieces, then_pieces};
 ghost use Rattle.tm_output.specs.Shelves.{Shelved, shelf_text};
@@ -46,6 +49,19 @@ pub fn joining()
     ensures shelved { (text : Texts Shelved) (w : Work) (a b : List (List ℕ)) → IsState w.rules w.state →
         record_pieces text w (a ++ b) ≡ record_pieces text w a ++ record_pieces text (worked w a) b }
     ensures work { (w : Work) (a b : List (List ℕ)) → IsState w.rules w.state → worked w (a ++ b) ≡ worked (worked w a) b }
+{}
+
+/// Notes: of each packet the report has the notes that it has among the whole list of the headers of the packets of the records, in their order.
+/// What is kept of the sequence counts after the records is what that list leaves, and the groups that are open at a closed end are those
+/// that are open behind the list.
+pub fn notes()
+    ensures pieces { (text : Texts ℕ) (w : Work) (rs : List (List ℕ)) → IsWork w →
+        record_pieces text w rs ≡ pieces_with text (sequence.notes w.entries (sent_among (items_of w rs))) (items_of w rs) }
+    ensures shelved { (text : Texts Shelved) (w : Work) (rs : List (List ℕ)) → IsWork w →
+        record_pieces text w rs ≡ pieces_with text (sequence.notes w.entries (sent_among (items_of w rs))) (items_of w rs) }
+    ensures entries { (w : Work) (rs : List (List ℕ)) → (worked w rs).entries ≡ sequence.after w.entries (sent_among (items_of w rs)) }
+    ensures open { (w : Work) (rs : List (List ℕ)) (rest : ℕ) →
+        noted_all (worked w rs).entries (closing (worked w rs).state rest) ≡ sequence.after w.entries (sent_among (items_of w rs)) }
 {}
 
 /// Resumption: a new job that is stopped any number of times, at the recording's end or after so many records, and each time written as a

@@ -36,7 +36,7 @@ fn step_into<O: Outlet, V: Drain>(
     ensures work { OnOk result (work_of reassembly.new output.new.tracker.now ≡ worked (work_of reassembly.old output.old.tracker.now) (octets.now ∷ [])) }
     ensures going_on { OnOk result (IsGoing reassembly.new) }
     ensures few { OnOk result (reassembly.old.state.records < most_records) }
-    ensures written { StepWritten O.grows O.rows reassembly.old.state.records (outlet_both O.Outlet V.Drain output.old.outlet.now output.old.report.now)
+    ensures written { StepWritten O.grows O.way reassembly.old.state.records (outlet_both O.Outlet V.Drain output.old.outlet.now output.old.report.now)
         (outlet_both O.Outlet V.Drain output.new.outlet.now output.new.report.now) (record_pieces (O.text (O.fixed output.old.outlet.now)) (work_of reassembly.old output.old.tracker.now) (octets.now ∷ [])) result }
 {
     match reassembly.step(octets, output) {
@@ -60,7 +60,7 @@ fn finish_into<O: Outlet, V: Drain>(
     ensures same_out { O.fixed output.new.outlet.now ≡ O.fixed output.old.outlet.now }
     ensures same_report { output.new.report.ghost_name ≡ output.old.report.ghost_name }
     ensures noted { OnOk result (output.new.tracker.now ≡ noted_all output.old.tracker.now (closing reassembly.state rest)) }
-    ensures written { Written O.grows O.rows (outlet_both O.Outlet V.Drain output.old.outlet.now output.old.report.now)
+    ensures written { Written O.grows O.way (outlet_both O.Outlet V.Drain output.old.outlet.now output.old.report.now)
         (outlet_both O.Outlet V.Drain output.new.outlet.now output.new.report.now) (pieces_of (O.text (O.fixed output.old.outlet.now)) output.old.tracker.now (closing reassembly.state rest)) result }
 {
     match reassembly.finish(rest, output) {
@@ -122,7 +122,7 @@ fn step_records<R: Source, O: Outlet, V: Drain>(
     ensures stepped { IfOk result (HasStepped O.grows (O.text (O.fixed output.old.outlet.now)) ending (work_of reassembly.old output.old.tracker.now) (R.left recording.old) (R.left recording.new)
         (outlet_both O.Outlet V.Drain output.old.outlet.now output.old.report.now)
         (outlet_both O.Outlet V.Drain output.new.outlet.now output.new.report.now) (work_of reassembly.new output.new.tracker.now)) }
-    ensures stopped { IfErr result (IsStoppedAt O.grows O.rows (O.text (O.fixed output.old.outlet.now)) ending (work_of reassembly.old output.old.tracker.now)
+    ensures stopped { IfErr result (IsStoppedAt O.grows O.way (O.text (O.fixed output.old.outlet.now)) ending (work_of reassembly.old output.old.tracker.now)
         (R.left recording.old) (R.left recording.new)
         (outlet_both O.Outlet V.Drain output.old.outlet.now output.old.report.now)
         (outlet_both O.Outlet V.Drain output.new.outlet.now output.new.report.now)) }
@@ -162,7 +162,7 @@ fn close<O: Outlet, V: Drain>(
     ensures same_outlet { output.new.outlet.ghost_name ≡ output.old.outlet.ghost_name }
     ensures same_out { O.fixed output.new.outlet.now ≡ O.fixed output.old.outlet.now }
     ensures same_report { output.new.report.ghost_name ≡ output.old.report.ghost_name }
-    ensures written { Written O.grows O.rows
+    ensures written { Written O.grows O.way
         (outlet_both O.Outlet V.Drain output.old.outlet.now output.old.report.now)
         (outlet_both O.Outlet V.Drain output.new.outlet.now output.new.report.now) (closing_pieces (O.text (O.fixed output.old.outlet.now)) (work_of reassembly output.old.tracker.now) rest) result }
 {
@@ -191,7 +191,7 @@ fn end<O: Outlet, V: Drain>(
     ensures same_report { output.new.report.ghost_name ≡ output.old.report.ghost_name }
     ensures going_on { IfOk result (λ kept. IfSome kept IsGoing) }
     ensures kept { IfOk result (λ kept. option_map (λ k. work_of k output.new.tracker.now) kept ≡ kept_of ending (work_of reassembly output.old.tracker.now)) }
-    ensures written { Written O.grows O.rows
+    ensures written { Written O.grows O.way
         (outlet_both O.Outlet V.Drain output.old.outlet.now output.old.report.now)
         (outlet_both O.Outlet V.Drain output.new.outlet.now output.new.report.now) (end_pieces (O.text (O.fixed output.old.outlet.now)) ending (work_of reassembly output.old.tracker.now) rest) result }
 {
@@ -227,14 +227,14 @@ fn take_all<R: Source, O: Outlet, V: Drain>(
     ensures same_outlet { output.new.outlet.ghost_name ≡ output.old.outlet.ghost_name }
     ensures same_out { O.fixed output.new.outlet.now ≡ O.fixed output.old.outlet.now }
     ensures same_report { output.new.report.ghost_name ≡ output.old.report.ghost_name }
-    ensures run { IfOk result (λ taken. IsRun O.grows O.rows (O.text (O.fixed output.old.outlet.now)) ending (work_of reassembly output.old.tracker.now)
+    ensures run { IfOk result (λ taken. IsRun O.grows O.way (O.text (O.fixed output.old.outlet.now)) ending (work_of reassembly output.old.tracker.now)
         (R.left recording.old) (R.left recording.new)
         (outlet_both O.Outlet V.Drain output.old.outlet.now output.old.report.now)
         (outlet_both O.Outlet V.Drain output.new.outlet.now output.new.report.now) taken.records (option_map (λ k. work_of k output.new.tracker.now) taken.reassembly)) }
     ensures going_on { IfOk result (λ taken. IfSome taken.reassembly IsGoing) }
     ensures flushed_out { OnOk result (O.passed output.new.outlet.now) }
     ensures flushed_report { OnOk result (Keeps (V.flushed output.new.report.now) (V.written output.new.report.now)) }
-    ensures stopped { IfErr result (IsStoppedAt O.grows O.rows (O.text (O.fixed output.old.outlet.now)) ending (work_of reassembly output.old.tracker.now)
+    ensures stopped { IfErr result (IsStoppedAt O.grows O.way (O.text (O.fixed output.old.outlet.now)) ending (work_of reassembly output.old.tracker.now)
         (R.left recording.old) (R.left recording.new)
         (outlet_both O.Outlet V.Drain output.old.outlet.now output.old.report.now)
         (outlet_both O.Outlet V.Drain output.new.outlet.now output.new.report.now)) }
@@ -275,12 +275,12 @@ fn take_all_into<R: Source, O: Outlet, V: Drain>(
     requires some { 0 < length buffer.old }
     requires going { reassembly.failed ≡ false }
     requires valid { IsState reassembly.rules reassembly.state }
-    ensures run { IfOk result (λ taken. IsRun O.grows O.rows (O.text (O.fixed outlet.old)) ending (work_of reassembly tracker.old)
+    ensures run { IfOk result (λ taken. IsRun O.grows O.way (O.text (O.fixed outlet.old)) ending (work_of reassembly tracker.old)
         (R.left recording.old) (R.left recording.new)
         (outlet_both O.Outlet V.Drain outlet.old report.old)
         (outlet_both O.Outlet V.Drain outlet.new report.new) taken.records (option_map (λ k. work_of k tracker.new) taken.reassembly)) }
     ensures going_on { IfOk result (λ taken. IfSome taken.reassembly IsGoing) }
-    ensures stopped { IfErr result (IsStoppedAt O.grows O.rows (O.text (O.fixed outlet.old)) ending (work_of reassembly tracker.old)
+    ensures stopped { IfErr result (IsStoppedAt O.grows O.way (O.text (O.fixed outlet.old)) ending (work_of reassembly tracker.old)
         (R.left recording.old) (R.left recording.new)
         (outlet_both O.Outlet V.Drain outlet.old report.old)
         (outlet_both O.Outlet V.Drain outlet.new report.new)) }
@@ -359,12 +359,12 @@ pub fn run_to_end<R: Source, O: Outlet, V: Drain>(
     requires some { 0 < length buffer.old }
     requires going { reassembly.failed ≡ false }
     requires valid { IsState reassembly.rules reassembly.state }
-    ensures run { IfOk result (λ ended. IsRun O.grows O.rows (O.text (O.fixed outlet.old)) ending (work_of reassembly tracker)
+    ensures run { IfOk result (λ ended. IsRun O.grows O.way (O.text (O.fixed outlet.old)) ending (work_of reassembly tracker)
         (R.left recording.old) (R.left recording.new)
         (outlet_both O.Outlet V.Drain outlet.old report.old)
         (outlet_both O.Outlet V.Drain outlet.new report.new) ended.records (kept_work ended.kept)) }
     ensures going_on { IfOk result (λ ended. IfSome ended.kept (λ k. IsGoing k.reassembly)) }
-    ensures stopped { IfErr result (IsStoppedAt O.grows O.rows (O.text (O.fixed outlet.old)) ending (work_of reassembly tracker)
+    ensures stopped { IfErr result (IsStoppedAt O.grows O.way (O.text (O.fixed outlet.old)) ending (work_of reassembly tracker)
         (R.left recording.old) (R.left recording.new)
         (outlet_both O.Outlet V.Drain outlet.old report.old)
         (outlet_both O.Outlet V.Drain outlet.new report.new)) }

@@ -13,7 +13,7 @@ returns-in-Err-clause-stopped g c =
     let same = c.requires.exact in
     let stopped = subst (λ n. PassingStopped n c.args.reassembly.now.state.records (g.R.Source.left c.args.recording.now) (g.R.Source.left c.skip_records.new.recording) c.in-Err.fault) same
     (rw c.records-done.ensures at c.in-Err.ensures.stopped) in
-    passing_stopped g.O.Outlet.grows g.met.O.Outlet.grows_nil g.met.O.Outlet.grows_trans (g.O.Outlet.text (g.O.Outlet.fixed c.args.output.now.outlet.now)) c.args.ending (work_of c.args.reassembly.now c.args.output.now.tracker.now) c.requires.valid g.O.Outlet.rows (g.R.Source.left c.args.recording.now) (g.R.Source.left c.skip_records.new.recording)
+    passing_stopped g.O.Outlet.grows g.met.O.Outlet.grows_nil g.met.O.Outlet.grows_trans (g.O.Outlet.text (g.O.Outlet.fixed c.args.output.now.outlet.now)) c.args.ending (work_of c.args.reassembly.now c.args.output.now.tracker.now) c.requires.valid g.O.Outlet.way (g.R.Source.left c.args.recording.now) (g.R.Source.left c.skip_records.new.recording)
     (view (g.O.Outlet.held c.args.output.now.outlet.now) (g.V.Drain.written c.args.output.now.report.now) (g.O.Outlet.failures c.args.output.now.outlet.now) (g.V.Drain.failures c.args.output.now.report.now))
     c.in-Err.fault stopped
 
@@ -55,7 +55,7 @@ returns-in_default-fill-clause-stopped g c =
     taken_read g.O.Outlet.grows g.met.O.Outlet.grows_nil g.met.O.Outlet.grows_trans (g.O.Outlet.text (g.O.Outlet.fixed c.args.output.now.outlet.now)) c.args.ending (work_of c.args.reassembly.now c.args.output.now.tracker.now) c.requires.valid (g.R.Source.left c.args.recording.now) (g.R.Source.left c.loop-ending.recording) (g.R.Source.left c.fill.new.source) (view (g.O.Outlet.held c.args.output.now.outlet.now) (g.V.Drain.written c.args.output.now.report.now) (g.O.Outlet.failures c.args.output.now.outlet.now) (g.V.Drain.failures c.args.output.now.report.now))
     (view (g.O.Outlet.held c.loop-ending.output.outlet.now) (g.V.Drain.written c.loop-ending.output.report.now) (g.O.Outlet.failures c.loop-ending.output.outlet.now) (g.V.Drain.failures c.loop-ending.output.report.now))
     (view (g.O.Outlet.held c.loop-ending.output.outlet.now) (g.V.Drain.written c.loop-ending.output.report.now) (g.O.Outlet.failures c.loop-ending.output.outlet.now) (g.V.Drain.failures c.loop-ending.output.report.now)) (work_of c.loop-ending.reassembly c.loop-ending.output.tracker.now)
-    part inv.taken got wanted g.O.Outlet.rows (omega (arith, short, inv.exact))
+    part inv.taken got wanted g.O.Outlet.way (omega (arith, short, inv.exact))
 
 pub returns-then-octets-buffer-clause-stepped : goal.returns-then-octets-buffer-clause-stepped
 returns-then-octets-buffer-clause-stepped g c =
@@ -79,7 +79,7 @@ returns-in-Err-step_into-clause-stopped g c =
     taken_stopped g.O.Outlet.grows g.met.O.Outlet.grows_nil g.met.O.Outlet.grows_trans (g.O.Outlet.text (g.O.Outlet.fixed c.args.output.now.outlet.now)) c.args.ending (work_of c.args.reassembly.now c.args.output.now.tracker.now) c.requires.valid (g.R.Source.left c.args.recording.now) (g.R.Source.left c.loop-ending.recording) (g.R.Source.left c.fill.new.source) (view (g.O.Outlet.held c.args.output.now.outlet.now) (g.V.Drain.written c.args.output.now.report.now) (g.O.Outlet.failures c.args.output.now.outlet.now) (g.V.Drain.failures c.args.output.now.report.now))
     (view (g.O.Outlet.held c.loop-ending.output.outlet.now) (g.V.Drain.written c.loop-ending.output.report.now) (g.O.Outlet.failures c.loop-ending.output.outlet.now) (g.V.Drain.failures c.loop-ending.output.report.now))
     (view (g.O.Outlet.held c.step_into.new.output.outlet.now) (g.V.Drain.written c.step_into.new.output.report.now) (g.O.Outlet.failures c.step_into.new.output.outlet.now) (g.V.Drain.failures c.step_into.new.output.report.now)) (work_of c.loop-ending.reassembly c.loop-ending.output.tracker.now)
-    c.fill.new.buffer inv.taken got wanted g.O.Outlet.rows c.in-Err-step_into.fault exact stopped
+    c.fill.new.buffer inv.taken got wanted g.O.Outlet.way c.in-Err-step_into.fault exact stopped
 
 pub loop-ending-smaller : goal.loop-ending-smaller
 loop-ending-smaller g c =

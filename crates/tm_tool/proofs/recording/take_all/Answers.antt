@@ -9,7 +9,7 @@ use Rattle.tm_tool.proofs.recording.take_all.Goals as goal
 pub returns-in-Err-end-clause-stopped : goal.returns-in-Err-end-clause-stopped
 returns-in-Err-end-clause-stopped g c =
     let stopped = rw c.in-Ok.ensures.same_out at c.in-Err-end.ensures.written in
-    end_stopped g.O.Outlet.grows g.met.O.Outlet.grows_nil g.met.O.Outlet.grows_trans g.O.Outlet.rows (g.O.Outlet.text (g.O.Outlet.fixed c.args.output.now.outlet.now)) c.args.ending (work_of c.args.reassembly c.args.output.now.tracker.now) (g.R.Source.left c.args.recording.now) (g.R.Source.left c.step_records.new.recording)
+    end_stopped g.O.Outlet.grows g.met.O.Outlet.grows_nil g.met.O.Outlet.grows_trans g.O.Outlet.way (g.O.Outlet.text (g.O.Outlet.fixed c.args.output.now.outlet.now)) c.args.ending (work_of c.args.reassembly c.args.output.now.tracker.now) (g.R.Source.left c.args.recording.now) (g.R.Source.left c.step_records.new.recording)
     (view (g.O.Outlet.held c.args.output.now.outlet.now) (g.V.Drain.written c.args.output.now.report.now) (g.O.Outlet.failures c.args.output.now.outlet.now) (g.V.Drain.failures c.args.output.now.report.now))
     (view (g.O.Outlet.held c.step_records.new.output.outlet.now) (g.V.Drain.written c.step_records.new.output.report.now) (g.O.Outlet.failures c.step_records.new.output.outlet.now) (g.V.Drain.failures c.step_records.new.output.report.now)) (work_of c.step_records.new.reassembly c.step_records.new.output.tracker.now) c.in-Ok.rest c.in-Ok.ensures.stepped
     (view (g.O.Outlet.held c.end.new.output.outlet.now) (g.V.Drain.written c.end.new.output.report.now) (g.O.Outlet.failures c.end.new.output.outlet.now) (g.V.Drain.failures c.end.new.output.report.now)) c.in-Err-end.fault stopped
@@ -17,7 +17,7 @@ returns-in-Err-end-clause-stopped g c =
 pub returns-in-Err-flush-clause-stopped : goal.returns-in-Err-flush-clause-stopped
 returns-in-Err-flush-clause-stopped g c =
     let written = rw c.in-Ok.ensures.same_out at c.in-Ok-end.ensures.written in
-    stopped_flush g.O.Outlet.grows g.met.O.Outlet.grows_nil g.met.O.Outlet.grows_trans g.O.Outlet.rows (g.O.Outlet.text (g.O.Outlet.fixed c.args.output.now.outlet.now)) c.args.ending (work_of c.args.reassembly c.args.output.now.tracker.now) (g.R.Source.left c.args.recording.now) (g.R.Source.left c.step_records.new.recording)
+    stopped_flush g.O.Outlet.grows g.met.O.Outlet.grows_nil g.met.O.Outlet.grows_trans g.O.Outlet.way (g.O.Outlet.text (g.O.Outlet.fixed c.args.output.now.outlet.now)) c.args.ending (work_of c.args.reassembly c.args.output.now.tracker.now) (g.R.Source.left c.args.recording.now) (g.R.Source.left c.step_records.new.recording)
     (view (g.O.Outlet.held c.args.output.now.outlet.now) (g.V.Drain.written c.args.output.now.report.now) (g.O.Outlet.failures c.args.output.now.outlet.now) (g.V.Drain.failures c.args.output.now.report.now))
     (view (g.O.Outlet.held c.step_records.new.output.outlet.now) (g.V.Drain.written c.step_records.new.output.report.now) (g.O.Outlet.failures c.step_records.new.output.outlet.now) (g.V.Drain.failures c.step_records.new.output.report.now)) (work_of c.step_records.new.reassembly c.step_records.new.output.tracker.now) c.in-Ok.rest c.in-Ok.ensures.stepped
     (view (g.O.Outlet.held c.end.new.output.outlet.now) (g.V.Drain.written c.end.new.output.report.now) (g.O.Outlet.failures c.end.new.output.outlet.now) (g.V.Drain.failures c.end.new.output.report.now)) written
@@ -26,7 +26,7 @@ returns-in-Err-flush-clause-stopped g c =
 pub returns-clause-run : goal.returns-clause-run
 returns-clause-run g c =
     let written = rw c.in-Ok.ensures.same_out at c.in-Ok-end.ensures.written in
-    has_run g.O.Outlet.grows g.met.O.Outlet.grows_nil g.met.O.Outlet.grows_trans g.O.Outlet.rows (g.O.Outlet.text (g.O.Outlet.fixed c.args.output.now.outlet.now)) c.args.ending (work_of c.args.reassembly c.args.output.now.tracker.now) (g.R.Source.left c.args.recording.now) (g.R.Source.left c.step_records.new.recording)
+    has_run g.O.Outlet.grows g.met.O.Outlet.grows_nil g.met.O.Outlet.grows_trans g.O.Outlet.way (g.O.Outlet.text (g.O.Outlet.fixed c.args.output.now.outlet.now)) c.args.ending (work_of c.args.reassembly c.args.output.now.tracker.now) (g.R.Source.left c.args.recording.now) (g.R.Source.left c.step_records.new.recording)
     (view (g.O.Outlet.held c.args.output.now.outlet.now) (g.V.Drain.written c.args.output.now.report.now) (g.O.Outlet.failures c.args.output.now.outlet.now) (g.V.Drain.failures c.args.output.now.report.now))
     (view (g.O.Outlet.held c.step_records.new.output.outlet.now) (g.V.Drain.written c.step_records.new.output.report.now) (g.O.Outlet.failures c.step_records.new.output.outlet.now) (g.V.Drain.failures c.step_records.new.output.report.now)) (work_of c.step_records.new.reassembly c.step_records.new.output.tracker.now) c.in-Ok.rest c.in-Ok.ensures.stepped
     (view (g.O.Outlet.held c.end.new.output.outlet.now) (g.V.Drain.written c.end.new.output.report.now) (g.O.Outlet.failures c.end.new.output.outlet.now) (g.V.Drain.failures c.end.new.output.report.now)) written

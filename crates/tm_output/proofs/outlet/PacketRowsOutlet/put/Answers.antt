@@ -1,6 +1,8 @@
-use Rattle.std.proofs.Common.{◌≡◌, ◌∙◌, sym, true, rules}
+use Rattle.std.proofs.Common.{◌≡◌, ◌∙◌, refl, sym, subst, true, rules}
 use Rattle.std.specs.Prelude.{◌==◌}
-use Rattle.tm_output.proofs.RowLemmas.{tabled_is}
+use Rattle.std.proofs.KnownBytes.{Appends-nil}
+use Rattle.tm_devices.specs.Devices.{AppendsFront}
+use Rattle.tm_output.proofs.RowLemmas.{some_tabled, tabled_is}
 use Rattle.tm_output.proofs.outlet.PacketRowsOutlet.put.Goals as goal
 
 pub returns-in-Ok-clause-stopped : goal.returns-in-Ok-clause-stopped
@@ -9,5 +11,12 @@ returns-in-Ok-clause-stopped g c =
     let row =
     tabled_is c.args.self.now.definition.now c.args.self.now.application c.args.seen c.args.channel c.args._first c.args._place _ _ c.args.octets.now c.in-Ok.row.items c.args.header.now
     c.requires wanted c.application.ensures.value c.count.ensures.value c.in-Ok.ensures.ok in
-    let (front, rest, parts, grown) = c.in-Err.ensures.front in
-    (c.in-Err.ensures.counts, (front, rest, row ∙ sym c.as_slice.ensures.value ∙ parts, grown))
+    (c.in-Err.ensures.counts, subst (AppendsFront (g.W.Drain.written c.args.self.now.out.now) (g.W.Drain.written c.put_all.new.out)) (c.as_slice.ensures.value ∙ sym row) c.in-Err.ensures.front)
+
+pub returns-clause-stopped : goal.returns-clause-stopped
+returns-clause-stopped g c =
+    let wanted : (c.args.header.now.application == c.args.self.now.application) ≡ true = search rules in
+    let some =
+    some_tabled c.args.self.now.definition.now c.args.self.now.application c.args.seen c.args.channel c.args._first c.args._place c.args.octets.now c.args.header.now
+    c.requires wanted (λ less. cc (c.row.ensures.short less)) in
+    (refl, some, refl, Appends-nil _)

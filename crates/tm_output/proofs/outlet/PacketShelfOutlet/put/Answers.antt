@@ -1,7 +1,7 @@
 use Rattle.tm_packet.specs.Header.{Fields}
-use Rattle.std.proofs.Common.{false, ap, ◌∙◌, subst}
+use Rattle.std.proofs.Common.{ap, ◌∙◌, subst}
 use Rattle.tm_devices.specs.Devices.{PutsFront}
-use Rattle.tm_output.specs.Shelves.{shelved_of}
+use Rattle.tm_output.specs.Shelves.{shelf_way, shelved_of}
 use Rattle.tm_output.proofs.ShelfLemmas.{shelf_stopped}
 use Rattle.tm_output.proofs.outlet.PacketShelfOutlet.put.Goals as goal
 
@@ -10,4 +10,4 @@ unfolding shelved_of
 returns-in-Err-clause-stopped g c =
     let application = c.application.ensures.value ∙ ap (λ (h : Fields). h.application) c.requires in
     let front = subst (λ n. PutsFront (g.H.Shelf.kept c.args.self.now.shelf.now) (g.H.Shelf.kept c.put.new.self) n c.args.octets.now) application c.in-Err.ensures.front in
-    shelf_stopped false _ _ _ _ _ _ front c.in-Err.ensures.counts
+    shelf_stopped shelf_way _ _ _ _ _ _ front c.in-Err.ensures.counts

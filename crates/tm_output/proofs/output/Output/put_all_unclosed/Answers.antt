@@ -55,7 +55,7 @@ returns-in-Err-clause-written g c =
     unclosed_stopped g.O.Outlet.grows g.met.O.Outlet.grows_nil g.met.O.Outlet.grows_trans (view (g.O.Outlet.held c.args.self.now.outlet.now) (g.V.Drain.written c.args.self.now.report.now) (g.O.Outlet.failures c.args.self.now.outlet.now) (g.V.Drain.failures c.args.self.now.report.now))
     (view (g.O.Outlet.held c.loop-unclosed.self.outlet.now) (g.V.Drain.written c.loop-unclosed.self.report.now) (g.O.Outlet.failures c.loop-unclosed.self.outlet.now) (g.V.Drain.failures c.loop-unclosed.self.report.now))
     (view (g.O.Outlet.held c.put_unclosed.new.self.outlet.now) (g.V.Drain.written c.put_unclosed.new.self.report.now) (g.O.Outlet.failures c.put_unclosed.new.self.outlet.now) (g.V.Drain.failures c.put_unclosed.new.self.report.now))
-    c.args.seen inv.done c.in-Some.unclosed inv.took c.args.self.now.tracker.now c.loop-unclosed.at g.O.Outlet.rows c.in-Err.fault inv.parted is stopped
+    c.args.seen inv.done c.in-Some.unclosed inv.took c.args.self.now.tracker.now c.loop-unclosed.at g.O.Outlet.way c.in-Err.fault inv.parted is stopped
 
 pub returns-clause-written : goal.returns-clause-written
 returns-clause-written g c =

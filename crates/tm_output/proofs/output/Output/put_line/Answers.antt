@@ -17,5 +17,5 @@ returns-in-Err-put_all-clause-written g c =
     c.as_bytes.ensures.value ∙ c.in_default.ensures.line ∙ ap (λ (l : List ℕ). l ++ line_of (item_of c.args.item)) c.clear.ensures.bytes ∙ line_report _ (item_of c.args.item) _ c.requires (g.met.O.Outlet.text_none _ (item_of c.args.item) c.requires).1 in
     let none = subst (g.O.Outlet.grows (g.O.Outlet.held c.args.self.now.outlet.now) (g.O.Outlet.held c.args.self.now.outlet.now)) (sym (g.met.O.Outlet.text_none _ x c.requires).0)
     (g.met.O.Outlet.grows_nil (g.O.Outlet.held c.args.self.now.outlet.now)) in
-    let front = subst (AppendsFront (g.V.Drain.written c.args.self.now.report.now) (g.V.Drain.written c.put_all.new.out)) line c.put_all.ensures.front in
-    stopped_lines g.O.Outlet.grows _ _ _ g.O.Outlet.rows none front refl c.in-Err-put_all.ensures.counts
+    let front = subst (AppendsFront (g.V.Drain.written c.args.self.now.report.now) (g.V.Drain.written c.put_all.new.out)) line c.in-Err-put_all.ensures.front in
+    stopped_lines g.O.Outlet.grows _ _ _ g.O.Outlet.way none front refl c.in-Err-put_all.ensures.counts

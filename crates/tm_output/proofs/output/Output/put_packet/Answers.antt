@@ -17,4 +17,4 @@ returns-in-Err-remark-clause-written g c =
 
 pub returns-in-Err-put-clause-written : goal.returns-in-Err-put-clause-written
 returns-in-Err-put-clause-written g c =
-    stopped_put g.O.Outlet.grows _ _ _ g.O.Outlet.rows c.in-Err-put.fault c.in-Err-put.ensures.stopped (Appends-nil _) refl
+    stopped_put g.O.Outlet.grows g.met.O.Outlet.grows_nil g.met.O.Outlet.grows_trans g.O.Outlet.way _ _ _ c.in-Err-put.fault c.in-Err-put.ensures.stopped (Appends-nil _) refl

@@ -15,5 +15,5 @@ pub returns-in-Err-put_all-clause-written : goal.returns-in-Err-put_all-clause-w
 unfolding unclosed_piece
 returns-in-Err-put_all-clause-written g c =
     let line = c.as_bytes.ensures.value ∙ c.in_default.ensures ∙ ap (λ (l : List ℕ). l ++ note_line c.args.seen (c.args.unclosed.key / 2048) (c.args.unclosed.key % 2048) c.args.unclosed.note) c.clear.ensures.bytes in
-    let front = subst (AppendsFront (g.V.Drain.written c.args.self.now.report.now) (g.V.Drain.written c.put_all.new.out)) line c.put_all.ensures.front in
-    stopped_lines g.O.Outlet.grows _ _ _ g.O.Outlet.rows (g.met.O.Outlet.grows_nil _) front refl c.in-Err-put_all.ensures.counts
+    let front = subst (AppendsFront (g.V.Drain.written c.args.self.now.report.now) (g.V.Drain.written c.put_all.new.out)) line c.in-Err-put_all.ensures.front in
+    stopped_lines g.O.Outlet.grows _ _ _ g.O.Outlet.way (g.met.O.Outlet.grows_nil _) front refl c.in-Err-put_all.ensures.counts

@@ -1,5 +1,5 @@
 -- One raw record: its items, and the state after it, by what is kept of its channel.
-use Rattle.std.proofs.Common.{◌≡◌, ℕ, suc, zero, ◌+◌, ◌<◌, Ok, Err, true, false, Option, Some, None, List, [], ◌∷◌, ◌++◌, length, set, refl, sym, ap, subst, ◌∙◌, inl, ⊎_elim, arith}
+use Rattle.std.proofs.Common.{◌≡◌, ℕ, suc, zero, ◌+◌, ◌<◌, ◌≤◌, Ok, Err, true, false, Option, Some, None, List, [], ◌∷◌, ◌++◌, length, set, refl, sym, ap, subst, ◌∙◌, inl, ⊎_elim, arith}
 use Rattle.std.specs.Prelude.{slice_index_or, slice_set}
 use Rattle.std.specs.List.{slice_get}
 use Rattle.std.proofs.lemmas.Bool.{cases_Bool}
@@ -167,10 +167,13 @@ module _ (rules : Rules) (seen : ℕ) (master : Option ℕ) (slots : List Slot) 
   pub open_slot : (c : ℕ) (d : Slot) → c < 8 → IsOpenTail (slice_index_or slots c d).limit (tail_in (slice_index_or slots c d).last)
   open_slot c d small =
       let at : c < length slots = omega (arith, eight_slots) in
-      rw (limit_at rules.max_packet slots c d limits at, ← last_at slots c d) (open_entry rules seen master (lasts slots) v c d.last small)
+      rw ((limit_at rules.max_packet slots c d limits at).0, ← last_at slots c d) (open_entry rules seen master (lasts slots) v c d.last small)
 
-  pub limit_slot : (c : ℕ) (d x : Slot) → c < 8 → x.limit ≡ (slice_index_or slots c d).limit → HaveLimit rules.max_packet (slice_set slots c x)
-  limit_slot c d x small e = limit_set rules.max_packet slots c x limits (e ∙ limit_at rules.max_packet slots c d limits (omega (arith, eight_slots)))
+  pub limit_slot : (c : ℕ) (d x : Slot) → c < 8 → x.limit ≡ (slice_index_or slots c d).limit → (slice_index_or slots c d).room ≤ x.room
+      → HaveLimit rules.max_packet (slice_set slots c x)
+  limit_slot c d x small e f =
+      let there = limit_at rules.max_packet slots c d limits (omega (arith, eight_slots)) in
+      limit_set rules.max_packet slots c x limits (e ∙ there.0, omega (arith, there.1, f))
 
   module _ (octets : List ℕ) (g : GoodFrame) (e : reading_of rules.layout octets ≡ Ok g) (count : ℕ) (counts : count ≡ g.master_count) where
     abbrev one_record : List Item
@@ -198,7 +201,7 @@ module _ (rules : Rules) (seen : ℕ) (master : Option ℕ) (slots : List Slot) 
 
       pub items_slot : gap ++ kept_items (slice_index_or slots c d).limit c (slice_index_or slots c d).last (member seen g) ≡ one_record
       items_slot =
-          rw (counted_master master seen count g counts, limit_at rules.max_packet slots c d limits inside, ← last_at slots c d)
+          rw (counted_master master seen count g counts, (limit_at rules.max_packet slots c d limits inside).0, ← last_at slots c d)
           (items_one_record rules seen master (lasts slots) v octets g e c d.last same is_chosen)
 
       pub after_slot : (x : Slot) → x.last ≡ kept_after (slice_index_or slots c d).limit (slice_index_or slots c d).last (member seen g)
@@ -206,7 +209,7 @@ module _ (rules : Rules) (seen : ℕ) (master : Option ℕ) (slots : List Slot) 
           (after rules (record { records = seen; master = master; channels = lasts slots }) (octets ∷ []))
       after_slot x h =
           let k : x.last ≡ kept_after rules.max_packet (slice_index_or (lasts slots) c d.last) (member seen g) =
-          h ∙ rw (limit_at rules.max_packet slots c d limits inside, ← last_at slots c d) refl in
+          h ∙ rw ((limit_at rules.max_packet slots c d limits inside).0, ← last_at slots c d) refl in
           state_at counts (lasts_set slots c x ∙ ap (λ (y : Option Last). slice_set (lasts slots) c y) k)
           ∙ after_one_record rules seen master (lasts slots) v octets g e c d.last same is_chosen
         where

@@ -1,5 +1,5 @@
 -- The slots of the channels: what is kept in each, and its limit.
-use Rattle.std.proofs.Common.{◌≡◌, ℕ, suc, zero, ◌+◌, ◌<◌, Option, Some, List, [], ◌∷◌, ◌++◌, length, take, drop, refl, sym, ap, ◌∙◌, arith}
+use Rattle.std.proofs.Common.{◌≡◌, ℕ, suc, zero, ◌+◌, ◌*◌, ◌<◌, min, Option, Some, List, [], ◌∷◌, ◌++◌, length, take, drop, refl, sym, ap, subst, ◌∙◌, arith}
 use Rattle.std.specs.Prelude.{slice_index_or, slice_set, replicate}
 use Rattle.std.specs.List.{flat_map, slice_get}
 use Rattle.std.proofs.lemmas.List.{append-nil, length-map}
@@ -7,7 +7,7 @@ use Rattle.std.proofs.lemmas.List.Concat.{flat_map-append}
 use Rattle.std.proofs.Math.Seq.{take-suc}
 use Rattle.tm_reassembly.specs.Checkpoint.{block}
 use Rattle.tm_reassembly.specs.Items.{close_last, close_channels}
-use Rattle.tm_reassembly.specs.Kept.{Slot, HaveLimit, lasts, unused}
+use Rattle.tm_reassembly.specs.Kept.{Slot, HaveLimit, IsFor, lasts, rooms, unused}
 use Rattle.tm_reassembly.specs.State.{Last}
 
 -- what is kept in a slot
@@ -30,15 +30,15 @@ there [] c d h = absurd (omega arith)
 there (x ∷ xs) zero d h = refl
 there (x ∷ xs) (suc c) d h = there xs c d (omega arith)
 
-pub limit_at : (limit : ℕ) (slots : List Slot) (c : ℕ) (d : Slot) → HaveLimit limit slots → c < length slots → (slice_index_or slots c d).limit ≡ limit
+pub limit_at : (limit : ℕ) (slots : List Slot) (c : ℕ) (d : Slot) → HaveLimit limit slots → c < length slots → IsFor limit (slice_index_or slots c d)
 limit_at limit slots c d h inside = h c (slice_index_or slots c d) (there slots c d inside)
 
-pub limit_set : (limit : ℕ) (slots : List Slot) (c : ℕ) (x : Slot) → HaveLimit limit slots → x.limit ≡ limit → HaveLimit limit (slice_set slots c x)
+pub limit_set : (limit : ℕ) (slots : List Slot) (c : ℕ) (x : Slot) → HaveLimit limit slots → IsFor limit x → HaveLimit limit (slice_set slots c x)
 limit_set limit slots c x h e = λ i y f. at slots c i y (λ y f. h i y f) f
   where
-    at : (slots : List Slot) (c i : ℕ) (y : Slot) → ((z : Slot) → slice_get slots i ≡ Some z → z.limit ≡ limit) → slice_get (slice_set slots c x) i ≡ Some y → y.limit ≡ limit
+    at : (slots : List Slot) (c i : ℕ) (y : Slot) → ((z : Slot) → slice_get slots i ≡ Some z → IsFor limit z) → slice_get (slice_set slots c x) i ≡ Some y → IsFor limit y
     at [] c i y k f = k y f
-    at (z ∷ zs) zero zero y k f = let same : x ≡ y = cc in ap (λ (s : Slot). s.limit) (sym same) ∙ e
+    at (z ∷ zs) zero zero y k f = let same : x ≡ y = cc in subst (IsFor limit) same e
     at (z ∷ zs) zero (suc i) y k f = k y f
     at (z ∷ zs) (suc c) zero y k f = k y f
     at (z ∷ zs) (suc c) (suc i) y k f = at zs c i y k f
@@ -47,10 +47,23 @@ limit_set limit slots c x h e = λ i y f. at slots c i y (λ y f. h i y f) f
 pub limit_unused : (limit : ℕ) → HaveLimit limit (replicate 8 (unused limit))
 limit_unused limit = λ c x e. at 8 c x e
   where
-    at : (n c : ℕ) (x : Slot) → slice_get (replicate n (unused limit)) c ≡ Some x → x.limit ≡ limit
+    at : (n c : ℕ) (x : Slot) → slice_get (replicate n (unused limit)) c ≡ Some x → IsFor limit x
     at zero c x e = absurd (cc)
-    at (suc n) zero x e = let same : unused limit ≡ x = cc in ap (λ (s : Slot). s.limit) (sym same)
+    at (suc n) zero x e = let same : unused limit ≡ x = cc in subst (IsFor limit) same (refl, omega arith)
     at (suc n) (suc c) x e = at n c x e
+
+-- the room of them all
+rooms_are : (limit : ℕ) (slots : List Slot) → HaveLimit limit slots → rooms slots ≡ length slots * limit
+rooms_are limit [] h = omega arith
+rooms_are limit (x ∷ xs) h =
+    let here : min x.limit x.room ≡ limit = omega (arith, (h 0 x refl).0, (h 0 x refl).1) in
+    let others : rooms xs ≡ length xs * limit = rooms_are limit xs (λ c y e. h (suc c) y e) in
+    omega (arith, here, others)
+
+pub rooms_of_eight : (limit : ℕ) (slots : List Slot) → HaveLimit limit slots → length (lasts slots) ≡ 8 → rooms slots ≡ 8 * limit
+rooms_of_eight limit slots h eight =
+    let all : length slots ≡ 8 = sym (lasts_length slots) ∙ eight in
+    rooms_are limit slots h ∙ ap (λ (n : ℕ). n * limit) all
 
 drop_at : (xs : List (Option Last)) (n : ℕ) (d : Option Last) → n < length xs → drop n xs ≡ slice_index_or xs n d ∷ drop (suc n) xs
 drop_at [] n d h = absurd (omega arith)

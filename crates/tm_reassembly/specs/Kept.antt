@@ -1,6 +1,6 @@
 -- What the code keeps of a channel, as the state has it, and what a frame makes of it. These stand in private contracts alone, and in
 -- the model of the public type.
-use Rattle.std.specs.Prelude.{◌≡◌, ℕ, ◌==◌, if◌then◌else◌, map, slice_get, Option, Some, None, List, [], ◌∷◌, ◌++◌, false}
+use Rattle.std.specs.Prelude.{◌≡◌, ℕ, ◌+◌, ◌≤◌, ◌==◌, min, if◌then◌else◌, map, slice_get, Option, Some, None, List, [], ◌∷◌, ◌++◌, false}
 use Rattle.tm_reassembly.specs.Chain.{Member, has_gap, next_count}
 use Rattle.tm_reassembly.specs.Field.{chain_parts_at, chain_tail_at}
 use Rattle.tm_reassembly.specs.Item.{Item}
@@ -29,9 +29,18 @@ unused limit = record { limit = limit; room = limit; last = None }
 abbrev pub lasts : List Slot → List (Option Last)
 lasts slots = map (λ x. x.last) slots
 
--- in each of them a packet may have so many octets
+-- for how many octets of packets there is room in all of them, in each for no more than a packet may have
+abbrev pub rooms : List Slot → ℕ
+rooms [] = 0
+rooms (x ∷ xs) = min x.limit x.room + rooms xs
+
+-- a packet may have so many octets here, and there is room for them
+abbrev pub IsFor : ℕ → Slot → Type 0
+IsFor limit x = (x.limit ≡ limit) × (limit ≤ x.room)
+
+-- likewise in each of them
 abbrev pub HaveLimit : ℕ → List Slot → Type 0
-HaveLimit limit slots = (c : ℕ) (x : Slot) → slice_get slots c ≡ Some x → x.limit ≡ limit
+HaveLimit limit slots = (c : ℕ) (x : Slot) → slice_get slots c ≡ Some x → IsFor limit x
 
 -- octets that are held are a tail, and no octets are none
 abbrev pub tail_of_octets : ℕ → ℕ → List ℕ → Option Tail

@@ -1,5 +1,5 @@
 -- What the code is seen as, and how a step and a closed end may be refused.
-use Rattle.std.specs.Prelude.{◌≡◌, ℕ, ◌-◌, ◌^◌, ◌<◌, Bool, true, false, Option, Some, None, List, [], ◌∷◌, slice_get}
+use Rattle.std.specs.Prelude.{◌≡◌, ℕ, ◌*◌, ◌-◌, ◌^◌, ◌<◌, Bool, true, false, Option, Some, None, List, [], ◌∷◌, slice_get}
 use Rattle.tm_reassembly.specs.declared.fault.StepFault as fault
 use Rattle.tm_reassembly.specs.declared.fault.StepFault.TheVariants.{Sink, Failed, TooMany}
 use Rattle.tm_rules.specs.Rules.{Rules}
@@ -9,15 +9,20 @@ use Rattle.tm_reassembly.specs.Recording.{items, after}
 use Rattle.tm_reassembly.specs.Sinks.{RefusesOne}
 use Rattle.tm_reassembly.specs.State.{State, Last}
 
--- the rules, the state, and whether a sink refused an item
+-- the rules, the state, whether a sink refused an item, and for how many octets of packets there is room, of all eight channels together
 pub record Progress : Type 0 where
   pub rules : Rules
   pub state : State
   pub failed : Bool
+  pub room : ℕ
+
+-- in a state, with room for a packet in each channel
+abbrev pub progress_in : Rules → State → Progress
+progress_in rules state = record { rules = rules; state = state; failed = false; room = 8 * rules.max_packet }
 
 -- before any record
 abbrev pub begun : Rules → Progress
-begun rules = record { rules = rules; state = empty; failed = false }
+begun rules = progress_in rules empty
 
 -- the greatest number of records
 abbrev pub most_records : ℕ
@@ -28,7 +33,7 @@ abbrev pub step_items : Progress → List ℕ → List Item
 step_items p octets = items p.rules p.state (octets ∷ [])
 
 abbrev pub stepped : Progress → List ℕ → Progress
-stepped p octets = record { rules = p.rules; state = after p.rules p.state (octets ∷ []); failed = false }
+stepped p octets = record { rules = p.rules; state = after p.rules p.state (octets ∷ []); failed = false; room = p.room }
 
 -- the last count that a state has of a channel
 abbrev pub count_of : Option (Option Last) → Option ℕ

@@ -74,6 +74,7 @@ impl Kept {
         ensures taken { OnOk result (TakesAll S.takes sink.old (kept_items self.old.limit channel self.old.last (member seen frame.now)) sink.new) }
         ensures left { OnOk result (self.new.last ≡ kept_after self.old.limit self.old.last (member seen frame.now)) }
         ensures limit { self.new.limit ≡ self.old.limit }
+        ensures room { self.old.room ≤ self.new.room }
         ensures refused { IfErr result (λ fault. RefusesOne S.takes S.refuses sink.old (kept_items self.old.limit channel self.old.last (member seen frame.now)) fault sink.new) }
     {
         let count = frame.count();
@@ -105,6 +106,7 @@ impl Kept {
           tail = chain_tail_at self.old.limit gap (is_vca_kind frame.now.kind) (tail_in self.old.last) (member seen frame.now);
         })) }
         ensures limit { self.new.limit ≡ self.old.limit }
+        ensures room { self.old.room ≤ self.new.room }
         ensures refused { IfErr result (λ fault. RefusesOne S.takes S.refuses sink.old
             (vca_at channel (member seen frame.now) ++ part_items channel (chain_parts_at self.old.limit gap (is_vca_kind frame.now.kind) (tail_in self.old.last) (member seen frame.now))) fault sink.new) }
     {
@@ -131,6 +133,7 @@ impl Kept {
             (value.Vca seen channel ∷ part_items channel (chain_parts_at self.old.limit gap true (tail_in self.old.last) (counted seen 0))) sink.new) }
         ensures left { OnOk result (self.new.last ≡ last_of (count_in self.old.last) None) }
         ensures limit { self.new.limit ≡ self.old.limit }
+        ensures room { self.old.room ≤ self.new.room }
         ensures refused { IfErr result (λ fault. RefusesOne S.takes S.refuses sink.old
             (value.Vca seen channel ∷ part_items channel (chain_parts_at self.old.limit gap true (tail_in self.old.last) (counted seen 0))) fault sink.new) }
     {
@@ -159,6 +162,7 @@ impl Kept {
         ensures taken { OnOk result (TakesAll S.takes sink.old (part_items channel (chain_parts_at self.old.limit gap false (tail_in self.old.last) (member_at seen place field.now))) sink.new) }
         ensures left { OnOk result (self.new.last ≡ last_of (count_in self.old.last) (chain_tail_at self.old.limit gap false (tail_in self.old.last) (member_at seen place field.now))) }
         ensures limit { self.new.limit ≡ self.old.limit }
+        ensures room { self.old.room ≤ self.new.room }
         ensures refused { IfErr result (λ fault. RefusesOne S.takes S.refuses sink.old (part_items channel (chain_parts_at self.old.limit gap false (tail_in self.old.last) (member_at seen place field.now))) fault sink.new) }
     {
         if !gap {
@@ -222,6 +226,7 @@ impl Kept {
         requires { length read.now.tail.now ≤ self.old.limit }
         ensures last { self.new.last ≡ kept_of read.now }
         ensures limit { self.new.limit ≡ self.old.limit }
+        ensures room { self.old.room ≤ self.new.room }
     {
         let tail = if read.count.is_some() { read.tail } else { &[] };
         self.count = read.count;

@@ -6,12 +6,12 @@ ghost use Rattle.tm_frame.specs.Layout.{record_length_of};
 ghost use Rattle.tm_reassembly.specs.Checkpoint.{block, spelling, blocks_read, with_channels, decoding_of, old_decoding_of};
 ghost use Rattle.tm_reassembly.specs.declared.fault.StateFault.TheVariants as found;
 ghost use Rattle.tm_reassembly.specs.Items.{closing, close_channels};
-ghost use Rattle.tm_reassembly.specs.Kept.{HaveLimit, lasts, octets_in, unused};
+ghost use Rattle.tm_reassembly.specs.Kept.{HaveLimit, lasts, octets_in, rooms, unused};
 ghost use Rattle.tm_reassembly.specs.Recording.{items, after};
 ghost use Rattle.tm_rules.specs.Rules.{IsLimit, chooses};
 ghost use Rattle.tm_reassembly.specs.Sinks.{TakesAll, RefusesOne};
 ghost use Rattle.tm_reassembly.specs.State.{State, Last};
-ghost use Rattle.tm_reassembly.specs.Steps.{Progress, begun, most_records, step_items, stepped, StepRefused, CloseRefused, last_count_of};
+ghost use Rattle.tm_reassembly.specs.Steps.{Progress, begun, most_records, progress_in, step_items, stepped, StepRefused, CloseRefused, last_count_of};
 ghost use Rattle.tm_reassembly.specs.Tiles.{held_tail};
 ghost use Rattle.tm_reassembly.specs.Valid.{IsCount, IsState};
 
@@ -41,6 +41,7 @@ impl Model for Reassembly {
       rules = r.rules;
       state = record { records = r.records; master = r.master; channels = lasts r.kept };
       failed = r.failed;
+      room = rooms r.kept;
     } };
 
     ghost invariant = { λ r. r.failed ≡ false → IsState r.rules (record { records = r.records; master = r.master; channels = lasts r.kept })
@@ -252,7 +253,7 @@ impl Reassembly {
         ensures ok { IfOk result (λ read. decoding_of (record { layout = layout; channels = channels; max_packet = max_packet }) octets.now
             ≡ Ok (record { state = read.0.state; octets = read.1 })) }
         ensures same { IfOk result (λ read. read.0
-            ≡ record { rules = record { layout = layout; channels = channels; max_packet = max_packet }; state = read.0.state; failed = false }) }
+            ≡ progress_in (record { layout = layout; channels = channels; max_packet = max_packet }) read.0.state) }
         ensures refused { IfErr result (λ fault. (decoding_of (record { layout = layout; channels = channels; max_packet = max_packet }) octets.now ≡ Err fault)
             ⊎ ((fault ≡ found.NoMemory) × IsOk (decoding_of (record { layout = layout; channels = channels; max_packet = max_packet }) octets.now))) }
     {
@@ -291,7 +292,7 @@ impl Reassembly {
         ensures ok { IfOk result (λ read. old_decoding_of (record { layout = layout; channels = channels; max_packet = max_packet }) octets.now
             ≡ Ok (record { state = read.0.state; octets = read.1 })) }
         ensures same { IfOk result (λ read. read.0
-            ≡ record { rules = record { layout = layout; channels = channels; max_packet = max_packet }; state = read.0.state; failed = false }) }
+            ≡ progress_in (record { layout = layout; channels = channels; max_packet = max_packet }) read.0.state) }
         ensures refused { IfErr result (λ fault. (old_decoding_of (record { layout = layout; channels = channels; max_packet = max_packet }) octets.now ≡ Err fault)
             ⊎ ((fault ≡ found.NoMemory) × IsOk (old_decoding_of (record { layout = layout; channels = channels; max_packet = max_packet }) octets.now))) }
     {
@@ -321,7 +322,7 @@ fn restored(
     requires before { before ≤ 6 }
     ensures ok { IfOk result (λ read. with_channels records master before (blocks_read rules records 8 0 octets.now)
         ≡ Ok (record { state = read.0.state; octets = read.1 })) }
-    ensures same { IfOk result (λ read. read.0 ≡ record { rules = rules; state = read.0.state; failed = false }) }
+    ensures same { IfOk result (λ read. read.0 ≡ progress_in rules read.0.state) }
     ensures refused { IfErr result (λ fault. (with_channels records master before (blocks_read rules records 8 0 octets.now) ≡ Err fault)
         ⊎ ((fault ≡ found.NoMemory) × IsOk (with_channels records master before (blocks_read rules records 8 0 octets.now)))) }
 {

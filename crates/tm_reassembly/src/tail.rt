@@ -74,6 +74,7 @@ impl Tail {
         requires { length octets.now ≤ self.old.limit }
         ensures tail { self.new.tail ≡ tail_of_octets first place octets.now }
         ensures limit { self.new.limit ≡ self.old.limit }
+        ensures room { self.old.room ≤ self.new.room }
     {
         self.octets.clear();
         match self.octets.extend_from_slice(octets) {
@@ -125,6 +126,7 @@ impl Tail {
         ensures taken { OnOk result (TakesAll S.takes sink.old (part_items channel (ended_parts self.old.tail reason seen)) sink.new) }
         ensures left { OnOk result (self.new.tail ≡ None) }
         ensures limit { self.new.limit ≡ self.old.limit }
+        ensures room { self.old.room ≤ self.new.room }
         ensures refused { IfErr result (λ fault. RefusesOne S.takes S.refuses sink.old (part_items channel (ended_parts self.old.tail reason seen)) fault sink.new) }
     {
         match self.give_lost(seen, channel, reason, sink) {
@@ -154,6 +156,7 @@ impl Tail {
             (part_items channel (lead_part (member_at seen place field.now) reason (front_of place field.now) ++ frame_parts self.old.limit (member_at seen place field.now))) sink.new) }
         ensures left { OnOk result (self.new.tail ≡ frame_tail self.old.limit (member_at seen place field.now)) }
         ensures limit { self.new.limit ≡ self.old.limit }
+        ensures room { self.old.room ≤ self.new.room }
         ensures refused { IfErr result (λ fault. RefusesOne S.takes S.refuses sink.old
             (part_items channel (lead_part (member_at seen place field.now) reason (front_of place field.now) ++ frame_parts self.old.limit (member_at seen place field.now))) fault sink.new) }
     {
@@ -182,6 +185,7 @@ impl Tail {
         ensures taken { OnOk result (TakesAll S.takes sink.old (part_items channel (step_parts self.old.limit self.old.tail (member_at seen place field.now))) sink.new) }
         ensures left { OnOk result (self.new.tail ≡ step_tail self.old.limit self.old.tail (member_at seen place field.now)) }
         ensures limit { self.new.limit ≡ self.old.limit }
+        ensures room { self.old.room ≤ self.new.room }
         ensures refused { IfErr result (λ fault. RefusesOne S.takes S.refuses sink.old (part_items channel (step_parts self.old.limit self.old.tail (member_at seen place field.now))) fault sink.new) }
     {
         if self.octets.is_empty() {
@@ -212,6 +216,7 @@ impl Tail {
         requires most { length (octets_in self.old.tail) + length more.now ≤ self.old.limit }
         ensures tail { self.new.tail ≡ grown self.old.tail more.now }
         ensures limit { self.new.limit ≡ self.old.limit }
+        ensures room { self.old.room ≤ self.new.room }
     {
         match self.octets.extend_from_slice(more) {
             Ok(()) => {}
@@ -234,6 +239,7 @@ impl Tail {
         ensures taken { OnOk result (TakesAll S.takes sink.old (part_items channel (completed self.old.tail last.now seen)) sink.new) }
         ensures left { OnOk result (self.new.tail ≡ None) }
         ensures limit { self.new.limit ≡ self.old.limit }
+        ensures room { self.old.room ≤ self.new.room }
         ensures refused { IfErr result (λ fault. RefusesOne S.takes S.refuses sink.old (part_items channel (completed self.old.tail last.now seen)) fault sink.new) }
     {
         self.grow(last);
@@ -270,6 +276,7 @@ impl Tail {
             (part_items channel (completed self.old.tail (take start field.now) seen ++ frame_parts self.old.limit (member_at seen (Some start) field.now))) sink.new) }
         ensures left { OnOk result (self.new.tail ≡ frame_tail self.old.limit (member_at seen (Some start) field.now)) }
         ensures limit { self.new.limit ≡ self.old.limit }
+        ensures room { self.old.room ≤ self.new.room }
         ensures refused { IfErr result (λ fault. RefusesOne S.takes S.refuses sink.old
             (part_items channel (completed self.old.tail (take start field.now) seen ++ frame_parts self.old.limit (member_at seen (Some start) field.now))) fault sink.new) }
     {
@@ -303,6 +310,7 @@ impl Tail {
             (part_items channel (ended_parts self.old.tail reason seen ++ lead_part (member_at seen place field.now) reason (front_of place field.now) ++ frame_parts self.old.limit (member_at seen place field.now))) sink.new) }
         ensures left { OnOk result (self.new.tail ≡ frame_tail self.old.limit (member_at seen place field.now)) }
         ensures limit { self.new.limit ≡ self.old.limit }
+        ensures room { self.old.room ≤ self.new.room }
         ensures refused { IfErr result (λ fault. RefusesOne S.takes S.refuses sink.old
             (part_items channel (ended_parts self.old.tail reason seen ++ lead_part (member_at seen place field.now) reason (front_of place field.now) ++ frame_parts self.old.limit (member_at seen place field.now))) fault sink.new) }
     {

@@ -6,6 +6,7 @@ ghost use Rattle.tm_packet.specs.Spelling as sequence;
 ghost use Rattle.tm_reassembly.specs.declared.fault.StateFault.TheVariants as found;
 ghost use Rattle.tm_rules.specs.Rules.{IsLimit, Rules};
 ghost use Rattle.tm_reassembly.specs.State.{State};
+ghost use Rattle.tm_reassembly.specs.Steps.{progress_in};
 ghost use Rattle.tm_reassembly.specs.Valid.{IsState};
 ghost use Rattle.tm_tool.specs.declared.version.Version.TheVariants as version;
 ghost use Rattle.tm_tool.specs.Checkpoints.{AsksMemory, IsWork, checkpoint_of, check_holds, form_of, framed, head_octets, inner, job_of, presence_octet, resumed, says_settings, settings_octets, state_in, tells, three, with_check, with_entries, with_state};
@@ -239,7 +240,7 @@ fn decode_state(
     octets: &[u8],
 ) -> Result<(Reassembly, usize), StateFault>
     ensures ok { IfOk result (λ read. state_in version settings.now octets.now ≡ Ok (record { state = read.0.state; octets = read.1 })) }
-    ensures same { IfOk result (λ read. read.0 ≡ record { rules = settings.now; state = read.0.state; failed = false }) }
+    ensures same { IfOk result (λ read. read.0 ≡ progress_in settings.now read.0.state) }
     ensures refused { IfErr result (λ fault. (state_in version settings.now octets.now ≡ Err fault)
         ⊎ ((fault ≡ found.NoMemory) × IsOk (state_in version settings.now octets.now))) }
 {
@@ -261,7 +262,7 @@ fn read_state(
     octets: &[u8],
 ) -> Result<(Reassembly, usize), CheckpointFault>
     ensures ok { IfOk result (λ read. state_in version settings.now octets.now ≡ Ok (record { state = read.0.state; octets = read.1 })) }
-    ensures same { IfOk result (λ read. read.0 ≡ record { rules = settings.now; state = read.0.state; failed = false }) }
+    ensures same { IfOk result (λ read. read.0 ≡ progress_in settings.now read.0.state) }
     ensures valid { IfOk result (λ read. IsState read.0.rules read.0.state) }
     ensures inside { IfOk result (λ read. read.1 ≤ length octets.now) }
     ensures refused { IfErr result (λ found. found ≢ CheckpointFault.NoMemory → with_state settings.now octets.now (state_in version settings.now octets.now) ≡ Err found) }

@@ -44,7 +44,7 @@ returns-then-has-clause-left g c =
 
 pub returns-then-has-clause-limit : goal.returns-then-has-clause-limit
 returns-then-has-clause-limit g c =
-    on_ok_weaker c.take_frame.result (λ h. limit_slot c.args.rules.now c.args.seen c.args.master.now c.args.kept.now c.requires.state c.requires.limit c.channel-channel.result c.index-kept-channel.result _ c.channel-channel.ensures.below c.take_frame.ensures.limit) c.take_frame.ensures.left
+    on_ok_weaker c.take_frame.result (λ h. limit_slot c.args.rules.now c.args.seen c.args.master.now c.args.kept.now c.requires.state c.requires.limit c.channel-channel.result c.index-kept-channel.result _ c.channel-channel.ensures.below c.take_frame.ensures.limit c.take_frame.ensures.room) c.take_frame.ensures.left
 
 pub returns-then-has-clause-refused : goal.returns-then-has-clause-refused
 returns-then-has-clause-refused g c =

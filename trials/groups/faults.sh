@@ -25,6 +25,7 @@ faults() {
     settings_faults
     definition_faults
     checkpoint_faults
+    order_of_faults
     run_faults
     memory_faults
     wide_row
@@ -164,6 +165,19 @@ checkpoint_faults() {
     gives "an empty recording behind a checkpoint" 2 "tmx: recording is shorter than the checkpoint" "$packets --resume later --report r /dev/null"
     forged last "$head ffffffff 00 $none 0000"
     gives "a checkpoint after 2^32 - 1 records" 2 "tmx: recording is shorter than the checkpoint" "$packets --resume last --report r $rec"
+}
+
+# Where more than one step would be refused, the first of them is.
+order_of_faults() {
+    local ends="--report missing/r missing.rec" later
+    later="--definition missing.csv --apid 1 --resume missing.chk $ends"
+    gives "the words before the settings" 2 "tmx: --stop-after needs --checkpoint" "$tmx packets --settings missing.toml --stop-after 5 $ends"
+    gives "the settings before the definition" 1 "tmx: missing.toml: failed" "$tmx fields --settings missing.toml $later"
+    gives "the definition before the checkpoint" 1 "tmx: missing.csv: failed" "$tmx fields --settings $s $later"
+    gives "the checkpoint before the recording" 1 "tmx: missing.chk: failed" "$packets --resume missing.chk $ends"
+    gives "the recording before the report" 1 "tmx: missing.rec: failed" "$packets $ends"
+    gives "the report before the run" 1 "tmx: missing/r: failed" "$packets --report missing/r split"
+    gives "the run before its checkpoint" 1 "tmx: read failed" "$packets --report r --checkpoint missing/c split"
 }
 
 run_faults() {

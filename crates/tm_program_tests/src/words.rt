@@ -175,12 +175,31 @@ const HELP_OF_FRAMES: &str =
 const HELP_OF_PACKETS: &str =
     "Lists the packets of the chosen channels: one line for each\n\nUsage: tmx packets [OPTIONS] --settings <FILE> [RECORDING]\n\nArguments:\n  [RECORDING]  The recording; standard input if it is left out\n\nOptions:\n      --settings <FILE>    The settings of the recording: a TOML file\n      --report <FILE>      The report of what is bad or lost; standard error if it is left out\n      --checkpoint <FILE>  The checkpoint, written after the run, from which another run can go on\n      --stop-after <N>     Records to stop after, a number from 1 to 4294967295; needs --checkpoint\n      --resume <FILE>      The checkpoint of an earlier run, to go on from there\n  -h, --help               Print help\n";
 
+const HELP_OF_EXTRACT: &str =
+    "Extracts the packets of the chosen channels: their octets, with nothing between them\n\nUsage: tmx extract [OPTIONS] --settings <FILE> [RECORDING]\n\nArguments:\n  [RECORDING]  The recording; standard input if it is left out\n\nOptions:\n      --settings <FILE>    The settings of the recording: a TOML file\n      --report <FILE>      The report of what is bad or lost; standard error if it is left out\n      --checkpoint <FILE>  The checkpoint, written after the run, from which another run can go on\n      --stop-after <N>     Records to stop after, a number from 1 to 4294967295; needs --checkpoint\n      --resume <FILE>      The checkpoint of an earlier run, to go on from there\n  -h, --help               Print help\n";
+
+const HELP_OF_SPLIT: &str =
+    "Extracts the packets of the chosen channels to a file for each application\n\nUsage: tmx split [OPTIONS] --settings <FILE> --dir <DIR> [RECORDING]\n\nArguments:\n  [RECORDING]  The recording; standard input if it is left out\n\nOptions:\n      --settings <FILE>    The settings of the recording: a TOML file\n      --dir <DIR>          The folder for the files, which has to be there\n      --report <FILE>      The report of what is bad or lost; standard error if it is left out\n      --checkpoint <FILE>  The checkpoint, written after the run, from which another run can go on\n      --stop-after <N>     Records to stop after, a number from 1 to 4294967295; needs --checkpoint\n      --resume <FILE>      The checkpoint of an earlier run, to go on from there\n  -h, --help               Print help\n";
+
+const HELP_OF_FIELDS: &str =
+    "Reads the fields of an application's packets: a row of CSV for each packet\n\nUsage: tmx fields [OPTIONS] --settings <FILE> --definition <FILE> --apid <N> [RECORDING]\n\nArguments:\n  [RECORDING]  The recording; standard input if it is left out\n\nOptions:\n      --settings <FILE>    The settings of the recording: a TOML file\n      --definition <FILE>  The definition of the fields: a CSV file\n      --apid <N>           The application whose packets are read: a number from 0 to 2047\n      --report <FILE>      The report of what is bad or lost; standard error if it is left out\n      --checkpoint <FILE>  The checkpoint, written after the run, from which another run can go on\n      --stop-after <N>     Records to stop after, a number from 1 to 4294967295; needs --checkpoint\n      --resume <FILE>      The checkpoint of an earlier run, to go on from there\n  -h, --help               Print help\n";
+
+// Words that ask for help, and the help.
+const HELPS: [(&[&str], &str); 6] = [
+    (&["--help"], HELP),
+    (&["frames", "--help"], HELP_OF_FRAMES),
+    (&["packets", "--help"], HELP_OF_PACKETS),
+    (&["extract", "--help"], HELP_OF_EXTRACT),
+    (&["split", "--help"], HELP_OF_SPLIT),
+    (&["fields", "--help"], HELP_OF_FIELDS),
+];
+
 #[test]
 fn texts_of_usage_and_help(rt: HostRuntime) {
     let alloc = rt.alloc();
     let text = usage_of(alloc, &["frames", "--settings", "s", "a", "b"]);
     assert!(rt; is_named(&text, USAGE));
-    assert!(rt; is_named(&help_of(alloc, &["--help"]), HELP));
-    assert!(rt; is_named(&help_of(alloc, &["frames", "--help"]), HELP_OF_FRAMES));
-    assert!(rt; is_named(&help_of(alloc, &["packets", "--help"]), HELP_OF_PACKETS));
+    for (words, help) in HELPS {
+        assert!(rt; is_named(&help_of(alloc, words), help), "{help}");
+    }
 }

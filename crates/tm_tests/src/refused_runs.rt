@@ -1,5 +1,5 @@
 //! Checkpoints, listings and runs that are refused memory, one request after the other: what was written by then ends with a whole line or
-//! packet.
+//! packet. And runs that take none.
 
 use crate::bench::{Bench, By, records_of};
 use crate::checkpoints::{CHECKPOINT, LIMITED, VERSION_1, VERSION_2};
@@ -8,11 +8,11 @@ use crate::fields::TEXT;
 use crate::refused::{Tried, passes};
 use crate::runs::{
     BASE, FIELDS, FRAME_GAP, LONG_AT_ONCE, LONG_SPLIT_HEADER, POINTER_DROP_AND_SEQUENCE_GAP, Row,
-    TWELVE, octets_of, settings_of,
+    TWELVE, TWO_CHANNELS, octets_of, settings_of,
 };
 use std::alloc::Global;
 use tm_fields::Definition;
-use tm_memory::{Answer, made};
+use tm_memory::{Answer, Held, made};
 use tm_tool::{CheckpointFault, Command, Ending, Job, RunFault, Settings, Shelf, split};
 
 // A checkpoint, and the job that was resumed from it. It is written again.
@@ -347,5 +347,36 @@ fn run_by_fields(rt: HostRuntime) {
 fn split_recordings(rt: HostRuntime) {
     for row in reported_rows() {
         assert!(rt; passes_row(&rt, row, Way::Split), "{}", row.name);
+    }
+}
+
+// Devices for the two channels, whose packets have 72 octets and give no line in the report, with the job for the run.
+fn two_channels(alloc: Global, way: Way) -> Option<Running> {
+    let running = Running::new(alloc, &TWO_CHANNELS, way)?;
+    if running.out.len() == 72 && running.devices.job.is_some() {
+        Some(running)
+    } else {
+        None
+    }
+}
+
+// What a run answers while all memory is held: there is none even for one octet. Where nothing can be held there is ample memory.
+fn in_held_memory(rt: &HostRuntime, running: &mut Running) -> Answer {
+    let held = Held::new(rt);
+    let alloc = rt.alloc();
+    if held.blocks() > 0 && octets_of(alloc, "55").is_some() {
+        return Answer::NotMade;
+    }
+    running.once(alloc)
+}
+
+// A run whose report has no line takes no memory behind its job: with none left it closes the recording and gives all.
+#[test]
+fn closed_without_memory(rt: HostRuntime) {
+    for way in [Way::Extract, Way::Split] {
+        let running = made(|| two_channels(rt.alloc(), way));
+        let mut running = running.expect(&rt, "devices");
+        let answer = in_held_memory(&rt, &mut running);
+        assert_eq!(rt; answer, Answer::Right);
     }
 }

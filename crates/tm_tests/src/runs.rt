@@ -1,8 +1,7 @@
 //! Recordings with their packets, and with the report of what is lost.
 
-use crate::bench::{Bench, By};
 use std::alloc::{AllocError, Global};
-use tm_tool::{Command, Settings};
+use tm_tool::Settings;
 
 pub(crate) const BASE: &str = "spacecraft = 42\nframe_length = 24\nerror_control = false\n";
 
@@ -658,26 +657,4 @@ pub(crate) fn octets_of(alloc: Global, text: &str) -> Option<Vec<u8>> {
 /// The settings of a text.
 pub(crate) fn settings_of(alloc: Global, text: &str) -> Option<Settings> {
     Settings::read(alloc, text.as_bytes()).ok()
-}
-
-// What `extract` writes of the two channels goes into a drain that has room for just these octets, and nothing goes into the report.
-fn is_in_room(alloc: Global) -> Option<bool> {
-    let octets = octets_of(alloc, TWO_CHANNELS.octets)?;
-    let mut bench = Bench::new(alloc, BASE, TWO_CHANNELS.recording, 65_536)?;
-    bench.out.octets.try_reserve_exact(72).ok()?;
-    let capacity = bench.out.octets.capacity();
-    let answer = bench.close(alloc, By::Run(Command::Extract));
-    Some(
-        octets.len() == 72
-            && answer == Ok(4)
-            && bench.has_given(&octets, b"")
-            && bench.out.octets.capacity() == capacity,
-    )
-}
-
-// What is seen here are the answer and the octets, and that the drain didn't grow. That the run takes no memory at all after the job was
-// made isn't seen. It is tried by hand: by `rt try --test --fail-alloc N` the test fails only for an allocation before the run.
-#[test]
-fn reads_no_further(rt: HostRuntime) {
-    assert!(rt; is_in_room(rt.alloc()) == Some(true));
 }

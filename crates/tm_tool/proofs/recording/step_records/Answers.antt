@@ -13,8 +13,7 @@ returns-in-Err-clause-stopped g c =
     let same = c.requires.exact in
     let stopped = subst (λ n. PassingStopped n c.args.reassembly.now.state.records (g.R.Source.left c.args.recording.now) (g.R.Source.left c.skip_records.new.recording) c.in-Err.fault) same
     (rw c.records-done.ensures at c.in-Err.ensures.stopped) in
-    passing_stopped g.O.Outlet.grows g.met.O.Outlet.grows_nil g.met.O.Outlet.grows_trans (g.O.Outlet.text (g.O.Outlet.fixed c.args.output.now.outlet.now)) c.args.ending (work_of c.args.reassembly.now c.args.output.now.tracker.now) c.requires.valid g.O.Outlet.way (g.R.Source.left c.args.recording.now) (g.R.Source.left c.skip_records.new.recording)
-    (view (g.O.Outlet.held c.args.output.now.outlet.now) (g.V.Drain.written c.args.output.now.report.now) (g.O.Outlet.failures c.args.output.now.outlet.now) (g.V.Drain.failures c.args.output.now.report.now))
+    passing_stopped g.O.Outlet.grows g.met.O.Outlet.grows_nil g.met.O.Outlet.grows_trans _ c.args.ending _ c.requires.valid g.O.Outlet.way _ _ _
     c.in-Err.fault stopped
 
 pub loop-ending-init : goal.loop-ending-init
@@ -33,7 +32,7 @@ loop-ending-init g c =
       reads = c.in_default.ensures.counts;
       done = c.records-done.ensures;
       reached = rw c.records-done.ensures (first_reached c.args.ending c.args.reassembly.now.state.records);
-      taken = taken_first g.O.Outlet.grows g.met.O.Outlet.grows_nil g.met.O.Outlet.grows_trans (g.O.Outlet.text (g.O.Outlet.fixed c.args.output.now.outlet.now)) c.args.ending (work_of c.args.reassembly.now c.args.output.now.tracker.now) c.requires.valid _ _ _ passed;
+      taken = taken_first g.O.Outlet.grows g.met.O.Outlet.grows_nil g.met.O.Outlet.grows_trans _ c.args.ending _ c.requires.valid _ _ _ passed;
     }
 
 pub returns-then-not-wants_more-clause-stepped : goal.returns-then-not-wants_more-clause-stepped
@@ -42,8 +41,7 @@ returns-then-not-wants_more-clause-stepped g c =
     let enough : Enough c.args.ending c.args.reassembly.now.state.records c.loop-ending.reassembly.state.records =
     rw (inv.done, c.records.ensures) at (c.wants_more.ensures.enough (search rules)) in
     let reached = rw inv.done at inv.reached in
-    taken_enough g.O.Outlet.grows g.met.O.Outlet.grows_nil g.met.O.Outlet.grows_trans (g.O.Outlet.text (g.O.Outlet.fixed c.args.output.now.outlet.now)) c.args.ending (work_of c.args.reassembly.now c.args.output.now.tracker.now) c.requires.valid (g.R.Source.left c.args.recording.now) (g.R.Source.left c.loop-ending.recording) (view (g.O.Outlet.held c.args.output.now.outlet.now) (g.V.Drain.written c.args.output.now.report.now) (g.O.Outlet.failures c.args.output.now.outlet.now) (g.V.Drain.failures c.args.output.now.report.now))
-    (view (g.O.Outlet.held c.loop-ending.output.outlet.now) (g.V.Drain.written c.loop-ending.output.report.now) (g.O.Outlet.failures c.loop-ending.output.outlet.now) (g.V.Drain.failures c.loop-ending.output.report.now)) (work_of c.loop-ending.reassembly c.loop-ending.output.tracker.now)
+    taken_enough g.O.Outlet.grows g.met.O.Outlet.grows_nil g.met.O.Outlet.grows_trans _ c.args.ending _ c.requires.valid _ _ _ _ _
     inv.taken (just_enough c.args.ending c.args.reassembly.now.state.records c.loop-ending.reassembly.state.records reached enough)
 
 pub returns-in_default-fill-clause-stopped : goal.returns-in_default-fill-clause-stopped
@@ -76,9 +74,7 @@ returns-in-Err-step_into-clause-stopped g c =
     let exact : length c.fill.new.buffer ≡ record_length_of c.args.reassembly.now.rules.layout = omega (arith, inv.exact) in
     let got = subst (Consumes (g.R.Source.left c.loop-ending.recording) (g.R.Source.left c.fill.new.source)) (take_all c.in-Ok.octets c.fill.new.buffer (omega arith)) c.in-Ok.ensures.octets in
     let stopped = rw inv.out at c.in-Err-step_into.ensures.written in
-    taken_stopped g.O.Outlet.grows g.met.O.Outlet.grows_nil g.met.O.Outlet.grows_trans (g.O.Outlet.text (g.O.Outlet.fixed c.args.output.now.outlet.now)) c.args.ending (work_of c.args.reassembly.now c.args.output.now.tracker.now) c.requires.valid (g.R.Source.left c.args.recording.now) (g.R.Source.left c.loop-ending.recording) (g.R.Source.left c.fill.new.source) (view (g.O.Outlet.held c.args.output.now.outlet.now) (g.V.Drain.written c.args.output.now.report.now) (g.O.Outlet.failures c.args.output.now.outlet.now) (g.V.Drain.failures c.args.output.now.report.now))
-    (view (g.O.Outlet.held c.loop-ending.output.outlet.now) (g.V.Drain.written c.loop-ending.output.report.now) (g.O.Outlet.failures c.loop-ending.output.outlet.now) (g.V.Drain.failures c.loop-ending.output.report.now))
-    (view (g.O.Outlet.held c.step_into.new.output.outlet.now) (g.V.Drain.written c.step_into.new.output.report.now) (g.O.Outlet.failures c.step_into.new.output.outlet.now) (g.V.Drain.failures c.step_into.new.output.report.now)) (work_of c.loop-ending.reassembly c.loop-ending.output.tracker.now)
+    taken_stopped g.O.Outlet.grows g.met.O.Outlet.grows_nil g.met.O.Outlet.grows_trans _ c.args.ending _ c.requires.valid _ _ _ _ _ _ _
     c.fill.new.buffer inv.taken got wanted g.O.Outlet.way c.in-Err-step_into.fault exact stopped
 
 pub loop-ending-smaller : goal.loop-ending-smaller
@@ -108,8 +104,6 @@ loop-ending-preserved g c =
       reads = c.in-Ok.ensures.counts ∙ inv.reads;
       done = inv.done;
       reached = more_reached c.args.ending c.records-done.result c.loop-ending.reassembly.state.records _ wanted next;
-      taken = taken_more g.O.Outlet.grows g.met.O.Outlet.grows_nil g.met.O.Outlet.grows_trans (g.O.Outlet.text (g.O.Outlet.fixed c.args.output.now.outlet.now)) c.args.ending (work_of c.args.reassembly.now c.args.output.now.tracker.now) c.requires.valid (g.R.Source.left c.args.recording.now) (g.R.Source.left c.loop-ending.recording) (g.R.Source.left c.fill.new.source) (view (g.O.Outlet.held c.args.output.now.outlet.now) (g.V.Drain.written c.args.output.now.report.now) (g.O.Outlet.failures c.args.output.now.outlet.now) (g.V.Drain.failures c.args.output.now.report.now))
-          (view (g.O.Outlet.held c.loop-ending.output.outlet.now) (g.V.Drain.written c.loop-ending.output.report.now) (g.O.Outlet.failures c.loop-ending.output.outlet.now) (g.V.Drain.failures c.loop-ending.output.report.now))
-          (view (g.O.Outlet.held c.step_into.new.output.outlet.now) (g.V.Drain.written c.step_into.new.output.report.now) (g.O.Outlet.failures c.step_into.new.output.outlet.now) (g.V.Drain.failures c.step_into.new.output.report.now)) (work_of c.loop-ending.reassembly c.loop-ending.output.tracker.now)
+      taken = taken_more g.O.Outlet.grows g.met.O.Outlet.grows_nil g.met.O.Outlet.grows_trans _ c.args.ending _ c.requires.valid _ _ _ _ _ _ _
           c.fill.new.buffer inv.taken got _ exact written ens.work;
     }

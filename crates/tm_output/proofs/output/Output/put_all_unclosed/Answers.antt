@@ -41,9 +41,7 @@ loop-unclosed-preserved g c =
       below = omega (arith, c.in-Some.ensures.below);
       done = inv.done ++ c.in-Some.unclosed ∷ [];
       parted = parted_more c.args.self.now.tracker.now inv.done c.loop-unclosed.at c.in-Some.unclosed inv.parted is;
-      took = unclosed_more g.O.Outlet.grows g.met.O.Outlet.grows_nil g.met.O.Outlet.grows_trans (view (g.O.Outlet.held c.args.self.now.outlet.now) (g.V.Drain.written c.args.self.now.report.now) (g.O.Outlet.failures c.args.self.now.outlet.now) (g.V.Drain.failures c.args.self.now.report.now))
-          (view (g.O.Outlet.held c.loop-unclosed.self.outlet.now) (g.V.Drain.written c.loop-unclosed.self.report.now) (g.O.Outlet.failures c.loop-unclosed.self.outlet.now) (g.V.Drain.failures c.loop-unclosed.self.report.now))
-          (view (g.O.Outlet.held c.put_unclosed.new.self.outlet.now) (g.V.Drain.written c.put_unclosed.new.self.report.now) (g.O.Outlet.failures c.put_unclosed.new.self.outlet.now) (g.V.Drain.failures c.put_unclosed.new.self.report.now))
+      took = unclosed_more g.O.Outlet.grows g.met.O.Outlet.grows_nil g.met.O.Outlet.grows_trans _ _ _
           c.args.seen inv.done c.in-Some.unclosed inv.took ens.written;
     }
 
@@ -52,9 +50,7 @@ returns-in-Err-clause-written g c =
     let inv = c.loop-unclosed.invariant in
     let is = sym (c.in-Some.ensures.value ∙ ap (λ (e : Entries). next_unclosed_of e c.loop-unclosed.at) inv.tracker) in
     let stopped = c.in-Err.ensures.written in
-    unclosed_stopped g.O.Outlet.grows g.met.O.Outlet.grows_nil g.met.O.Outlet.grows_trans (view (g.O.Outlet.held c.args.self.now.outlet.now) (g.V.Drain.written c.args.self.now.report.now) (g.O.Outlet.failures c.args.self.now.outlet.now) (g.V.Drain.failures c.args.self.now.report.now))
-    (view (g.O.Outlet.held c.loop-unclosed.self.outlet.now) (g.V.Drain.written c.loop-unclosed.self.report.now) (g.O.Outlet.failures c.loop-unclosed.self.outlet.now) (g.V.Drain.failures c.loop-unclosed.self.report.now))
-    (view (g.O.Outlet.held c.put_unclosed.new.self.outlet.now) (g.V.Drain.written c.put_unclosed.new.self.report.now) (g.O.Outlet.failures c.put_unclosed.new.self.outlet.now) (g.V.Drain.failures c.put_unclosed.new.self.report.now))
+    unclosed_stopped g.O.Outlet.grows g.met.O.Outlet.grows_nil g.met.O.Outlet.grows_trans _ _ _
     c.args.seen inv.done c.in-Some.unclosed inv.took c.args.self.now.tracker.now c.loop-unclosed.at g.O.Outlet.way c.in-Err.fault inv.parted is stopped
 
 pub returns-clause-written : goal.returns-clause-written

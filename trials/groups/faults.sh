@@ -27,7 +27,9 @@ faults() {
     checkpoint_faults
     order_of_faults
     run_faults
+    report_unbegun
     memory_faults
+    full_shelf
     wide_row
 }
 
@@ -187,6 +189,12 @@ run_faults() {
     gives "a recording that is missing" 1 "tmx: missing.rec: failed" "$packets missing.rec"
     gives "an empty name of a recording" 1 "tmx: : failed" "$packets ''"
     gives "a recording with a long name" 1 "tmx: $(printf 'a%.0s' $(seq 5000)): failed" "$packets $(printf 'a%.0s' $(seq 5000))"
+    cp "$rec" ./-
+    gives "a recording named -" 0 "" "$packets --report r -"
+    tell "a recording named -: all of it" "$(cmp out expected/packets 2>&1)"
+    cp "$rec" $' n\xc3\xa9\n'
+    gives "a recording with a space and a line end in its name" 0 "" "$packets --report r \$' n\xc3\xa9\n'"
+    tell "a recording with a space and a line end in its name: all of it" "$(cmp out expected/packets 2>&1)"
     cp "$rec" own.rec
     cp "$s" own.toml
     cp "$example/attitude.csv" own.csv
@@ -195,14 +203,27 @@ run_faults() {
     gives "the report over the settings" 1 "tmx: own.toml: failed" "$used --report own.toml own.rec"
     gives "the report over the definition" 1 "tmx: own.csv: failed" "$used --report own.csv own.rec"
     gives "the report over the checkpoint" 1 "tmx: c: failed" "$used --report c --checkpoint c own.rec"
+    echo before >r
     gives "the checkpoint over the recording" 1 "tmx: own.rec: failed" "$used --report r --checkpoint own.rec own.rec"
     gives "the checkpoint over the settings" 1 "tmx: own.toml: failed" "$used --report r --checkpoint own.toml own.rec"
     cp "$rec" own.new
     gives "the checkpoint by way of the recording" 1 "tmx: own: failed" "$used --report r --checkpoint own own.new"
     tell "the recording is as it was" "$(cmp "$rec" own.new)"
+    tell "the report is as it was where the checkpoint is refused its name" "$(echo before | cmp - r 2>&1)"
     gives "the checkpoint by way of the report" 1 "tmx: own: failed" "$used --report own.new --checkpoint own own.rec"
     gives "split to an empty name of a folder" 1 "tmx: : failed" "$tmx split --settings own.toml --dir '' --report r own.rec"
     tell "the files that are read are as they were" "$(cmp "$rec" own.rec; cmp "$s" own.toml; cmp "$example/attitude.csv" own.csv)"
+}
+
+# A report is not begun where a file that is read is refused.
+report_unbegun() {
+    local used="--definition missing --apid 101"
+    echo before >r
+    gives "a report beside settings that are missing" 1 "tmx: missing: failed" "$tmx packets --settings missing --report r $rec"
+    gives "a report beside a definition that is missing" 1 "tmx: missing: failed" "$tmx fields --settings $s $used --report r $rec"
+    gives "a report beside a recording that is missing" 1 "tmx: missing: failed" "$packets --report r missing"
+    gives "a report beside a checkpoint that is missing" 1 "tmx: missing: failed" "$packets --resume missing --report begun $rec"
+    tell "the report is as it was where a file is refused" "$(echo before | cmp - r 2>&1; ls begun 2>/dev/null)"
 }
 
 # From no memory up to enough: what a command gives must be the loader's refusal, `out of memory`, or all. What was
@@ -234,6 +255,13 @@ memory_faults() {
         tell "$1 with little memory" "$wrong"
         echo "note $1: out of memory from $least to $most KiB of address space"
     done
+}
+
+# Packets that there is no memory to hold.
+full_shelf() {
+    for _ in $(seq 200); do cat "$rec"; done >many.rec
+    gives "split with no memory to hold its packets" 3 "tmx: out of memory" "ulimit -v 8192; $split --report r many.rec"
+    rm many.rec
 }
 
 # A thousand fields that each are nearly all of the longest packet, which lies over 33 frames: a row of 262 MB.

@@ -37,6 +37,9 @@ files() {
     filled settings.over "$s" 1048577
     gives "settings of 1 MiB" 0 "" "$tmx packets --settings settings.full --report r $rec"
     gives "settings of 1 MiB and an octet" 2 "tmx: settings.over: too long" "$tmx packets --settings settings.over $rec"
+    { head -c $((1048576 - $(stat -c %s "$s"))) /dev/zero | tr '\0' '\n'; cat "$s"; } >settings.late
+    gives "settings at the end of 1 MiB" 0 "" "$tmx packets --settings settings.late --report r $rec"
+    tell "settings at the end of 1 MiB: all of the output" "$(cmp out expected/packets 2>&1)"
     filled fields.full "$example/attitude.csv" 1048576
     filled fields.over "$example/attitude.csv" 1048577
     gives "definition of 1 MiB" 0 "" "$tmx fields --settings $s --definition fields.full --apid 101 --report r $rec"

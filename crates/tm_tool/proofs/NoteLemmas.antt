@@ -1,7 +1,6 @@
 -- The notes of packets that are taken one by one are those of the whole list of their headers.
-use Rattle.std.proofs.Common.{◌≡◌, ◌<◌, ◌+◌, ℕ, Bool, true, false, Option, None, Some, List, [], ◌∷◌, ◌++◌, drop, length, refl, sym, ap, ◌∙◌, append-nil, inl, inr}
-use Rattle.std.specs.Prelude.{nat_lt, if◌then◌else◌, slice_index_or}
-use Rattle.std.specs.List.{flat_map}
+use Rattle.std.proofs.Common.{◌≡◌, ◌<◌, ◌+◌, ℕ, Bool, true, false, Option, None, Some, List, [], ◌∷◌, ◌++◌, refl, sym, ap, ◌∙◌, append-nil, inl, inr}
+use Rattle.std.specs.Prelude.{nat_lt, if◌then◌else◌}
 use Rattle.std.proofs.lemmas.Bool.{eq-eqb}
 use Rattle.tm_packet.specs.declared.notes.Note.{Note}
 use Rattle.tm_packet.specs.Merge as sequence
@@ -66,8 +65,10 @@ module _ {A : Type 0} (text : Texts A) (entries : Entries) (more : List Item) wh
   one_is (Vca seen channel) others = refl
   one_is (Dropped seen channel first place octets reason) others = refl
   one_is (Packet seen channel first place octets) others =
-      ap (λ (notes : List Note). record { out = text.out (Packet seen channel first place octets);
-      report = report_with notes (Packet seen channel first place octets) ++ text.remark (Packet seen channel first place octets) }
+      ap (λ (notes : List Note). record {
+        out = text.out (Packet seen channel first place octets);
+        report = report_with notes (Packet seen channel first place octets) ++ text.remark (Packet seen channel first place octets);
+      }
       ∷ pieces_with text others more)
       (append-nil (sequence.notes_at entries [] (sent channel octets) []))
   one_is (Short seen octets) others = refl

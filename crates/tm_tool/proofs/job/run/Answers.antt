@@ -1,4 +1,4 @@
-use Rattle.std.proofs.Common.{◌++◌, length, take, drop, length-append, length-drop, arith}
+use Rattle.std.proofs.Common.{◌++◌, length, drop, length-append, length-drop, arith}
 use Rattle.std.specs.Io.KnownBytes.{Appends}
 use Rattle.std.proofs.KnownBytes.{Appends-nil, Appends-trans}
 use Rattle.std.proofs.lemmas.List.{length-take}

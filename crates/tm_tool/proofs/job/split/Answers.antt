@@ -1,4 +1,4 @@
-use Rattle.std.proofs.Common.{◌++◌, length, take, drop, length-append, length-drop, refl, arith}
+use Rattle.std.proofs.Common.{◌++◌, length, drop, length-append, length-drop, refl, arith}
 use Rattle.std.proofs.lemmas.List.{length-take}
 use Rattle.tm_output.specs.Shelves.{Shelves}
 use Rattle.tm_output.specs.ShelfLaws.{shelves_nil, shelves_trans}

@@ -1,6 +1,4 @@
-use Rattle.std.proofs.Common.{◌≡◌, ◌<◌, ◌∙◌, ℕ, true, subst, List}
-use Rattle.tm_reassembly.specs.Among.{Among, is_of}
-use Rattle.tm_reassembly.specs.Item.{Item}
+use Rattle.std.proofs.Common.{◌<◌, ◌∙◌, ℕ, subst}
 use Rattle.tm_reassembly.proofs.ItemChannels.{item-channel}
 use Rattle.tm_output.specs.Pieces.{items_of, worked}
 use Rattle.tm_tool.proofs.NoteLemmas.{noted_all_is, open_is, pieces_noted}

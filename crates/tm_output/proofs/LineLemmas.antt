@@ -5,7 +5,7 @@ use Rattle.tm_frame.specs.declared.fault.FrameFault.{FrameFault}
 use Rattle.tm_packet.specs.Header.{Fields}
 use Rattle.tm_packet.specs.declared.notes.Note.{Note}
 use Rattle.tm_packet.specs.declared.notes.Note.TheVariants.{Gap, Broken, Whole, Stray}
-use Rattle.tm_reassembly.specs.declared.items.Reason.{Reason}
+use Rattle.tm_items.specs.declared.items.Reason.{Reason}
 use Rattle.tm_output.proofs.ListingLemmas.{concat-append, concat-one}
 use Rattle.tm_output.specs.Lines.{bad_line, drop_line, gap_line, master_gap_line, note_line, packet_line, short_line, short_packet_line, vca_line}
 

@@ -10,9 +10,9 @@ use Rattle.tm_packet.specs.Header.{Fields, header_of, reading_of, version_of}
 use Rattle.tm_packet.specs.Merge as sequence
 use Rattle.tm_packet.specs.Merge.{Sent}
 use Rattle.tm_packet.proofs.HeaderLemmas.{reading_ok}
-use Rattle.tm_reassembly.specs.Item.{Item, Bad, MasterGap, Gap, Vca, Dropped, Packet, Short}
-use Rattle.tm_reassembly.specs.Sinks.{IsOnePacket}
-use Rattle.tm_reassembly.proofs.Reach.{reach-least}
+use Rattle.tm_items.specs.Item.{Item, Bad, MasterGap, Gap, Vca, Dropped, Packet, Short}
+use Rattle.tm_items.specs.OnePacket.{IsOnePacket}
+use Rattle.tm_items.proofs.Reach.{reach-least}
 use Rattle.tm_output.specs.Lines.{note_lines}
 use Rattle.tm_output.specs.Pieces.{Entries, HasLine, line_of, notes_of, report_of}
 use Rattle.tm_output.proofs.LineLemmas.{some_note}

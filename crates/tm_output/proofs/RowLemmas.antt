@@ -10,7 +10,7 @@ use Rattle.tm_fields.specs.Numbers.{bits_in}
 use Rattle.tm_fields.specs.Rows.{bits_needed, lead_texts, printed, row_from, row_of}
 use Rattle.tm_fields.proofs.LineLemmas.{some_text}
 use Rattle.tm_packet.specs.Header.{Fields, header_of}
-use Rattle.tm_reassembly.specs.Item.{Packet}
+use Rattle.tm_items.specs.Item.{Packet}
 use Rattle.tm_output.specs.FieldRows.{lead_of, row_in, tabled}
 
 -- what is made under the numbers of a packet's header is its row

@@ -6,7 +6,7 @@ use Rattle.tm_fields.specs.declared.field.Field.{Field}
 use Rattle.tm_fields.specs.declared.lead.Lead.{Lead}
 use Rattle.tm_fields.specs.Rows.{row_from}
 use Rattle.tm_packet.specs.Header.{header_of}
-use Rattle.tm_reassembly.specs.Item.{Item, Packet}
+use Rattle.tm_items.specs.Item.{Item, Packet}
 use Rattle.tm_output.specs.Lines.{short_packet_line}
 
 -- what the row of a packet begins with

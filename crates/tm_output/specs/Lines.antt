@@ -14,8 +14,8 @@ use Rattle.tm_packet.specs.declared.notes.Note.TheVariants as note
 use Rattle.tm_packet.specs.declared.notes.Why.{Why}
 use Rattle.tm_packet.specs.declared.notes.Why.TheVariants as why
 use Rattle.tm_packet.specs.Header.{Fields}
-use Rattle.tm_reassembly.specs.declared.items.Reason.{Reason}
-use Rattle.tm_reassembly.specs.Reasons as reason
+use Rattle.tm_items.specs.declared.items.Reason.{Reason}
+use Rattle.tm_items.specs.Reasons as reason
 
 abbrev pub kind_word : Kind → List ℕ
 kind_word (Packets place) = codes "packets"

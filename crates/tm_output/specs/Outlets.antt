@@ -1,7 +1,7 @@
 -- Where packets go: what is known of it, and how it grows.
 use Rattle.std.specs.Prelude.{◌≡◌, ◌≢◌, refl, ℕ, true, List, []}
 use Rattle.tm_fields.specs.declared.field.Field.{Field}
-use Rattle.tm_reassembly.specs.Item.{Item, Bad, MasterGap, Gap, Vca, Dropped, Packet, Short}
+use Rattle.tm_items.specs.Item.{Item, Bad, MasterGap, Gap, Vca, Dropped, Packet, Short}
 use Rattle.tm_devices.specs.Devices.{raised}
 use Rattle.tm_output.specs.declared.command.Command.{Command}
 use Rattle.tm_output.specs.declared.command.Command.TheVariants.{Extract, Packets, Fields}

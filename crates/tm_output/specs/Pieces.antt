@@ -1,7 +1,6 @@
--- The pieces of a recording: for each item what belongs to `out`, and its lines for the report.
-use Rattle.std.specs.Prelude.{⊤, ℕ, ◌/◌, ◌%◌, Bool, true, false, List, [], ◌∷◌, ◌++◌, length, map, take, drop, Option}
+-- The pieces of items: for each item what belongs to `out`, and its lines for the report.
+use Rattle.std.specs.Prelude.{⊤, ℕ, ◌/◌, ◌%◌, List, [], ◌∷◌, ◌++◌, length, map, Option}
 use Rattle.std.specs.List.{flat_map}
-use Rattle.tm_frame.specs.Layout.{record_length_of}
 use Rattle.tm_fields.specs.declared.field.Field.{Field}
 use Rattle.tm_packet.specs.declared.notes.Note.{Note}
 use Rattle.tm_packet.specs.declared.tracker.Last.{Last}
@@ -9,19 +8,12 @@ use Rattle.tm_packet.specs.declared.tracker.Unclosed.{Unclosed}
 use Rattle.tm_packet.specs.Header.{header_of}
 use Rattle.tm_packet.specs.Merge as sequence
 use Rattle.tm_packet.specs.Merge.{Sent}
-use Rattle.tm_reassembly.specs.Item.{Item, Bad, MasterGap, Gap, Vca, Dropped, Packet, Short}
-use Rattle.tm_reassembly.specs.Items.{closing}
-use Rattle.tm_reassembly.specs.Recording.{items, after}
-use Rattle.tm_rules.specs.Rules.{Rules}
-use Rattle.tm_reassembly.specs.State.{State}
+use Rattle.tm_items.specs.Item.{Item, Bad, MasterGap, Gap, Vca, Dropped, Packet, Short}
 use Rattle.tm_output.specs.declared.command.Command.{Command}
 use Rattle.tm_output.specs.declared.command.Command.TheVariants.{Extract, Packets, Fields}
-use Rattle.tm_output.specs.declared.command.Ending.{Ending}
-use Rattle.tm_output.specs.declared.command.Ending.TheVariants.{Close, Keep, StopAfter}
 use Rattle.tm_output.specs.FieldRows.{tabled, too_short}
 use Rattle.tm_output.specs.Lines.{bad_line, drop_line, gap_line, master_gap_line, note_line, note_lines, packet_line, short_line, vca_line}
 use Rattle.tm_output.specs.Outputs.{Piece, Way, lines_way, octets_way}
-use Rattle.tm_output.specs.Records.{records, rest_of}
 
 -- for each key what is kept of the sequence counts of its channel and application
 abbrev pub Entries : Type 0
@@ -122,60 +114,3 @@ unclosed_piece seen u = record { out = []; report = note_line seen (u.key / 2048
 -- those of all keys, by rising key
 abbrev pub unclosed_pieces : {A : Type 0} → ℕ → List Unclosed → List (Piece A)
 unclosed_pieces seen us = map (unclosed_piece seen) us
-
--- ---- of records
-
--- how far a job has got: what the settings say, the state of the channels, and the entries of the sequence counts
-pub record Work : Type 0 where
-  pub rules : Rules
-  pub state : State
-  pub entries : Entries
-
-abbrev pub items_of : Work → List (List ℕ) → List Item
-items_of w rs = items w.rules w.state rs
-
--- the job after more records
-abbrev pub worked : Work → List (List ℕ) → Work
-worked w rs = record {
-  rules = w.rules;
-  state = after w.rules w.state rs;
-  entries = noted_all w.entries (items_of w rs);
-}
-
--- ---- endings
-
--- of the records that follow those that are done an ending takes so many, or all
-abbrev pub chosen : {X : Type 0} → Ending → List X → List X
-chosen Close rs = rs
-chosen Keep rs = rs
-chosen (StopAfter n) rs = take n rs
-
--- the records of a recording that follow those that are done
-abbrev pub further : Work → List ℕ → List (List ℕ)
-further w recording = drop w.state.records (records (record_length_of w.rules.layout) recording)
-
-module _ {A : Type 0} (text : Texts A) where
-  -- the pieces of records
-  abbrev pub record_pieces : Work → List (List ℕ) → List (Piece A)
-  record_pieces w rs = pieces_of text w.entries (items_of w rs)
-
-  -- the pieces of a closed end, where so many octets are left: its items, and then the groups that are open
-  abbrev pub closing_pieces : Work → ℕ → List (Piece A)
-  closing_pieces w rest =
-      pieces_of text w.entries (closing w.state rest)
-      ++ unclosed_pieces w.state.records (sequence.unclosed 0 (noted_all w.entries (closing w.state rest)))
-
-  -- what follows the records at an ending: a closed end has its pieces, where a job is kept there is nothing
-  abbrev pub end_pieces : Ending → Work → ℕ → List (Piece A)
-  end_pieces Close w rest = closing_pieces w rest
-  end_pieces Keep w rest = []
-  end_pieces (StopAfter n) w rest = []
-
-  -- the pieces of records and of the ending, where so many octets are left
-  abbrev pub pieces_after : Ending → Work → List (List ℕ) → ℕ → List (Piece A)
-  pieces_after ending w rs rest = record_pieces w rs ++ end_pieces ending (worked w rs) rest
-
-  -- the pieces of a recording, from where the job has got
-  unfoldable pub pieces : Ending → Work → List ℕ → List (Piece A)
-  pieces ending w recording =
-      pieces_after ending w (chosen ending (further w recording)) (length (rest_of (record_length_of w.rules.layout) recording))

@@ -1,7 +1,7 @@
 -- Places for the packets of applications.
 use Rattle.std.specs.Prelude.{◌≡◌, ⊤, ℕ, false, ◌==◌, List, [], ◌∷◌, ◌++◌, map, Option, None, Some, if◌then◌else◌}
 use Rattle.tm_packet.specs.Header.{header_of}
-use Rattle.tm_reassembly.specs.Item.{Item, Packet}
+use Rattle.tm_items.specs.Item.{Item, Packet}
 use Rattle.tm_output.specs.Outputs.{Way}
 use Rattle.tm_output.specs.Pieces.{Texts, no_remark}
 

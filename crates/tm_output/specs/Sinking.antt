@@ -1,6 +1,6 @@
 -- What a sink of texts does with an item.
 use Rattle.std.specs.Prelude.{◌≡◌, List, [], ◌∷◌}
-use Rattle.tm_reassembly.specs.Item.{Item}
+use Rattle.tm_items.specs.Item.{Item}
 use Rattle.tm_output.specs.declared.fault.RunFault.{RunFault}
 use Rattle.tm_output.specs.Outputs.{View, Way, Took, Stopped}
 use Rattle.tm_output.specs.Pieces.{Entries, Texts, noted, piece_of}

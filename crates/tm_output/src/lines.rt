@@ -8,8 +8,8 @@ use itoa::{Buffer, Integer};
 use std::alloc::AllocError;
 use std::fmt::{self, Write};
 use tm_frame::{Frame, FrameFault, Kind};
+use tm_items::Reason;
 use tm_packet::{Flags, Header, Note, Why};
-use tm_reassembly::Reason;
 
 // The word of what a data field holds.
 fn kind_word(kind: Kind) -> &'static str

@@ -4,8 +4,8 @@ ghost use Rattle.std.specs.Prelude.{◌≡◌, ◌≢◌, ◌++◌, ◌==◌, []
 ghost use Rattle.std.specs.Io.KnownBytes.{Appends, Keeps};
 ghost use Rattle.std.proofs.KnownBytes.{Appends-nil, Appends-trans};
 ghost use Rattle.tm_packet.specs.Header.{header_of};
-ghost use Rattle.tm_reassembly.specs.Item as value;
-ghost use Rattle.tm_reassembly.specs.Item.{Item};
+ghost use Rattle.tm_items.specs.Item as value;
+ghost use Rattle.tm_items.specs.Item.{Item};
 ghost use Rattle.tm_devices.specs.Devices.{Counts};
 ghost use Rattle.tm_output.specs.Outlets.{GivesNone, PutStopped, no_text};
 ghost use Rattle.tm_output.specs.Outputs.{Way, lines_way, octets_way};

@@ -3,9 +3,10 @@
 ghost use Rattle.std.specs.Prelude.{◌≡◌, ◌≢◌, ◌<◌, ◌++◌, ◌∷◌, [], OnOk, OnErr, string_bytes};
 ghost use Rattle.std.specs.Io.KnownBytes.{Keeps};
 ghost use Rattle.tm_packet.specs.Merge as sequence;
-ghost use Rattle.tm_reassembly.specs.Item as value;
+ghost use Rattle.tm_items.specs.Item as value;
 ghost use Rattle.tm_packet.specs.Header.{header_of};
-ghost use Rattle.tm_reassembly.specs.Sinks.{item_of, IsOnePacket};
+ghost use Rattle.tm_items.specs.Sinks.{item_of};
+ghost use Rattle.tm_items.specs.OnePacket.{IsOnePacket};
 ghost use Rattle.tm_output.specs.Lines.{note_lines};
 ghost use Rattle.tm_output.specs.Outputs.{Written};
 ghost use Rattle.tm_output.specs.Pieces.{HasLine, line_of, noted, notes_of, piece_of, unclosed_piece, unclosed_pieces};
@@ -19,8 +20,8 @@ use crate::lines::{
 use crate::outlet::Outlet;
 use std::alloc::AllocError;
 use tm_devices::{Drain, put_all};
+use tm_items::{Item, Sink};
 use tm_packet::{Header, Notes, Tracker, Unclosed, read_header};
-use tm_reassembly::{Item, Sink};
 
 /// Writes the texts of the items that it takes. Lines are made in memory that is kept from item to item.
 #[derive(Drop)]

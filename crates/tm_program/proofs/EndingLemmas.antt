@@ -3,7 +3,8 @@ use Rattle.std.proofs.Common.{◌≡◌, ℕ, List, Option, None, Some, Result, 
 use Rattle.std.specs.Prelude.{IfOk, MatchOption}
 use Rattle.tm_output.specs.declared.command.Ending.{Ending}
 use Rattle.tm_output.specs.Outputs.{Piece, View, Way}
-use Rattle.tm_output.specs.Pieces.{Texts, Work}
+use Rattle.tm_output.specs.Pieces.{Texts}
+use Rattle.tm_tool.specs.RecordingPieces.{Work}
 use Rattle.tm_tool.specs.Runs.{HasEnded, IsHeadedRun, IsRun}
 use Rattle.tm_settings.specs.Settings.{Rules}
 use Rattle.tm_tool.specs.Jobs.{JobState, begun}

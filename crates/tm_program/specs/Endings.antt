@@ -1,6 +1,6 @@
 -- Where the run of a plan ends, and what is done then.
 use Rattle.std.specs.Prelude.{◌≡◌, ◌≤◌, ℕ, List, length, Option, Some, None}
-use Rattle.tm_output.specs.Pieces.{Work, worked}
+use Rattle.tm_tool.specs.RecordingPieces.{Work, worked}
 use Rattle.tm_tool.specs.Jobs.{JobState, begun}
 use Rattle.tm_tool.specs.Runs.{HasEnded, behind, kept_of}
 use Rattle.tm_settings.specs.Settings.{Rules}

@@ -10,7 +10,8 @@ use Rattle.tm_frame.specs.declared.layout.LayoutParts.{LayoutParts}
 use Rattle.tm_reassembly.specs.declared.fault.StateFault.{StateFault}
 use Rattle.tm_reassembly.specs.declared.fault.StateFault.TheVariants as fault
 use Rattle.tm_reassembly.specs.Checkpoint.{Read, ReadAll, two_at, four_at, is_unfinished, tail_read, flagged, block_read, blocks_read, in_front, and_then, master_read, with_channels, with_master, decoding_of, old_decoding_of}
-use Rattle.tm_reassembly.specs.Parts.{begins_packet, reach}
+use Rattle.tm_reassembly.specs.Parts.{begins_packet}
+use Rattle.tm_items.specs.OnePacket.{reach}
 use Rattle.tm_rules.specs.Rules.{Rules, IsLimit, chooses}
 use Rattle.tm_reassembly.specs.State.{Last}
 use Rattle.tm_reassembly.specs.Valid.{IsCount, IsState}

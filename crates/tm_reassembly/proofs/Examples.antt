@@ -7,12 +7,12 @@ use Rattle.tm_frame.specs.declared.layout.Presence.TheVariants.{Flag}
 use Rattle.tm_frame.specs.declared.fault.FrameFault.TheVariants.{Crc, Version}
 use Rattle.tm_frame.specs.ErrorControl.{error_control_of, long_division, subtract}
 use Rattle.tm_frame.specs.Fault.{fault_of}
-use Rattle.tm_reassembly.specs.declared.items.Reason.TheVariants as why
+use Rattle.tm_items.specs.declared.items.Reason.TheVariants as why
 use Rattle.tm_reassembly.specs.declared.fault.StateFault.TheVariants as fault
 use Rattle.tm_reassembly.specs.Checkpoint.{spelling, decoding_of, old_decoding_of, blocks_read, block_read, master_read}
 use Rattle.tm_rules.specs.Channels.{channels_of, all_channels, mask_of}
 use Rattle.tm_rules.specs.Rules.{Rules}
-use Rattle.tm_reassembly.specs.Item.{Item, Bad, MasterGap, Gap, Vca, Dropped, Packet, Short}
+use Rattle.tm_items.specs.Item.{Item, Bad, MasterGap, Gap, Vca, Dropped, Packet, Short}
 use Rattle.tm_reassembly.specs.Items.{empty, closing}
 use Rattle.tm_reassembly.specs.Recording.{items, after}
 

@@ -8,8 +8,9 @@ use Rattle.tm_reassembly.specs.Readings.{Reading}
 use Rattle.tm_reassembly.specs.Chain.{Member, Run, Runs, stem_of, stem_with, chain, frames, member_of, has_gap, runs, runs_after, with_member, cut_before}
 use Rattle.tm_reassembly.specs.Valid.{AllFit, PlaceFits, PlacesFit}
 use Rattle.tm_reassembly.specs.Verdict.{Verdict, verdict, completed_at_once, Grow, GrowFrom, is_whole}
-use Rattle.tm_reassembly.specs.Parts.{text, far_end, reach, begins_packet}
-use Rattle.tm_reassembly.proofs.Reach.{reach-settled, reach-unsettled}
+use Rattle.tm_reassembly.specs.Parts.{text, far_end, begins_packet}
+use Rattle.tm_items.specs.OnePacket.{reach}
+use Rattle.tm_items.proofs.Reach.{reach-settled, reach-unsettled}
 use Rattle.tm_reassembly.proofs.Settled.{open-settled, agreement-settled, long-settled, whole-settled}
 use Rattle.tm_reassembly.proofs.Split.{breaker-settled}
 use Rattle.tm_reassembly.proofs.Joining.{FitFrom}

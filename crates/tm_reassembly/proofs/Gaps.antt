@@ -2,7 +2,7 @@
 use Rattle.std.proofs.Common.{◌≡◌, ℕ, Bool, true, false, not, cond, Option, Some, None, [], ◌∷◌, refl, ap, ◌∙◌, eqb}
 use Rattle.std.proofs.lemmas.Bool.{cond-true, cond-false}
 use Rattle.tm_reassembly.specs.Chain.{Member, has_gap, next_count}
-use Rattle.tm_reassembly.specs.Item.{Item}
+use Rattle.tm_items.specs.Item.{Item}
 use Rattle.tm_reassembly.specs.Items.{gap_at}
 use Rattle.tm_reassembly.specs.Kept.{counted, missed}
 

@@ -6,9 +6,8 @@ use Rattle.tm_bits.specs.Bits.{part, bits_of, number}
 use Rattle.tm_bits.proofs.PartLemmas.{part-word, part-lt}
 use Rattle.tm_packet.specs.declared.header.PacketFault.{PacketFault}
 use Rattle.tm_packet.specs.Header.{Fields, version_of, header_of, reading_of}
-use Rattle.tm_reassembly.specs.Parts.{is_packet, reach}
-use Rattle.tm_reassembly.specs.Sinks.{IsOnePacket}
-use Rattle.tm_reassembly.proofs.Reach.{reach-short, reach-long, reach-least, reach-append}
+use Rattle.tm_items.specs.OnePacket.{is_packet, reach, IsOnePacket}
+use Rattle.tm_items.proofs.Reach.{reach-short, reach-long, reach-least, reach-append}
 
 pub version_first : (octets : List ℕ) → 0 < length octets → version_of (take 1 octets) ≡ version_of (get_or octets 0 0 ∷ [])
 version_first [] h = absurd (omega arith)

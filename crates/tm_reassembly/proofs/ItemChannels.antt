@@ -2,7 +2,7 @@
 use Rattle.std.proofs.Common.{◌≡◌, ℕ, suc, zero, ◌<◌, Bool, true, List, [], ◌∷◌, length, arith}
 use Rattle.tm_reassembly.specs.Among.{Among, is_of}
 use Rattle.tm_rules.specs.Channels.{is_chosen}
-use Rattle.tm_reassembly.specs.Item.{Item}
+use Rattle.tm_items.specs.Item.{Item}
 use Rattle.tm_rules.specs.Rules.{Rules}
 use Rattle.tm_reassembly.specs.Recording.{items}
 use Rattle.tm_reassembly.specs.State.{State}

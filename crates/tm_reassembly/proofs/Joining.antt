@@ -5,13 +5,12 @@ use Rattle.std.proofs.lemmas.List.{append-nil}
 use Rattle.std.proofs.lemmas.List.Concat.{flat_map-append}
 use Rattle.std.proofs.lemmas.Bool.{cond_both}
 use Rattle.tm_reassembly.specs.State.{Last, Tail}
-use Rattle.tm_reassembly.specs.Item.{Item, seen_of}
+use Rattle.tm_items.specs.Item.{Item, seen_of}
 pub use Rattle.tm_reassembly.specs.Tiles.{tail_of}
 use Rattle.tm_reassembly.specs.Chain.{Member, has_gap, stem_of, stem_with, Unended}
 use Rattle.tm_reassembly.specs.Parts.{Part}
 use Rattle.tm_reassembly.specs.Field.{chain_parts_at, chain_tail_at}
-use Rattle.tm_reassembly.specs.Items.{part_item, seen_at, gap_item, gaps, gap_at, vca_at, channel_items}
-use Rattle.tm_reassembly.specs.Sinks.{part_items}
+use Rattle.tm_reassembly.specs.Items.{part_item, seen_at, gap_item, gaps, gap_at, vca_at, channel_items, part_items}
 use Rattle.tm_reassembly.proofs.Step.{PlaceFits}
 use Rattle.tm_reassembly.proofs.Chained.{IsOpenTail, chained, chained_step, chained_end, chain_parts-stem, chain_parts-fresh, left_parts}
 use Rattle.tm_reassembly.proofs.Seen.{AllSeen, AllSeen-append, AllSeen-weaken, seen_at-append, seen_at-all, seen_at-none, part_items-at, chain_parts_at-at, chain_tail_at-open}

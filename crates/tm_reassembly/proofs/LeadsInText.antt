@@ -2,13 +2,13 @@
 use Rattle.std.proofs.Common.{◌≡◌, ℕ, ◌+◌, ◌≤◌, true, ◌&&◌, List, [], ◌∷◌, ◌++◌, length, refl, sym, ap, subst, ◌∙◌, ⊎_elim, inl, inr, arith, append_assoc, length-append}
 use Rattle.std.specs.List.{flat_map}
 use Rattle.std.proofs.lemmas.Bool.{cases_Bool, cond-true, cond-false}
-use Rattle.tm_reassembly.specs.declared.items.Reason.TheVariants as why
+use Rattle.tm_items.specs.declared.items.Reason.TheVariants as why
 use Rattle.tm_reassembly.specs.Chain.{Member}
 use Rattle.tm_reassembly.specs.Parts.{Start, Claim, text, far_end, begins_packet, agrees, agrees_at, reason_at, open_after, starts_of, claim, claims, lead, lead_part, front_of}
 use Rattle.tm_reassembly.specs.Absolute.{reach_at, IsLong, AgreesAt, Agrees, IsOpen, IsOpenAt, Iff, IsStart, IsIn, LiesAfter}
 use Rattle.tm_reassembly.proofs.OneOpen.{one-open}
 use Rattle.tm_reassembly.proofs.Places.{place-at, agreement-at, open-at}
-use Rattle.tm_reassembly.specs.declared.items.Reason.{Reason}
+use Rattle.tm_items.specs.declared.items.Reason.{Reason}
 use Rattle.tm_reassembly.proofs.Starts.{starts-there, starts-here}
 
 -- where no start claims, nothing is claimed

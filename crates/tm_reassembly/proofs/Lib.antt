@@ -1,4 +1,3 @@
-pub mod Reach
 pub mod Long
 pub mod Sweep
 pub mod Split

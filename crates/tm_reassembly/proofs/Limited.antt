@@ -7,22 +7,22 @@ use Rattle.tm_frame.specs.Frame.{GoodFrame}
 use Rattle.tm_reassembly.specs.Among.{Among}
 use Rattle.tm_reassembly.specs.Chain.{Member, has_gap, member, master_member}
 use Rattle.tm_reassembly.specs.Field.{field_parts, parts_in, frame_parts, tail_parts, step_parts, ended_parts, chain_parts_at}
-use Rattle.tm_reassembly.specs.Item as item
-use Rattle.tm_reassembly.specs.Item.{Item, Packet}
-use Rattle.tm_reassembly.specs.Items.{master_gap_item, gap_item, gap_at, vca_at, part_item, items, after}
-use Rattle.tm_reassembly.specs.Parts.{Part, Fate, Given, Lost, Held, reach, is_long, begins_packet, agrees, lead_part}
+use Rattle.tm_items.specs.Item as item
+use Rattle.tm_items.specs.Item.{Item, Packet}
+use Rattle.tm_reassembly.specs.Items.{master_gap_item, gap_item, gap_at, vca_at, part_item, items, after, part_items}
+use Rattle.tm_reassembly.specs.Parts.{Part, Fate, Given, Lost, Held, is_long, begins_packet, agrees, lead_part}
+use Rattle.tm_items.specs.OnePacket.{reach}
 use Rattle.tm_reassembly.specs.Readings.{Reading}
 use Rattle.tm_reassembly.specs.Recording as raw
 use Rattle.tm_rules.specs.Rules.{Rules, chooses}
-use Rattle.tm_reassembly.specs.Sinks.{part_items}
 use Rattle.tm_reassembly.specs.State.{State, Tail}
 use Rattle.tm_reassembly.specs.Valid.{IsFit, AllFit, IsState}
-use Rattle.tm_reassembly.specs.declared.items.Reason.{Reason}
+use Rattle.tm_items.specs.declared.items.Reason.{Reason}
 use Rattle.tm_reassembly.proofs.Fits.{readings-fit}
 use Rattle.tm_reassembly.proofs.Joining.{before_of, tail_of, member_items}
 use Rattle.tm_reassembly.proofs.Long.{begins-short, agrees-short}
 use Rattle.tm_reassembly.proofs.OneStep.{valid-from, items-one-valid, items-other}
-use Rattle.tm_reassembly.proofs.Reach.{reach-least}
+use Rattle.tm_items.proofs.Reach.{reach-least}
 use Rattle.tm_reassembly.proofs.Records.{HasOpenTails, items-cons, valid-after}
 
 module _ (limit : ℕ) where

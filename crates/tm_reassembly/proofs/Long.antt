@@ -2,7 +2,8 @@
 use Rattle.std.proofs.Common.{◌≡◌, ℕ, ◌+◌, ◌<◌, Bool, true, false, not, ◌&&◌, List, ◌∷◌, ◌++◌, length, refl, ap, ◌∙◌, length-append, leb}
 use Rattle.std.proofs.lemmas.Bool.{lt-leb}
 use Rattle.tm_reassembly.specs.Chain.{Member}
-use Rattle.tm_reassembly.specs.Parts.{is_packet, reach, is_long, begins_packet, agrees, agrees_at}
+use Rattle.tm_items.specs.OnePacket.{is_packet, reach}
+use Rattle.tm_reassembly.specs.Parts.{is_long, begins_packet, agrees, agrees_at}
 
 pub and_both : (a b : Bool) → (a && b) ≡ true → (a ≡ true) × (b ≡ true)
 and_both true b h = (refl, h)

@@ -7,8 +7,8 @@ use Rattle.std.proofs.lemmas.List.Elements.{filter-append}
 use Rattle.tm_frame.specs.Frame.{GoodFrame}
 use Rattle.tm_reassembly.specs.Among.{is_of, is_master_gap}
 use Rattle.tm_reassembly.specs.Chain.{Member, has_gap, chain, master_member, master_frames, master_chain}
-use Rattle.tm_reassembly.specs.Item as item
-use Rattle.tm_reassembly.specs.Item.{Item}
+use Rattle.tm_items.specs.Item as item
+use Rattle.tm_items.specs.Item.{Item}
 use Rattle.tm_reassembly.specs.Items.{seen_at, master_gap_item, gap_at, gaps, master_items, channel_items, record_items, items, after}
 use Rattle.tm_reassembly.specs.Readings.{Reading}
 use Rattle.tm_reassembly.specs.Recording as raw

@@ -3,7 +3,7 @@ use Rattle.std.proofs.Common.{◌≡◌, Ok, Err, ℕ, ◌+◌, ◌≤◌, Optio
 use Rattle.std.proofs.lemmas.List.{append-nil}
 use Rattle.tm_frame.specs.Frame.{GoodFrame}
 use Rattle.tm_reassembly.specs.Readings.{Reading}
-use Rattle.tm_reassembly.specs.Item.{Item}
+use Rattle.tm_items.specs.Item.{Item}
 use Rattle.tm_reassembly.specs.State.{State}
 use Rattle.tm_reassembly.specs.Chain.{Member, master_member, master_frames, master_stem, master_chain}
 use Rattle.tm_reassembly.specs.Items.{seen_at, master_gap_item, gap_at, gaps, master_items, last_count}

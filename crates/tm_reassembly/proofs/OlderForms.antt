@@ -8,7 +8,7 @@ use Rattle.tm_reassembly.specs.Readings.{Reading}
 use Rattle.tm_reassembly.specs.State.{State}
 use Rattle.tm_reassembly.specs.Chain.{Member, has_gap, next_count, member, master_member}
 use Rattle.tm_reassembly.specs.Checkpoint.{ReadAll, Decoded, four_at, blocks_read, master_read, with_channels, decoding_of, old_decoding_of, old_spelling}
-use Rattle.tm_reassembly.specs.Item.{Item}
+use Rattle.tm_items.specs.Item.{Item}
 use Rattle.tm_reassembly.specs.Items.{master_gap_item, gap_at, items, after}
 use Rattle.tm_reassembly.specs.OlderForms.{without_master, IsMasterGapAtMost, LacksMasterGap, one_octet_more}
 use Rattle.tm_reassembly.specs.Recording as raw

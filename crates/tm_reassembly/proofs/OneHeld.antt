@@ -4,11 +4,12 @@ use Rattle.std.specs.List.{flat_map}
 use Rattle.std.proofs.lemmas.List.{append-nil}
 use Rattle.std.proofs.lemmas.List.Concat.{flat_map-append}
 use Rattle.std.proofs.lemmas.Bool.{cases_Bool, cases_lt, cond_both, cond-true, cond-false, lt-ltb, leb-false}
-use Rattle.tm_reassembly.specs.declared.items.Reason.TheVariants as why
-use Rattle.tm_reassembly.specs.declared.items.Reason.{Reason}
+use Rattle.tm_items.specs.declared.items.Reason.TheVariants as why
+use Rattle.tm_items.specs.declared.items.Reason.{Reason}
 use Rattle.tm_reassembly.specs.State.{Tail}
 use Rattle.tm_reassembly.specs.Chain.{Member, Run, Runs, End, Unended, Ended, runs_after, has_gap, cut_before, with_member}
-use Rattle.tm_reassembly.specs.Parts.{Part, Claim, Start, text, far_end, reach, begins_packet, agrees, breaker, starts, starts_from, starts_of, fate_at, packet_part, part_from, start_part, claims, lead, lead_part, reason_at, front_of, parts_from, parts}
+use Rattle.tm_reassembly.specs.Parts.{Part, Claim, Start, text, far_end, begins_packet, agrees, breaker, starts, starts_from, starts_of, fate_at, packet_part, part_from, start_part, claims, lead, lead_part, reason_at, front_of, parts_from, parts}
+use Rattle.tm_items.specs.OnePacket.{reach}
 use Rattle.tm_reassembly.specs.Items.{held_part, chain_parts}
 use Rattle.tm_reassembly.proofs.Split.{start_at, starts-next, starts-last, starts-unfinished, start_part-whole}
 use Rattle.tm_reassembly.proofs.OneOpen.{no-starts}

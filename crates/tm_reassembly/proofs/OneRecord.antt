@@ -11,14 +11,14 @@ use Rattle.tm_frame.specs.Fault.{reading_of}
 use Rattle.tm_frame.specs.Frame.{GoodFrame}
 use Rattle.tm_reassembly.specs.State.{State, Last, Tail}
 use Rattle.tm_reassembly.specs.Readings.{Reading}
-use Rattle.tm_reassembly.specs.Item.{Item, Bad}
+use Rattle.tm_items.specs.Item.{Item, Bad}
 use Rattle.tm_reassembly.specs.Chain.{member, has_gap, master_member}
 use Rattle.tm_reassembly.specs.Field.{chain_tail_at}
 use Rattle.tm_reassembly.specs.Items as read
 use Rattle.tm_reassembly.specs.Kept.{Slot, HaveLimit, lasts, unused, count_in, tail_in, octets_in, counted, kept_items, kept_after}
 use Rattle.tm_reassembly.proofs.Slots.{last_at, lasts_set, lasts_length, limit_at, limit_set}
 use Rattle.tm_reassembly.specs.Recording.{items, after}
-use Rattle.tm_reassembly.specs.Sinks.{RefusesOne}
+use Rattle.tm_items.specs.Sinks.{RefusesOne}
 use Rattle.tm_reassembly.specs.Valid.{IsState, IsFit, IsOpenTail}
 use Rattle.tm_reassembly.proofs.States.{tail-short}
 use Rattle.tm_reassembly.proofs.Fits.{reading-fit}

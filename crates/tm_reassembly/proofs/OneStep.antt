@@ -7,7 +7,7 @@ use Rattle.tm_reassembly.specs.State.{State, Last, Tail}
 use Rattle.tm_frame.specs.Frame.{GoodFrame}
 use Rattle.tm_frame.specs.declared.fault.FrameFault.{FrameFault}
 use Rattle.tm_reassembly.specs.Readings.{Reading}
-use Rattle.tm_reassembly.specs.Item as item
+use Rattle.tm_items.specs.Item as item
 use Rattle.tm_reassembly.specs.Chain.{Member, has_gap, member, member_of, is_vca_kind, chain, master_member, master_stem}
 use Rattle.tm_reassembly.specs.Field.{chain_tail_at}
 use Rattle.tm_rules.specs.Channels.{eight}

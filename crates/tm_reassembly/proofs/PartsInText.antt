@@ -1,17 +1,17 @@
 -- The parts that starts become, with places in the text.
-use Rattle.std.proofs.Common.{◌≡◌, ℕ, ◌+◌, ◌-◌, Bool, true, false, ◌&&◌, Option, Some, None, List, [], ◌∷◌, ◌++◌, length, take, drop, refl, sym, ap, ◌∙◌, ⊎_elim, arith}
-use Rattle.std.proofs.Common.{length-append, leb, ltb}
+use Rattle.std.proofs.Common.{◌≡◌, ℕ, ◌+◌, ◌-◌, Bool, true, false, ◌&&◌, Option, Some, None, List, [], ◌∷◌, ◌++◌, length, take, drop, refl, sym, ap, ◌∙◌, ⊎_elim, arith, length-append, leb, ltb}
 use Rattle.std.specs.Prelude.{is_none}
 use Rattle.std.specs.List.{slice_range}
 use Rattle.std.proofs.Math.Seq.{take-append_seam, take-append-add, take-length}
 use Rattle.std.proofs.lemmas.List.Concat.{flat_map-append}
 use Rattle.std.proofs.lemmas.Bool.{cases_Bool, cond-true, cond-false, lt-ltb, and_right, and_from}
-use Rattle.tm_reassembly.specs.declared.items.Reason.TheVariants as why
+use Rattle.tm_items.specs.declared.items.Reason.TheVariants as why
 use Rattle.tm_reassembly.specs.Chain.{Member, End}
-use Rattle.tm_reassembly.specs.Parts.{Part, Fate, Given, Lost, Start, text, reach, far_end, is_packet, is_long, begins_packet, reason_at, unread_reason, agrees_at, broken_part, start_part, packet_part, fate_at, agrees, open_after, joined, breaker, holder}
+use Rattle.tm_reassembly.specs.Parts.{Part, Fate, Given, Lost, Start, text, far_end, is_long, begins_packet, reason_at, unread_reason, agrees_at, broken_part, start_part, packet_part, fate_at, agrees, open_after, joined, breaker, holder}
+use Rattle.tm_items.specs.OnePacket.{reach, is_packet}
 use Rattle.tm_reassembly.specs.Absolute.{reach_at, IsVersionZero, IsLong, BeginsPacket, AgreesAt, Agrees, IsOpen, IsWhole, LiesAfter, part_at}
 use Rattle.tm_reassembly.proofs.Long.{and_both, begins-zero, begins-short}
-use Rattle.tm_reassembly.specs.declared.items.Reason.{Reason}
+use Rattle.tm_items.specs.declared.items.Reason.{Reason}
 use Rattle.tm_reassembly.proofs.Places.{drop-place, both_true, none-from, open-to, unbroken-from, text_split, text-length, begins-at, ends-at, place-at, agreement-at, own-long-at, zero-to, zero-from, begins-from, open-at, whole-at}
 
 module _ (limit : ℕ) where

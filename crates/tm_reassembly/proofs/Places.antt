@@ -7,10 +7,11 @@ use Rattle.std.proofs.lemmas.Bool.{and_from, cases_Bool, cases_lt, cond-true, co
 use Rattle.std.proofs.Math.Seq.{drop-append_seam}
 use Rattle.tm_packet.specs.Header.{version_of, header_of}
 use Rattle.tm_reassembly.specs.Chain.{Member}
-use Rattle.tm_reassembly.specs.Parts.{text, reach, far_end, is_packet, is_long, begins_packet, agrees, agrees_at, open_after, breaker}
+use Rattle.tm_reassembly.specs.Parts.{text, far_end, is_long, begins_packet, agrees, agrees_at, open_after, breaker}
+use Rattle.tm_items.specs.OnePacket.{reach, is_packet}
 use Rattle.tm_reassembly.specs.Verdict.{is_whole}
 use Rattle.tm_reassembly.specs.Absolute.{reach_at, IsVersionZero, IsLong, BeginsPacket, AgreesAt, Agrees, IsOpen, IsWhole, Iff}
-use Rattle.tm_reassembly.proofs.Reach.{reach-short, reach-long}
+use Rattle.tm_items.proofs.Reach.{reach-short, reach-long}
 use Rattle.tm_reassembly.proofs.Long.{and_both, and_not, agrees-place, agrees-short, begins-zero, begins-short}
 use Rattle.tm_reassembly.proofs.Settled.{own-long-settled}
 

@@ -1,12 +1,14 @@
 -- The loop that reads a field: what is still to be given from `at` on leads to all that is to be given.
 use Rattle.std.proofs.Common.{◌++◌, ◌≡◌, ℕ, suc, zero, pred, ◌+◌, ◌-◌, ◌<◌, ◌≤◌, true, List, [], ◌∷◌, length, take, drop, refl, sym, ap, subst, ◌∙◌, inl, inr, arith}
 use Rattle.std.proofs.lemmas.List.{length-drop, drop-drop, take_all}
-use Rattle.tm_reassembly.proofs.Reach.{reach-least}
+use Rattle.tm_items.proofs.Reach.{reach-least}
 use Rattle.tm_reassembly.proofs.Split.{whole_part, field_parts-whole, unfinished-whole}
-use Rattle.tm_reassembly.specs.Item.{Item, Packet}
-use Rattle.tm_reassembly.specs.Parts.{Part, begins_packet, reach}
+use Rattle.tm_items.specs.Item.{Item, Packet}
+use Rattle.tm_reassembly.specs.Parts.{Part, begins_packet}
+use Rattle.tm_items.specs.OnePacket.{reach}
 use Rattle.tm_reassembly.specs.Field.{field_parts, unfinished}
-use Rattle.tm_reassembly.specs.Sinks.{TakesAll, RefusesOne, part_items}
+use Rattle.tm_items.specs.Sinks.{TakesAll, RefusesOne}
+use Rattle.tm_reassembly.specs.Items.{part_items}
 
 -- what follows from taking the rest of the items, or from refusing one of them
 pub record Leads {S F : Type 0} (takes : S → Item → S → Type 0) (refuses : S → Item → F → S → Type 0) (start now : S) (all rest : List Item) : Type 0 where

@@ -7,7 +7,7 @@ use Rattle.std.proofs.lemmas.Bool.{cases_Bool, cond_both, eq-eqb, cond-true, con
 pub use Rattle.tm_reassembly.specs.Valid.{IsFit, AllFit}
 use Rattle.tm_reassembly.specs.State.{State, Last, Tail}
 use Rattle.tm_reassembly.specs.Readings.{Reading}
-use Rattle.tm_reassembly.specs.Item.{Item}
+use Rattle.tm_items.specs.Item.{Item}
 use Rattle.tm_reassembly.specs.Chain.{Member, has_gap, stem_of, stem_with, chain, frames, member_of, member, Unended}
 use Rattle.tm_reassembly.specs.Parts.{Part}
 use Rattle.tm_reassembly.specs.Field.{chain_parts_at, chain_tail_at}

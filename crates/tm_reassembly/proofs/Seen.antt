@@ -2,14 +2,14 @@
 use Rattle.std.proofs.Common.{◌≡◌, ℕ, suc, zero, pred, ◌<◌, Bool, true, false, cond, Option, Some, None, List, [], ◌∷◌, ◌++◌, length, refl, ap, ◌∙◌, leb, eqb}
 use Rattle.std.specs.List.{flat_map}
 use Rattle.std.proofs.lemmas.Bool.{cond_both, leb-false, eq-eqb, ne_eqb, cond-true, cond-false}
-use Rattle.tm_reassembly.specs.declared.items.Reason.{Reason}
+use Rattle.tm_items.specs.declared.items.Reason.{Reason}
 use Rattle.tm_reassembly.specs.State.{Tail}
-use Rattle.tm_reassembly.specs.Item.{Item, seen_of}
+use Rattle.tm_items.specs.Item.{Item, seen_of}
 use Rattle.tm_reassembly.specs.Chain.{Member}
-use Rattle.tm_reassembly.specs.Parts.{Part, Fate, Given, Lost, Held, reach, agrees, begins_packet, lead, lead_part, front_of}
+use Rattle.tm_reassembly.specs.Parts.{Part, Fate, Given, Lost, Held, agrees, begins_packet, lead, lead_part, front_of}
+use Rattle.tm_items.specs.OnePacket.{reach}
 use Rattle.tm_reassembly.specs.Field.{stop_of, field_parts, unfinished, parts_in, left_in, tail_at, frame_parts, frame_tail, step_parts, step_tail, ended_parts, chain_parts_at, chain_tail_at}
-use Rattle.tm_reassembly.specs.Items.{part_item, seen_at, held_part}
-use Rattle.tm_reassembly.specs.Sinks.{part_items}
+use Rattle.tm_reassembly.specs.Items.{part_item, seen_at, held_part, part_items}
 use Rattle.tm_reassembly.proofs.Long.{begins-longer}
 use Rattle.tm_reassembly.proofs.Fresh.{OpenTail, unfinished-open}
 use Rattle.tm_reassembly.proofs.Chained.{IsTail, IsOpenTail}

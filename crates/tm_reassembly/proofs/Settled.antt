@@ -5,7 +5,8 @@ use Rattle.std.proofs.lemmas.List.Concat.{flat_map-append}
 use Rattle.std.proofs.lemmas.Bool.{cases_lt, lt-ltb, le-leb, lt-leb, and_right}
 use Rattle.tm_reassembly.specs.Valid.{PlacesFit}
 use Rattle.tm_reassembly.specs.Chain.{Member}
-use Rattle.tm_reassembly.specs.Parts.{text, far_end, reach, is_long, begins_packet, agrees, open_after, breaker}
+use Rattle.tm_reassembly.specs.Parts.{text, far_end, is_long, begins_packet, agrees, open_after, breaker}
+use Rattle.tm_items.specs.OnePacket.{reach}
 use Rattle.tm_reassembly.specs.Verdict.{is_whole, ends_in}
 use Rattle.tm_reassembly.proofs.Split.{breaker-settled}
 use Rattle.tm_reassembly.proofs.Long.{not-long}

@@ -11,7 +11,8 @@ use Rattle.tm_reassembly.specs.declared.fault.StateFault.{StateFault}
 use Rattle.tm_rules.specs.Rules.{Rules, chooses}
 use Rattle.tm_reassembly.specs.State.{State, Last, Tail}
 use Rattle.tm_reassembly.specs.Checkpoint.{block, with_tail, master_octets, spelling, old_spelling, four_at, two_at, Read, ReadAll, Decoded, is_unfinished, tail_read, flagged, block_read, blocks_read, in_front, and_then, master_read, with_channels, with_master, decoding_of, old_decoding_of}
-use Rattle.tm_reassembly.specs.Parts.{begins_packet, reach}
+use Rattle.tm_reassembly.specs.Parts.{begins_packet}
+use Rattle.tm_items.specs.OnePacket.{reach}
 use Rattle.tm_reassembly.specs.Valid as ok
 use Rattle.tm_reassembly.specs.Valid.{IsState}
 use Rattle.tm_reassembly.proofs.States.{tail-short}

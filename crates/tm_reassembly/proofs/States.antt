@@ -13,7 +13,8 @@ use Rattle.tm_frame.specs.Frame.{GoodFrame}
 use Rattle.tm_reassembly.specs.Readings.{Reading}
 use Rattle.tm_reassembly.specs.State.{State, Last, Tail}
 use Rattle.tm_reassembly.specs.Chain.{has_gap, member, counted_field, place_of, is_vca_kind}
-use Rattle.tm_reassembly.specs.Parts.{reach, agrees, begins_packet}
+use Rattle.tm_items.specs.OnePacket.{reach}
+use Rattle.tm_reassembly.specs.Parts.{agrees, begins_packet}
 use Rattle.tm_reassembly.specs.Field.{chain_tail_at, step_tail, frame_tail, tail_left, tail_at, left_in, unfinished}
 use Rattle.tm_reassembly.specs.Items.{empty}
 use Rattle.tm_reassembly.specs.Items as read

@@ -3,7 +3,8 @@ use Rattle.std.proofs.Common.{◌≡◌, ℕ, ◌+◌, true, false, not, ◌&&�
 use Rattle.std.proofs.Math.Seq.{take-append-add}
 use Rattle.std.proofs.lemmas.Bool.{le-leb, eq-eqb, eqb-true, cond-true}
 use Rattle.tm_reassembly.specs.State.{Tail}
-use Rattle.tm_reassembly.specs.Parts.{Given, agrees_at, reach, is_long}
+use Rattle.tm_reassembly.specs.Parts.{Given, agrees_at, is_long}
+use Rattle.tm_items.specs.OnePacket.{reach}
 use Rattle.tm_reassembly.specs.Field.{step_parts, frame_parts}
 use Rattle.tm_reassembly.proofs.Long.{and_not}
 use Rattle.tm_reassembly.specs.Kept.{tail_of_octets, octets_in, grown, completed, member_at}

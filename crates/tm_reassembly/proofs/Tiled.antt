@@ -9,13 +9,12 @@ use Rattle.tm_frame.specs.Frame.{GoodFrame}
 use Rattle.tm_frame.specs.declared.frame.Kind.TheVariants as got
 use Rattle.tm_frame.specs.declared.frame.Kind.{Kind}
 use Rattle.tm_reassembly.specs.Readings.{Reading}
-use Rattle.tm_reassembly.specs.Item as item
-use Rattle.tm_reassembly.specs.Item.{Item}
+use Rattle.tm_items.specs.Item as item
+use Rattle.tm_items.specs.Item.{Item}
 use Rattle.tm_reassembly.specs.Chain.{Member, has_gap, member, master_member, member_of, is_vca_kind, counted_field}
 use Rattle.tm_reassembly.specs.Parts.{Part, Fate, Given, Lost, Held}
 use Rattle.tm_reassembly.specs.Field.{chain_parts_at, chain_tail_at}
-use Rattle.tm_reassembly.specs.Items.{items, after, empty, part_item, gap_item, master_gap_item, gap_at, vca_at}
-use Rattle.tm_reassembly.specs.Sinks.{part_items}
+use Rattle.tm_reassembly.specs.Items.{items, after, empty, part_item, gap_item, master_gap_item, gap_at, vca_at, part_items}
 use Rattle.tm_reassembly.specs.Valid.{HasShape, IsFit, AllFit}
 use Rattle.tm_reassembly.specs.Tiles.{Spot, field_spots, kind_spots, record_spots, channel_spots, IsHeld, Takes, Tile, is_part_of, parts_of, tail_of, held_tail}
 use Rattle.tm_reassembly.proofs.Chained.{IsOpenTail}

@@ -4,14 +4,15 @@ use Rattle.std.specs.List.{flat_map}
 use Rattle.std.proofs.lemmas.List.{append-nil, take-append-drop, take_all}
 use Rattle.std.proofs.lemmas.List.Concat.{flat_map-append}
 use Rattle.std.proofs.lemmas.Bool.{cases_lt, cases_Bool, cond-true, cond-false, le-leb, lt-leb, leb-true, eqb-true}
-use Rattle.tm_reassembly.specs.declared.items.Reason.TheVariants as why
-use Rattle.tm_reassembly.specs.declared.items.Reason.{Reason}
+use Rattle.tm_items.specs.declared.items.Reason.TheVariants as why
+use Rattle.tm_items.specs.declared.items.Reason.{Reason}
 use Rattle.tm_reassembly.specs.State.{Tail}
 use Rattle.tm_reassembly.specs.Chain.{Member, has_gap, Unended}
 use Rattle.tm_reassembly.proofs.Long.{agrees-place}
-use Rattle.tm_reassembly.specs.Parts.{Part, reach, agrees, agrees_at, begins_packet, reason_at, lead, lead_part, front_of}
+use Rattle.tm_reassembly.specs.Parts.{Part, agrees, agrees_at, begins_packet, reason_at, lead, lead_part, front_of}
+use Rattle.tm_items.specs.OnePacket.{reach}
 use Rattle.tm_reassembly.specs.Field.{stop_of, field_parts, unfinished, parts_in, left_in, tail_at, frame_parts, frame_tail, tail_parts, tail_left, step_parts, step_tail, ended_parts, chain_parts_at, chain_tail_at}
-use Rattle.tm_reassembly.proofs.Reach.{reach-least, reach-unsettled}
+use Rattle.tm_items.proofs.Reach.{reach-least, reach-unsettled}
 use Rattle.tm_reassembly.proofs.Step.{PlaceFits}
 use Rattle.tm_reassembly.proofs.Split.{field_parts-whole, field_parts-version, field_parts-unfinished, unfinished-whole, unfinished-version, unfinished-last}
 use Rattle.tm_reassembly.proofs.Chained.{IsOpenTail, IsTail, chained, chained_step, chained_end, left_parts}

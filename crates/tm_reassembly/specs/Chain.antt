@@ -4,8 +4,8 @@ use Rattle.tm_frame.specs.Frame.{GoodFrame}
 use Rattle.tm_frame.specs.declared.frame.Kind.TheVariants as got
 use Rattle.tm_frame.specs.declared.frame.Kind.{Kind}
 use Rattle.tm_reassembly.specs.Readings.{Reading}
-use Rattle.tm_reassembly.specs.declared.items.Reason.TheVariants as why
-use Rattle.tm_reassembly.specs.declared.items.Reason.{Reason}
+use Rattle.tm_items.specs.declared.items.Reason.TheVariants as why
+use Rattle.tm_items.specs.declared.items.Reason.{Reason}
 use Rattle.tm_reassembly.specs.State.{State, Last, Tail}
 
 -- A frame of a chain: its record's number and its count; whether it is a VCA frame; the place in its field of the first

@@ -4,7 +4,8 @@ use Rattle.std.specs.List.{flat_map}
 use Rattle.tm_frame.specs.declared.layout.LayoutParts.{LayoutParts}
 use Rattle.tm_reassembly.specs.declared.fault.StateFault.{StateFault}
 use Rattle.tm_reassembly.specs.declared.fault.StateFault.TheVariants as fault
-use Rattle.tm_reassembly.specs.Parts.{begins_packet, reach}
+use Rattle.tm_reassembly.specs.Parts.{begins_packet}
+use Rattle.tm_items.specs.OnePacket.{reach}
 use Rattle.tm_rules.specs.Rules.{Rules, chooses}
 use Rattle.tm_reassembly.specs.State.{State, Last, Tail}
 

@@ -1,11 +1,12 @@
 -- What one frame gives by itself, with no other frame in view. These stand in private contracts alone; that they agree with the
 -- definitions, which look at whole runs, is proved.
 use Rattle.std.specs.Prelude.{ℕ, suc, zero, pred, ◌+◌, ◌-◌, nat_le, Bool, true, false, Option, Some, None, List, [], ◌∷◌, ◌++◌, length, take, if◌then◌else◌}
-use Rattle.tm_reassembly.specs.declared.items.Reason.TheVariants as why
-use Rattle.tm_reassembly.specs.declared.items.Reason.{Reason}
+use Rattle.tm_items.specs.declared.items.Reason.TheVariants as why
+use Rattle.tm_items.specs.declared.items.Reason.{Reason}
 use Rattle.tm_reassembly.specs.State.{Tail}
 use Rattle.tm_reassembly.specs.Chain.{Member}
-use Rattle.tm_reassembly.specs.Parts.{Part, Given, Lost, begins_packet, reach, agrees, reason_at, unread_reason, front_of, lead, lead_part}
+use Rattle.tm_reassembly.specs.Parts.{Part, Given, Lost, begins_packet, agrees, reason_at, unread_reason, front_of, lead, lead_part}
+use Rattle.tm_items.specs.OnePacket.{reach}
 
 -- the tail that these last octets of a field are, if there are any
 abbrev pub tail_at : ℕ → ℕ → List ℕ → Option Tail

@@ -2,8 +2,8 @@
 use Rattle.std.specs.Prelude.{ℕ, ◌+◌, ◌-◌, ◌%◌, ◌==◌, nat_lt, Bool, Option, None, Some, Ok, Err, List, [], ◌∷◌, ◌++◌, length, map, filter, if◌then◌else◌}
 use Rattle.std.specs.List.{flat_map}
 use Rattle.tm_reassembly.specs.Readings.{Reading}
-use Rattle.tm_reassembly.specs.declared.items.Reason.TheVariants as why
-use Rattle.tm_reassembly.specs.Item.{Item, Bad, MasterGap, Gap, Vca, Dropped, Packet, Short, seen_of}
+use Rattle.tm_items.specs.declared.items.Reason.TheVariants as why
+use Rattle.tm_items.specs.Item.{Item, Bad, MasterGap, Gap, Vca, Dropped, Packet, Short, seen_of}
 use Rattle.tm_reassembly.specs.State.{State, Last, Tail}
 use Rattle.tm_rules.specs.Channels.{eight}
 use Rattle.tm_reassembly.specs.Chain.{Member, chain, master_chain, runs, has_gap, next_count}
@@ -38,6 +38,10 @@ abbrev pub part_item : ℕ → Part → Fate → List Item
 part_item channel p (Given seen) = Packet seen channel p.first p.place p.octets ∷ []
 part_item channel p (Lost reason seen) = Dropped seen channel p.first p.place (length p.octets) reason ∷ []
 part_item channel p Held = []
+
+-- the items of parts
+abbrev pub part_items : ℕ → List Part → List Item
+part_items channel ps = flat_map (λ p. part_item channel p p.fate) ps
 
 -- those of some items that are seen at a record
 abbrev pub seen_at : ℕ → List Item → List Item

@@ -3,10 +3,9 @@
 use Rattle.std.specs.Prelude.{◌≡◌, ℕ, ◌+◌, ◌≤◌, ◌==◌, min, if◌then◌else◌, map, slice_get, Option, Some, None, List, [], ◌∷◌, ◌++◌, false}
 use Rattle.tm_reassembly.specs.Chain.{Member, has_gap, next_count}
 use Rattle.tm_reassembly.specs.Field.{chain_parts_at, chain_tail_at}
-use Rattle.tm_reassembly.specs.Item.{Item}
-use Rattle.tm_reassembly.specs.Items.{gap_item, gap_at, vca_at}
+use Rattle.tm_items.specs.Item.{Item}
+use Rattle.tm_reassembly.specs.Items.{gap_item, gap_at, vca_at, part_items}
 use Rattle.tm_reassembly.specs.Parts.{Part, Given}
-use Rattle.tm_reassembly.specs.Sinks.{part_items}
 use Rattle.tm_reassembly.specs.State.{Last, Tail}
 
 -- what a tail's place is seen as: how many octets a packet may have, for how many octets there is room, and the tail that is held

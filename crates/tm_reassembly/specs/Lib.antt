@@ -1,13 +1,10 @@
 pub mod Readings
-pub mod Item
 pub mod State
 pub mod Chain
 pub mod Parts
 pub mod Items
 pub mod Recording
 pub mod Field
-pub mod Sinks
-pub mod Reasons
 pub mod Steps
 pub mod Checkpoint
 pub mod OlderForms

@@ -2,7 +2,7 @@
 use Rattle.std.specs.Prelude.{◌≡◌, ◌⊎◌, ℕ, ◌+◌, None, Result, Ok, Err, List, [], ◌∷◌, ◌++◌}
 use Rattle.tm_reassembly.specs.declared.fault.StateFault.{StateFault}
 use Rattle.tm_reassembly.specs.Checkpoint.{Decoded}
-use Rattle.tm_reassembly.specs.Item.{Item, MasterGap}
+use Rattle.tm_items.specs.Item.{Item, MasterGap}
 use Rattle.tm_reassembly.specs.State.{State}
 
 -- the state, its last master channel count being forgotten

@@ -5,22 +5,14 @@
 -- frames that come later in the run. `reach` is the number of octets from the start to where its packet ends.
 use Rattle.std.specs.Prelude.{ℕ, suc, zero, pred, ◌+◌, ◌==◌, nat_lt, nat_le, Bool, not, ◌&&◌, Option, None, Some, List, [], ◌∷◌, ◌++◌, length, take, map, if◌then◌else◌}
 use Rattle.std.specs.List.{flat_map}
-use Rattle.tm_packet.specs.Header.{version_of, header_of}
-use Rattle.tm_reassembly.specs.declared.items.Reason.TheVariants as why
-use Rattle.tm_reassembly.specs.declared.items.Reason.{Reason}
+use Rattle.tm_items.specs.OnePacket.{is_packet, reach}
+use Rattle.tm_items.specs.declared.items.Reason.TheVariants as why
+use Rattle.tm_items.specs.declared.items.Reason.{Reason}
 use Rattle.tm_reassembly.specs.Chain.{Member, Run, End, Unended, Ended}
 
 -- the text of a run: all its fields, joined
 abbrev pub text : List Member → List ℕ
 text ms = flat_map (λ m. m.field) ms
-
--- whether octets begin with version 0, the first three bits of a packet header (CCSDS 133.0-B-2, 4.1.3.2)
-abbrev pub is_packet : List ℕ → Bool
-is_packet octets = version_of (take 1 octets) == 0
-
--- how many octets the packet at the front of a text has, by its header (4.1.3.5.3); 7, the fewest, where the text has fewer than six octets
-abbrev pub reach : List ℕ → ℕ
-reach t = if nat_lt (length t) 6 then 7 else (header_of (take 6 t)).data_length + 7
 
 -- A start: the place of its first octet in the data field of its record, and the rest of its frame's field from there on.
 pub record Start : Type 0 where

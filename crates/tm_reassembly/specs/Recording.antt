@@ -4,7 +4,7 @@ use Rattle.tm_frame.specs.declared.layout.LayoutParts.{LayoutParts}
 use Rattle.tm_frame.specs.Fault.{reading_of}
 use Rattle.tm_reassembly.specs.Readings.{Reading}
 use Rattle.tm_rules.specs.Rules.{Rules, chooses}
-use Rattle.tm_reassembly.specs.Item.{Item}
+use Rattle.tm_items.specs.Item.{Item}
 use Rattle.tm_reassembly.specs.State.{State}
 use Rattle.tm_reassembly.specs.Items as read
 

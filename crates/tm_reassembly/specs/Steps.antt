@@ -3,10 +3,10 @@ use Rattle.std.specs.Prelude.{◌≡◌, ℕ, ◌*◌, ◌-◌, ◌^◌, ◌<◌
 use Rattle.tm_reassembly.specs.declared.fault.StepFault as fault
 use Rattle.tm_reassembly.specs.declared.fault.StepFault.TheVariants.{Sink, Failed, TooMany}
 use Rattle.tm_rules.specs.Rules.{Rules}
-use Rattle.tm_reassembly.specs.Item.{Item}
+use Rattle.tm_items.specs.Item.{Item}
 use Rattle.tm_reassembly.specs.Items.{empty}
 use Rattle.tm_reassembly.specs.Recording.{items, after}
-use Rattle.tm_reassembly.specs.Sinks.{RefusesOne}
+use Rattle.tm_items.specs.Sinks.{RefusesOne}
 use Rattle.tm_reassembly.specs.State.{State, Last}
 
 -- the rules, the state, whether a sink refused an item, and for how many octets of packets there is room, of all eight channels together

@@ -3,8 +3,8 @@ use Rattle.std.specs.Prelude.{◌≡◌, ℕ, ◌+◌, ◌==◌, Bool, false, Op
 use Rattle.tm_frame.specs.declared.frame.Kind.TheVariants as got
 use Rattle.tm_frame.specs.declared.frame.Kind.{Kind}
 use Rattle.tm_reassembly.specs.Readings.{Reading}
-use Rattle.tm_reassembly.specs.Item as item
-use Rattle.tm_reassembly.specs.Item.{Item}
+use Rattle.tm_items.specs.Item as item
+use Rattle.tm_items.specs.Item.{Item}
 use Rattle.tm_reassembly.specs.State.{State, Last, Tail}
 
 -- an octet of a channel, with the record that holds it and its place in that record's data field

@@ -5,7 +5,8 @@ use Rattle.tm_frame.specs.declared.layout.LayoutParts.{LayoutParts}
 use Rattle.tm_reassembly.specs.Readings.{Reading}
 use Rattle.tm_reassembly.specs.State.{State, Last, Tail}
 use Rattle.tm_reassembly.specs.Chain.{Member, place_of, counted_field}
-use Rattle.tm_reassembly.specs.Parts.{begins_packet, reach}
+use Rattle.tm_reassembly.specs.Parts.{begins_packet}
+use Rattle.tm_items.specs.OnePacket.{reach}
 use Rattle.tm_rules.specs.Rules.{Rules, IsLimit, chooses}
 
 -- ---- records

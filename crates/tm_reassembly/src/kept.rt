@@ -5,20 +5,20 @@ ghost use Rattle.tm_reassembly.specs.Blocks.{kept_of};
 ghost use Rattle.tm_reassembly.specs.Checkpoint.{block};
 ghost use Rattle.tm_reassembly.specs.Chain.{member, has_gap, is_vca_kind};
 ghost use Rattle.tm_reassembly.specs.Field.{chain_parts_at, chain_tail_at, ended_parts, step_parts, step_tail};
-ghost use Rattle.tm_reassembly.specs.Items.{gap_item, master_gap_item, gap_at, vca_at, close_last};
-ghost use Rattle.tm_reassembly.specs.Item as value;
+ghost use Rattle.tm_reassembly.specs.Items.{gap_item, master_gap_item, gap_at, vca_at, close_last, part_items};
+ghost use Rattle.tm_items.specs.Item as value;
 ghost use Rattle.tm_reassembly.specs.Kept.{Slot, last_of, octets_in, count_in, tail_in, kept_items, kept_after, counted, missed, member_at};
 ghost use Rattle.tm_rules.specs.Rules.{IsLimit};
-ghost use Rattle.tm_reassembly.specs.Sinks.{TakesAll, RefusesOne, part_items};
+ghost use Rattle.tm_items.specs.Sinks.{TakesAll, RefusesOne};
 ghost use Rattle.tm_reassembly.specs.State.{Last};
 ghost use Rattle.tm_reassembly.specs.Valid.{PlaceFits, IsOpenTail};
 
 use crate::checkpoint::{Block, push};
-use crate::items::{Item, Reason, Sink};
 use crate::tail::Tail;
 use std::alloc::{AllocError, Global};
 use std::marker::Model;
 use tm_frame::{Frame, Kind};
+use tm_items::{Item, Reason, Sink};
 
 /// The virtual channel frame count of the last good frame, if there was one, and the tail.
 #[derive(Drop)]

@@ -3,7 +3,6 @@
 
 mod checkpoint;
 mod fault;
-mod items;
 mod kept;
 pub mod laws;
 mod packets;
@@ -11,6 +10,6 @@ mod reassembly;
 mod tail;
 
 pub use fault::{NoMemory, StateFault, StepFault};
-pub use items::{Item, Reason, Sink};
 pub use reassembly::Reassembly;
+pub use tm_items::{Item, Reason, Sink};
 pub use tm_rules::Channels;

@@ -1,22 +1,24 @@
 //! The packets that begin in one data field.
 
 ghost use Rattle.std.specs.Prelude.{◌≡◌, ◌+◌, ◌^◌, ◌<◌, ◌≤◌, ◌==◌, true, false, length, take, drop, None, Some, ◌++◌, IfOk, IfErr, OnOk};
+ghost use Rattle.tm_items.specs.OnePacket as one_packet;
 ghost use Rattle.tm_reassembly.specs.Field.{field_parts, unfinished, left_in, frame_parts};
 ghost use Rattle.tm_reassembly.specs.Kept.{member_at};
 ghost use Rattle.tm_reassembly.specs.Parts as model;
 ghost use Rattle.tm_reassembly.specs.Parts.{begins_packet, unread_reason, lead_part, front_of};
 ghost use Rattle.tm_rules.specs.Rules.{IsLimit};
-ghost use Rattle.tm_reassembly.specs.Sinks.{TakesAll, RefusesOne, part_items};
+ghost use Rattle.tm_items.specs.Sinks.{TakesAll, RefusesOne};
+ghost use Rattle.tm_reassembly.specs.Items.{part_items};
 ghost use Rattle.tm_reassembly.specs.Valid.{PlaceFits};
 
-use crate::items::{Item, Reason, Sink};
+use tm_items::{Item, Reason, Sink};
 use tm_packet::{packet_version, read_header};
 
 /// Whether octets begin with version 0.
 #[tactic(auto, using(crate::proofs::Headers::version_first))]
 pub fn is_packet(octets: &[u8]) -> bool
     requires { 0 < length octets.now }
-    ensures { result ≡ model.is_packet octets.now }
+    ensures { result ≡ one_packet.is_packet octets.now }
 {
     packet_version(octets[0]) == 0
 }
@@ -24,8 +26,8 @@ pub fn is_packet(octets: &[u8]) -> bool
 /// How many octets the packet at the front has, by its header; 7, the fewest, where the header is not there yet.
 #[tactic(auto, using(crate::proofs::Headers::reach_read, crate::proofs::Headers::reach_unread))]
 pub fn reach(octets: &[u8]) -> usize
-    requires { model.is_packet octets.now ≡ true }
-    ensures value { result ≡ model.reach octets.now }
+    requires { one_packet.is_packet octets.now ≡ true }
+    ensures value { result ≡ one_packet.reach octets.now }
     ensures most { result ≤ 65542 }
 {
     match read_header(octets) {
@@ -62,8 +64,8 @@ pub fn agrees_at(far: usize, at: usize, len: usize, place: Option<u16>) -> bool
 /// Why what begins here isn't read: it is of another version, or a packet that is long where these octets end.
 pub fn measure(limit: usize, octets: &[u8]) -> Result<usize, Reason>
     requires { 0 < length octets.now }
-    ensures ok { IfOk result (λ far. (begins_packet limit octets.now ≡ true) × (far ≡ model.reach octets.now)) }
-    ensures packet { OnOk result (model.is_packet octets.now ≡ true) }
+    ensures ok { IfOk result (λ far. (begins_packet limit octets.now ≡ true) × (far ≡ one_packet.reach octets.now)) }
+    ensures packet { OnOk result (one_packet.is_packet octets.now ≡ true) }
     ensures most { IfOk result (λ far. far ≤ 65542) }
     ensures short { IfOk result (λ far. 6 ≤ length octets.now → far ≤ limit) }
     ensures unread { IfErr result (λ reason. (begins_packet limit octets.now ≡ false) × (reason ≡ unread_reason octets.now)) }
@@ -81,8 +83,8 @@ pub fn measure(limit: usize, octets: &[u8]) -> Result<usize, Reason>
 /// How many octets the packet has that begins with a tail and goes on with a field, as `reach` says.
 pub fn reach_over(tail: &[u8], field: &[u8]) -> usize
     requires some { 0 < length tail.now }
-    requires packet { model.is_packet tail.now ≡ true }
-    ensures value { result ≡ model.reach (tail.now ++ field.now) }
+    requires packet { one_packet.is_packet tail.now ≡ true }
+    ensures value { result ≡ one_packet.reach (tail.now ++ field.now) }
     ensures most { result ≤ 65542 }
 {
     if tail.len() >= 6 {

@@ -9,7 +9,7 @@ ghost use Rattle.tm_reassembly.specs.Items.{closing, close_channels};
 ghost use Rattle.tm_reassembly.specs.Kept.{HaveLimit, lasts, octets_in, rooms, unused};
 ghost use Rattle.tm_reassembly.specs.Recording.{items, after};
 ghost use Rattle.tm_rules.specs.Rules.{IsLimit, chooses};
-ghost use Rattle.tm_reassembly.specs.Sinks.{TakesAll, RefusesOne};
+ghost use Rattle.tm_items.specs.Sinks.{TakesAll, RefusesOne};
 ghost use Rattle.tm_reassembly.specs.State.{State, Last};
 ghost use Rattle.tm_reassembly.specs.Steps.{Progress, begun, most_records, progress_in, step_items, stepped, StepRefused, CloseRefused, last_count_of};
 ghost use Rattle.tm_reassembly.specs.Tiles.{held_tail};
@@ -17,11 +17,11 @@ ghost use Rattle.tm_reassembly.specs.Valid.{IsCount, IsState};
 
 use crate::checkpoint::{four_at, master_length, push_four, push_master, read_block, read_master};
 use crate::fault::{NoMemory, StateFault, StepFault};
-use crate::items::{Item, Sink};
 use crate::kept::{Kept, give_master_gap};
 use std::alloc::{AllocError, Global};
 use std::marker::Model;
 use tm_frame::{Layout, read};
+use tm_items::{Item, Sink};
 use tm_rules::{Channels, Rules};
 
 /// Takes the records of a recording one by one, and gives the packets of the chosen channels and what is lost of them.

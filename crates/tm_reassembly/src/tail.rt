@@ -2,22 +2,24 @@
 
 ghost use Rattle.std.specs.Prelude.{◌≡◌, ◌+◌, ◌<◌, ◌≤◌, ◌++◌, length, take, IfOk, IfErr, OnOk, Option, None, Some, is_some, true, vec_len, vec_capacity};
 ghost use Rattle.tm_reassembly.specs.Blocks.{spelled_tail};
-ghost use Rattle.tm_reassembly.specs.declared.items.Reason.TheVariants as why;
+ghost use Rattle.tm_items.specs.declared.items.Reason.TheVariants as why;
 ghost use Rattle.tm_reassembly.specs.Field.{step_parts, step_tail, ended_parts, frame_parts, frame_tail};
-ghost use Rattle.tm_reassembly.specs.Item as value;
+ghost use Rattle.tm_items.specs.Item as value;
 ghost use Rattle.tm_reassembly.specs.Kept.{Buffer, tail_of_octets, octets_in, grown, completed, member_at};
 ghost use Rattle.tm_reassembly.specs.Parts as model;
 ghost use Rattle.tm_reassembly.specs.Parts.{lead_part, front_of};
 ghost use Rattle.tm_rules.specs.Rules.{IsLimit};
-ghost use Rattle.tm_reassembly.specs.Sinks.{IsOnePacket, TakesAll, RefusesOne, part_items};
+ghost use Rattle.tm_items.specs.OnePacket.{IsOnePacket};
+ghost use Rattle.tm_items.specs.Sinks.{TakesAll, RefusesOne};
+ghost use Rattle.tm_reassembly.specs.Items.{part_items};
 ghost use Rattle.tm_reassembly.specs.State as state;
 ghost use Rattle.tm_reassembly.specs.Valid.{PlaceFits, IsOpenTail};
 
 use crate::checkpoint::{push, push_four, push_two};
-use crate::items::{Item, Reason, Sink};
 use crate::packets::{agrees_at, give_field, is_long, reach_over, read_field};
 use std::alloc::{AllocError, Global};
 use std::marker::Model;
+use tm_items::{Item, Reason, Sink};
 
 /// The tail that is held, if its octets are not empty, and the record and place where it begins. A packet has at most `limit` octets, for
 /// which there is room.

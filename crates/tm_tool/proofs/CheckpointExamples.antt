@@ -12,7 +12,7 @@ use Rattle.tm_rules.specs.Rules.{Rules}
 use Rattle.tm_tool.specs.declared.fault.CheckpointFault.TheVariants as fault
 use Rattle.tm_tool.specs.declared.version.Version.TheVariants.{One, Two}
 use Rattle.tm_tool.specs.Checkpoints.{checkpoint_of, framed, resumed, spelled_in, with_check, without_master}
-use Rattle.tm_output.specs.Pieces.{Work}
+use Rattle.tm_tool.specs.RecordingPieces.{Work}
 
 -- frames of so many octets of spacecraft 42, all channels, and packets of at most so many octets
 rules : ℕ → ℕ → Rules

@@ -28,7 +28,8 @@ use Rattle.tm_tool.specs.declared.version.Version.{Version}
 use Rattle.tm_tool.specs.declared.version.Version.TheVariants.{One, Two, Three}
 use Rattle.tm_tool.specs.Checkpoints.{AsksMemory, IsWork, form_of, version_of, tells, kept_state, kept_in, magic, settings_in, head_octets, state_octets, with_check, spelled_in, checkpoint_of, check_holds, says_settings, framed_as, framed, inner, job_of, with_entries, with_state, state_in, resumed_as, resumed}
 use Rattle.tm_tool.specs.Jobs.{JobState}
-use Rattle.tm_output.specs.Pieces.{Entries, Work}
+use Rattle.tm_output.specs.Pieces.{Entries}
+use Rattle.tm_tool.specs.RecordingPieces.{Work}
 use Rattle.tm_tool.proofs.CheckpointLength.{state_most, state_least, sequence_most, sequence_least}
 use Rattle.tm_tool.proofs.ReadValid.{state_valid}
 use Rattle.tm_tool.proofs.VersionLemmas.{named, own_octet, around_fits, length-head, state_again, state_spelled}

@@ -15,7 +15,7 @@ use Rattle.tm_packet.specs.declared.notes.Note.TheVariants as note
 use Rattle.tm_packet.specs.declared.notes.Why.TheVariants as why
 use Rattle.tm_packet.specs.Header.{Fields}
 use Rattle.tm_packet.specs.Merge.{no_entries}
-use Rattle.tm_reassembly.specs.declared.items.Reason.TheVariants as reason
+use Rattle.tm_items.specs.declared.items.Reason.TheVariants as reason
 use Rattle.tm_rules.specs.Channels.{all_channels}
 use Rattle.tm_reassembly.specs.Recording.{items, after}
 use Rattle.tm_output.specs.declared.command.Command.TheVariants.{Extract, Packets}
@@ -25,7 +25,8 @@ use Rattle.tm_output.specs.FieldRows.{tabled, too_short}
 use Rattle.tm_tool.specs.Jobs.{begun, rows_head}
 use Rattle.tm_output.specs.Lines.{drop_line, gap_line, master_gap_line, note_line, packet_line, short_line, short_packet_line}
 use Rattle.tm_output.specs.Outputs.{outs, reports}
-use Rattle.tm_output.specs.Pieces.{Work, line_of, listed, noted, notes_of, octets_of, pieces, report_of, rows_text, text_of, unclosed_piece, worked}
+use Rattle.tm_tool.specs.RecordingPieces.{Work, pieces, worked}
+use Rattle.tm_output.specs.Pieces.{line_of, listed, noted, notes_of, octets_of, report_of, rows_text, text_of, unclosed_piece}
 use Rattle.tm_output.specs.Records.{records, rest_of}
 
 -- frames of so many octets of spacecraft 42: a data field has six fewer

@@ -1,7 +1,7 @@
 -- What a work's pieces lack without its last master channel count: at most one gap of the master channel.
 use Rattle.std.proofs.Common.{◌≡◌, inl, inr, ⊎_elim, ℕ, List, [], ◌∷◌, ◌++◌, length, refl, sym, ap, ◌∙◌, append_assoc, append-nil}
 use Rattle.tm_frame.specs.Layout.{record_length_of}
-use Rattle.tm_reassembly.specs.Item.{Item, MasterGap}
+use Rattle.tm_items.specs.Item.{Item, MasterGap}
 use Rattle.tm_reassembly.specs.State.{State}
 use Rattle.tm_reassembly.specs.OlderForms as forgotten
 use Rattle.tm_reassembly.specs.OlderForms.{IsMasterGapAtMost, LacksMasterGap}
@@ -14,7 +14,8 @@ use Rattle.tm_output.specs.Lines.{master_gap_line}
 use Rattle.tm_tool.specs.OlderVersions.{gap_piece, IsGapLineAtMost, LacksGapLine}
 use Rattle.tm_output.specs.Outlets.{GivesNone, no_text}
 use Rattle.tm_output.specs.Outputs.{Piece}
-use Rattle.tm_output.specs.Pieces.{Entries, Texts, Work, chosen, end_pieces, further, items_of, line_of, noted, noted_all, piece_of, pieces, pieces_of, record_pieces, report_of, text_of, worked}
+use Rattle.tm_output.specs.Pieces.{Entries, Texts, line_of, noted, noted_all, piece_of, pieces_of, report_of, text_of}
+use Rattle.tm_tool.specs.RecordingPieces.{Work, chosen, end_pieces, further, items_of, pieces, record_pieces, worked}
 use Rattle.tm_output.specs.Records.{rest_of}
 use Rattle.tm_output.specs.Shelves.{shelf_text}
 use Rattle.tm_output.specs.ShelfLaws.{no_shelf}

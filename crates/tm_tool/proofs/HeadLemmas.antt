@@ -9,7 +9,8 @@ use Rattle.tm_output.specs.declared.command.Ending.{Ending}
 use Rattle.tm_tool.specs.Jobs.{rows_head}
 use Rattle.tm_output.specs.Outlets.{PutStopped}
 use Rattle.tm_output.specs.Outputs.{lines_way, view}
-use Rattle.tm_output.specs.Pieces.{Texts, Work}
+use Rattle.tm_output.specs.Pieces.{Texts}
+use Rattle.tm_tool.specs.RecordingPieces.{Work}
 use Rattle.tm_tool.specs.Runs.{IsHeadedStop}
 use Rattle.tm_output.proofs.PieceLemmas.{stopped_put}
 

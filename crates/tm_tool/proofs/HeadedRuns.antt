@@ -6,7 +6,8 @@ use Rattle.tm_output.specs.declared.fault.RunFault.{RunFault}
 use Rattle.tm_output.specs.declared.fault.RunFault.TheVariants.{NoMemory, ShortRecording, TooMany}
 use Rattle.tm_output.specs.declared.command.Ending.{Ending}
 use Rattle.tm_output.specs.Outputs.{Piece, View, AppendsCut, Took, WantsMemory, outs, reports, Way}
-use Rattle.tm_output.specs.Pieces.{Texts, Work, chosen, further, pieces, worked}
+use Rattle.tm_output.specs.Pieces.{Texts}
+use Rattle.tm_tool.specs.RecordingPieces.{Work, chosen, further, pieces, worked}
 use Rattle.tm_output.specs.Records.{record_count}
 use Rattle.tm_tool.specs.Runs.{IsRun, IsStoppedAt, IsHeadedRun, IsHeadedStop, kept_of}
 use Rattle.tm_output.proofs.PieceLemmas.{cut_after, took_none, took_took, stopped_more, stops_after}

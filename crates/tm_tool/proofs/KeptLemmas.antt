@@ -6,7 +6,7 @@ use Rattle.tm_output.specs.declared.command.Ending.{Ending}
 use Rattle.tm_output.specs.declared.command.Ending.TheVariants.{Close, Keep, StopAfter}
 use Rattle.tm_tool.specs.declared.recording.Kept.{Kept}
 use Rattle.tm_tool.specs.Keeping.{kept_work}
-use Rattle.tm_output.specs.Pieces.{Work}
+use Rattle.tm_tool.specs.RecordingPieces.{Work}
 use Rattle.tm_tool.specs.Runs.{kept_of}
 
 none_kept : {P : Type 0} (k : Work) → ◌≡◌ {A = Option Work} (Some k) None → P

@@ -19,7 +19,8 @@ use Rattle.tm_reassembly.specs.Valid.{IsState}
 use Rattle.tm_tool.specs.declared.version.Version.{Version}
 use Rattle.tm_tool.specs.declared.version.Version.TheVariants.{One, Two, Three}
 use Rattle.tm_tool.specs.Checkpoints.{IsWork, form_of, tells, kept_state, kept_in, presence_octet, three, settings_octets, head_octets, state_octets, spelled_in, state_in}
-use Rattle.tm_output.specs.Pieces.{Entries, Work}
+use Rattle.tm_output.specs.Pieces.{Entries}
+use Rattle.tm_tool.specs.RecordingPieces.{Work}
 use Rattle.tm_tool.proofs.CheckpointLemmas.{body, check, behind_head}
 use Rattle.tm_tool.proofs.VersionLemmas.{told_apart, kept_spelled, state_again}
 

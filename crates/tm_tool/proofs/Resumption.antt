@@ -12,7 +12,8 @@ use Rattle.tm_output.specs.declared.command.Ending.TheVariants.{Close, Keep, Sto
 use Rattle.tm_tool.specs.Checkpoints.{IsWork, checkpoint_of, resumed}
 use Rattle.tm_tool.specs.Jobs.{JobState, begun}
 use Rattle.tm_output.specs.Outputs.{Piece}
-use Rattle.tm_output.specs.Pieces.{Texts, Work, chosen, end_pieces, further, pieces, pieces_after, record_pieces, worked}
+use Rattle.tm_output.specs.Pieces.{Texts}
+use Rattle.tm_tool.specs.RecordingPieces.{Work, chosen, end_pieces, further, pieces, pieces_after, record_pieces, worked}
 use Rattle.tm_output.specs.Records.{records, rest_of}
 use Rattle.tm_tool.specs.Resuming.{Stop, KeepsJob, Follows, left_by, then_pieces, run_pieces, resumed_pieces, done_by, done_in_all, in_one}
 use Rattle.tm_tool.proofs.CheckpointLemmas.{read_again}

@@ -6,7 +6,8 @@ use Rattle.tm_output.specs.declared.fault.RunFault.{RunFault}
 use Rattle.tm_output.specs.declared.fault.RunFault.TheVariants.{Read, Write, Report, ShortRecording, TooMany, NoMemory}
 use Rattle.tm_output.specs.declared.command.Ending.{Ending}
 use Rattle.tm_output.specs.Outputs.{Piece, View, Took, Stopped, Way}
-use Rattle.tm_output.specs.Pieces.{Entries, Texts, Work, noted_all, pieces_of, unclosed_pieces, worked, record_pieces, closing_pieces, end_pieces}
+use Rattle.tm_output.specs.Pieces.{Entries, Texts, noted_all, pieces_of, unclosed_pieces}
+use Rattle.tm_tool.specs.RecordingPieces.{Work, worked, record_pieces, closing_pieces, end_pieces}
 use Rattle.tm_tool.specs.Runs.{IsRun, StopsAtEnd, IsStoppedAt, behind, kept_of}
 use Rattle.tm_tool.specs.Stepping.{HasStepped}
 use Rattle.tm_output.proofs.PieceLemmas.{took_took, took_stopped, took_failed, stopped_more}

@@ -11,7 +11,8 @@ use Rattle.tm_output.specs.declared.fault.RunFault.TheVariants.{Read, Write, Rep
 use Rattle.tm_output.specs.declared.command.Ending.{Ending}
 use Rattle.tm_output.specs.declared.command.Ending.TheVariants.{Close, Keep, StopAfter}
 use Rattle.tm_output.specs.Outputs.{Piece, View, Cut, AppendsCut, Took, RefusesPut, WantsMemory, Stopped, outs, reports, Way}
-use Rattle.tm_output.specs.Pieces.{Texts, Work, chosen, further, worked, record_pieces, end_pieces, pieces_after, pieces}
+use Rattle.tm_output.specs.Pieces.{Texts}
+use Rattle.tm_tool.specs.RecordingPieces.{Work, chosen, further, worked, record_pieces, end_pieces, pieces_after, pieces}
 use Rattle.tm_output.specs.Records.{AreRecords, record_count, records, rest_of}
 use Rattle.tm_tool.specs.Runs.{HasRead, HasEnded, GoesOn, Suffices, IsRun, StopsAtRead, StopsAtRecord, StopsAtEnd, IsStoppedAt, behind, kept_of}
 use Rattle.tm_output.proofs.ListingLemmas.{AreRecords-append, concat-one}

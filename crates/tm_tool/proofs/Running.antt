@@ -7,7 +7,7 @@ use Rattle.std.specs.Io.KnownBytes.{Consumes, IsAtEnd}
 use Rattle.std.proofs.KnownBytes.{Consumes-trans}
 use Rattle.tm_frame.specs.Fault.{reading_of}
 use Rattle.tm_frame.specs.Layout.{record_length_of}
-use Rattle.tm_reassembly.specs.Item.{Item}
+use Rattle.tm_items.specs.Item.{Item}
 use Rattle.tm_reassembly.specs.Items.{empty}
 use Rattle.tm_reassembly.specs.Recording.{items, after}
 use Rattle.tm_rules.specs.Rules.{Rules, IsLimit, chooses}
@@ -23,7 +23,8 @@ use Rattle.tm_output.specs.declared.fault.RunFault.TheVariants.{Read, Write, Rep
 use Rattle.tm_output.specs.declared.command.Ending.{Ending}
 use Rattle.tm_output.specs.declared.command.Ending.TheVariants.{Close, Keep, StopAfter}
 use Rattle.tm_output.specs.Outputs.{Piece, View, Took, Stopped, Way}
-use Rattle.tm_output.specs.Pieces.{Entries, Texts, Work, noted, noted_all, piece_of, pieces_of, items_of, worked, record_pieces}
+use Rattle.tm_output.specs.Pieces.{Entries, Texts, noted, noted_all, piece_of, pieces_of}
+use Rattle.tm_tool.specs.RecordingPieces.{Work, items_of, worked, record_pieces}
 use Rattle.tm_tool.specs.Runs.{HasRead, GoesOn, Suffices, StopsAtRecord, IsStoppedAt, behind}
 use Rattle.tm_tool.specs.Stepping.{Enough, HasTaken, HasStepped, HasPassed, PassingStopped, Reached, StepStopped, work_of}
 use Rattle.tm_output.proofs.ListingLemmas.{AreRecords-append, concat-one}

@@ -1,7 +1,7 @@
 -- What a sink of texts does with a list of items.
 use Rattle.std.proofs.Common.{◌≡◌, List, [], ◌∷◌, ◌++◌, refl, sym, ap, subst, ◌∙◌, inl, inr}
-use Rattle.tm_reassembly.specs.Item.{Item}
-use Rattle.tm_reassembly.specs.Sinks.{TakesAll, RefusesOne}
+use Rattle.tm_items.specs.Item.{Item}
+use Rattle.tm_items.specs.Sinks.{TakesAll, RefusesOne}
 use Rattle.tm_output.specs.declared.fault.RunFault.{RunFault}
 use Rattle.tm_output.specs.Outputs.{View, Piece, Took, Stopped, Way}
 use Rattle.tm_output.specs.Pieces.{Entries, Texts, piece_of, noted, noted_all, pieces_of}

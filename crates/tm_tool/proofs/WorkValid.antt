@@ -5,14 +5,15 @@ use Rattle.tm_packet.specs.Valid as valid
 use Rattle.tm_packet.proofs.AfterValid.{header-range, header-fits, after-valid}
 use Rattle.tm_packet.proofs.States.{valid-none}
 use Rattle.tm_reassembly.specs.Among.{Among, is_of}
-use Rattle.tm_reassembly.specs.Item.{Item, Bad, MasterGap, Gap, Vca, Dropped, Packet, Short}
+use Rattle.tm_items.specs.Item.{Item, Bad, MasterGap, Gap, Vca, Dropped, Packet, Short}
 use Rattle.tm_rules.specs.Rules.{Rules, IsLimit}
 use Rattle.tm_reassembly.specs.Valid.{AllOctets}
 use Rattle.tm_reassembly.proofs.ItemChannels.{item-channel}
 use Rattle.tm_reassembly.proofs.States.{empty-valid, records-valid}
 use Rattle.tm_tool.specs.Checkpoints.{IsWork}
 use Rattle.tm_tool.specs.Jobs.{begun}
-use Rattle.tm_output.specs.Pieces.{Entries, Work, sent, noted, noted_all, items_of, worked}
+use Rattle.tm_output.specs.Pieces.{Entries, sent, noted, noted_all}
+use Rattle.tm_tool.specs.RecordingPieces.{Work, items_of, worked}
 
 -- an item whose channel is one of eight leaves the entries valid
 pub noted-valid : (entries : Entries) (x : Item) → valid.IsState entries → ((c : ℕ) → is_of c x ≡ true → c < 8) → valid.IsState (noted entries x)

@@ -21,7 +21,8 @@ use Rattle.tm_tool.specs.declared.version.Form.{Form}
 use Rattle.tm_tool.specs.declared.version.Version.{Version}
 use Rattle.tm_tool.specs.declared.version.Version.TheVariants.{One, Two, Three}
 use Rattle.tm_tool.specs.Jobs.{JobState}
-use Rattle.tm_output.specs.Pieces.{Entries, Work}
+use Rattle.tm_output.specs.Pieces.{Entries}
+use Rattle.tm_tool.specs.RecordingPieces.{Work}
 
 -- a work that a job may have: eight channels, and a state and entries that are valid
 pub record IsWork (w : Work) : Type 0 where

@@ -9,7 +9,8 @@ use Rattle.tm_output.specs.declared.command.Command.{Command}
 use Rattle.tm_output.specs.declared.command.Command.TheVariants.{Extract, Packets, Fields}
 use Rattle.tm_output.specs.declared.command.Ending.{Ending}
 use Rattle.tm_output.specs.Outputs.{Piece}
-use Rattle.tm_output.specs.Pieces.{Work, pieces, text_of}
+use Rattle.tm_tool.specs.RecordingPieces.{Work, pieces}
+use Rattle.tm_output.specs.Pieces.{text_of}
 
 -- how far a job has got, and whether it is fresh: no run has begun with it
 pub record JobState : Type 0 where

@@ -3,7 +3,7 @@ use Rattle.std.specs.Prelude.{◌≡◌, false, Option, option_map}
 use Rattle.tm_reassembly.specs.Steps.{Progress}
 use Rattle.tm_reassembly.specs.Valid.{IsState}
 use Rattle.tm_tool.specs.declared.recording.Kept.{Kept}
-use Rattle.tm_output.specs.Pieces.{Work}
+use Rattle.tm_tool.specs.RecordingPieces.{Work}
 use Rattle.tm_tool.specs.Stepping.{work_of}
 
 -- no step was refused, and the state is a valid one

@@ -1,3 +1,4 @@
+pub mod RecordingPieces
 pub mod Jobs
 pub mod Runs
 pub mod Stepping

@@ -4,7 +4,7 @@ use Rattle.std.specs.List.{flat_map}
 use Rattle.tm_packet.specs.declared.notes.Note.{Note}
 use Rattle.tm_packet.specs.Header.{header_of}
 use Rattle.tm_packet.specs.Merge.{Sent}
-use Rattle.tm_reassembly.specs.Item.{Item, Packet}
+use Rattle.tm_items.specs.Item.{Item, Packet}
 use Rattle.tm_output.specs.Lines.{note_lines}
 use Rattle.tm_output.specs.Outputs.{Piece}
 use Rattle.tm_output.specs.Pieces.{Texts, line_of, sent}

@@ -7,7 +7,8 @@ use Rattle.tm_output.specs.declared.command.Ending.TheVariants.{Close, Keep, Sto
 use Rattle.tm_tool.specs.Checkpoints.{checkpoint_of, resumed}
 use Rattle.tm_tool.specs.Jobs.{JobState}
 use Rattle.tm_output.specs.Outputs.{Piece}
-use Rattle.tm_output.specs.Pieces.{Texts, Work, chosen, further, pieces, worked}
+use Rattle.tm_output.specs.Pieces.{Texts}
+use Rattle.tm_tool.specs.RecordingPieces.{Work, chosen, further, pieces, worked}
 use Rattle.tm_output.specs.Records.{records}
 
 -- a stop: where a run ended, and the recording as it was then

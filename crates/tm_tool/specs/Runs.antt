@@ -8,7 +8,8 @@ use Rattle.tm_output.specs.declared.fault.RunFault.TheVariants.{Read, Write, Rep
 use Rattle.tm_output.specs.declared.command.Ending.{Ending}
 use Rattle.tm_output.specs.declared.command.Ending.TheVariants.{Close, Keep, StopAfter}
 use Rattle.tm_output.specs.Outputs.{Piece, View, Took, Stopped, Way}
-use Rattle.tm_output.specs.Pieces.{Texts, Work, worked, record_pieces, end_pieces, pieces_after}
+use Rattle.tm_output.specs.Pieces.{Texts}
+use Rattle.tm_tool.specs.RecordingPieces.{Work, worked, record_pieces, end_pieces, pieces_after}
 use Rattle.tm_output.specs.Records.{AreRecords}
 
 -- these records were read, and then these octets

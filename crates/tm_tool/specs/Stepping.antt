@@ -10,7 +10,8 @@ use Rattle.tm_output.specs.declared.fault.RunFault.TheVariants.{Read, Write, Rep
 use Rattle.tm_output.specs.declared.command.Ending.{Ending}
 use Rattle.tm_output.specs.declared.command.Ending.TheVariants.{Close, Keep, StopAfter}
 use Rattle.tm_output.specs.Outputs.{Piece, View, Way, Took, Stopped}
-use Rattle.tm_output.specs.Pieces.{Entries, Texts, Work, worked, record_pieces}
+use Rattle.tm_output.specs.Pieces.{Entries, Texts}
+use Rattle.tm_tool.specs.RecordingPieces.{Work, worked, record_pieces}
 use Rattle.tm_output.specs.Records.{AreRecords}
 use Rattle.tm_tool.specs.Runs.{HasRead, HasReadAll, HasEnded, behind}
 

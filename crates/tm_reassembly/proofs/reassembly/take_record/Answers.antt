@@ -3,9 +3,9 @@ use Rattle.std.proofs.lemmas.Result.{on_ok_weaker, IfErr-weaker}
 use Rattle.tm_frame.specs.declared.layout.LayoutParts.{LayoutParts}
 use Rattle.tm_frame.specs.Fault.{reading_of}
 use Rattle.tm_rules.specs.Channels.{is_chosen}
-use Rattle.tm_reassembly.specs.Item.{Item}
+use Rattle.tm_items.specs.Item.{Item}
 use Rattle.tm_rules.specs.Rules.{Rules, chooses}
-use Rattle.tm_reassembly.specs.Sinks.{TakesAll, RefusesOne}
+use Rattle.tm_items.specs.Sinks.{TakesAll, RefusesOne}
 use Rattle.tm_reassembly.proofs.OneRecord.{open_slot, items_slot, after_slot, items_good, items_unchosen, after_unchosen, limit_slot, items_bad_record, after_bad_record, refused_bad_record}
 use Rattle.tm_reassembly.proofs.ReadField.{TakesAll-append, RefusesOne-left, RefusesOne-right}
 use Rattle.tm_reassembly.proofs.reassembly.take_record.Goals as goal

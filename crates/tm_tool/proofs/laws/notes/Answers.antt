@@ -1,6 +1,6 @@
 use Rattle.std.proofs.Common.{◌<◌, ◌∙◌, ℕ, subst}
 use Rattle.tm_reassembly.proofs.ItemChannels.{item-channel}
-use Rattle.tm_output.specs.Pieces.{items_of, worked}
+use Rattle.tm_tool.specs.RecordingPieces.{items_of, worked}
 use Rattle.tm_tool.proofs.NoteLemmas.{noted_all_is, open_is, pieces_noted}
 use Rattle.tm_tool.proofs.laws.notes.Goals as goal
 

@@ -2,7 +2,7 @@ use Rattle.std.proofs.Common.{◌≡◌, ◌∷◌, [], length, take, refl, ap, 
 use Rattle.std.specs.Io.KnownBytes.{Consumes}
 use Rattle.tm_frame.specs.Layout.{record_length_of}
 use Rattle.tm_output.specs.Outputs.{view}
-use Rattle.tm_output.specs.Pieces.{Work}
+use Rattle.tm_tool.specs.RecordingPieces.{Work}
 use Rattle.tm_tool.specs.Runs.{GoesOn}
 use Rattle.tm_tool.specs.Stepping.{Enough, HasPassed, PassingStopped, work_of}
 use Rattle.tm_tool.proofs.Running.{records-counted, first_reached, more_reached, just_enough, passing_stopped, taken_first, taken_more, taken_stopped, taken_read, taken_all, taken_enough}

@@ -1,5 +1,5 @@
 use Rattle.std.proofs.Common.{◌++◌, ℕ, List, refl, sym, ap, subst, ◌∙◌, inr}
-use Rattle.tm_reassembly.specs.Sinks.{item_of}
+use Rattle.tm_items.specs.Sinks.{item_of}
 use Rattle.tm_output.specs.Pieces.{line_of}
 use Rattle.tm_devices.specs.Devices.{AppendsFront}
 use Rattle.tm_output.proofs.PieceLemmas.{no_room, stopped_lines}

@@ -1,6 +1,7 @@
 use Rattle.std.proofs.Common.{◌≡◌, ◌<◌, ◌≤◌, ◌+◌, ◌++◌, true, false, ℕ, List, length, sym, ap, ◌∙◌, rules}
 use Rattle.tm_reassembly.specs.Kept.{Buffer, octets_in}
-use Rattle.tm_reassembly.specs.Parts.{agrees_at, is_long, reach}
+use Rattle.tm_reassembly.specs.Parts.{agrees_at, is_long}
+use Rattle.tm_items.specs.OnePacket.{reach}
 use Rattle.tm_reassembly.proofs.Tails.{octets_again, step_completed_at}
 use Rattle.tm_reassembly.proofs.tail.Tail.take_field.Goals as goal
 

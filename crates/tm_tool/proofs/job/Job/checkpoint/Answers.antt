@@ -2,7 +2,7 @@ use Rattle.std.proofs.Common.{◌≡◌, ◌≤◌, ◌+◌, ◌*◌, ℕ, List,
 use Rattle.tm_tool.specs.declared.version.Version.TheVariants.{Three}
 use Rattle.tm_tool.specs.Checkpoints.{IsWork, checkpoint_of, head_octets}
 use Rattle.tm_tool.specs.Jobs.{JobState}
-use Rattle.tm_output.specs.Pieces.{Work}
+use Rattle.tm_tool.specs.RecordingPieces.{Work}
 use Rattle.tm_tool.specs.Stepping.{work_of}
 use Rattle.tm_tool.proofs.CheckpointLemmas.{bound, most, joined}
 use Rattle.tm_tool.proofs.job.Job.checkpoint.Goals as goal

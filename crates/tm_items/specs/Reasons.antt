@@ -1,7 +1,7 @@
 -- The word of each reason.
 use Rattle.std.specs.Prelude.{ℕ, List, codes}
-use Rattle.tm_reassembly.specs.declared.items.Reason.{Reason}
-use Rattle.tm_reassembly.specs.declared.items.Reason.TheVariants.{Pointer, Gap, Vca, Close, NoStart, Version, Length}
+use Rattle.tm_items.specs.declared.items.Reason.{Reason}
+use Rattle.tm_items.specs.declared.items.Reason.TheVariants.{Pointer, Gap, Vca, Close, NoStart, Version, Length}
 
 abbrev pub word_of : Reason → List ℕ
 word_of Pointer = codes "pointer"

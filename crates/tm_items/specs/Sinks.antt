@@ -1,11 +1,9 @@
 -- What it is for a sink to take a list of items, and to refuse one of them.
-use Rattle.std.specs.Prelude.{◌≡◌, ◌⊎◌, ◌<◌, ℕ, true, List, [], ◌∷◌, length}
-use Rattle.std.specs.List.{flat_map}
-use Rattle.tm_reassembly.specs.declared.items.Item as lent
-use Rattle.tm_reassembly.specs.declared.items.Item.TheVariants as one
-use Rattle.tm_reassembly.specs.Item.{Item, Bad, MasterGap, Gap, Vca, Dropped, Packet, Short}
-use Rattle.tm_reassembly.specs.Parts.{Part, is_packet, reach}
-use Rattle.tm_reassembly.specs.Items.{part_item}
+use Rattle.std.specs.Prelude.{◌≡◌, ◌⊎◌, ◌<◌, List, [], ◌∷◌}
+use Rattle.tm_items.specs.declared.items.Item as lent
+use Rattle.tm_items.specs.declared.items.Item.TheVariants as one
+use Rattle.tm_items.specs.Item.{Item, Bad, MasterGap, Gap, Vca, Dropped, Packet, Short}
+use Rattle.tm_items.specs.OnePacket.{IsOnePacket}
 
 -- an item in values: a packet's octets, not where they are lent from
 abbrev pub item_of : lent.Item → Item
@@ -16,11 +14,6 @@ item_of (one.Vca seen channel) = Vca seen channel
 item_of (one.Dropped seen channel first place octets reason) = Dropped seen channel first place octets reason
 item_of (one.Packet seen channel first place octets) = Packet seen channel first place octets.now
 item_of (one.Short seen octets) = Short seen octets
-
--- octets are one whole packet of version 0
-pub record IsOnePacket (octets : List ℕ) : Type 0 where
-  pub version : is_packet octets ≡ true
-  pub whole : length octets ≡ reach octets
 
 -- what holds of each item that a sink is asked to take: its channel is one of eight, and a packet's octets are one whole packet
 abbrev pub ItemFits : Item → Type 0
@@ -42,7 +35,3 @@ abbrev pub RefusesOne : {S F : Type 0} → (S → Item → S → Type 0) → (S 
 RefusesOne takes refuses old [] fault new = ⊥
 RefusesOne {S} takes refuses old (x ∷ xs) fault new =
     refuses old x fault new ⊎ ((mid : S) × takes old x mid × RefusesOne takes refuses mid xs fault new)
-
--- the items of parts
-abbrev pub part_items : ℕ → List Part → List Item
-part_items channel ps = flat_map (λ p. part_item channel p p.fate) ps

@@ -1,9 +1,9 @@
 //! What is reported of records, and who takes it.
 
 ghost use Rattle.std.specs.Prelude.{◌≡◌, IfErr, OnOk};
-ghost use Rattle.tm_reassembly.specs.Reasons.{word_of};
-ghost use Rattle.tm_reassembly.specs.Item as value;
-ghost use Rattle.tm_reassembly.specs.Sinks.{item_of, ItemFits};
+ghost use Rattle.tm_items.specs.Reasons.{word_of};
+ghost use Rattle.tm_items.specs.Item as value;
+ghost use Rattle.tm_items.specs.Sinks.{item_of, ItemFits};
 
 use tm_frame::FrameFault;
 

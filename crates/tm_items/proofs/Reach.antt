@@ -3,7 +3,7 @@ use Rattle.std.proofs.Common.{◌≡◌, ℕ, ◌+◌, ◌<◌, ◌≤◌, List,
 use Rattle.std.proofs.lemmas.List.{take-append-le}
 use Rattle.std.proofs.lemmas.Bool.{cases_lt, lt-ltb, le-ltb, cond-true, cond-false}
 use Rattle.tm_packet.specs.Header.{header_of}
-use Rattle.tm_reassembly.specs.Parts.{reach}
+use Rattle.tm_items.specs.OnePacket.{reach}
 
 pub reach-short : (t : List ℕ) → length t < 6 → reach t ≡ 7
 reach-short t h = cond-true (ltb (length t) 6) _ _ (lt-ltb (length t) 6 h)

@@ -1,7 +1,7 @@
 -- The items: what is reported of records, and of a closed end.
 use Rattle.std.specs.Prelude.{ℕ, List}
 use Rattle.tm_frame.specs.declared.fault.FrameFault.{FrameFault}
-use Rattle.tm_reassembly.specs.declared.items.Reason.{Reason}
+use Rattle.tm_items.specs.declared.items.Reason.{Reason}
 
 pub data Item : Type 0 where
   Bad : (seen : ℕ) (fault : FrameFault) → Item

@@ -1,0 +1,4 @@
+pub mod Item
+pub mod Reasons
+pub mod OnePacket
+pub mod Sinks

@@ -98,6 +98,13 @@ class Steps:
     def records(self):
         return int.from_bytes(self.held()[20:24], "big")
 
+    def advance(self):
+        """One run that keeps its job. Where it came to its end the checkpoint has all the records that it was to take."""
+        there = os.path.getsize(self.recording) // 256
+        wanted = min(self.records() + int(self.stop[1]), there) if self.stop else there
+        if self.step(True, self.chance.random() < 0.6) and self.records() != wanted:
+            sys.exit(f"the checkpoint has {self.records()} records, and not {wanted}")
+
     def all_steps(self, records):
         self.folder = fresh("steps")
         self.checkpoint = self.folder / "chk"
@@ -108,7 +115,7 @@ class Steps:
         while self.records() < records:
             if not self.stop:
                 self.grow(self.chance.choice((1, 100, 1500, 6000)))
-            self.step(True, self.chance.random() < 0.6)
+            self.advance()
         while not self.step(False, self.chance.random() < 0.6):
             pass
         return contents(self.folder)

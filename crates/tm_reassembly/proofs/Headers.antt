@@ -71,24 +71,3 @@ reach_unread octets fault p e = ⊎_elim (λ short. sym (reach-short octets shor
         let zero : version_of octets ≡ 0 = sym (part-front 1 octets 0 3 (omega arith) (omega arith) (omega arith)) ∙ eqb-true (version_of (take 1 octets)) 0 p in
         let short = reading-err octets fault zero e in
         omega arith
-
--- a packet has at most 65,542 octets
-pub reach_most : (octets : List ℕ) → reach octets ≤ 65542
-reach_most octets =
-    ⊎_elim (λ short. omega (arith, reach-short octets short))
-    (λ long.
-    let l : length (take 6 octets) ≡ 6 = length-take-le 6 octets long in
-    let small : part (take 6 octets) 32 48 < 2 ^ (48 - 32) = part-lt (take 6 octets) 32 48 (omega arith) (omega arith) in
-    let e = reach-long octets long in
-    omega arith)
-    (cases_lt (length octets) 6)
-
--- a packet that lies whole in octets, by itself
-pub front_packet : (octets : List ℕ) (n : ℕ) → is_packet octets ≡ true → n ≡ reach octets → n ≤ length octets → IsOnePacket (take n octets)
-front_packet octets n p e fits =
-    let least = reach-least octets in
-    let l : length (take n octets) ≡ n = length-take-le n octets fits in
-    let whole : take n octets ++ drop n octets ≡ octets = take-append-drop n octets in
-    let same : reach (take n octets) ≡ n = sym (reach-append (take n octets) (drop n octets) (omega arith)) ∙ ap reach whole ∙ sym e in
-    let first : take 1 (take n octets) ≡ take 1 octets = sym (take-append-le 1 (take n octets) (drop n octets) (omega arith)) ∙ ap (take 1) whole in
-    record { version = ap (λ (xs : List ℕ). eqb (version_of xs) 0) first ∙ p; whole = l ∙ sym same }

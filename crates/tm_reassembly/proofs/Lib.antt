@@ -1,5 +1,6 @@
 pub mod Reach
 pub mod Long
+pub mod Each
 pub mod Sweep
 pub mod Split
 pub mod Fresh
@@ -12,7 +13,6 @@ pub mod Joining
 pub mod Masters
 pub mod Records
 pub mod OneStep
-pub mod Tiling
 pub mod Extension
 pub mod Laying
 pub mod Tiled

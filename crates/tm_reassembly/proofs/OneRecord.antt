@@ -54,9 +54,6 @@ open_entry rules seen master channels v c d small = opened (slice_index_or chann
     opened (Some last) e = in_last last e last.tail refl
 
 module _ (rules : Rules) (seen : ℕ) (master : Option ℕ) (channels : List (Option Last)) (v : IsState rules (record { records = seen; master = master; channels = channels })) (octets : List ℕ) where
-  s : State
-  s = record { records = seen; master = master; channels = channels }
-
   as_read : {r : Reading} → reading_of rules.layout octets ≡ r → items rules (record { records = seen; master = master; channels = channels }) (octets ∷ []) ≡ read.items rules.max_packet (chooses rules) (record { records = seen; master = master; channels = channels }) (r ∷ [])
   unfolding items
   as_read e = ap (λ (r : Reading). read.items rules.max_packet (chooses rules) (record { records = seen; master = master; channels = channels }) (r ∷ [])) e

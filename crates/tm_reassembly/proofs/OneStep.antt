@@ -209,9 +209,6 @@ module _ (limit : ℕ) where
       (cases_Bool (chosen c))))
 
   -- a bad record
-  pub items-bad : (chosen : ℕ → Bool) (s : State) (fault : FrameFault) → items limit chosen s (Err fault ∷ []) ≡ item.Bad s.records fault ∷ []
-  items-bad chosen s fault = refl
-
   pub after-bad : (chosen : ℕ → Bool) (s : State) (fault : FrameFault) → HasShape limit chosen s
       → after limit chosen s (Err fault ∷ []) ≡ record { records = s.records + 1; master = s.master; channels = s.channels }
   after-bad chosen s fault v = channels-kept chosen s (Err fault) v tt (λ c small e. refl)

@@ -19,9 +19,6 @@ use Rattle.tm_reassembly.proofs.Seen.{held-none, chain_parts_at-at, chain_tail_a
 use Rattle.tm_reassembly.proofs.Masters.{masters-now, masters-later, master-moved, master-later}
 use Rattle.tm_reassembly.proofs.Joining.{before_of, tail_of, items_after, channel_items-is, member_items, FitFrom, items-here, items-there}
 
-tails : List Part → List Tail
-tails ps = flat_map (λ p. held_part p p.fate) ps
-
 last_count-is : (x : Option (Option Last)) (fs : List Member) → last_count None (stem_of x ++ fs) ≡ last_count (before_of x) fs
 last_count-is None fs = refl
 last_count-is (Some None) fs = refl
@@ -138,12 +135,6 @@ module _ (limit : ℕ) where
     pub tails_open : (c : ℕ) → c < 8 → chosen c ≡ true → IsOpenTail limit (tail_of (slice_get s.channels c))
 
   module _ (chosen : ℕ → Bool) (s : State) (r : Reading) (valid : HasOpenTails chosen s) (fit : IsFit r) (c : ℕ) (small : c < 8) (is_chosen : chosen c ≡ true) where
-    old : Option (Option Last)
-    old = slice_get s.channels c
-
-    new : Option (Option Last)
-    new = slice_get (after limit chosen s (r ∷ [])).channels c
-
     open_tail : IsOpenTail limit (tail_of (slice_get s.channels c))
     open_tail = valid.tails_open c small is_chosen
 
@@ -352,18 +343,6 @@ module _ (limit : ℕ) where
         (cases_Bool (chosen c))))
 
   -- joining, over any two lists of records
-  pub valid-after-all : (chosen : ℕ → Bool) (s : State) (rs : List Reading) → HasOpenTails chosen s → AllFit rs → rs ≢ [] → HasOpenTails chosen (after limit chosen s rs)
-  valid-after-all chosen s [] valid fits some = absurd (some refl)
-  valid-after-all chosen s (r ∷ []) valid fits some = valid-after chosen s r valid fits.0
-  valid-after-all chosen s (r ∷ q ∷ rs) valid fits some =
-      subst (HasOpenTails chosen) (sym (after-cons chosen s r valid fits.0 (q ∷ rs)))
-      (valid-after-all chosen (after limit chosen s (r ∷ [])) (q ∷ rs) (valid-after chosen s r valid fits.0) fits.1 (λ e. cc))
-
-  -- after a first record, the state is one that `after` gave, and no records leave it as it is
-  pub record Steps (chosen : ℕ → Bool) (s : State) : Type 0 where
-    pub valid : HasOpenTails chosen s
-    pub still : after limit chosen s [] ≡ s
-
   pub items-append : (chosen : ℕ → Bool) (s : State) (rs qs : List Reading) → HasOpenTails chosen s → after limit chosen s [] ≡ s → AllFit rs → AllFit qs
       → items limit chosen s (rs ++ qs) ≡ items limit chosen s rs ++ items limit chosen (after limit chosen s rs) qs
   items-append chosen s [] qs valid still fits more = ap (λ (z : State). items limit chosen z qs) (sym still)

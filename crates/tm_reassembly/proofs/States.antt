@@ -33,16 +33,12 @@ no_octets : AreOctets []
 no_octets = record { below = λ i. omega arith }
 
 octets_field : (kind : Kind) (field : List ℕ) → AreOctets field → AreOctets (counted_field kind field)
-octets_field (got.Packets place) field h = h
-octets_field got.NoStart field h = h
 octets_field got.Idle field h = no_octets
-octets_field got.Vca field h = h
+octets_field kind field h = h
 
 field_most : (kind : Kind) (field : List ℕ) → length (counted_field kind field) ≤ length field
-field_most (got.Packets place) field = omega arith
-field_most got.NoStart field = omega arith
 field_most got.Idle field = omega arith
-field_most got.Vca field = omega arith
+field_most kind field = omega arith
 
 abbrev Within : LayoutParts → ℕ → Option Tail → Type 0
 Within layout records None = Unit {0}
@@ -52,9 +48,6 @@ within-more : (layout : LayoutParts) (records : ℕ) (t : Option Tail) → Withi
 within-more layout records None h = tt
 within-more layout records (Some t) h =
     record { first = (let e = h.first in omega arith); place = h.place; octets = h.octets }
-
-some_last : (x y : Option Last) → ◌≡◌ {A = Option (Option Last)} (Some x) (Some y) → x ≡ y
-some_last x y h = cc
 
 same_last : (x y : Last) → ◌≡◌ {A = Option (Option Last)} (Some (Some x)) (Some (Some y)) → x ≡ y
 same_last x y h = cc

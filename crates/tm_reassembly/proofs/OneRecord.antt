@@ -1,4 +1,5 @@
 -- One raw record: its items, and the state after it, by what is kept of its channel.
+use Rattle.std.proofs.lemmas.Option.{slice_get-get_or, same_Some}
 use Rattle.std.proofs.Common.{◌≡◌, ℕ, suc, zero, ◌+◌, ◌<◌, ◌≤◌, Ok, Err, true, false, Option, Some, None, List, [], ◌∷◌, ◌++◌, length, set, refl, sym, ap, subst, ◌∙◌, inl, ⊎_elim, arith}
 use Rattle.std.specs.Prelude.{slice_index_or, slice_set}
 use Rattle.std.specs.List.{slice_get}
@@ -23,13 +24,7 @@ use Rattle.tm_reassembly.specs.Valid.{IsState, IsFit, IsOpenTail}
 use Rattle.tm_reassembly.proofs.States.{tail-short}
 use Rattle.tm_reassembly.proofs.Fits.{reading-fit}
 use Rattle.tm_reassembly.proofs.Joining.{before_of, tail_of, member_items}
-use Rattle.tm_reassembly.proofs.OneStep.{items-one, after-one, after-bad, items-other, after-other}
-
--- a place of a list
-entry_at : (xs : List (Option Last)) (c : ℕ) (d : Option Last) → c < length xs → slice_get xs c ≡ Some (slice_index_or xs c d)
-entry_at [] c d h = absurd (omega arith)
-entry_at (x ∷ xs) zero d h = refl
-entry_at (x ∷ xs) (suc c) d h = entry_at xs c d (omega arith)
+use Rattle.tm_reassembly.proofs.OneStep.{items-one, after-one, after-bad, items-other, after-other, open-at}
 
 before_some : (x : Option Last) → before_of (Some x) ≡ count_in x
 before_some None = refl
@@ -43,15 +38,9 @@ tail_some (Some last) = refl
 pub open_entry : (rules : Rules) (seen : ℕ) (master : Option ℕ) (channels : List (Option Last))
     → IsState rules (record { records = seen; master = master; channels = channels })
     → (c : ℕ) (d : Option Last) → c < 8 → IsOpenTail rules.max_packet (tail_in (slice_index_or channels c d))
-open_entry rules seen master channels v c d small = opened (slice_index_or channels c d) (entry_at channels c d (rw v.shape.eight_channels small))
-  where
-    in_last : (last : Last) → slice_get channels c ≡ Some (Some last) → (t : Option Tail) → last.tail ≡ t → IsOpenTail rules.max_packet t
-    in_last last e None f = tt
-    in_last last e (Some t) f = v.shape.tails c last t e f
-
-    opened : (x : Option Last) → slice_get channels c ≡ Some x → IsOpenTail rules.max_packet (tail_in x)
-    opened None e = tt
-    opened (Some last) e = in_last last e last.tail refl
+open_entry rules seen master channels v c d small =
+    subst (IsOpenTail rules.max_packet) (ap tail_of (slice_get-get_or channels c d (rw v.shape.eight_channels small)) ∙ tail_some (slice_index_or channels c d))
+    (open-at rules.max_packet (chooses rules) (record { records = seen; master = master; channels = channels }) v.shape c)
 
 module _ (rules : Rules) (seen : ℕ) (master : Option ℕ) (channels : List (Option Last)) (v : IsState rules (record { records = seen; master = master; channels = channels })) (octets : List ℕ) where
   as_read : {r : Reading} → reading_of rules.layout octets ≡ r → items rules (record { records = seen; master = master; channels = channels }) (octets ∷ []) ≡ read.items rules.max_packet (chooses rules) (record { records = seen; master = master; channels = channels }) (r ∷ [])
@@ -93,7 +82,7 @@ module _ (rules : Rules) (seen : ℕ) (master : Option ℕ) (channels : List (Op
 
     -- a good frame of a chosen one
     there : (d : Option Last) → slice_get channels g.channel ≡ Some (slice_index_or channels g.channel d)
-    there d = entry_at channels g.channel d (rw v.shape.eight_channels fit.0)
+    there d = slice_get-get_or channels g.channel d (rw v.shape.eight_channels fit.0)
 
     pub items_one_record : (c : ℕ) (d : Option Last) → c ≡ g.channel → chooses rules c ≡ true
         → gap_at master_gap_item master (master_member seen g) ++ kept_items rules.max_packet c (slice_index_or channels c d) (member seen g) ≡ items rules (record { records = seen; master = master; channels = channels }) (octets ∷ [])
@@ -145,10 +134,7 @@ pub held_other : (rules : Rules) (seen : ℕ) (master : Option ℕ) (channels : 
     → (c : ℕ) (d : Option Last) → c < 8 → chooses rules c ≡ false → octets_in (tail_in (slice_index_or channels c d)) ≡ []
 held_other rules seen master channels v c d small other =
     ap (λ (x : Option Last). octets_in (tail_in x))
-    (same (sym (entry_at channels c d (rw v.shape.eight_channels small)) ∙ v.shape.only_chosen c other small))
-  where
-    same : {x y : Option Last} → ◌≡◌ {A = Option (Option Last)} (Some x) (Some y) → x ≡ y
-    same e = cc
+    (same_Some _ _ (sym (slice_get-get_or channels c d (rw v.shape.eight_channels small)) ∙ v.shape.only_chosen c other small))
 
 -- the gap of a frame of which only the master channel count matters
 counted_master : (before : Option ℕ) (seen count : ℕ) (g : GoodFrame) → count ≡ g.master_count

@@ -5,14 +5,14 @@ use Rattle.std.specs.Prelude.{is_none}
 use Rattle.std.specs.List.{slice_range}
 use Rattle.std.proofs.Math.Seq.{take-append_seam, take-append-add, take-length}
 use Rattle.std.proofs.lemmas.List.Concat.{flat_map-append}
-use Rattle.std.proofs.lemmas.Bool.{cases_Bool, cond-true, cond-false, lt-ltb, and_right, and_from}
+use Rattle.std.proofs.lemmas.Bool.{cases_Bool, cond-true, cond-false, lt-ltb, and_right, and_from, and_parts, both_ways}
 use Rattle.tm_reassembly.specs.declared.items.Reason.TheVariants as why
 use Rattle.tm_reassembly.specs.Chain.{Member, End}
 use Rattle.tm_reassembly.specs.Parts.{Part, Fate, Given, Lost, Start, text, reach, far_end, is_packet, is_long, begins_packet, reason_at, unread_reason, agrees_at, broken_part, start_part, packet_part, fate_at, agrees, open_after, joined, breaker, holder}
 use Rattle.tm_reassembly.specs.Absolute.{reach_at, IsVersionZero, IsLong, BeginsPacket, AgreesAt, Agrees, IsOpen, IsWhole, LiesAfter, part_at}
-use Rattle.tm_reassembly.proofs.Long.{and_both, begins-zero, begins-short}
+use Rattle.tm_reassembly.proofs.Long.{begins-zero, begins-short}
 use Rattle.tm_reassembly.specs.declared.items.Reason.{Reason}
-use Rattle.tm_reassembly.proofs.Places.{drop-place, both_true, none-from, open-to, unbroken-from, text_split, text-length, begins-at, ends-at, place-at, agreement-at, own-long-at, zero-to, zero-from, begins-from, open-at, whole-at}
+use Rattle.tm_reassembly.proofs.Places.{drop-place, none-from, open-to, unbroken-from, text_split, text-length, begins-at, ends-at, place-at, agreement-at, own-long-at, zero-to, zero-from, begins-from, open-at, whole-at}
 
 module _ (limit : ℕ) where
   -- a start is broken off at the first frame that doesn't agree with it
@@ -26,7 +26,7 @@ module _ (limit : ℕ) where
         cond-false (ltb at far && agrees limit far at m) _ _ (and_right (ltb at far) (agrees limit far at m) differ),
       )
   breaks-off far at (f ∷ between) more m o a =
-      let both = and_both (agrees limit far at f) (open_after limit far (at + length f.field) between) o in
+      let both = and_parts (agrees limit far at f) (open_after limit far (at + length f.field) between) o in
       let past = open-to limit far (at + length f.field) between both.1 in
       let reaches : ltb at far ≡ true = lt-ltb at far (let p = past.0 in omega arith) in
       let len : length (f.field ++ text between) ≡ length f.field + length (text between) = length-append f.field (text between) in
@@ -87,11 +87,8 @@ module _ (limit : ℕ) where
         → start_part limit f later end s ≡ part_at f s all here (length (text before) + length f.field) (Lost why.Length f.number)
     unread_long-at end zero long =
         let is : is_long limit (reach s.octets) (length s.octets) ≡ true = (own-long-at limit before f skipped s.octets lies.0 later).1 long in
-        unread-by end why.Length (λ packet. true_false (sym is ∙ begins-short limit s.octets packet))
+        unread-by end why.Length (λ packet. both_ways _ (begins-short limit s.octets packet) is)
         (cond-true (is_packet s.octets) _ _ (zero-from limit before f skipped s.octets lies.0 lies.2 later zero))
-      where
-        true_false : true ≡ false → ⊥
-        true_false h = cc
 
     -- a start of version 0, by the frame that breaks it off, if one does
     packet-place : (end : End) → begins_packet limit s.octets ≡ true
@@ -111,8 +108,8 @@ module _ (limit : ℕ) where
     packet-at end whole =
         let far : ℕ = far_end s.octets later in
         let fits : Bool = leb (far_end s.octets later) (length (s.octets ++ text later)) in
-        let one = and_both (begins_packet limit s.octets) (is_none (breaker limit far (length s.octets) later) && fits) ((whole-at limit before f skipped s.octets lies.0 lies.2 later).1 whole) in
-        let two = and_both (is_none (breaker limit far (length s.octets) later)) fits one.1 in
+        let one = and_parts (begins_packet limit s.octets) (is_none (breaker limit far (length s.octets) later) && fits) ((whole-at limit before f skipped s.octets lies.0 lies.2 later).1 whole) in
+        let two = and_parts (is_none (breaker limit far (length s.octets) later)) fits one.1 in
         unbroken-place end one.0 (none-from _ two.0)
         ∙ cond-true (leb (far_end s.octets later) (length (s.octets ++ text later))) _ _ two.1
         ∙ part-place (reach_at all here) far (take far (s.octets ++ text later)) (Given (holder far (length s.octets) f.number later))
@@ -127,7 +124,7 @@ module _ (limit : ℕ) where
         ≡ part_at f s all here (length (text ((before ++ f ∷ []) ++ between))) (Lost r m.number)
     broken-by end between more m r split opened differs reason =
         let far : ℕ = far_end s.octets later in
-        let one = and_both (begins_packet limit s.octets) (open_after limit far (length s.octets) between) ((open-at limit before f skipped s.octets lies.0 lies.2 between later).1 opened) in
+        let one = and_parts (begins_packet limit s.octets) (open_after limit far (length s.octets) between) ((open-at limit before f skipped s.octets lies.0 lies.2 between later).1 opened) in
         let differ : agrees limit (far_end s.octets later) (length s.octets + length (text between)) m ≡ false =
         ⊎_elim (λ agree. absurd (differs ((agreement-at limit before f skipped s.octets lies.0 between later m).0 agree))) (λ d. d)
         (cases_Bool (agrees limit (far_end s.octets later) (length s.octets + length (text between)) m)) in
@@ -183,13 +180,13 @@ module _ (limit : ℕ) where
         (agreement-at limit before f skipped s.octets lies.0 between later m).1
         (each between more m e
         ((open-at limit before f skipped s.octets lies.0 lies.2 between later).0
-        (both_true (begins_packet limit s.octets) (open_after limit (far_end s.octets later) (length s.octets) between) packet o)))) in
+        (and_from (begins_packet limit s.octets) (open_after limit (far_end s.octets later) (length s.octets) between) packet o)))) in
         unbroken-place end packet none
         ∙ ⊎_elim
         (λ fits.
         absurd (not_whole ((whole-at limit before f skipped s.octets lies.0 lies.2 later).0
-        (both_true (begins_packet limit s.octets) _ packet
-        (both_true (is_none (breaker limit far (length s.octets) later)) _ (ap (λ (b : Option Member). is_none b) none) fits)))))
+        (and_from (begins_packet limit s.octets) _ packet
+        (and_from (is_none (breaker limit far (length s.octets) later)) _ (ap (λ (b : Option Member). is_none b) none) fits)))))
         (λ past. cond-false (leb (far_end s.octets later) (length (s.octets ++ text later))) _ _ past)
         (cases_Bool (leb (far_end s.octets later) (length (s.octets ++ text later))))
         ∙ part-place (length all) (length (s.octets ++ text later)) (s.octets ++ text later) (fate_at end)

@@ -1,5 +1,7 @@
 -- Joining, over records: the items and the state after a record and more records are those of the record, and then of the others.
-use Rattle.std.proofs.Common.{◌≡◌, Ok, Err, ◌≢◌, ℕ, suc, zero, ◌+◌, ◌<◌, Bool, true, Option, Some, None, List, [], ◌∷◌, ◌++◌, map, length, refl, sym, ap, subst, ◌∙◌, ⊎_elim, lit<, arith, append_assoc, eqb}
+use Rattle.tm_reassembly.proofs.Each.{Each, Each-append, Each-weaken}
+use Rattle.std.proofs.lemmas.Option.{slice_get_within, none-some}
+use Rattle.std.proofs.Common.{◌≡◌, Ok, Err, ◌≢◌, ℕ, suc, zero, ◌+◌, ◌<◌, Bool, true, Option, Some, None, List, [], ◌∷◌, ◌++◌, map, length, refl, sym, ap, subst, ◌∙◌, ⊎_elim, lit<, arith, append_assoc, eqb, ◌≤◌}
 use Rattle.std.specs.List.{flat_map, slice_get}
 use Rattle.std.proofs.lemmas.List.{append-nil}
 use Rattle.std.proofs.lemmas.List.Concat.{flat_map-append}
@@ -12,7 +14,7 @@ use Rattle.tm_reassembly.specs.Chain.{Member, has_gap, stem_of, stem_with, chain
 use Rattle.tm_reassembly.specs.Parts.{Part}
 use Rattle.tm_reassembly.specs.Field.{chain_parts_at, chain_tail_at}
 use Rattle.tm_rules.specs.Channels.{eight}
-use Rattle.tm_reassembly.specs.Items.{seen_at, held_part, channel_items, chain_parts, last_count, last_with, first_of, channel_after, after, record_items, merged, items}
+use Rattle.tm_reassembly.specs.Items.{seen_at, held_part, channel_items, chain_parts, last_count, last_with, first_of, channel_after, after, record_items, merged, items, empty}
 use Rattle.tm_reassembly.proofs.Step.{PlaceFits}
 use Rattle.tm_reassembly.proofs.Chained.{IsOpenTail, chained, chained_step, chained_end, chain_parts-stem, chain_parts-fresh, left_parts}
 use Rattle.tm_reassembly.proofs.Seen.{held-none, chain_parts_at-at, chain_tail_at-open}
@@ -39,6 +41,10 @@ at_eight f (suc (suc (suc (suc (suc (suc zero)))))) h = refl
 at_eight f (suc (suc (suc (suc (suc (suc (suc zero))))))) h = refl
 at_eight f (suc (suc (suc (suc (suc (suc (suc (suc c)))))))) h = absurd (omega arith)
 
+-- at the start nothing is kept
+pub none_kept : (c : ℕ) (last : Last) → slice_get empty.channels c ≡ Some (Some last) → ⊥
+none_kept c last e = let there = at_eight (λ d. None) c (slice_get_within empty.channels c (Some last) e) in cc
+
 -- a record has no frame of the channel, or one
 data FrameOf (c k : ℕ) (fs : List Member) : Type 0 where
   no_frame : fs ≡ [] → FrameOf c k fs
@@ -49,17 +55,16 @@ frame_cases c k (Err fault) h = no_frame refl
 frame_cases c k (Ok f) h =
     cond_both (eqb f.channel c) (member k f ∷ []) [] (FrameOf c k) (λ e. one_frame (member k f) refl refl h.1) (λ e. no_frame refl)
 
-FitFrom-weaken : (k : ℕ) (fs : List Member) → FitFrom (k + 1) fs → FitFrom k fs
-FitFrom-weaken k [] h = tt
-FitFrom-weaken k (f ∷ fs) h = let b = h.0 in (omega arith, h.1, FitFrom-weaken k fs h.2)
-
 pub frames-fit : (c k : ℕ) (rs : List Reading) → AllFit rs → FitFrom k (frames c k rs)
 frames-fit c k [] h = tt
-frames-fit c k (r ∷ rs) h = put (member_of c k r) (frame_cases c k r h.0) (FitFrom-weaken k _ (frames-fit c (k + 1) rs h.1))
+frames-fit c k (r ∷ rs) h =
+    Each-append (λ m. (k ≤ m.number) × PlaceFits m.place (length m.field)) (member_of c k r) (frames c (k + 1) rs) (own (member_of c k r) (frame_cases c k r h.0))
+    (Each-weaken (λ m. (k + 1 ≤ m.number) × PlaceFits m.place (length m.field)) (λ m. (k ≤ m.number) × PlaceFits m.place (length m.field)) (frames c (k + 1) rs)
+    (λ m p. (let b = p.0 in omega arith, p.1)) (frames-fit c (k + 1) rs h.1))
   where
-    put : (fs : List Member) → FrameOf c k fs → FitFrom k (frames c (k + 1) rs) → FitFrom k (fs ++ frames c (k + 1) rs)
-    put fs (no_frame e) q = subst (λ (xs : List Member). FitFrom k (xs ++ frames c (k + 1) rs)) (sym e) q
-    put fs (one_frame f e n p) q = subst (λ (xs : List Member). FitFrom k (xs ++ frames c (k + 1) rs)) (sym e) (omega arith, p, q)
+    own : (fs : List Member) → FrameOf c k fs → Each (λ m. (k ≤ m.number) × PlaceFits m.place (length m.field)) fs
+    own fs (no_frame e) = rw e tt
+    own fs (one_frame f e n p) = rw e ((omega arith, p), tt)
 
 no_tail : (x : Option (Option Last)) → before_of x ≡ None → tail_of x ≡ None
 no_tail None h = refl
@@ -114,7 +119,7 @@ module _ (limit : ℕ) where
       ap (λ (ps : List Part). first_of (flat_map (λ p. held_part p p.fate) ps)) (chained_step limit before tail f fs h k)
       ∙ ap first_of
       (flat_map-append (λ p. held_part p p.fate) here rest
-      ∙ ap (λ (ts : List Tail). ts ++ flat_map (λ p. held_part p p.fate) rest) (held-none f.number here (chain_parts_at-at limit (has_gap before f) f.is_vca tail f)))
+      ∙ ap (λ (ts : List Tail). ts ++ flat_map (λ p. held_part p p.fate) rest) (held-none limit f.number here (chain_parts_at-at limit (has_gap before f) f.is_vca tail f)))
 
   -- what a channel's state is after records
   pub channel_after-is : (chosen : ℕ → Bool) (s : State) (rs : List Reading) (c : ℕ) → chosen c ≡ true
@@ -175,10 +180,7 @@ module _ (limit : ℕ) where
           ∙ tail_after-end (Some f.count) left (chain_tail_at-open limit (has_gap (before_of (slice_get s.channels c)) f) f.is_vca (tail_of (slice_get s.channels c)) f open_tail) in
           let n : last_count (before_of (slice_get s.channels c)) (member_of c s.records r ++ []) ≡ Some f.count =
           ap (λ (fs : List Member). last_count (before_of (slice_get s.channels c)) (fs ++ [])) e in
-          ap tail_of new-is ∙ tail_with _ _ (λ z. some_not_none f.count (sym n ∙ z)) ∙ t
-        where
-          some_not_none : {A : Type 0} (n : ℕ) → ◌≡◌ {A = Option ℕ} (Some n) None → A
-          some_not_none n h = absurd (cc)
+          ap tail_of new-is ∙ tail_with _ _ (λ z. absurd (none-some f.count (sym z ∙ n))) ∙ t
 
     -- at a later record the channel's items are as from the state after this one
     items-later : (rs : List Reading) (n : ℕ) → (s.records ≡ n → ⊥)

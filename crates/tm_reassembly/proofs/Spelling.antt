@@ -1,9 +1,9 @@
 -- What is spelled is read again.
-use Rattle.std.proofs.Common.{◌≡◌, ℕ, suc, ◌+◌, ◌-◌, ◌*◌, ◌/◌, ◌%◌, ◌<◌, ◌≤◌, Bool, true, false, not, ◌||◌, Ok, Err, Result, Option, Some, None, List, [], ◌∷◌, ◌++◌, length, take, drop, refl, sym, ap, subst, ◌∙◌, ⊎_elim, arith, append_assoc, length-append, ltb, leb, eqb}
+use Rattle.std.proofs.Common.{◌≡◌, ℕ, suc, ◌+◌, ◌-◌, ◌*◌, ◌/◌, ◌%◌, ◌<◌, ◌≤◌, Bool, true, false, not, ◌||◌, Ok, Err, Result, Option, Some, None, List, [], ◌∷◌, ◌++◌, length, take, drop, refl, sym, ap, subst, ◌∙◌, arith, append_assoc, length-append, ltb, leb, eqb}
 use Rattle.std.specs.Prelude.{slice_index, slice_range}
 use Rattle.std.specs.List.{slice_get, flat_map}
 use Rattle.std.proofs.Math.Seq.{take-append_seam, drop-append_seam}
-use Rattle.std.proofs.lemmas.Bool.{cases_Bool, cond-false, lt-ltb, lt-leb, le-ltb, ne_eqb, and_from, or_from, true≢false}
+use Rattle.std.proofs.lemmas.Bool.{cond-false, lt-ltb, lt-leb, le-ltb, ne_eqb, and_from, or_from, true≢false, true_from_ne_false}
 use Rattle.std.proofs.lemmas.Option.{slice_get_within}
 use Rattle.std.proofs.lemmas.List.{append-nil, nil_from_length}
 use Rattle.tm_frame.specs.declared.layout.LayoutParts.{LayoutParts}
@@ -171,12 +171,9 @@ module _ (rules : Rules) where
       let eight = v.shape.eight_channels in
       let there = slice_get_within s.channels c (Some last) e in (
         subst (λ (n : ℕ). chooses rules n ≡ true) zeroth
-            (⊎_elim (λ p. p) (λ p. absurd (some_none last (sym e ∙ v.shape.only_chosen c p (omega arith)))) (cases_Bool (chooses rules c))),
+            (true_from_ne_false (chooses rules c) (λ p. let none = v.shape.only_chosen c p (omega arith) in absurd (cc))),
         tail_fits s v c last e last.tail refl,
       )
-    where
-      some_none : (last : Last) → ◌≡◌ {A = Option (Option Last)} (Some (Some last)) (Some None) → ⊥
-      some_none last p = cc
 
   channels-again : (s : State) (rest : List ℕ) → IsState rules s
       → blocks_read rules s.records 8 0 (flat_map block s.channels ++ rest) ≡ Ok (record { kept = s.channels; octets = length (flat_map block s.channels) })
@@ -217,11 +214,11 @@ module _ (rules : Rules) where
       good : ℕ → Result Decoded StateFault
       good octets = Ok (record { state = record { records = s.records; master = None; channels = s.channels }; octets = octets })
 
-  state_in : Result Decoded StateFault → State → State
+  unfoldable pub state_in : Result Decoded StateFault → State → State
   state_in (Ok d) s = d.state
   state_in (Err found) s = s
 
-  octets_in : Result Decoded StateFault → ℕ
+  unfoldable pub octets_in : Result Decoded StateFault → ℕ
   octets_in (Ok d) = d.octets
   octets_in (Err found) = 0
 

@@ -71,13 +71,9 @@ PlacesFit-append : (a b : List Member) → PlacesFit a → PlacesFit b → Place
 PlacesFit-append [] b h k = k
 PlacesFit-append (m ∷ a) b h k = (h.0, PlacesFit-append a b h.1 k)
 
-pub PlacesFit-left : (a b : List Member) → PlacesFit (a ++ b) → PlacesFit a
-PlacesFit-left [] b h = tt
-PlacesFit-left (m ∷ a) b h = (h.0, PlacesFit-left a b h.1)
-
-PlacesFit-right : (a b : List Member) → PlacesFit (a ++ b) → PlacesFit b
-PlacesFit-right [] b h = h
-PlacesFit-right (m ∷ a) b h = PlacesFit-right a b h.1
+pub PlacesFit-split : (a b : List Member) → PlacesFit (a ++ b) → PlacesFit a × PlacesFit b
+PlacesFit-split [] b h = (tt, h)
+PlacesFit-split (m ∷ a) b h = let rest = PlacesFit-split a b h.1 in ((h.0, rest.0), rest.1)
 
 fit-frames : (k : ℕ) (ms : List Member) → FitFrom k ms → PlacesFit ms
 fit-frames k [] h = tt
@@ -188,10 +184,11 @@ verdicts-stay s c rs qs fits i r at before between later f m split =
     grown-at (runs_after None (chain s c rs)).current (runs_after None (chain s c rs)).others (runs (chain s c (rs ++ qs))) i r (runs-grow s c rs qs) at in
     let all : PlacesFit (before ++ f ∷ (between ++ m ∷ later)) =
     subst PlacesFit split (run-places s c rs fits i r at) in
-    let ahead : PlacesFit (between ++ m ∷ later) = (PlacesFit-right before (f ∷ (between ++ m ∷ later)) all).1 in (
+    let ahead : PlacesFit (between ++ m ∷ later) = (PlacesFit-split before (f ∷ (between ++ m ∷ later)) all).1.1 in
+    let apart = PlacesFit-split between (m ∷ later) ahead in (
       grown.0,
       grown.1,
       grown.2,
       grown.3 ∙ ap (λ (ms : List Member). ms ++ grown.1) split ∙ move_more before between later grown.1 f m,
-      λ limit start. verdict-settled limit start between m later grown.1 (PlacesFit-left between (m ∷ later) ahead) (PlacesFit-right between (m ∷ later) ahead).0,
+      λ limit start. verdict-settled limit start between m later grown.1 apart.0 apart.1.0,
     )

@@ -18,7 +18,7 @@ use Rattle.tm_reassembly.proofs.Fits.{readings-fit}
 use Rattle.tm_reassembly.proofs.Joining.{before_of, tail_of, member_items}
 use Rattle.tm_reassembly.proofs.OneStep.{valid-from, after-nil, items-one, after-one, after-bad, items-other, after-other}
 use Rattle.tm_reassembly.proofs.Records.{items-cons, after-cons}
-use Rattle.tm_reassembly.proofs.Spelling.{old-read-again, state_in, octets_in}
+use Rattle.tm_reassembly.proofs.Spelling.{old-read-again, state_in, octets_in, decoded}
 use Rattle.std.specs.List.{slice_get}
 
 -- ---- reading
@@ -50,8 +50,7 @@ pub old-no-prefix : (rules : Rules) (s t : State) (rest : List ℕ) → IsState 
     → (without_master s ≡ without_master t) × (rest ≡ [])
 unfolding state_in octets_in
 old-no-prefix rules s t rest v w e =
-    let good : State → ℕ → Result Decoded StateFault = λ state n. Ok (record { state = state; octets = n }) in
-    let same : good (without_master s) (length (old_spelling s)) ≡ good (without_master t) (length (old_spelling t)) =
+    let same : decoded (without_master s) (length (old_spelling s)) ≡ decoded (without_master t) (length (old_spelling t)) =
     sym (old-read-again rules s rest v) ∙ ap (old_decoding_of rules) (e ∙ sym (append-nil (old_spelling t))) ∙ old-read-again rules t [] w in
     let long : length (old_spelling s) ≡ length (old_spelling t) = ap (octets_in rules) same in
     let sum : length (old_spelling s) + length rest ≡ length (old_spelling t) = sym (length-append (old_spelling s) rest) ∙ ap length e in

@@ -212,14 +212,8 @@ module _ (limit : ℕ) where
         let far : ℕ = far_end start later in
         let at : ℕ = length start + length (text between) in (
           λ h. rw (ends-at later, begins-at between) (agrees-to q far at (length m.field) m.place h),
-          λ h. agrees-from q far at (length m.field) m.place (moved h),
+          λ h. agrees-from q far at (length m.field) m.place (rw (ends-at later, begins-at between) at h),
         )
-      where
-        moved : AgreesAt (reach_at (text (before ++ f ∷ later)) (length (text before) + length skipped)) (length (text ((before ++ f ∷ []) ++ between))) (length m.field) m.place
-            → AgreesAt ((length (text before) + length skipped) + far_end start later) ((length (text before) + length skipped) + (length start + length (text between))) (length m.field) m.place
-        moved h =
-            subst (λ (k : ℕ). AgreesAt k ((length (text before) + length skipped) + (length start + length (text between))) (length m.field) m.place) (ends-at later)
-            (subst (λ (k : ℕ). AgreesAt (reach_at (text (before ++ f ∷ later)) (length (text before) + length skipped)) k (length m.field) m.place) (begins-at between) h)
 
     pub long-at : (between later : List Member) (m : Member)
         → Iff (is_long limit (far_end start later) ((length start + length (text between)) + length m.field) ≡ true)

@@ -90,6 +90,9 @@ pub state_same : {a b : ℕ} {m n : Option ℕ} {x y : List (Option Last)} → a
     → ◌≡◌ {A = State} (record { records = a; master = m; channels = x }) (record { records = b; master = n; channels = y })
 state_same e f g = rw (e, f, g)
 
+append_same : {a b c d : List Item} → a ≡ c → b ≡ d → a ++ b ≡ c ++ d
+append_same e f = rw (e, f)
+
 AllFit-append : (rs qs : List Reading) → AllFit rs → AllFit qs → AllFit (rs ++ qs)
 AllFit-append [] qs h k = k
 AllFit-append (r ∷ rs) qs h k = (h.0, AllFit-append rs qs h.1 k)
@@ -286,7 +289,7 @@ module _ (limit : ℕ) where
       → record_items limit chosen s (r ∷ rs) s.records r ≡ record_items limit chosen s (r ∷ []) s.records r
   record_items-now chosen s (Err fault) valid fit rs fits = refl
   record_items-now chosen s (Ok g) valid fit rs fits =
-      both (masters-now s g rs ∙ sym (masters-now s g []))
+      append_same (masters-now s g rs ∙ sym (masters-now s g []))
       (⊎_elim
       (λ e.
       cond-true (chosen g.channel) _ _ e
@@ -296,23 +299,17 @@ module _ (limit : ℕ) where
       ∙ sym (cond-true (chosen g.channel) _ _ e))
       (λ e. cond-false (chosen g.channel) _ _ e ∙ sym (cond-false (chosen g.channel) _ _ e))
       (cases_Bool (chosen g.channel)))
-    where
-      both : {a b c d : List Item} → a ≡ c → b ≡ d → a ++ b ≡ c ++ d
-      both e f = rw (e, f)
 
   module _ (chosen : ℕ → Bool) (s : State) (r : Reading) (valid : HasOpenTails chosen s) (fit : IsFit r) where
     merged-later : (rs : List Reading) (n : ℕ) (qs : List Reading) → s.records < n → AllFit qs
         → merged limit chosen s (r ∷ rs) n qs ≡ merged limit chosen (after limit chosen s (r ∷ [])) rs n qs
     merged-later rs n [] h fits = refl
-    merged-later rs n (q ∷ qs) h fits = both (one q fits.0) (merged-later rs (n + 1) qs (omega arith) fits.1)
+    merged-later rs n (q ∷ qs) h fits = append_same (one q fits.0) (merged-later rs (n + 1) qs (omega arith) fits.1)
       where
-        both : {a b c d : List Item} → a ≡ c → b ≡ d → a ++ b ≡ c ++ d
-        both e f = rw (e, f)
-
         one : (q : Reading) → IsFit q → record_items limit chosen s (r ∷ rs) n q ≡ record_items limit chosen (after limit chosen s (r ∷ [])) rs n q
         one (Err fault) k = refl
         one (Ok g) k =
-            both (masters-later s (after limit chosen s (r ∷ [])) r (master-moved s r) (omega arith) rs n (λ z. omega arith))
+            append_same (masters-later s (after limit chosen s (r ∷ [])) r (master-moved s r) (omega arith) rs n (λ z. omega arith))
             (⊎_elim
             (λ e.
             cond-true (chosen g.channel) _ _ e

@@ -29,6 +29,9 @@ not_zero n h = ne_eqb n 0 (λ e. omega arith)
 
 -- ---- a block
 
+abbrev good : Last → ℕ → Result Read StateFault
+good last octets = Ok (record { kept = Some last; octets = octets })
+
 module _ (limit : ℕ) where
   -- what is kept of a channel fits: the channel is chosen if it is anything, and a tail begins in the records and is unfinished
   pub TailFits : LayoutParts → ℕ → Option Tail → Type 0
@@ -73,9 +76,6 @@ module _ (limit : ℕ) where
         (ap (λ (o : List ℕ). not (is_unfinished limit o)) octets ∙ ap not (unfinished-is t.octets h.2))
         ∙ ap (λ (o : List ℕ). good (record { count = slice_index xs 1; tail = Some (record { first = t.first; place = t.place; octets = o }) }) (12 + size)) octets
         ∙ ap (λ (n : ℕ). good (record { count = n; tail = Some t }) (12 + size)) at_one
-      where
-        good : Last → ℕ → Result Read StateFault
-        good last octets = Ok (record { kept = Some last; octets = octets })
 
     -- octets that there are, by their first one
     by_flag : (b : Bool) (xs : List ℕ) → 0 < length xs → block_read limit layout b records xs ≡ flagged limit layout b records xs (slice_index xs 0)
@@ -100,9 +100,6 @@ module _ (limit : ℕ) where
         ∙ ap (λ (n : ℕ). tail_read limit layout records xs t.first t.place n) (four_digits size)
         ∙ tail-again xs count t rest refl refl long h
         ∙ ap (λ (n : ℕ). good (record { count = count; tail = Some t }) n) (let z : 12 + size ≡ length (with_tail count (Some t)) = omega arith in z)
-      where
-        good : Last → ℕ → Result Read StateFault
-        good last octets = Ok (record { kept = Some last; octets = octets })
 
     pub block-again : (b : Bool) (o : Option Last) (rest : List ℕ) → Fits layout b records o
         → block_read limit layout b records (block o ++ rest) ≡ Ok (record { kept = o; octets = length (block o) })
@@ -131,10 +128,7 @@ module _ (rules : Rules) (records : ℕ) where
       ∙ ap (λ (l : List ℕ). in_front (record { kept = o; octets = length (block o) }) (blocks_read rules records (length os) (c + 1) l))
       (drop-append_seam (block o) (flat_map block os ++ rest))
       ∙ ap (in_front (record { kept = o; octets = length (block o) })) (blocks-again (c + 1) os rest h.1)
-      ∙ ap (good (o ∷ os)) (sym (length-append (block o) (flat_map block os)))
-    where
-      good : List (Option Last) → ℕ → Result ReadAll StateFault
-      good kept octets = Ok (record { kept = kept; octets = octets })
+      ∙ ap (λ (n : ℕ). Ok (record { kept = o ∷ os; octets = n })) (sym (length-append (block o) (flat_map block os)))
 
   all_fit : (c : ℕ) (os : List (Option Last)) → ((i : ℕ) (o : Option Last) → slice_get os i ≡ Some o → Fits rules.max_packet rules.layout (chooses rules (c + i)) records o) → AllFit c os
   unfolding AllFit
@@ -155,6 +149,9 @@ master-again None rest = refl
 master-again (Some count) rest = cond-false (eqb (length (count ∷ rest)) 0) _ _ (not_zero (length (count ∷ rest)) (omega arith))
 
 -- ---- the state
+
+abbrev pub decoded : State → ℕ → Result Decoded StateFault
+decoded state octets = Ok (record { state = state; octets = octets })
 
 module _ (rules : Rules) where
   tail_fits : (s : State) → IsState rules s → (c : ℕ) (last : Last) → slice_get s.channels c ≡ Some (Some last) → (tail : Option Tail) → last.tail ≡ tail
@@ -192,12 +189,9 @@ module _ (rules : Rules) where
       ∙ ap (λ (l : List ℕ). with_channels s.records s.master (4 + length (master_octets s.master)) (blocks_read rules s.records 8 0 l))
       (drop-append_seam (master_octets s.master) (flat_map block s.channels ++ rest))
       ∙ ap (with_channels s.records s.master (4 + length (master_octets s.master))) (channels-again s rest v)
-      ∙ ap (λ (n : ℕ). good s n)
+      ∙ ap (decoded s)
       (let l = length-append (master_octets s.master) (flat_map block s.channels) in
       let z : (4 + length (master_octets s.master)) + length (flat_map block s.channels) ≡ length (spelling s) = omega arith in z)
-    where
-      good : State → ℕ → Result Decoded StateFault
-      good state octets = Ok (record { state = state; octets = octets })
 
   -- in the form of versions 1 and 2 the state comes back without its last master channel count
   pub old-read-again : (s : State) (rest : List ℕ) → IsState rules s
@@ -209,10 +203,7 @@ module _ (rules : Rules) where
       cond-false (ltb (length xs) 4) _ _ (le-ltb (length xs) 4 (omega arith))
       ∙ ap (λ (n : ℕ). with_channels n None 4 (blocks_read rules n 8 0 (drop 4 xs))) (four_digits s.records)
       ∙ ap (with_channels s.records None 4) (channels-again s rest v)
-      ∙ ap (λ (n : ℕ). good n) (let z : 4 + length (flat_map block s.channels) ≡ length (old_spelling s) = omega arith in z)
-    where
-      good : ℕ → Result Decoded StateFault
-      good octets = Ok (record { state = record { records = s.records; master = None; channels = s.channels }; octets = octets })
+      ∙ ap (decoded (record { records = s.records; master = None; channels = s.channels })) (let z : 4 + length (flat_map block s.channels) ≡ length (old_spelling s) = omega arith in z)
 
   unfoldable pub state_in : Result Decoded StateFault → State → State
   state_in (Ok d) s = d.state
@@ -226,11 +217,8 @@ module _ (rules : Rules) where
   pub no-prefix : (s t : State) (rest : List ℕ) → IsState rules s → IsState rules t → spelling s ++ rest ≡ spelling t → (s ≡ t) × (rest ≡ [])
   unfolding state_in octets_in
   no-prefix s t rest v w e =
-      let same : good s (length (spelling s)) ≡ good t (length (spelling t)) =
+      let same : decoded s (length (spelling s)) ≡ decoded t (length (spelling t)) =
       sym (read-again s rest v) ∙ ap (decoding_of rules) (e ∙ sym (append-nil (spelling t))) ∙ read-again t [] w in
       let long : length (spelling s) ≡ length (spelling t) = ap octets_in same in
       let sum : length (spelling s) + length rest ≡ length (spelling t) = sym (length-append (spelling s) rest) ∙ ap length e in
       (ap (λ (x : Result Decoded StateFault). state_in x s) same, nil_from_length rest (omega arith))
-    where
-      good : State → ℕ → Result Decoded StateFault
-      good state octets = Ok (record { state = state; octets = octets })

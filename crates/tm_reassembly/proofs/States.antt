@@ -1,4 +1,5 @@
 -- A record leaves a valid state valid.
+use Rattle.std.proofs.lemmas.Option.{same_Some}
 use Rattle.std.proofs.Common.{◌≡◌, ℕ, suc, zero, pred, ◌+◌, ◌^◌, ◌<◌, ◌≤◌, Ok, Err, Bool, true, false, Option, Some, None, List, [], ◌∷◌, ◌++◌, length, set, refl, sym, ap, subst, ◌∙◌, ⊎_elim, arith, ◌&&◌, leb, ltb}
 use Rattle.std.specs.List.{slice_get}
 use Rattle.std.proofs.lemmas.List.{length-set}
@@ -48,9 +49,6 @@ within-more : (layout : LayoutParts) (records : ℕ) (t : Option Tail) → Withi
 within-more layout records None h = tt
 within-more layout records (Some t) h =
     record { first = (let e = h.first in omega arith); place = h.place; octets = h.octets }
-
-same_last : (x y : Last) → ◌≡◌ {A = Option (Option Last)} (Some (Some x)) (Some (Some y)) → x ≡ y
-same_last x y h = cc
 
 module _ (limit : ℕ) where
   -- the octets of an unfinished packet are octets of its field
@@ -124,14 +122,10 @@ pub keeps-at : (rules : Rules) (s : State) → IsState rules s → (c : ℕ) (la
     → slice_get s.channels c ≡ Some (Some last) → Keeps rules.max_packet rules.layout s.records last
 keeps-at rules s v c last e = record {
   count = v.counts c last e;
-  open_tail = opened last.tail refl;
+  open_tail = subst (IsOpenTail rules.max_packet) (ap tail_of e) (open-at rules.max_packet (chooses rules) s v.shape c);
   within = inside last.tail refl;
 }
   where
-    opened : (t : Option Tail) → last.tail ≡ t → IsOpenTail rules.max_packet t
-    opened None f = tt
-    opened (Some t) f = v.shape.tails c last t e f
-
     inside : (t : Option Tail) → last.tail ≡ t → Within rules.layout s.records t
     inside None f = tt
     inside (Some t) f = v.within c last t e f
@@ -145,24 +139,22 @@ state-from rules s range small octet eight only keeps = record {
   limit = range;
   records = small;
   master = octet;
-  shape = record { eight_channels = eight; only_chosen = only; tails = λ c last t e f. tail_is c last t e f };
+  shape = record { eight_channels = eight; only_chosen = only; tails = λ c last t e f. subst (IsOpenTail rules.max_packet) f (keeps c last e).open_tail };
   counts = λ c last e. (keeps c last e).count;
   within = λ c last t e f. subst (Within rules.layout s.records) f (keeps c last e).within;
 }
-  where
-    tail_is : (c : ℕ) (last : Last) (t : Tail) → slice_get s.channels c ≡ Some (Some last) → last.tail ≡ Some t → ok.IsTail rules.max_packet t.octets
-    tail_is c last t e f = subst (IsOpenTail rules.max_packet) f (keeps c last e).open_tail
+
+keeps-more : (limit : ℕ) (layout : LayoutParts) (records : ℕ) (last : Last) → Keeps limit layout records last → Keeps limit layout (records + 1) last
+keeps-more limit layout records last k = record { count = k.count; open_tail = k.open_tail; within = within-more layout records last.tail k.within }
 
 module _ (rules : Rules) (s : State) (v : IsState rules s) (more : s.records + 1 < 2 ^ 32) where
   -- where the channels stay, the state stays valid
   kept-valid : (master : Option ℕ) → ok.IsCount master → IsState rules (record { records = s.records + 1; master = master; channels = s.channels })
   kept-valid master octet =
       state-from rules (record { records = s.records + 1; master = master; channels = s.channels }) v.limit more octet v.shape.eight_channels v.shape.only_chosen
-      (λ c last e.
-      let k = keeps-at rules s v c last e in
-      let w : Keeps rules.max_packet rules.layout (s.records + 1) last = record { count = k.count; open_tail = k.open_tail; within = within-more rules.layout s.records last.tail k.within } in w)
+      (λ c last e. keeps-more rules.max_packet rules.layout s.records last (keeps-at rules s v c last e))
 
-  -- where one (chooses rules) channel keeps something else that it may
+  -- where one chosen channel keeps something else that it may
   set-valid : (master : Option ℕ) → ok.IsCount master → (channel : ℕ) (kept : Last) → channel < 8 → chooses rules channel ≡ true → Keeps rules.max_packet rules.layout (s.records + 1) kept
       → IsState rules (record { records = s.records + 1; master = master; channels = set s.channels channel (Some kept) })
   set-valid master octet channel kept small e k =
@@ -176,13 +168,12 @@ module _ (rules : Rules) (s : State) (v : IsState rules s) (more : s.records + 1
       at_it : (c : ℕ) (last : Last) → slice_get (set s.channels channel (Some kept)) c ≡ Some (Some last) → c ≡ channel → Keeps rules.max_packet rules.layout (s.records + 1) last
       at_it c last f z =
           let there : slice_get (set s.channels channel (Some kept)) channel ≡ Some (Some kept) = get_set-same s.channels channel (Some kept) (rw v.shape.eight_channels small) in
-          let same : kept ≡ last = same_last kept last (sym there ∙ ap (λ (k : ℕ). slice_get (set s.channels channel (Some kept)) k) (sym z) ∙ f) in
+          let same : kept ≡ last = same_Some kept last (same_Some (Some kept) (Some last) (sym there ∙ ap (λ (k : ℕ). slice_get (set s.channels channel (Some kept)) k) (sym z) ∙ f)) in
           subst (Keeps rules.max_packet rules.layout (s.records + 1)) same k
 
       other : (c : ℕ) (last : Last) → slice_get (set s.channels channel (Some kept)) c ≡ Some (Some last) → (c ≡ channel → ⊥) → Keeps rules.max_packet rules.layout (s.records + 1) last
       other c last f ne =
-          let q = keeps-at rules s v c last (sym (get_set-other s.channels channel c (Some kept) ne) ∙ f) in
-          record { count = q.count; open_tail = q.open_tail; within = within-more rules.layout s.records last.tail q.within }
+          keeps-more rules.max_packet rules.layout s.records last (keeps-at rules s v c last (sym (get_set-other s.channels channel c (Some kept) ne) ∙ f))
 
   -- what the entry of a channel says
   within_now : (c : ℕ) (x : Option (Option Last)) → slice_get s.channels c ≡ x → Within rules.layout s.records (tail_of x)

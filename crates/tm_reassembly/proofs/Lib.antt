@@ -19,7 +19,6 @@ pub mod Tiled
 pub mod OneOpen
 pub mod Places
 pub mod Starts
-pub mod Ends
 pub mod Headers
 pub mod Fits
 pub mod States
@@ -35,7 +34,6 @@ pub mod OneRecord
 pub mod Blocks
 pub mod OneHeld
 pub mod Merged
-pub mod MasterItems
 pub mod Limited
 pub mod ItemChannels
 pub mod Decoding

@@ -1,4 +1,7 @@
 -- Merged by record, the items of the chosen channels are all there, and no others.
+use Rattle.tm_reassembly.proofs.Records.{HasOpenTails, items-cons, valid-after}
+use Rattle.tm_reassembly.proofs.Masters.{masters-is, masters-now, master-moved}
+use Rattle.tm_reassembly.specs.Items as read
 use Rattle.std.proofs.lemmas.Option.{slice_get_within, none-some}
 use Rattle.tm_reassembly.proofs.Each.{Each, Each-append, Each-weaken, Each-cond, Each-filter, filter-passes, filter-all, filter-none, none-filter}
 use Rattle.std.proofs.Common.{◌≡◌, ℕ, suc, zero, ◌+◌, ◌<◌, ◌≤◌, ◌⊎◌, Bool, true, false, if◌then◌else◌, Ok, Err, Option, Some, None, List, [], ◌∷◌, ◌++◌, length, refl, sym, ap, subst, ◌∙◌, ⊎_elim, inl, inr, arith, eqb}
@@ -12,7 +15,7 @@ use Rattle.tm_reassembly.specs.Readings.{Reading}
 use Rattle.tm_reassembly.specs.State.{State, Last, Tail}
 use Rattle.tm_reassembly.specs.Item as item
 use Rattle.tm_reassembly.specs.Item.{Item, seen_of}
-use Rattle.tm_reassembly.specs.Chain.{Member, has_gap, chain, frames, member, master_chain, member_of}
+use Rattle.tm_reassembly.specs.Chain.{Member, has_gap, chain, frames, member, master_chain, member_of, master_member, master_frames}
 use Rattle.tm_reassembly.specs.Parts.{Part, Fate, Given, Lost, Held}
 use Rattle.tm_reassembly.specs.Field.{chain_tail_at}
 use Rattle.tm_reassembly.specs.Items.{part_item, seen_at, gap_item, master_gap_item, gaps, gap_at, vca_at, master_items, channel_items, chain_parts, record_items, merged}
@@ -20,12 +23,12 @@ use Rattle.tm_rules.specs.Rules.{Rules, chooses}
 use Rattle.tm_reassembly.specs.Recording.{readings, items}
 use Rattle.tm_reassembly.specs.Sinks.{part_items}
 use Rattle.tm_reassembly.specs.Valid.{AllFit, PlaceFits, IsState, IsFit}
-use Rattle.tm_reassembly.specs.Among.{Among, is_of}
+use Rattle.tm_reassembly.specs.Among.{Among, is_of, is_master_gap}
 use Rattle.tm_reassembly.proofs.Chained.{IsOpenTail, chained, chained_end}
 use Rattle.tm_reassembly.proofs.Seen.{AllSeen, seen_at-all, seen_at-none}
-use Rattle.tm_reassembly.proofs.Joining.{before_of, tail_of, channel_items-is, AllNumbered, items-seen, gaps-each, vcas-each, none_other}
+use Rattle.tm_reassembly.proofs.Joining.{before_of, tail_of, channel_items-is, AllNumbered, items-seen, gaps-each, vcas-each, none_other, gap-each}
 use Rattle.tm_reassembly.proofs.Fits.{readings-fit}
-use Rattle.tm_reassembly.proofs.OneStep.{open-at}
+use Rattle.tm_reassembly.proofs.OneStep.{open-at, valid-from}
 
 -- the record of this number is a good frame of the channel, where the records are numbered from k on
 abbrev pub IsFrame : ℕ → ℕ → List Reading → ℕ → Type 0
@@ -332,3 +335,51 @@ channel-in_order rules s records v c is_chosen n =
     (Each-weaken (λ x. IsFrame c s.records rs (seen_of x)) (λ x. seen_of x ≡ n → ⊥) xs (λ x f e. h.0 (subst (IsFrame c s.records rs) e f))
     (channel-seen rules s v c rs (readings-fit rules.layout records)))))
     (either rules.max_packet (chooses rules) s rs c is_chosen n s.records rs)
+
+-- the gaps of the master chain are all there, and no others
+abbrev masters_in : List Item → List Item
+masters_in xs = filter is_master_gap xs
+
+-- what is of a channel is none of them
+not_master : (c : ℕ) (x : Item) → is_of c x ≡ true → is_master_gap x ≡ false
+not_master c (item.MasterGap seen expected found missing) h = absurd (cc)
+not_master c x h = refl
+
+module _ (limit : ℕ) (chosen : ℕ → Bool) where
+  -- one good frame
+  good-in : (s : State) (g : GoodFrame) → masters_in (read.items limit chosen s (Ok g ∷ [])) ≡ gap_at master_gap_item s.master (master_member s.records g)
+  good-in s g =
+      let own : List Item = (if chosen g.channel then seen_at s.records (channel_items limit g.channel (chain s g.channel (Ok g ∷ []))) else []) in
+      let none : masters_in (if chosen g.channel then seen_at s.records (channel_items limit g.channel (chain s g.channel (Ok g ∷ []))) else []) ≡ [] =
+      filter-none is_master_gap own
+      (Each-cond (λ x. is_master_gap x ≡ false) (chosen g.channel) _
+      (λ p. Each-weaken (λ x. is_of g.channel x ≡ true) (λ x. is_master_gap x ≡ false) _ (not_master g.channel)
+      (Each-filter (λ x. is_of g.channel x ≡ true) (λ x. eqb (seen_of x) s.records) _ (channel-of limit g.channel (chain s g.channel (Ok g ∷ [])))))) in
+      ap masters_in (append-nil (record_items limit chosen s (Ok g ∷ []) s.records (Ok g)))
+      ∙ filter-append is_master_gap (seen_at s.records (master_items (master_chain s (Ok g ∷ [])))) own
+      ∙ ap (λ (xs : List Item). masters_in (seen_at s.records (master_items (master_chain s (Ok g ∷ [])))) ++ xs) none
+      ∙ append-nil (masters_in (seen_at s.records (master_items (master_chain s (Ok g ∷ [])))))
+      ∙ ap masters_in (masters-now s g [])
+      ∙ filter-all is_master_gap _ (gap-each (λ x. is_master_gap x ≡ true) master_gap_item s.master (master_member s.records g) (λ expected. refl))
+
+  all-in : (s : State) (rs : List Reading) → HasOpenTails limit chosen s → AllFit rs
+      → masters_in (read.items limit chosen s rs) ≡ gaps master_gap_item s.master (master_frames s.records rs)
+  all-in s [] v fits = refl
+  all-in s (Err fault ∷ rs) v fits =
+      ap masters_in (items-cons limit chosen s (Err fault) v tt rs fits.1)
+      ∙ all-in (read.after limit chosen s (Err fault ∷ [])) rs (valid-after limit chosen s (Err fault) v tt) fits.1
+      ∙ ap (λ (before : Option ℕ). gaps master_gap_item before (master_frames (s.records + 1) rs)) (master-moved s (Err fault))
+  all-in s (Ok g ∷ rs) v fits =
+      ap masters_in (items-cons limit chosen s (Ok g) v fits.0 rs fits.1)
+      ∙ filter-append is_master_gap (read.items limit chosen s (Ok g ∷ [])) (read.items limit chosen (read.after limit chosen s (Ok g ∷ [])) rs)
+      ∙ ap (λ (xs : List Item). xs ++ masters_in (read.items limit chosen (read.after limit chosen s (Ok g ∷ [])) rs)) (good-in s g)
+      ∙ ap (λ (xs : List Item). gap_at master_gap_item s.master (master_member s.records g) ++ xs)
+      (all-in (read.after limit chosen s (Ok g ∷ [])) rs (valid-after limit chosen s (Ok g) v fits.0) fits.1
+      ∙ ap (λ (before : Option ℕ). gaps master_gap_item before (master_frames (s.records + 1) rs)) (master-moved s (Ok g)))
+
+pub masters-told : (rules : Rules) (s : State) (records : List (List ℕ)) → IsState rules s
+    → filter is_master_gap (items rules s records) ≡ master_items (master_chain s (readings rules.layout records))
+unfolding items
+masters-told rules s records v =
+    all-in rules.max_packet (chooses rules) s (readings rules.layout records) (valid-from rules.max_packet (chooses rules) s v.shape) (readings-fit rules.layout records)
+    ∙ sym (masters-is s.master (master_frames s.records (readings rules.layout records)))

@@ -49,22 +49,12 @@ get_set-other (x ∷ xs) zero zero y h = absurd (h refl)
 get_set-other (x ∷ xs) (suc c) (suc d) y h = get_set-other xs c d y (λ e. h (ap suc e))
 get_set-other (x ∷ xs) c d y h = refl
 
-last_is : (n : ℕ) (t u : Option Tail) (m : ℕ) → m ≡ n → u ≡ t
-    → ◌≡◌ {A = Option (Option Last)} (Some (Some (record { count = m; tail = u }))) (Some (Some (record { count = n; tail = t })))
-last_is n t u m e f = rw (e, f)
-
 from_view : (y : Option (Option Last)) (n : ℕ) (t : Option Tail) → before_of y ≡ Some n → tail_of y ≡ t
     → y ≡ Some (Some (record { count = n; tail = t }))
-from_view None n t e f = absurd (cc)
-from_view (Some None) n t e f = absurd (cc)
-from_view (Some (Some last)) n t e f = let same : last.count ≡ n = cc in last_is n t last.tail last.count same f
+from_view y n t e f = sym (kept_again y (λ z. none-some n (sym (ap before_of z) ∙ e))) ∙ rw (e, f) refl
 
 same_view : (y x : Option (Option Last)) → y ≢ None → x ≢ None → before_of y ≡ before_of x → tail_of y ≡ tail_of x → y ≡ x
-same_view y None h k e f = absurd (k refl)
-same_view None (Some None) h k e f = absurd (h refl)
-same_view (Some None) (Some None) h k e f = refl
-same_view (Some (Some last)) (Some None) h k e f = absurd (cc)
-same_view y (Some (Some last)) h k e f = from_view y last.count last.tail e f
+same_view y x h k e f = sym (kept_again y h) ∙ rw (e, f) (kept_again x k)
 
 module _ (limit : ℕ) where
   -- a state that may be has open tails
@@ -131,6 +121,21 @@ module _ (limit : ℕ) where
       ++ member_items limit g.channel (before_of (slice_get s.channels g.channel)) (tail_of (slice_get s.channels g.channel)) (member s.records g)
   items-one chosen s g v fit is_chosen = items-one-valid chosen s g (valid-from chosen s v) fit is_chosen
 
+  -- a channel of which a record has no frame stays as it is, and so does one that isn't chosen
+  kept-at : (chosen : ℕ → Bool) (s : State) (r : Reading) → HasShape limit chosen s → IsFit r → (c : ℕ) → c < 8 → (chosen c ≡ true → member_of c s.records r ≡ [])
+      → slice_get (map (channel_after limit chosen s (r ∷ [])) eight) c ≡ slice_get s.channels c
+  kept-at chosen s r v fit c small none =
+      let valid = valid-from chosen s v in
+      let there : slice_get (map (channel_after limit chosen s (r ∷ [])) eight) c ≡ Some (channel_after limit chosen s (r ∷ []) c) =
+      at_eight (channel_after limit chosen s (r ∷ [])) c small in
+      ⊎_elim
+      (λ e.
+      same_view (slice_get (map (channel_after limit chosen s (r ∷ [])) eight) c) (slice_get s.channels c)
+      (λ z. none-some _ (sym z ∙ there)) (there_is s.channels c (rw v.eight_channels small))
+      (before-kept limit chosen s r valid fit c small e (none e)) (tail-kept limit chosen s r valid fit c small e (none e)))
+      (λ e. there ∙ ap (λ (x : Option Last). Some x) (cond-false (chosen c) _ _ e) ∙ sym (v.only_chosen c e small))
+      (cases_Bool (chosen c))
+
   -- the state after it: the channel's count and tail, and all else as before
   pub after-one : (chosen : ℕ → Bool) (s : State) (g : GoodFrame) → HasShape limit chosen s → IsFit (Ok g) → chosen g.channel ≡ true
       → after limit chosen s (Ok g ∷ [])
@@ -174,17 +179,7 @@ module _ (limit : ℕ) where
       other : (c : ℕ) → c < 8 → (c ≡ g.channel → ⊥)
           → slice_get (map (channel_after limit chosen s (Ok g ∷ [])) eight) c ≡ slice_get (set s.channels g.channel (Some kept)) c
       other c small ne =
-          let none : member_of c s.records (Ok g) ≡ [] =
-          cond-false (eqb g.channel c) (member s.records g ∷ []) [] (ne_eqb g.channel c (λ z. ne (sym z))) in
-          let there : slice_get (map (channel_after limit chosen s (Ok g ∷ [])) eight) c ≡ Some (channel_after limit chosen s (Ok g ∷ []) c) =
-          at_eight (channel_after limit chosen s (Ok g ∷ [])) c small in
-          ⊎_elim
-          (λ e.
-          same_view (slice_get (map (channel_after limit chosen s (Ok g ∷ [])) eight) c) (slice_get s.channels c)
-          (λ z. none-some _ (sym z ∙ there)) (there_is s.channels c (rw v.eight_channels small))
-          (before-kept limit chosen s (Ok g) valid fit c small e none) (tail-kept limit chosen s (Ok g) valid fit c small e none))
-          (λ e. there ∙ ap (λ (x : Option Last). Some x) (cond-false (chosen c) _ _ e) ∙ sym (v.only_chosen c e small))
-          (cases_Bool (chosen c))
+          kept-at chosen s (Ok g) v fit c small (λ e. cond-false (eqb g.channel c) _ _ (ne_eqb g.channel c (λ z. ne (sym z))))
           ∙ sym (get_set-other s.channels g.channel c (Some kept) ne)
 
   -- a record that has no frame of a chosen channel leaves all channels as they are
@@ -192,19 +187,8 @@ module _ (limit : ℕ) where
       → ((c : ℕ) → c < 8 → chosen c ≡ true → member_of c s.records r ≡ [])
       → after limit chosen s (r ∷ []) ≡ record { records = s.records + 1; master = master_after s.master r; channels = s.channels }
   channels-kept chosen s r v fit none =
-      let valid = valid-from chosen s v in
       state_same (omega arith) (master-moved s r)
-      (ext_get (map (channel_after limit chosen s (r ∷ [])) eight) s.channels (sym v.eight_channels)
-      (λ c small.
-      let there : slice_get (map (channel_after limit chosen s (r ∷ [])) eight) c ≡ Some (channel_after limit chosen s (r ∷ []) c) =
-      at_eight (channel_after limit chosen s (r ∷ [])) c small in
-      ⊎_elim
-      (λ e.
-      same_view (slice_get (map (channel_after limit chosen s (r ∷ [])) eight) c) (slice_get s.channels c)
-      (λ z. none-some _ (sym z ∙ there)) (there_is s.channels c (rw v.eight_channels small))
-      (before-kept limit chosen s r valid fit c small e (none c small e)) (tail-kept limit chosen s r valid fit c small e (none c small e)))
-      (λ e. there ∙ ap (λ (x : Option Last). Some x) (cond-false (chosen c) _ _ e) ∙ sym (v.only_chosen c e small))
-      (cases_Bool (chosen c))))
+      (ext_get (map (channel_after limit chosen s (r ∷ [])) eight) s.channels (sym v.eight_channels) (λ c small. kept-at chosen s r v fit c small (none c small)))
 
   -- a bad record
   pub after-bad : (chosen : ℕ → Bool) (s : State) (fault : FrameFault) → HasShape limit chosen s

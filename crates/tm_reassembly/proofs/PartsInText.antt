@@ -1,11 +1,13 @@
--- The parts that starts become, with places in the text.
-use Rattle.std.proofs.Common.{◌≡◌, ℕ, ◌+◌, ◌-◌, Bool, true, false, ◌&&◌, Option, Some, None, List, [], ◌∷◌, ◌++◌, length, take, drop, refl, sym, ap, ◌∙◌, ⊎_elim, arith}
+-- Where a packet ends or is broken off, and the parts that starts become, with places in the text.
+use Rattle.std.proofs.lemmas.Option.{none-some, same_Some}
+use Rattle.tm_reassembly.proofs.Split.{holder-settled}
+use Rattle.std.proofs.Common.{◌≡◌, ℕ, ◌+◌, ◌-◌, Bool, true, false, ◌&&◌, Option, Some, None, List, [], ◌∷◌, ◌++◌, length, take, drop, refl, sym, ap, ◌∙◌, ⊎_elim, arith, ◌<◌, ◌≤◌, append_assoc}
 use Rattle.std.proofs.Common.{length-append, leb, ltb}
 use Rattle.std.specs.Prelude.{is_none}
 use Rattle.std.specs.List.{slice_range}
 use Rattle.std.proofs.Math.Seq.{take-append_seam, take-append-add, take-length}
 use Rattle.std.proofs.lemmas.List.Concat.{flat_map-append}
-use Rattle.std.proofs.lemmas.Bool.{cases_Bool, cond-true, cond-false, lt-ltb, and_right, and_from, and_parts, both_ways}
+use Rattle.std.proofs.lemmas.Bool.{cases_Bool, cond-true, cond-false, lt-ltb, and_right, and_from, and_parts, both_ways, lt-leb}
 use Rattle.tm_reassembly.specs.declared.items.Reason.TheVariants as why
 use Rattle.tm_reassembly.specs.Chain.{Member, End}
 use Rattle.tm_reassembly.specs.Parts.{Part, Fate, Given, Lost, Start, text, reach, far_end, is_packet, is_long, begins_packet, reason_at, unread_reason, agrees_at, broken_part, start_part, packet_part, fate_at, agrees, open_after, joined, breaker, holder}
@@ -14,7 +16,54 @@ use Rattle.tm_reassembly.proofs.Long.{begins-zero, begins-short}
 use Rattle.tm_reassembly.specs.declared.items.Reason.{Reason}
 use Rattle.tm_reassembly.proofs.Places.{drop-place, none-from, open-to, unbroken-from, text_split, text-length, begins-at, ends-at, place-at, agreement-at, own-long-at, zero-to, zero-from, begins-from, open-at, whole-at}
 
+-- a packet is seen at the record that holds its last octet
+pub holder-is : (far at number : ℕ) (between more : List Member) (m : Member)
+    → at + length (text between) < far → far ≤ (at + length (text between)) + length m.field
+    → holder far at number (between ++ m ∷ more) ≡ m.number
+holder-is far at number [] more m h k =
+    cond-false (leb far at) _ _ (lt-leb far at (omega arith)) ∙ holder-settled far (at + length m.field) m.number more (omega arith)
+holder-is far at number (f ∷ between) more m h k =
+    let len : length (f.field ++ text between) ≡ length f.field + length (text between) = length-append f.field (text between) in
+    cond-false (leb far at) _ _ (lt-leb far at (omega arith))
+    ∙ holder-is far (at + length f.field) f.number between more m (omega arith) (omega arith)
+
 module _ (limit : ℕ) where
+  -- the frame that breaks a start off: the start is open there, the frame doesn't agree, and those between are the ones that joined
+  abbrev pub Breaks : ℕ → ℕ → List Member → Member → Type 0
+  Breaks far at later m =
+      (between : List Member) × (more : List Member) × (later ≡ between ++ m ∷ more) × (open_after limit far at between ≡ true)
+      × (agrees limit far (at + length (text between)) m ≡ false) × (joined limit far at later ≡ between)
+
+  pub breaker-is : (far at : ℕ) (later : List Member) (m : Member) → breaker limit far at later ≡ Some m → Breaks far at later m
+  breaker-is far at [] m h = absurd (none-some m h)
+  breaker-is far at (f ∷ later) m h =
+      ⊎_elim
+      (λ past.
+      ⊎_elim
+      (λ agree.
+      let rest = breaker-is far (at + length f.field) later m (sym (cond-true (ltb at far) _ _ past ∙ cond-true (agrees limit far at f) _ _ agree) ∙ h) in
+      let len : length (f.field ++ text rest.0) ≡ length f.field + length (text rest.0) = length-append f.field (text rest.0) in (
+        f ∷ rest.0,
+        rest.1,
+        ap (λ (ms : List Member). f ∷ ms) rest.2,
+        and_from (agrees limit far at f) _ agree rest.3,
+        ap (λ (k : ℕ). agrees limit far k m) (omega arith) ∙ rest.4,
+        cond-true (ltb at far && agrees limit far at f) _ _ (and_from (ltb at far) (agrees limit far at f) past agree) ∙ ap (λ (ms : List Member). f ∷ ms) rest.5,
+      ))
+      (λ differ.
+      let same : f ≡ m = same_Some f m (sym (cond-true (ltb at far) _ _ past ∙ cond-false (agrees limit far at f) _ _ differ) ∙ h) in
+      let z : at + 0 ≡ at = omega arith in (
+        [],
+        later,
+        ap (λ (x : Member). x ∷ later) same,
+        past,
+        ap (λ (k : ℕ). agrees limit far k m) z ∙ ap (agrees limit far at) (sym same) ∙ differ,
+        cond-false (ltb at far && agrees limit far at f) _ _ (and_right (ltb at far) (agrees limit far at f) differ),
+      ))
+      (cases_Bool (agrees limit far at f)))
+      (λ past. absurd (none-some m (sym (cond-false (ltb at far) _ _ past) ∙ h)))
+      (cases_Bool (ltb at far))
+
   -- a start is broken off at the first frame that doesn't agree with it
   breaks-off : (far at : ℕ) (between more : List Member) (m : Member) → open_after limit far at between ≡ true
       → agrees limit far (at + length (text between)) m ≡ false

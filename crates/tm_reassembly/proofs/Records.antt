@@ -190,9 +190,6 @@ module _ (limit : ℕ) where
         → seen_at n (channel_items limit c (chain s c (r ∷ rs))) ≡ seen_at n (channel_items limit c (chain (after limit chosen s (r ∷ [])) c rs))
     items-later rs n ne = by_case (frame_cases c s.records r fit)
       where
-        fs : List Member
-        fs = frames c (s.records + 1) rs
-
         moved : {a b : Option ℕ} {t u : Option Tail} → a ≡ b → t ≡ u
             → seen_at n (items_after limit c a t (frames c (s.records + 1) rs)) ≡ seen_at n (items_after limit c b u (frames c (s.records + 1) rs))
         moved e f = rw (e, f)
@@ -247,9 +244,6 @@ module _ (limit : ℕ) where
             → last_with (tail_after a t (frames c (s.records + 1) rs)) (last_count a (frames c (s.records + 1) rs))
             ≡ last_with (tail_after b u (frames c (s.records + 1) rs)) (last_count b (frames c (s.records + 1) rs))
         same e f = rw (e, f)
-
-        b : Option ℕ
-        b = before_of (slice_get s.channels c)
 
         stop : last_with
             (tail_after (before_of (slice_get (after limit chosen s (r ∷ [])).channels c)) (tail_of (slice_get (after limit chosen s (r ∷ [])).channels c)) (frames c (s.records + 1) rs))

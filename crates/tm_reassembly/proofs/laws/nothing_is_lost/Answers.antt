@@ -1,5 +1,4 @@
-use Rattle.tm_reassembly.proofs.MasterItems.{masters-told}
-use Rattle.tm_reassembly.proofs.Merged.{seen-in_time, channel-told, channel-in_order, told-channel}
+use Rattle.tm_reassembly.proofs.Merged.{seen-in_time, channel-told, channel-in_order, told-channel, masters-told}
 use Rattle.tm_reassembly.proofs.laws.nothing_is_lost.Goals as goal
 
 pub returns : goal.returns

@@ -1,4 +1,4 @@
-use Rattle.tm_reassembly.proofs.Ends.{holder-is, breaker-is}
+use Rattle.tm_reassembly.proofs.PartsInText.{holder-is, breaker-is}
 use Rattle.tm_reassembly.proofs.Split.{holder-settled}
 use Rattle.tm_reassembly.proofs.laws.part_ends.Goals as goal
 

@@ -18,10 +18,7 @@ pub record ReadsTo (rules : Rules) (records : ℕ) (xs : List ℕ) (c at : ℕ) 
   pub inside : at ≤ length xs
 
 all_of : (x : Result ReadAll StateFault) → x ≡ in_fronts [] 0 x
-all_of (Ok rest) = rw (zero_plus rest.octets) refl
-  where
-    zero_plus : (n : ℕ) → 0 + n ≡ n
-    zero_plus n = omega arith
+all_of (Ok rest) = let zeroth : 0 + rest.octets ≡ rest.octets = omega arith in rw zeroth refl
 all_of (Err found) = refl
 
 module _ (rules : Rules) (records : ℕ) (xs : List ℕ) where
@@ -36,10 +33,8 @@ module _ (rules : Rules) (records : ℕ) (xs : List ℕ) where
 
   joined : (done : List (Option Last)) (at : ℕ) (one : Read) (x : Result ReadAll StateFault)
       → in_fronts done at (in_front one x) ≡ in_fronts (done ++ one.kept ∷ []) (at + one.octets) x
-  joined done at one (Ok rest) = rw (append_assoc done (one.kept ∷ []) rest.kept, plus at one.octets rest.octets) refl
-    where
-      plus : (a b c : ℕ) → a + (b + c) ≡ (a + b) + c
-      plus a b c = omega arith
+  joined done at one (Ok rest) =
+      let sum : at + (one.octets + rest.octets) ≡ (at + one.octets) + rest.octets = omega arith in rw (append_assoc done (one.kept ∷ []) rest.kept, sum) refl
   joined done at one (Err found) = refl
 
   pub reads_more : (c at used : ℕ) (done : List (Option Last)) (kept : Option Last) → ReadsTo rules records xs c at done → c < 8
@@ -74,10 +69,8 @@ module _ (rules : Rules) (records : ℕ) (xs : List ℕ) where
   unfolding blocks_read
   reads_all c at done r h =
       let none : 8 - c ≡ 0 = omega arith in
-      r.so_far ∙ ap (λ (n : ℕ). in_fronts done at (blocks_read rules records n c (drop at xs))) none ∙ rw (append-nil done, nothing at) refl
-    where
-      nothing : (a : ℕ) → a + 0 ≡ a
-      nothing a = omega arith
+      let all : at + 0 ≡ at = omega arith in
+      r.so_far ∙ ap (λ (n : ℕ). in_fronts done at (blocks_read rules records n c (drop at xs))) none ∙ rw (append-nil done, all) refl
 
 -- the same without telling what was read
 pub record ReadsSome (rules : Rules) (records : ℕ) (xs : List ℕ) (c at : ℕ) : Type 0 where

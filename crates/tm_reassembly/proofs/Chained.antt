@@ -25,9 +25,6 @@ ended_same : (tail : Option Tail) (reason : Reason) (number : ℕ) → left_part
 ended_same None reason number = refl
 ended_same (Some t) reason number = refl
 
-regroup : (a b c d : List Part) → (a ++ b) ++ (c ++ d) ≡ a ++ ((b ++ c) ++ d)
-regroup a b c d = simp append_assoc
-
 module _ (limit : ℕ) where
   -- a frame in a run, after a tail or none
   pub sweep_step : (count : ℕ) (tail : Option Tail) (f : Member) (later : List Member) (end : End)

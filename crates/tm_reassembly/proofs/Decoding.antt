@@ -1,9 +1,10 @@
 -- What octets spell: the first fault, or a state, which is valid.
-use Rattle.std.proofs.Common.{◌≡◌, ℕ, suc, zero, ◌+◌, ◌-◌, ◌^◌, ◌<◌, ◌≤◌, Bool, true, false, not, ◌||◌, ◌&&◌, Ok, Err, Result, Option, Some, None, List, [], ◌∷◌, length, take, drop, refl, sym, ap, subst, ◌∙◌, ⊎_elim, arith, length-drop, ltb, leb, eqb}
+use Rattle.std.proofs.lemmas.Option.{slice_get-get_or}
+use Rattle.std.proofs.Common.{◌≡◌, ℕ, suc, zero, ◌+◌, ◌-◌, ◌^◌, ◌<◌, ◌≤◌, Bool, true, false, not, ◌||◌, Ok, Err, Result, Option, Some, None, List, [], ◌∷◌, length, take, drop, refl, sym, ap, subst, ◌∙◌, arith, length-drop, ltb, leb, eqb}
 use Rattle.std.specs.Prelude.{slice_index, slice_range}
 use Rattle.std.specs.List.{slice_get}
 use Rattle.std.proofs.lemmas.List.{length-take-le, take_all, drop-drop}
-use Rattle.std.proofs.lemmas.Bool.{cases_lt, cond_both, cond-true, cond-false, ltb-true, lt-ltb, le-ltb}
+use Rattle.std.proofs.lemmas.Bool.{cond_both, cond-true, cond-false, ltb-true, lt-ltb, le-ltb, ltb-false, eqb-false, and_parts, or_parts, not-false, both_ways}
 use Rattle.tm_bits.specs.Bits.{AreOctets}
 use Rattle.tm_bits.proofs.PartLemmas.{octets_behind}
 use Rattle.tm_frame.specs.declared.layout.LayoutParts.{LayoutParts}
@@ -78,22 +79,10 @@ abbrev Sound : ℕ → LayoutParts → ℕ → Bool → Result Read StateFault �
 Sound limit layout records chosen (Ok one) = Kept limit layout records chosen one.kept
 Sound limit layout records chosen (Err found) = Unit {0}
 
-not-true : (b : Bool) → not b ≡ false → b ≡ true
-not-true true e = refl
-not-true false e = absurd (cc)
-
-or-false : (a b : Bool) → (a || b) ≡ false → (a ≡ false) × (b ≡ false)
-or-false true b e = absurd (cc)
-or-false false b e = (refl, e)
-
-and-true : (a b : Bool) → (a && b) ≡ true → (a ≡ true) × (b ≡ true)
-and-true true b e = (refl, e)
-and-true false b e = absurd (cc)
-
 open-of : (limit : ℕ) (o : List ℕ) → 0 < length o → is_unfinished limit o ≡ true → IsTail limit o
 open-of limit [] some h = absurd (omega arith)
 open-of limit (x ∷ xs) some h =
-    let both = and-true (begins_packet limit (x ∷ xs)) (ltb (suc (length xs)) (reach (x ∷ xs))) h in
+    let both = and_parts (begins_packet limit (x ∷ xs)) (ltb (suc (length xs)) (reach (x ∷ xs))) h in
     (both.0, ltb-true (suc (length xs)) (reach (x ∷ xs)) both.1)
 
 module _ (limit : ℕ) (layout : LayoutParts) (records : ℕ) (chosen : Bool) (is_chosen : chosen ≡ true) (xs : List ℕ) (octets : AreOctets xs) (enough : 12 ≤ length xs) where
@@ -106,43 +95,20 @@ module _ (limit : ℕ) (layout : LayoutParts) (records : ℕ) (chosen : Bool) (i
       cond_both (ltb (length xs) (12 + size)) _ _ (Sound limit layout records chosen) (λ p. tt)
       (λ there.
       cond_both (not (is_unfinished limit (slice_range xs 12 (12 + size)))) _ _ (Sound limit layout records chosen) (λ p. tt)
-      (λ unfinished. kept within sized there (not-true (is_unfinished limit (slice_range xs 12 (12 + size))) unfinished)))))
-    where
-      kept : (not (ltb first records) || ltb layout.frame_length (place + 7)) ≡ false → (eqb size 0 || leb limit size) ≡ false → ltb (length xs) (12 + size) ≡ false
-          → is_unfinished limit (slice_range xs 12 (12 + size)) ≡ true
-          → Sound limit layout records chosen (Ok (record {
-            kept = Some (record { count = slice_index xs 1; tail = Some (record { first = first; place = place; octets = slice_range xs 12 (12 + size) }) });
-            octets = 12 + size;
-          }))
-      kept within sized there unfinished =
-          let bounds = or-false (not (ltb first records)) (ltb layout.frame_length (place + 7)) within in
-          let sizes = or-false (eqb size 0) (leb limit size) sized in
-          let some : 0 < size = ⊎_elim (λ (z : size < 1). absurd (zero-size size z sizes.0)) (λ h. omega arith) (cases_lt size 1) in
-          let first_in : first < records = ltb-true first records (not-true (ltb first records) bounds.0) in
-          let fits : 12 + size ≤ length xs = ltb-false (length xs) (12 + size) there in
-          let place_in : place + 7 ≤ layout.frame_length = ltb-false layout.frame_length (place + 7) bounds.1 in
-          let l : length (slice_range xs 12 (12 + size)) ≡ (12 + size) - 12 = length-take-le ((12 + size) - 12) (drop 12 xs) (omega (arith, length-drop 12 xs)) in (
-            is_chosen,
-            record {
-              count = octets.below 1;
-              open_tail = open-of limit (slice_range xs 12 (12 + size)) (omega arith) unfinished;
-              within = record {
-                first = first_in;
-                place = place_in;
-                octets = octets_front ((12 + size) - 12) (drop 12 xs) (octets_behind 12 xs octets);
-              };
-            },
-          )
-        where
-          zero-size : (n : ℕ) → n < 1 → eqb n 0 ≡ false → ⊥
-          zero-size zero h e = cc
-          zero-size (suc n) h e = omega arith
-
-          ltb-false : (a b : ℕ) → ltb a b ≡ false → b ≤ a
-          ltb-false a b e = ⊎_elim (λ h. absurd (clash (sym (lt-ltb a b h) ∙ e))) (λ h. h) (cases_lt a b)
-            where
-              clash : true ≡ false → ⊥
-              clash p = cc
+      (λ unfinished.
+      let bounds = or_parts (not (ltb first records)) (ltb layout.frame_length (place + 7)) within in
+      let some : size ≡ 0 → ⊥ = eqb-false size 0 (or_parts (eqb size 0) (leb limit size) sized).0 in
+      let first_in : first < records = ltb-true first records (not-false (ltb first records) bounds.0) in
+      let fits : 12 + size ≤ length xs = ltb-false (length xs) (12 + size) there in
+      let place_in : place + 7 ≤ layout.frame_length = ltb-false layout.frame_length (place + 7) bounds.1 in
+      let l : length (slice_range xs 12 (12 + size)) ≡ (12 + size) - 12 = length-take-le ((12 + size) - 12) (drop 12 xs) (omega (arith, length-drop 12 xs)) in (
+        is_chosen,
+        record {
+          count = octets.below 1;
+          open_tail = open-of limit (slice_range xs 12 (12 + size)) (omega arith) (not-false (is_unfinished limit (slice_range xs 12 (12 + size))) unfinished);
+          within = record { first = first_in; place = place_in; octets = octets_front ((12 + size) - 12) (drop 12 xs) (octets_behind 12 xs octets) };
+        },
+      )))))
 
 flagged-sound : (limit : ℕ) (layout : LayoutParts) (records : ℕ) (chosen : Bool) (xs : List ℕ) (flag : ℕ) → AreOctets xs → Sound limit layout records chosen (flagged limit layout chosen records xs flag)
 flagged-sound limit layout records chosen xs flag octets =
@@ -150,15 +116,12 @@ flagged-sound limit layout records chosen xs flag octets =
     (λ p.
     cond_both (not chosen || ltb 2 flag) _ _ (Sound limit layout records chosen) (λ q. tt)
     (λ q.
-    let is_chosen : chosen ≡ true = not-true chosen (or-false (not chosen) (ltb 2 flag) q).0 in
+    let is_chosen : chosen ≡ true = not-false chosen (or_parts (not chosen) (ltb 2 flag) q).0 in
     cond_both (eqb flag 1) _ _ (Sound limit layout records chosen)
     (λ r. cond_both (ltb (length xs) 2) _ _ (Sound limit layout records chosen) (λ s. tt)
     (λ s. (is_chosen, record { count = octets.below 1; open_tail = tt; within = tt })))
-    (λ r. ⊎_elim
-    (λ (short : length xs < 12). subst (Sound limit layout records chosen) (sym (cond-true (ltb (length xs) 12) _ _ (lt-ltb (length xs) 12 short))) tt)
-    (λ enough. subst (Sound limit layout records chosen) (sym (cond-false (ltb (length xs) 12) _ _ (le-ltb (length xs) 12 enough)))
-    (tail-sound limit layout records chosen is_chosen xs octets enough (four_at xs 2) (two_at xs 6) (four_at xs 8)))
-    (cases_lt (length xs) 12))))
+    (λ r. cond_both (ltb (length xs) 12) _ _ (Sound limit layout records chosen) (λ s. tt)
+    (λ s. tail-sound limit layout records chosen is_chosen xs octets (ltb-false (length xs) 12 s) (four_at xs 2) (two_at xs 6) (four_at xs 8)))))
 
 block-sound : (limit : ℕ) (layout : LayoutParts) (records : ℕ) (chosen : Bool) (xs : List ℕ) → AreOctets xs → Sound limit layout records chosen (block_read limit layout chosen records xs)
 unfolding block_read
@@ -201,11 +164,6 @@ blocks-sound rules records (suc n) c xs octets =
     step (Err found) h others k = tt
     step (Ok one) h others k = joined one h (others one.octets) (k one.octets)
 
-some-at : {A : Type 0} (xs : List A) (c : ℕ) → c < length xs → (x : A) × (slice_get xs c ≡ Some x)
-some-at [] c h = absurd (omega arith)
-some-at (x ∷ xs) zero h = (x, refl)
-some-at (x ∷ xs) (suc c) h = some-at xs c (omega arith)
-
 -- the state that blocks spell
 pub blocks_valid : (rules : Rules) (records used : ℕ) (kept : List (Option Last)) (xs : List ℕ) → AreOctets xs → records < 2 ^ 32
     → blocks_read rules records 8 0 xs ≡ Ok (record { kept = kept; octets = used })
@@ -213,18 +171,9 @@ pub blocks_valid : (rules : Rules) (records used : ℕ) (kept : List (Option Las
 blocks_valid rules records used kept xs octets small e range master octet =
     let all : SoundAll rules records 8 0 kept = subst (AllSound rules records 8 0) e (blocks-sound rules records 8 0 xs octets) in
     state-from rules (record { records = records; master = master; channels = kept }) range small octet all.many
-    (λ c n less. none-at c n less all (some-at kept c (omega (arith, all.many))))
+    (λ c n less. let there = slice_get-get_or kept c None (omega (arith, all.many)) in there ∙ ap (λ (x : Option Last). Some x) (unkept c n _ (all.each c _ there)))
     (λ c last f. (all.each c (Some last) f).1)
   where
-    none-at : (c : ℕ) → chooses rules c ≡ false → c < 8 → SoundAll rules records 8 0 kept → (x : Option Last) × (slice_get kept c ≡ Some x) → slice_get kept c ≡ Some None
-    none-at c n less all there = by_entry there.0 there.1
-      where
-        by_entry : (x : Option Last) → slice_get kept c ≡ Some x → slice_get kept c ≡ Some None
-        by_entry None f = f
-        by_entry (Some last) f = absurd (clash (sym (all.each c (Some last) f).0 ∙ ap (chooses rules) (plus c) ∙ n))
-          where
-            plus : (m : ℕ) → 0 + m ≡ m
-            plus m = omega arith
-
-            clash : true ≡ false → ⊥
-            clash p = cc
+    unkept : (c : ℕ) → chooses rules c ≡ false → (x : Option Last) → Kept rules.max_packet rules.layout records (chooses rules (0 + c)) x → x ≡ None
+    unkept c n None k = refl
+    unkept c n (Some last) k = let zeroth : 0 + c ≡ c = omega arith in absurd (both_ways (chooses rules c) n (ap (chooses rules) (sym zeroth) ∙ k.0))

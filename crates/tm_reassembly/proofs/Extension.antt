@@ -20,10 +20,7 @@ use Rattle.tm_reassembly.proofs.Records.{frames-fit}
 grow-member : (m : Member) (r : Run) (rs : List Run) (q : Run) (qs : List Run) → GrowFrom r rs (q ∷ qs)
     → GrowFrom (record { members = m ∷ r.members; end = r.end }) rs (record { members = m ∷ q.members; end = q.end } ∷ qs)
 grow-member m r [] q qs h = (h.0, ap (λ (ms : List Member). m ∷ ms) h.1, h.2)
-grow-member m r (next ∷ rs) q qs h = (same h.0, h.1)
-  where
-    same : q ≡ r → ◌≡◌ {A = Run} (record { members = m ∷ q.members; end = q.end }) (record { members = m ∷ r.members; end = r.end })
-    same e = ap (λ (z : Run). record { members = m ∷ z.members; end = z.end }) e
+grow-member m r (next ∷ rs) q qs h = (ap (λ (z : Run). record { members = m ∷ z.members; end = z.end }) h.0, h.1)
 
 abbrev GrowRuns : Runs → Runs → Type 0
 GrowRuns a b = GrowFrom a.current a.others (b.current ∷ b.others)
@@ -75,17 +72,13 @@ PlacesFit-append : (a b : List Member) → PlacesFit a → PlacesFit b → Place
 PlacesFit-append [] b h k = k
 PlacesFit-append (m ∷ a) b h k = (h.0, PlacesFit-append a b h.1 k)
 
-pub PlacesFit-left : (a b : List Member) → PlacesFit (a ++ b) → PlacesFit a
-PlacesFit-left [] b h = tt
-PlacesFit-left (m ∷ a) b h = (h.0, PlacesFit-left a b h.1)
-
-PlacesFit-right : (a b : List Member) → PlacesFit (a ++ b) → PlacesFit b
-PlacesFit-right [] b h = h
-PlacesFit-right (m ∷ a) b h = PlacesFit-right a b h.1
+pub PlacesFit-split : (a b : List Member) → PlacesFit (a ++ b) → PlacesFit a × PlacesFit b
+PlacesFit-split [] b h = (tt, h)
+PlacesFit-split (m ∷ a) b h = let rest = PlacesFit-split a b h.1 in ((h.0, rest.0), rest.1)
 
 fit-frames : (k : ℕ) (ms : List Member) → FitFrom k ms → PlacesFit ms
 fit-frames k [] h = tt
-fit-frames k (m ∷ ms) h = (h.1, fit-frames k ms h.2)
+fit-frames k (m ∷ ms) h = (h.0.1, fit-frames k ms h.1)
 
 fit-stem : (x : Option (Option Last)) → PlacesFit (stem_of x)
 fit-stem None = tt
@@ -129,10 +122,7 @@ fit-at (x ∷ rs) (suc i) r h e = fit-at rs i r h.1 e
 pub run-places : (s : State) (c : ℕ) (rs : List Reading) → AllFit rs → (i : ℕ) (r : Run) → slice_get (runs (chain s c rs)) i ≡ Some r
     → PlacesFit r.members
 run-places s c rs fits i r at =
-    fit-at (runs (chain s c rs)) i r (in_list (runs_after None (chain s c rs)) (runs-fit None (chain s c rs) (chain-fit s c rs fits))) at
-  where
-    in_list : (rs : Runs) → Fit rs → RunsFit (rs.current ∷ rs.others)
-    in_list rs h = h
+    let all = runs-fit None (chain s c rs) (chain-fit s c rs fits) in fit-at (runs (chain s c rs)) i r (all.0, all.1) at
 
 verdict_by : {a b c d e f l m : Bool} → a ≡ d → b ≡ e → l ≡ m → c ≡ f
     → ◌≡◌ {A = Verdict} (record { opened = a; agreed = b; long = l; completed = c }) (record { opened = d; agreed = e; long = m; completed = f })
@@ -195,10 +185,11 @@ verdicts-stay s c rs qs fits i r at before between later f m split =
     grown-at (runs_after None (chain s c rs)).current (runs_after None (chain s c rs)).others (runs (chain s c (rs ++ qs))) i r (runs-grow s c rs qs) at in
     let all : PlacesFit (before ++ f ∷ (between ++ m ∷ later)) =
     subst PlacesFit split (run-places s c rs fits i r at) in
-    let ahead : PlacesFit (between ++ m ∷ later) = (PlacesFit-right before (f ∷ (between ++ m ∷ later)) all).1 in (
+    let ahead : PlacesFit (between ++ m ∷ later) = (PlacesFit-split before (f ∷ (between ++ m ∷ later)) all).1.1 in
+    let apart = PlacesFit-split between (m ∷ later) ahead in (
       grown.0,
       grown.1,
       grown.2,
       grown.3 ∙ ap (λ (ms : List Member). ms ++ grown.1) split ∙ move_more before between later grown.1 f m,
-      λ limit start. verdict-settled limit start between m later grown.1 (PlacesFit-left between (m ∷ later) ahead) (PlacesFit-right between (m ∷ later) ahead).0,
+      λ limit start. verdict-settled limit start between m later grown.1 apart.0 apart.1.0,
     )

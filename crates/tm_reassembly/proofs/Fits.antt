@@ -52,9 +52,7 @@ field-length layout octets =
 
 place_fits : (kind : Kind) (field : List ℕ) → IsPlaceBelow (length field) kind → PlaceFits (place_of kind) (length (counted_field kind field))
 place_fits (got.Packets place) field h = omega arith
-place_fits got.NoStart field h = tt
-place_fits got.Idle field h = tt
-place_fits got.Vca field h = tt
+place_fits kind field h = tt
 
 -- a good frame fits, whatever its octets
 good-fit : (layout : LayoutParts) (octets : List ℕ) → fault_of layout octets ≡ None → IsFit (Ok (good_frame layout octets))
@@ -104,9 +102,6 @@ good layout octets h long none = record {
 pub reading-good : (layout : LayoutParts) (octets : List ℕ) → AreOctets octets → IsRead layout (reading_of layout octets)
 reading-good layout octets h = by_fault (fault_of layout (frame_of layout octets)) refl
   where
-    width : (layout.skip_before + layout.frame_length) - layout.skip_before ≡ layout.frame_length
-    width = omega arith
-
     long : length (frame_of layout octets) ≤ layout.frame_length
     long = omega (arith, length-take ((layout.skip_before + layout.frame_length) - layout.skip_before) (drop layout.skip_before octets))
 

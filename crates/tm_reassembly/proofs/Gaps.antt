@@ -1,4 +1,5 @@
 -- The gap between two counts, by the count that should have been found.
+use Rattle.std.proofs.lemmas.Option.{same_Some}
 use Rattle.std.proofs.Common.{◌≡◌, ℕ, Bool, true, false, not, cond, Option, Some, None, [], ◌∷◌, refl, ap, ◌∙◌, eqb}
 use Rattle.std.proofs.lemmas.Bool.{cond-true, cond-false}
 use Rattle.tm_reassembly.specs.Chain.{Member, has_gap, next_count}
@@ -12,10 +13,7 @@ same_test false n e = absurd (cc)
 
 other_test : (t : Bool) (n m : ℕ) → cond t None (Some n) ≡ Some m → (t ≡ false) × (n ≡ m)
 other_test true n m e = absurd (cc)
-other_test false n m e = (refl, same e)
-  where
-    same : ◌≡◌ {A = Option ℕ} (Some n) (Some m) → n ≡ m
-    same h = cc
+other_test false n m e = (refl, same_Some n m e)
 
 pub none_missed : (before : Option ℕ) (seen found : ℕ) → missed before found ≡ None → has_gap before (counted seen found) ≡ false
 none_missed None seen found e = refl

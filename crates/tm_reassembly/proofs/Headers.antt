@@ -1,13 +1,13 @@
 -- The version and the length of a packet, as its header has them.
-use Rattle.std.proofs.Common.{◌≡◌, ℕ, ◌+◌, ◌-◌, ◌*◌, ◌/◌, ◌%◌, ◌^◌, ◌<◌, ◌≤◌, true, Ok, Err, Result, List, [], ◌∷◌, ◌++◌, length, take, drop, get_or, refl, sym, ap, ◌∙◌, ⊎_elim, arith, ltb, eqb}
-use Rattle.std.proofs.lemmas.List.{take-append-drop, take-append-le, length-take-le, take_all}
+use Rattle.std.proofs.Common.{◌≡◌, ℕ, ◌+◌, ◌-◌, ◌*◌, ◌/◌, ◌%◌, ◌^◌, ◌<◌, ◌≤◌, true, Ok, Err, Result, List, [], ◌∷◌, length, take, get_or, refl, sym, ap, ◌∙◌, ⊎_elim, arith, ltb, eqb}
+use Rattle.std.proofs.lemmas.List.{length-take-le, take_all}
 use Rattle.std.proofs.lemmas.Bool.{cases_Bool, cases_lt, lt-ltb, le-ltb, cond-true, cond-false, eq-eqb, eqb-true}
 use Rattle.tm_bits.specs.Bits.{part, bits_of, number}
-use Rattle.tm_bits.proofs.PartLemmas.{part-word, part-lt}
+use Rattle.tm_bits.proofs.PartLemmas.{part-word}
 use Rattle.tm_packet.specs.declared.header.PacketFault.{PacketFault}
 use Rattle.tm_packet.specs.Header.{Fields, version_of, header_of, reading_of}
-use Rattle.tm_items.specs.OnePacket.{is_packet, reach, IsOnePacket}
-use Rattle.tm_items.proofs.Reach.{reach-short, reach-long, reach-least, reach-append}
+use Rattle.tm_items.specs.OnePacket.{is_packet, reach}
+use Rattle.tm_items.proofs.Reach.{reach-short, reach-long}
 
 pub version_first : (octets : List ℕ) → 0 < length octets → version_of (take 1 octets) ≡ version_of (get_or octets 0 0 ∷ [])
 version_first [] h = absurd (omega arith)
@@ -70,24 +70,3 @@ reach_unread octets fault p e = ⊎_elim (λ short. sym (reach-short octets shor
         let zero : version_of octets ≡ 0 = sym (part-front 1 octets 0 3 (omega arith) (omega arith) (omega arith)) ∙ eqb-true (version_of (take 1 octets)) 0 p in
         let short = reading-err octets fault zero e in
         omega arith
-
--- a packet has at most 65,542 octets
-pub reach_most : (octets : List ℕ) → reach octets ≤ 65542
-reach_most octets =
-    ⊎_elim (λ short. omega (arith, reach-short octets short))
-    (λ long.
-    let l : length (take 6 octets) ≡ 6 = length-take-le 6 octets long in
-    let small : part (take 6 octets) 32 48 < 2 ^ (48 - 32) = part-lt (take 6 octets) 32 48 (omega arith) (omega arith) in
-    let e = reach-long octets long in
-    omega arith)
-    (cases_lt (length octets) 6)
-
--- a packet that lies whole in octets, by itself
-pub front_packet : (octets : List ℕ) (n : ℕ) → is_packet octets ≡ true → n ≡ reach octets → n ≤ length octets → IsOnePacket (take n octets)
-front_packet octets n p e fits =
-    let least = reach-least octets in
-    let l : length (take n octets) ≡ n = length-take-le n octets fits in
-    let whole : take n octets ++ drop n octets ≡ octets = take-append-drop n octets in
-    let same : reach (take n octets) ≡ n = sym (reach-append (take n octets) (drop n octets) (omega arith)) ∙ ap reach whole ∙ sym e in
-    let first : take 1 (take n octets) ≡ take 1 octets = sym (take-append-le 1 (take n octets) (drop n octets) (omega arith)) ∙ ap (take 1) whole in
-    record { version = ap (λ (xs : List ℕ). eqb (version_of xs) 0) first ∙ p; whole = l ∙ sym same }

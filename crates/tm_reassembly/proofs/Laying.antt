@@ -1,20 +1,20 @@
 -- Where the parts of a chain lie: each begins where the one before ends, at the record and the place that it tells.
 use Rattle.std.proofs.Common.{◌≡◌, ℕ, suc, zero, pred, ◌+◌, ◌-◌, ◌<◌, ◌≤◌, Bool, true, false, Option, Some, None, List, [], ◌∷◌, ◌++◌, length, take, drop, refl, sym, ap, subst, ◌∙◌, ⊎_elim, arith, append_assoc, length-append, leb}
 use Rattle.std.proofs.lemmas.List.{append-nil, take-append-drop, map-append}
-use Rattle.std.proofs.lemmas.Bool.{cases_lt, cases_Bool, cond-true, cond-false, le-leb, lt-leb}
+use Rattle.std.proofs.Math.Seq.{take-append-add, take-length}
+use Rattle.std.proofs.lemmas.Bool.{leb-true, eqb-true, cases_lt, cases_Bool, cond-true, cond-false, le-leb, lt-leb}
 use Rattle.tm_items.specs.declared.items.Reason.TheVariants as why
 use Rattle.tm_items.specs.declared.items.Reason.{Reason}
 use Rattle.tm_reassembly.specs.State.{Tail}
 use Rattle.tm_reassembly.specs.Chain.{Member}
 use Rattle.tm_reassembly.proofs.Long.{agrees-place}
-use Rattle.tm_reassembly.specs.Parts.{Part, agrees, begins_packet, reason_at, lead_part, front_of}
+use Rattle.tm_reassembly.specs.Parts.{Part, agrees, agrees_at, begins_packet, reason_at, lead_part, front_of}
 use Rattle.tm_items.specs.OnePacket.{reach}
 use Rattle.tm_reassembly.specs.Field.{stop_of, field_parts, unfinished, parts_in, left_in, tail_at, frame_parts, frame_tail, tail_parts, tail_left, step_parts, step_tail, ended_parts, chain_parts_at, chain_tail_at}
 use Rattle.tm_reassembly.specs.Tiles.{Spot, field_spots, octets_at, BeginsAt, IsHeld}
-use Rattle.tm_items.proofs.Reach.{reach-least, reach-unsettled}
+use Rattle.tm_items.proofs.Reach.{reach-least}
 use Rattle.tm_reassembly.proofs.Split.{whole_part, unread_part, field_parts-whole, field_parts-version, field_parts-unfinished, unfinished-whole, unfinished-version, unfinished-last}
-use Rattle.tm_reassembly.proofs.Chained.{IsOpenTail, IsTail}
-use Rattle.tm_reassembly.proofs.Tiling.{take-past, front_taken}
+use Rattle.tm_reassembly.proofs.Chained.{IsOpenTail}
 
 abbrev pub Piece : List Spot → ℕ → ℕ → List ℕ → List Spot → Type 0
 Piece spots first place octets rest =
@@ -49,11 +49,17 @@ octets-field number place [] = refl
 octets-field number place (x ∷ xs) = ap (λ (t : List ℕ). x ∷ t) (octets-field number (place + 1) xs)
 
 take-field : (k number place : ℕ) (o : List ℕ) → take k (field_spots number place o) ≡ field_spots number place (take k o)
-take-field zero number place [] = refl
-take-field (suc k) number place [] = refl
-take-field zero number place (x ∷ xs) = refl
 take-field (suc k) number place (x ∷ xs) =
     ap (λ (t : List Spot). record { record_number = number; place = place; octet = x } ∷ t) (take-field k number (place + 1) xs)
+take-field k number place o = refl
+
+-- up to where a packet that a frame agrees with ends, there are the tail and the frame's front
+front_taken : (place : Option ℕ) (d : ℕ) (t f : List ℕ) → agrees_at d (length t) (length f) place ≡ true → d ≤ length t + length f
+    → take d (t ++ f) ≡ t ++ front_of place f
+front_taken None d t f e h =
+    let all : d ≡ length t + length f = let l = leb-true (length t + length f) d e in omega arith in
+    ap (λ (k : ℕ). take k (t ++ f)) all ∙ take-append-add t f (length f) ∙ ap (λ (o : List ℕ). t ++ o) (take-length f)
+front_taken (Some place) d t f e h = ap (λ (k : ℕ). take k (t ++ f)) (eqb-true d (length t + place) e) ∙ take-append-add t f place
 
 take_next : {A : Type 0} (n : ℕ) (x : A) (xs : List A) → 0 < n → take n (x ∷ xs) ++ drop (pred n) xs ≡ x ∷ xs
 take_next zero x xs h = absurd (omega arith)
@@ -92,8 +98,6 @@ module _ (limit : ℕ) where
   -- the packets and the unread part of a field, and its unfinished packet
   field_lays : (number place stop skip : ℕ) (o : List ℕ) → stop ≡ place + length o
       → Laid (drop skip (field_spots number place o)) (field_parts limit number stop skip o) (tail_at number stop (unfinished limit skip o))
-  field_lays number place stop zero [] h = ([], refl, refl)
-  field_lays number place stop (suc skip) [] h = ([], refl, refl)
   field_lays number place stop (suc skip) (x ∷ xs) h = field_lays number (place + 1) stop skip xs (omega arith)
   field_lays number place stop zero (x ∷ xs) h =
       let back : place ≡ stop - suc (length xs) = omega arith in
@@ -134,6 +138,7 @@ module _ (limit : ℕ) where
         refl,
       ))
       (cases_Bool (begins_packet limit (x ∷ xs)))
+  field_lays number place stop skip o h = ([], refl, refl)
 
   -- a frame past its front
   front_lays : (m : Member)
@@ -164,9 +169,9 @@ module _ (limit : ℕ) where
       )
 
   -- a tail and a frame
-  tail_lays : (t : Tail) (m : Member) (h : List Spot) → length t.octets ≤ reach (t.octets ++ m.field) → IsHeld (Some t) h
+  tail_lays : (t : Tail) (m : Member) (h : List Spot) → IsHeld (Some t) h
       → Laid (h ++ spots_of m) (tail_parts limit t m (reach (t.octets ++ m.field))) (tail_left limit t m (reach (t.octets ++ m.field)))
-  tail_lays t m h long held =
+  tail_lays t m h held =
       let d : ℕ = reach (t.octets ++ m.field) in
       let a : ℕ = length t.octets in
       let whole : ℕ = length (t.octets ++ m.field) in
@@ -183,9 +188,7 @@ module _ (limit : ℕ) where
         (both_octets h (spots_of m) t.octets m.field held.0 (octets-field m.number m.base m.field), begins-more t.first t.place h (spots_of m) held.1),
       ))
       (λ within.
-      let front : take d (t.octets ++ m.field) ≡ t.octets ++ front_of m.place m.field =
-      take-past t.octets m.field d long
-      ∙ ap (λ (o : List ℕ). t.octets ++ o) (front_taken m.place d a m.field (agrees-place limit d a m agree) long (omega arith)) in
+      let front = front_taken m.place d t.octets m.field (agrees-place limit d a m agree) (omega arith) in
       let f = front_lays m in
       laid_by (h ++ spots_of m) _ _ _ (frame_tail limit m)
       (cond-true (agrees limit d a m) _ _ agree ∙ cond-true (leb d whole) _ _ (le-leb d whole within))
@@ -219,11 +222,7 @@ module _ (limit : ℕ) where
       → Laid (h ++ spots_of m) (step_parts limit tail m) (step_tail limit tail m)
   step_lays None m h unwhole held =
       subst (λ (s : List Spot). Laid (s ++ spots_of m) (step_parts limit None m) (step_tail limit None m)) (sym held) (frame_lays m why.NoStart)
-  step_lays (Some t) m h unwhole held = tail_lays t m h (long t.octets unwhole) held
-    where
-      long : (o : List ℕ) → IsTail limit o → length o ≤ reach (o ++ m.field)
-      long [] k = absurd k
-      long (x ∷ xs) k = let r : suc (length xs) < reach ((x ∷ xs) ++ m.field) = reach-unsettled (x ∷ xs) m.field k.1 in omega arith
+  step_lays (Some t) m h unwhole held = tail_lays t m h held
 
   pub chain_lays : (gap vca : Bool) (tail : Option Tail) (m : Member) (h : List Spot) → IsOpenTail limit tail → IsHeld tail h
       → Laid (h ++ plain_spots vca (spots_of m)) (chain_parts_at limit gap vca tail m) (chain_tail_at limit gap vca tail m)

@@ -1,4 +1,5 @@
 pub mod Long
+pub mod Each
 pub mod Sweep
 pub mod Split
 pub mod Fresh
@@ -11,14 +12,12 @@ pub mod Joining
 pub mod Masters
 pub mod Records
 pub mod OneStep
-pub mod Tiling
 pub mod Extension
 pub mod Laying
 pub mod Tiled
 pub mod OneOpen
 pub mod Places
 pub mod Starts
-pub mod Ends
 pub mod Headers
 pub mod Fits
 pub mod States
@@ -34,7 +33,6 @@ pub mod OneRecord
 pub mod Blocks
 pub mod OneHeld
 pub mod Merged
-pub mod MasterItems
 pub mod Limited
 pub mod ItemChannels
 pub mod Decoding

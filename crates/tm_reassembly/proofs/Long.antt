@@ -1,17 +1,9 @@
 -- Packets over the limit: where their header isn't there yet they aren't long, and a frame that agrees has none.
-use Rattle.std.proofs.Common.{◌≡◌, ℕ, ◌+◌, ◌<◌, Bool, true, false, not, ◌&&◌, List, ◌∷◌, ◌++◌, length, refl, ap, ◌∙◌, length-append, leb}
-use Rattle.std.proofs.lemmas.Bool.{lt-leb}
+use Rattle.std.proofs.Common.{◌≡◌, ℕ, ◌+◌, ◌<◌, ◌≤◌, Bool, true, false, not, ◌&&◌, List, ◌∷◌, ◌++◌, length, refl, ap, ◌∙◌, ⊎_elim, arith, length-append, leb, ltb}
+use Rattle.std.proofs.lemmas.Bool.{lt-leb, leb-false, ltb-false, and_parts, and_cases, not-true}
 use Rattle.tm_reassembly.specs.Chain.{Member}
 use Rattle.tm_items.specs.OnePacket.{is_packet, reach}
 use Rattle.tm_reassembly.specs.Parts.{is_long, begins_packet, agrees, agrees_at}
-
-pub and_both : (a b : Bool) → (a && b) ≡ true → (a ≡ true) × (b ≡ true)
-and_both true b h = (refl, h)
-and_both false b h = absurd (cc)
-
-not_true : (b : Bool) → not b ≡ true → b ≡ false
-not_true true h = absurd (cc)
-not_true false h = refl
 
 pub and_not : (a b : Bool) → a ≡ true → b ≡ false → (a && not b) ≡ true
 and_not a b e f = rw (e, f) refl
@@ -20,22 +12,27 @@ and_not a b e f = rw (e, f) refl
 pub not-long : (limit d stop : ℕ) → stop < 6 → is_long limit d stop ≡ false
 not-long limit d stop h = let e : leb 6 stop ≡ false = lt-leb 6 stop h in rw e refl
 
+-- what isn't long where its header is there is within the limit
+pub within-limit : (limit far stop : ℕ) → 6 ≤ stop → is_long limit far stop ≡ false → far ≤ limit
+within-limit limit far stop there h =
+    ⊎_elim (λ e. absurd (let less = leb-false 6 stop e in omega arith)) (λ e. ltb-false limit far e) (and_cases (leb 6 stop) (ltb limit far) h)
+
 module _ (limit far at : ℕ) (m : Member) (agree : agrees limit far at m ≡ true) where
   -- a frame that agrees does so by its place
   pub agrees-place : agrees_at far at (length m.field) m.place ≡ true
-  agrees-place = (and_both (agrees_at far at (length m.field) m.place) (not (is_long limit far (at + length m.field))) agree).0
+  agrees-place = (and_parts (agrees_at far at (length m.field) m.place) (not (is_long limit far (at + length m.field))) agree).0
 
   -- and the packet isn't long there
   pub agrees-short : is_long limit far (at + length m.field) ≡ false
   agrees-short =
-      not_true (is_long limit far (at + length m.field))
-      (and_both (agrees_at far at (length m.field) m.place) (not (is_long limit far (at + length m.field))) agree).1
+      not-true (is_long limit far (at + length m.field))
+      (and_parts (agrees_at far at (length m.field) m.place) (not (is_long limit far (at + length m.field))) agree).1
 
 pub begins-zero : (limit : ℕ) (start : List ℕ) → begins_packet limit start ≡ true → is_packet start ≡ true
-begins-zero limit start h = (and_both (is_packet start) (not (is_long limit (reach start) (length start))) h).0
+begins-zero limit start h = (and_parts (is_packet start) (not (is_long limit (reach start) (length start))) h).0
 
 pub begins-short : (limit : ℕ) (start : List ℕ) → begins_packet limit start ≡ true → is_long limit (reach start) (length start) ≡ false
-begins-short limit start h = not_true (is_long limit (reach start) (length start)) (and_both (is_packet start) (not (is_long limit (reach start) (length start))) h).1
+begins-short limit start h = not-true (is_long limit (reach start) (length start)) (and_parts (is_packet start) (not (is_long limit (reach start) (length start))) h).1
 
 -- a start and a frame that agrees with it are one longer start
 pub begins-longer : (limit x : ℕ) (xs : List ℕ) (f : Member) → begins_packet limit (x ∷ xs) ≡ true

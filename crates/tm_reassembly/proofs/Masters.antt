@@ -1,14 +1,16 @@
 -- The gaps of the master chain, one record at a time.
-use Rattle.std.proofs.Common.{◌≡◌, Ok, Err, ℕ, ◌+◌, ◌≤◌, Option, Some, None, List, [], ◌∷◌, ◌++◌, refl, sym, ap, ◌∙◌, arith}
+use Rattle.std.proofs.lemmas.List.Elements.{filter-append}
+use Rattle.tm_reassembly.proofs.Each.{Each, Each-weaken}
+use Rattle.std.proofs.Common.{◌≡◌, Ok, Err, ℕ, ◌+◌, ◌≤◌, Option, Some, None, List, [], ◌∷◌, ◌++◌, refl, sym, ap, ◌∙◌, arith, eqb}
 use Rattle.std.proofs.lemmas.List.{append-nil}
 use Rattle.tm_frame.specs.Frame.{GoodFrame}
 use Rattle.tm_reassembly.specs.Readings.{Reading}
-use Rattle.tm_items.specs.Item.{Item}
+use Rattle.tm_items.specs.Item.{Item, seen_of}
 use Rattle.tm_reassembly.specs.State.{State}
 use Rattle.tm_reassembly.specs.Chain.{Member, master_member, master_frames, master_stem, master_chain}
 use Rattle.tm_reassembly.specs.Items.{seen_at, master_gap_item, gap_at, gaps, master_items, last_count}
-use Rattle.tm_reassembly.proofs.Joining.{gap-seen, none_before, none_other}
-use Rattle.tm_reassembly.proofs.Seen.{AllSeen, AllSeen-append, AllSeen-weaken, seen_at-append, seen_at-all}
+use Rattle.tm_reassembly.proofs.Joining.{none_before, none_other, gap-each, gaps-each}
+use Rattle.tm_reassembly.proofs.Seen.{AllSeen, seen_at-all}
 
 -- the last master channel count after one more record
 abbrev pub master_after : Option ℕ → Reading → Option ℕ
@@ -26,24 +28,23 @@ last-is (Some count) ms = refl
 
 -- a gap is seen at its frame's record
 pub master-at : (before : Option ℕ) (m : Member) → AllSeen (λ s. s ≡ m.number) (gap_at master_gap_item before m)
-master-at before m = gap-seen master_gap_item (λ expected n. refl) before m
+master-at before m = gap-each (λ x. seen_of x ≡ m.number) master_gap_item before m (λ expected. refl)
 
 -- the gaps of records that are numbered from k on are seen at k or later
 masters-from : (k : ℕ) (before : Option ℕ) (rs : List Reading) → AllSeen (λ s. k ≤ s) (gaps master_gap_item before (master_frames k rs))
-masters-from k before [] = tt
-masters-from k before (Err fault ∷ rs) =
-    AllSeen-weaken (λ s. k + 1 ≤ s) (λ s. k ≤ s) (gaps master_gap_item before (master_frames (k + 1) rs)) (λ n e. omega arith) (masters-from (k + 1) before rs)
-masters-from k before (Ok g ∷ rs) =
-    AllSeen-append (λ s. k ≤ s) (gap_at master_gap_item before (master_member k g)) (gaps master_gap_item (Some g.master_count) (master_frames (k + 1) rs))
-    (AllSeen-weaken (λ s. s ≡ k) (λ s. k ≤ s) (gap_at master_gap_item before (master_member k g)) (λ n e. omega arith) (master-at before (master_member k g)))
-    (AllSeen-weaken (λ s. k + 1 ≤ s) (λ s. k ≤ s) (gaps master_gap_item (Some g.master_count) (master_frames (k + 1) rs)) (λ n e. omega arith)
-    (masters-from (k + 1) (Some g.master_count) rs))
+masters-from k before rs = gaps-each (λ m. k ≤ m.number) (λ x. k ≤ seen_of x) master_gap_item (λ m expected h. h) before (master_frames k rs) (numbered k rs)
+  where
+    numbered : (k : ℕ) (rs : List Reading) → Each (λ m. k ≤ m.number) (master_frames k rs)
+    numbered k [] = tt
+    numbered k (Err fault ∷ rs) = Each-weaken (λ m. k + 1 ≤ m.number) (λ m. k ≤ m.number) (master_frames (k + 1) rs) (λ m e. omega arith) (numbered (k + 1) rs)
+    numbered k (Ok g ∷ rs) =
+        (omega arith, Each-weaken (λ m. k + 1 ≤ m.number) (λ m. k ≤ m.number) (master_frames (k + 1) rs) (λ m e. omega arith) (numbered (k + 1) rs))
 
 -- at its own record a good frame has its gap, whatever comes later
 masters-here : (k : ℕ) (before : Option ℕ) (g : GoodFrame) (rs : List Reading)
     → seen_at k (gaps master_gap_item before (master_frames k (Ok g ∷ rs))) ≡ gap_at master_gap_item before (master_member k g)
 masters-here k before g rs =
-    seen_at-append k (gap_at master_gap_item before (master_member k g)) (gaps master_gap_item (Some g.master_count) (master_frames (k + 1) rs))
+    filter-append (λ x. eqb (seen_of x) k) (gap_at master_gap_item before (master_member k g)) (gaps master_gap_item (Some g.master_count) (master_frames (k + 1) rs))
     ∙ rw (
       seen_at-all k (gap_at master_gap_item before (master_member k g)) (master-at before (master_member k g)),
       none_before (k + 1) k (gaps master_gap_item (Some g.master_count) (master_frames (k + 1) rs)) (omega arith) (masters-from (k + 1) (Some g.master_count) rs),
@@ -54,7 +55,7 @@ masters-there : (k n : ℕ) (before : Option ℕ) (r : Reading) (rs : List Readi
     → seen_at n (gaps master_gap_item before (master_frames k (r ∷ rs))) ≡ seen_at n (gaps master_gap_item (master_after before r) (master_frames (k + 1) rs))
 masters-there k n before (Err fault) rs ne = refl
 masters-there k n before (Ok g) rs ne =
-    seen_at-append n (gap_at master_gap_item before (master_member k g)) (gaps master_gap_item (Some g.master_count) (master_frames (k + 1) rs))
+    filter-append (λ x. eqb (seen_of x) n) (gap_at master_gap_item before (master_member k g)) (gaps master_gap_item (Some g.master_count) (master_frames (k + 1) rs))
     ∙ ap (λ (xs : List Item). xs ++ seen_at n (gaps master_gap_item (Some g.master_count) (master_frames (k + 1) rs)))
     (none_other k n (gap_at master_gap_item before (master_member k g)) ne (master-at before (master_member k g)))
 
@@ -80,21 +81,11 @@ module _ (s t : State) (r : Reading) (moved : t.master ≡ master_after s.master
   masters-later rs n ne =
       ap (seen_at n) (masters-is s.master (master_frames s.records (r ∷ rs)))
       ∙ masters-there s.records n s.master r rs ne
-      ∙ from_it moved next
-      ∙ ap (seen_at n) (sym (masters-is t.master (master_frames t.records rs)))
-    where
-      from_it : t.master ≡ master_after s.master r → t.records ≡ s.records + 1
-          → seen_at n (gaps master_gap_item (master_after s.master r) (master_frames (s.records + 1) rs)) ≡ seen_at n (gaps master_gap_item t.master (master_frames t.records rs))
-      from_it e f = rw (e, f)
+      ∙ rw (moved, next) (ap (seen_at n) (sym (masters-is (master_after s.master r) (master_frames (s.records + 1) rs))))
 
   -- the count that is left at the end
   pub master-later : (rs : List Reading) → last_count None (master_chain s (r ∷ rs)) ≡ last_count None (master_chain t rs)
   master-later rs =
       last-is s.master (master_frames s.records (r ∷ rs))
       ∙ last-later s.records s.master r rs
-      ∙ from_it moved next
-      ∙ sym (last-is t.master (master_frames t.records rs))
-    where
-      from_it : t.master ≡ master_after s.master r → t.records ≡ s.records + 1
-          → last_count (master_after s.master r) (master_frames (s.records + 1) rs) ≡ last_count t.master (master_frames t.records rs)
-      from_it e f = rw (e, f)
+      ∙ rw (moved, next) (sym (last-is (master_after s.master r) (master_frames (s.records + 1) rs)))

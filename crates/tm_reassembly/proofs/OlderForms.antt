@@ -1,6 +1,6 @@
 -- The older form of a spelling, and what is lost with the last master channel count.
 use Rattle.std.proofs.Common.{◌≡◌, ◌⊎◌, Ok, Err, Result, ℕ, ◌+◌, ◌-◌, ◌%◌, Bool, Option, Some, None, List, [], ◌∷◌, ◌++◌, length, refl, sym, ap, subst, ◌∙◌, inl, inr, ⊎_elim, arith, append_assoc, length-append, ltb}
-use Rattle.std.proofs.lemmas.List.{append-nil}
+use Rattle.std.proofs.lemmas.List.{append-nil, nil_from_length}
 use Rattle.std.proofs.lemmas.Bool.{cases_Bool, cond-true, cond-false, le-ltb}
 use Rattle.tm_frame.specs.Frame.{GoodFrame}
 use Rattle.tm_reassembly.specs.declared.fault.StateFault.{StateFault}
@@ -18,7 +18,7 @@ use Rattle.tm_reassembly.proofs.Fits.{readings-fit}
 use Rattle.tm_reassembly.proofs.Joining.{before_of, tail_of, member_items}
 use Rattle.tm_reassembly.proofs.OneStep.{valid-from, after-nil, items-one, after-one, after-bad, items-other, after-other}
 use Rattle.tm_reassembly.proofs.Records.{items-cons, after-cons}
-use Rattle.tm_reassembly.proofs.Spelling.{old-read-again}
+use Rattle.tm_reassembly.proofs.Spelling.{old-read-again, state_in, octets_in, decoded}
 use Rattle.std.specs.List.{slice_get}
 
 -- ---- reading
@@ -41,37 +41,20 @@ old-form rules w x y z b = cond-false (ltb (length (w ∷ x ∷ y ∷ z ∷ b)) 
 
 -- with a 0 put in behind the number of records, the newer form reads what the older one reads without
 pub one-form : (rules : Rules) (a b : List ℕ) → length a ≡ 4 → decoding_of rules (a ++ 0 ∷ b) ≡ one_octet_more (old_decoding_of rules (a ++ b))
-one-form rules [] b h = absurd (omega arith)
-one-form rules (w ∷ []) b h = absurd (omega arith)
-one-form rules (w ∷ x ∷ []) b h = absurd (omega arith)
-one-form rules (w ∷ x ∷ y ∷ []) b h = absurd (omega arith)
 one-form rules (w ∷ x ∷ y ∷ z ∷ []) b h =
     new-form rules w x y z b ∙ one-more (four_at (w ∷ x ∷ y ∷ z ∷ b) 0) _ ∙ sym (ap one_octet_more (old-form rules w x y z b))
-one-form rules (w ∷ x ∷ y ∷ z ∷ v ∷ a) b h = absurd (omega arith)
+one-form rules a b h = absurd (omega arith)
 
 -- no spelling in the older form begins another
-unfoldable old-state : Result Decoded StateFault → State → State
-old-state (Ok d) other = d.state
-old-state (Err found) other = other
-
-unfoldable old-octets : Result Decoded StateFault → ℕ
-old-octets (Ok d) = d.octets
-old-octets (Err found) = 0
-
 pub old-no-prefix : (rules : Rules) (s t : State) (rest : List ℕ) → IsState rules s → IsState rules t → old_spelling s ++ rest ≡ old_spelling t
     → (without_master s ≡ without_master t) × (rest ≡ [])
-unfolding old-state old-octets
+unfolding state_in octets_in
 old-no-prefix rules s t rest v w e =
-    let good : State → ℕ → Result Decoded StateFault = λ state n. Ok (record { state = state; octets = n }) in
-    let same : good (without_master s) (length (old_spelling s)) ≡ good (without_master t) (length (old_spelling t)) =
+    let same : decoded (without_master s) (length (old_spelling s)) ≡ decoded (without_master t) (length (old_spelling t)) =
     sym (old-read-again rules s rest v) ∙ ap (old_decoding_of rules) (e ∙ sym (append-nil (old_spelling t))) ∙ old-read-again rules t [] w in
-    let long : length (old_spelling s) ≡ length (old_spelling t) = ap old-octets same in
+    let long : length (old_spelling s) ≡ length (old_spelling t) = ap (octets_in rules) same in
     let sum : length (old_spelling s) + length rest ≡ length (old_spelling t) = sym (length-append (old_spelling s) rest) ∙ ap length e in
-    (ap (λ (x : Result Decoded StateFault). old-state x s) same, nil rest (omega arith))
-  where
-    nil : (xs : List ℕ) → length xs ≡ 0 → xs ≡ []
-    nil [] h = refl
-    nil (x ∷ xs) h = absurd (omega arith)
+    (ap (λ (x : Result Decoded StateFault). state_in rules x s) same, nil_from_length rest (omega arith))
 
 -- ---- items
 

@@ -1,4 +1,5 @@
 -- At the end of a chain at most one part is held.
+use Rattle.std.proofs.lemmas.Option.{none-some}
 use Rattle.std.proofs.Common.{◌≡◌, ℕ, suc, zero, pred, ◌+◌, ◌<◌, ◌≤◌, ◌⊎◌, Bool, true, false, if◌then◌else◌, Option, Some, None, List, [], ◌∷◌, ◌++◌, map, length, refl, sym, ap, subst, ◌∙◌, ⊎_elim, inl, inr, arith, length-append, ltb, leb}
 use Rattle.std.specs.List.{flat_map}
 use Rattle.std.proofs.lemmas.List.{append-nil}
@@ -57,11 +58,8 @@ module _ (limit : ℕ) where
       split-tails before m later end
       ∙ ap (λ (ss : List Start). tails (map (start_part limit m later end) ss) ++ tails (parts_from limit (before ++ m ∷ []) later end)) (no-starts limit far at m agree (omega arith))
       ∙ stays-alone far (at + length m.field) later (sym (cond-true (agrees limit far at m) _ _ agree) ∙ sym here ∙ h) (omega arith) (before ++ m ∷ []) end)
-      (λ differ. absurd (some_none (sym (cond-false (agrees limit far at m) _ _ differ) ∙ sym here ∙ h)))
+      (λ differ. absurd (none-some m (sym h ∙ here ∙ cond-false (agrees limit far at m) _ _ differ)))
       (cases_Bool (agrees limit far at m))
-    where
-      some_none : ◌≡◌ {A = Option Member} (Some m) None → ⊥
-      some_none e = cc
 
   -- no tail, or one, of a start that stays
   abbrev OneTail : List Tail → List Member → End → Type 0
@@ -139,11 +137,8 @@ module _ (limit : ℕ) where
   ended-tails before (m ∷ later) reason seen =
       split-tails before m later (Ended reason seen)
       ∙ ap (λ (ts : List Tail). ts ++ tails (parts_from limit (before ++ m ∷ []) later (Ended reason seen)))
-      (⊎_elim (λ none. none) (λ one. absurd (not_ended one.1)) (own-tails m later (Ended reason seen)))
+      (⊎_elim (λ none. none) (λ one. let ended = one.1 in absurd (cc)) (own-tails m later (Ended reason seen)))
       ∙ ended-tails (before ++ m ∷ []) later reason seen
-    where
-      not_ended : ◌≡◌ {A = End} (Ended reason seen) Unended → ⊥
-      not_ended e = cc
 
   -- a run that isn't ended is the last one, and the others hold at most one
   abbrev IsLast : Runs → Type 0

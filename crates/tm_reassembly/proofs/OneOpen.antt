@@ -2,11 +2,10 @@
 use Rattle.std.proofs.Common.{◌≡◌, ℕ, suc, ◌+◌, ◌-◌, ◌<◌, ◌≤◌, ◌⊎◌, Bool, true, false, ◌&&◌, if◌then◌else◌, Option, Some, None, List, [], ◌∷◌, ◌++◌, length, refl, sym, ap, subst, ◌∙◌, ⊎_elim, inl, inr, arith, append_assoc, ltb}
 use Rattle.std.specs.List.{flat_map}
 use Rattle.std.proofs.lemmas.List.{append-nil}
-use Rattle.std.proofs.lemmas.Bool.{cases_Bool, cond-true, cond-false, ltb-true, eqb-true}
+use Rattle.std.proofs.lemmas.Bool.{cases_Bool, cond-true, cond-false, ltb-true, eqb-true, and_parts}
 use Rattle.tm_reassembly.specs.Chain.{Member}
 use Rattle.tm_reassembly.specs.Parts.{Claim, Start, text, far_end, begins_packet, open_after, agrees, agrees_at, claim, claims, starts_from, starts_of}
 use Rattle.tm_reassembly.specs.Field.{stop_of, unfinished}
-pub use Rattle.tm_reassembly.proofs.Long.{and_both}
 use Rattle.tm_reassembly.proofs.Long.{agrees-place}
 use Rattle.tm_reassembly.proofs.Sweep.{step, own_claims, claims-push}
 use Rattle.tm_reassembly.proofs.Split.{start_at, last_start, starts-past, starts-unfinished}
@@ -54,7 +53,7 @@ module _ (limit : ℕ) where
   step-one m later c =
       ⊎_elim
       (λ e.
-      let both = and_both (agrees limit c.far c.at m) (ltb (c.at + length m.field) c.far) e in
+      let both = and_parts (agrees limit c.far c.at m) (ltb (c.at + length m.field) c.far) e in
       inr (
         ap (λ (cs : List Claim). length cs) (cond-true (agrees limit c.far c.at m && ltb (c.at + length m.field) c.far) _ _ e),
         ap (flat_map (claim limit [] later)) (no-starts c.far c.at m both.0 (ltb-true (c.at + length m.field) c.far both.1)),

@@ -1,5 +1,7 @@
 -- One raw record: its items, and the state after it, by what is kept of its channel.
-use Rattle.std.proofs.Common.{◌≡◌, ℕ, suc, zero, ◌+◌, ◌<◌, ◌≤◌, Ok, Err, true, false, Option, Some, None, List, [], ◌∷◌, ◌++◌, length, set, refl, sym, ap, subst, ◌∙◌, inl, ⊎_elim, arith}
+use Rattle.tm_reassembly.proofs.Records.{state_same}
+use Rattle.std.proofs.lemmas.Option.{slice_get-get_or, same_Some}
+use Rattle.std.proofs.Common.{◌≡◌, ℕ, ◌+◌, ◌<◌, ◌≤◌, Ok, Err, true, false, Option, Some, None, List, [], ◌∷◌, ◌++◌, length, set, refl, sym, ap, subst, ◌∙◌, inl, ⊎_elim, arith, Bool}
 use Rattle.std.specs.Prelude.{slice_index_or, slice_set}
 use Rattle.std.specs.List.{slice_get}
 use Rattle.std.proofs.lemmas.Bool.{cases_Bool}
@@ -23,13 +25,14 @@ use Rattle.tm_reassembly.specs.Valid.{IsState, IsFit, IsOpenTail}
 use Rattle.tm_reassembly.proofs.States.{tail-short}
 use Rattle.tm_reassembly.proofs.Fits.{reading-fit}
 use Rattle.tm_reassembly.proofs.Joining.{before_of, tail_of, member_items}
-use Rattle.tm_reassembly.proofs.OneStep.{items-one, after-one, after-bad, items-other, after-other}
+use Rattle.tm_reassembly.proofs.OneStep.{items-one, after-one, after-bad, items-other, after-other, open-at}
 
--- a place of a list
-entry_at : (xs : List (Option Last)) (c : ℕ) (d : Option Last) → c < length xs → slice_get xs c ≡ Some (slice_index_or xs c d)
-entry_at [] c d h = absurd (omega arith)
-entry_at (x ∷ xs) zero d h = refl
-entry_at (x ∷ xs) (suc c) d h = entry_at xs c d (omega arith)
+-- what is read, and whether a channel is chosen, by rules that are equal to these
+pub read_as : {inside rules : Rules} (octets : List ℕ) {r : Reading} → inside ≡ rules → r ≡ reading_of inside.layout octets → reading_of rules.layout octets ≡ r
+read_as octets e f = ap (λ (r : Rules). reading_of r.layout octets) (sym e) ∙ sym f
+
+pub chosen_as : {inside rules : Rules} (c : ℕ) {asked answer : Bool} → inside ≡ rules → asked ≡ chooses inside c → asked ≡ answer → chooses rules c ≡ answer
+chosen_as c e f g = ap (λ (r : Rules). chooses r c) (sym e) ∙ sym f ∙ g
 
 before_some : (x : Option Last) → before_of (Some x) ≡ count_in x
 before_some None = refl
@@ -43,20 +46,11 @@ tail_some (Some last) = refl
 pub open_entry : (rules : Rules) (seen : ℕ) (master : Option ℕ) (channels : List (Option Last))
     → IsState rules (record { records = seen; master = master; channels = channels })
     → (c : ℕ) (d : Option Last) → c < 8 → IsOpenTail rules.max_packet (tail_in (slice_index_or channels c d))
-open_entry rules seen master channels v c d small = opened (slice_index_or channels c d) (entry_at channels c d (rw v.shape.eight_channels small))
-  where
-    in_last : (last : Last) → slice_get channels c ≡ Some (Some last) → (t : Option Tail) → last.tail ≡ t → IsOpenTail rules.max_packet t
-    in_last last e None f = tt
-    in_last last e (Some t) f = v.shape.tails c last t e f
-
-    opened : (x : Option Last) → slice_get channels c ≡ Some x → IsOpenTail rules.max_packet (tail_in x)
-    opened None e = tt
-    opened (Some last) e = in_last last e last.tail refl
+open_entry rules seen master channels v c d small =
+    subst (IsOpenTail rules.max_packet) (ap tail_of (slice_get-get_or channels c d (rw v.shape.eight_channels small)) ∙ tail_some (slice_index_or channels c d))
+    (open-at rules.max_packet (chooses rules) (record { records = seen; master = master; channels = channels }) v.shape c)
 
 module _ (rules : Rules) (seen : ℕ) (master : Option ℕ) (channels : List (Option Last)) (v : IsState rules (record { records = seen; master = master; channels = channels })) (octets : List ℕ) where
-  s : State
-  s = record { records = seen; master = master; channels = channels }
-
   as_read : {r : Reading} → reading_of rules.layout octets ≡ r → items rules (record { records = seen; master = master; channels = channels }) (octets ∷ []) ≡ read.items rules.max_packet (chooses rules) (record { records = seen; master = master; channels = channels }) (r ∷ [])
   unfolding items
   as_read e = ap (λ (r : Reading). read.items rules.max_packet (chooses rules) (record { records = seen; master = master; channels = channels }) (r ∷ [])) e
@@ -96,7 +90,7 @@ module _ (rules : Rules) (seen : ℕ) (master : Option ℕ) (channels : List (Op
 
     -- a good frame of a chosen one
     there : (d : Option Last) → slice_get channels g.channel ≡ Some (slice_index_or channels g.channel d)
-    there d = entry_at channels g.channel d (rw v.shape.eight_channels fit.0)
+    there d = slice_get-get_or channels g.channel d (rw v.shape.eight_channels fit.0)
 
     pub items_one_record : (c : ℕ) (d : Option Last) → c ≡ g.channel → chooses rules c ≡ true
         → gap_at master_gap_item master (master_member seen g) ++ kept_items rules.max_packet c (slice_index_or channels c d) (member seen g) ≡ items rules (record { records = seen; master = master; channels = channels }) (octets ∷ [])
@@ -119,13 +113,11 @@ module _ (rules : Rules) (seen : ℕ) (master : Option ℕ) (channels : List (Op
         sym
         (as_left e
         ∙ after-one rules.max_packet (chooses rules) (record { records = seen; master = master; channels = channels }) g v.shape fit (ap (chooses rules) (sym same) ∙ is_chosen)
-        ∙ ap (λ (x : Option (Option Last)). with_channels (set channels g.channel (moved x))) (there d)
-        ∙ ap (λ (x : Option Last). with_channels (set channels g.channel x)) (by_entry (slice_index_or channels g.channel d))
-        ∙ ap (λ (k : ℕ). with_channels (slice_set channels k (kept_after rules.max_packet (slice_index_or channels k d) (member seen g)))) (sym same))
+        ∙ state_same refl refl
+        (ap (λ (x : Option (Option Last)). set channels g.channel (moved x)) (there d)
+        ∙ ap (λ (x : Option Last). set channels g.channel x) (by_entry (slice_index_or channels g.channel d))
+        ∙ ap (λ (k : ℕ). slice_set channels k (kept_after rules.max_packet (slice_index_or channels k d) (member seen g))) (sym same)))
       where
-        with_channels : List (Option Last) → State
-        with_channels xs = record { records = seen + 1; master = Some g.master_count; channels = xs }
-
         moved : Option (Option Last) → Option Last
         moved x = Some (record { count = g.count; tail = chain_tail_at rules.max_packet (has_gap (before_of x) (member seen g)) (member seen g).is_vca (tail_of x) (member seen g) })
 
@@ -148,10 +140,7 @@ pub held_other : (rules : Rules) (seen : ℕ) (master : Option ℕ) (channels : 
     → (c : ℕ) (d : Option Last) → c < 8 → chooses rules c ≡ false → octets_in (tail_in (slice_index_or channels c d)) ≡ []
 held_other rules seen master channels v c d small other =
     ap (λ (x : Option Last). octets_in (tail_in x))
-    (same (sym (entry_at channels c d (rw v.shape.eight_channels small)) ∙ v.shape.only_chosen c other small))
-  where
-    same : {x y : Option Last} → ◌≡◌ {A = Option (Option Last)} (Some x) (Some y) → x ≡ y
-    same e = cc
+    (same_Some _ _ (sym (slice_get-get_or channels c d (rw v.shape.eight_channels small)) ∙ v.shape.only_chosen c other small))
 
 -- the gap of a frame of which only the master channel count matters
 counted_master : (before : Option ℕ) (seen count : ℕ) (g : GoodFrame) → count ≡ g.master_count
@@ -189,10 +178,7 @@ module _ (rules : Rules) (seen : ℕ) (master : Option ℕ) (slots : List Slot) 
     pub after_unchosen : chooses rules g.channel ≡ false
         → ◌≡◌ {A = State} (record { records = seen + 1; master = Some count; channels = lasts slots }) (after rules (record { records = seen; master = master; channels = lasts slots }) (octets ∷ []))
     after_unchosen h =
-        ap (λ (n : ℕ). with_count n) counts ∙ after_other_record rules seen master (lasts slots) v octets g e h
-      where
-        with_count : ℕ → State
-        with_count n = record { records = seen + 1; master = Some n; channels = lasts slots }
+        state_same refl (ap (λ (n : ℕ). Some n) counts) refl ∙ after_other_record rules seen master (lasts slots) v octets g e h
 
     -- of one that is
     module _ (c : ℕ) (d : Slot) (same : c ≡ g.channel) (is_chosen : chooses rules c ≡ true) where
@@ -210,12 +196,8 @@ module _ (rules : Rules) (seen : ℕ) (master : Option ℕ) (slots : List Slot) 
       after_slot x h =
           let k : x.last ≡ kept_after rules.max_packet (slice_index_or (lasts slots) c d.last) (member seen g) =
           h ∙ rw ((limit_at rules.max_packet slots c d limits inside).0, ← last_at slots c d) refl in
-          state_at counts (lasts_set slots c x ∙ ap (λ (y : Option Last). slice_set (lasts slots) c y) k)
+          state_same refl (ap (λ (n : ℕ). Some n) counts) (lasts_set slots c x ∙ ap (λ (y : Option Last). slice_set (lasts slots) c y) k)
           ∙ after_one_record rules seen master (lasts slots) v octets g e c d.last same is_chosen
-        where
-          state_at : {n m : ℕ} {xs ys : List (Option Last)} → n ≡ m → xs ≡ ys
-              → ◌≡◌ {A = State} (record { records = seen + 1; master = Some n; channels = xs }) (record { records = seen + 1; master = Some m; channels = ys })
-          state_at f k = rw (f, k)
 
     -- the items of a good frame begin with its master gap
     pub items_good : (rest : List Item) × (gap ++ rest ≡ one_record)

@@ -1,8 +1,9 @@
 -- One record: its items, and the state after it, said without looking ahead.
+use Rattle.std.proofs.lemmas.Option.{none-some, slice_get-get_or}
 use Rattle.std.proofs.Common.{◌≡◌, Ok, Err, ◌≢◌, ℕ, suc, zero, ◌+◌, ◌<◌, Bool, true, false, Option, Some, None, List, [], ◌∷◌, ◌++◌, map, length, set, refl, sym, ap, subst, ◌∙◌, ⊎_elim, arith, eqb, if◌then◌else◌}
 use Rattle.std.specs.List.{slice_get}
 use Rattle.std.proofs.lemmas.List.{append-nil, length-set}
-use Rattle.std.proofs.lemmas.Bool.{cases_Bool, cases_eq, eq-eqb, ne_eqb, cond-true, cond-false}
+use Rattle.std.proofs.lemmas.Bool.{cases_Bool, cases_eq, eq-eqb, ne_eqb, cond-true, cond-false, both_ways}
 use Rattle.tm_reassembly.specs.State.{State, Last, Tail}
 use Rattle.tm_frame.specs.Frame.{GoodFrame}
 use Rattle.tm_frame.specs.declared.fault.FrameFault.{FrameFault}
@@ -34,10 +35,8 @@ kept_again None h = absurd (h refl)
 kept_again (Some None) h = refl
 kept_again (Some (Some last)) h = refl
 
-there_is : {A : Type 0} (xs : List A) (c : ℕ) → c < length xs → slice_get xs c ≢ None
-there_is [] c h = absurd (omega arith)
-there_is (x ∷ xs) zero h = λ e. cc
-there_is (x ∷ xs) (suc c) h = there_is xs c (omega arith)
+there_is : (xs : List (Option Last)) (c : ℕ) → c < length xs → slice_get xs c ≢ None
+there_is xs c h e = none-some _ (sym e ∙ slice_get-get_or xs c None h)
 
 pub get_set-same : {A : Type 0} (xs : List A) (c : ℕ) (y : A) → c < length xs → slice_get (set xs c y) c ≡ Some y
 get_set-same [] c y h = absurd (omega arith)
@@ -47,43 +46,32 @@ get_set-same (x ∷ xs) (suc c) y h = get_set-same xs c y (omega arith)
 pub get_set-other : {A : Type 0} (xs : List A) (c d : ℕ) (y : A) → d ≢ c → slice_get (set xs c y) d ≡ slice_get xs d
 get_set-other [] c d y h = refl
 get_set-other (x ∷ xs) zero zero y h = absurd (h refl)
-get_set-other (x ∷ xs) zero (suc d) y h = refl
-get_set-other (x ∷ xs) (suc c) zero y h = refl
 get_set-other (x ∷ xs) (suc c) (suc d) y h = get_set-other xs c d y (λ e. h (ap suc e))
-
-not_none : (x : Option (Option Last)) (y : Option Last) → x ≡ Some y → x ≡ None → ⊥
-not_none x y e f = cc
-
-last_is : (n : ℕ) (t u : Option Tail) (m : ℕ) → m ≡ n → u ≡ t
-    → ◌≡◌ {A = Option (Option Last)} (Some (Some (record { count = m; tail = u }))) (Some (Some (record { count = n; tail = t })))
-last_is n t u m e f = rw (e, f)
+get_set-other (x ∷ xs) c d y h = refl
 
 from_view : (y : Option (Option Last)) (n : ℕ) (t : Option Tail) → before_of y ≡ Some n → tail_of y ≡ t
     → y ≡ Some (Some (record { count = n; tail = t }))
-from_view None n t e f = absurd (cc)
-from_view (Some None) n t e f = absurd (cc)
-from_view (Some (Some last)) n t e f = let same : last.count ≡ n = cc in last_is n t last.tail last.count same f
+from_view y n t e f = sym (kept_again y (λ z. none-some n (sym (ap before_of z) ∙ e))) ∙ rw (e, f) refl
 
 same_view : (y x : Option (Option Last)) → y ≢ None → x ≢ None → before_of y ≡ before_of x → tail_of y ≡ tail_of x → y ≡ x
-same_view y None h k e f = absurd (k refl)
-same_view None (Some None) h k e f = absurd (h refl)
-same_view (Some None) (Some None) h k e f = refl
-same_view (Some (Some last)) (Some None) h k e f = absurd (cc)
-same_view y (Some (Some last)) h k e f = from_view y last.count last.tail e f
+same_view y x h k e f = sym (kept_again y h) ∙ rw (e, f) (kept_again x k)
 
 module _ (limit : ℕ) where
   -- a state that may be has open tails
-  pub valid-from : (chosen : ℕ → Bool) (s : State) → HasShape limit chosen s → HasOpenTails limit chosen s
-  valid-from chosen s v = record { tails_open = λ c small is_chosen. open_at c (slice_get s.channels c) refl }
+  pub open-at : (chosen : ℕ → Bool) (s : State) → HasShape limit chosen s → (c : ℕ) → IsOpenTail limit (tail_of (slice_get s.channels c))
+  open-at chosen s v c = by_entry (slice_get s.channels c) refl
     where
-      open_at : (c : ℕ) (x : Option (Option Last)) → slice_get s.channels c ≡ x → IsOpenTail limit (tail_of x)
-      open_at c None e = tt
-      open_at c (Some None) e = tt
-      open_at c (Some (Some last)) e = in_last last.tail refl
-        where
-          in_last : (t : Option Tail) → last.tail ≡ t → IsOpenTail limit t
-          in_last None f = tt
-          in_last (Some t) f = v.tails c last t e f
+      by_tail : (last : Last) → slice_get s.channels c ≡ Some (Some last) → (t : Option Tail) → last.tail ≡ t → IsOpenTail limit t
+      by_tail last e None f = tt
+      by_tail last e (Some t) f = v.tails c last t e f
+
+      by_entry : (x : Option (Option Last)) → slice_get s.channels c ≡ x → IsOpenTail limit (tail_of x)
+      by_entry None e = tt
+      by_entry (Some None) e = tt
+      by_entry (Some (Some last)) e = by_tail last e last.tail refl
+
+  pub valid-from : (chosen : ℕ → Bool) (s : State) → HasShape limit chosen s → HasOpenTails limit chosen s
+  valid-from chosen s v = record { tails_open = λ c small is_chosen. open-at chosen s v c }
 
   -- no records leave a state as it is
   pub after-nil : (chosen : ℕ → Bool) (s : State) → HasShape limit chosen s → after limit chosen s [] ≡ s
@@ -133,6 +121,21 @@ module _ (limit : ℕ) where
       ++ member_items limit g.channel (before_of (slice_get s.channels g.channel)) (tail_of (slice_get s.channels g.channel)) (member s.records g)
   items-one chosen s g v fit is_chosen = items-one-valid chosen s g (valid-from chosen s v) fit is_chosen
 
+  -- a channel of which a record has no frame stays as it is, and so does one that isn't chosen
+  kept-at : (chosen : ℕ → Bool) (s : State) (r : Reading) → HasShape limit chosen s → IsFit r → (c : ℕ) → c < 8 → (chosen c ≡ true → member_of c s.records r ≡ [])
+      → slice_get (map (channel_after limit chosen s (r ∷ [])) eight) c ≡ slice_get s.channels c
+  kept-at chosen s r v fit c small none =
+      let valid = valid-from chosen s v in
+      let there : slice_get (map (channel_after limit chosen s (r ∷ [])) eight) c ≡ Some (channel_after limit chosen s (r ∷ []) c) =
+      at_eight (channel_after limit chosen s (r ∷ [])) c small in
+      ⊎_elim
+      (λ e.
+      same_view (slice_get (map (channel_after limit chosen s (r ∷ [])) eight) c) (slice_get s.channels c)
+      (λ z. none-some _ (sym z ∙ there)) (there_is s.channels c (rw v.eight_channels small))
+      (before-kept limit chosen s r valid fit c small e (none e)) (tail-kept limit chosen s r valid fit c small e (none e)))
+      (λ e. there ∙ ap (λ (x : Option Last). Some x) (cond-false (chosen c) _ _ e) ∙ sym (v.only_chosen c e small))
+      (cases_Bool (chosen c))
+
   -- the state after it: the channel's count and tail, and all else as before
   pub after-one : (chosen : ℕ → Bool) (s : State) (g : GoodFrame) → HasShape limit chosen s → IsFit (Ok g) → chosen g.channel ≡ true
       → after limit chosen s (Ok g ∷ [])
@@ -176,17 +179,7 @@ module _ (limit : ℕ) where
       other : (c : ℕ) → c < 8 → (c ≡ g.channel → ⊥)
           → slice_get (map (channel_after limit chosen s (Ok g ∷ [])) eight) c ≡ slice_get (set s.channels g.channel (Some kept)) c
       other c small ne =
-          let none : member_of c s.records (Ok g) ≡ [] =
-          cond-false (eqb g.channel c) (member s.records g ∷ []) [] (ne_eqb g.channel c (λ z. ne (sym z))) in
-          let there : slice_get (map (channel_after limit chosen s (Ok g ∷ [])) eight) c ≡ Some (channel_after limit chosen s (Ok g ∷ []) c) =
-          at_eight (channel_after limit chosen s (Ok g ∷ [])) c small in
-          ⊎_elim
-          (λ e.
-          same_view (slice_get (map (channel_after limit chosen s (Ok g ∷ [])) eight) c) (slice_get s.channels c)
-          (λ z. not_none _ _ there z) (there_is s.channels c (rw v.eight_channels small))
-          (before-kept limit chosen s (Ok g) valid fit c small e none) (tail-kept limit chosen s (Ok g) valid fit c small e none))
-          (λ e. there ∙ ap (λ (x : Option Last). Some x) (cond-false (chosen c) _ _ e) ∙ sym (v.only_chosen c e small))
-          (cases_Bool (chosen c))
+          kept-at chosen s (Ok g) v fit c small (λ e. cond-false (eqb g.channel c) _ _ (ne_eqb g.channel c (λ z. ne (sym z))))
           ∙ sym (get_set-other s.channels g.channel c (Some kept) ne)
 
   -- a record that has no frame of a chosen channel leaves all channels as they are
@@ -194,24 +187,10 @@ module _ (limit : ℕ) where
       → ((c : ℕ) → c < 8 → chosen c ≡ true → member_of c s.records r ≡ [])
       → after limit chosen s (r ∷ []) ≡ record { records = s.records + 1; master = master_after s.master r; channels = s.channels }
   channels-kept chosen s r v fit none =
-      let valid = valid-from chosen s v in
       state_same (omega arith) (master-moved s r)
-      (ext_get (map (channel_after limit chosen s (r ∷ [])) eight) s.channels (sym v.eight_channels)
-      (λ c small.
-      let there : slice_get (map (channel_after limit chosen s (r ∷ [])) eight) c ≡ Some (channel_after limit chosen s (r ∷ []) c) =
-      at_eight (channel_after limit chosen s (r ∷ [])) c small in
-      ⊎_elim
-      (λ e.
-      same_view (slice_get (map (channel_after limit chosen s (r ∷ [])) eight) c) (slice_get s.channels c)
-      (λ z. not_none _ _ there z) (there_is s.channels c (rw v.eight_channels small))
-      (before-kept limit chosen s r valid fit c small e (none c small e)) (tail-kept limit chosen s r valid fit c small e (none c small e)))
-      (λ e. there ∙ ap (λ (x : Option Last). Some x) (cond-false (chosen c) _ _ e) ∙ sym (v.only_chosen c e small))
-      (cases_Bool (chosen c))))
+      (ext_get (map (channel_after limit chosen s (r ∷ [])) eight) s.channels (sym v.eight_channels) (λ c small. kept-at chosen s r v fit c small (none c small)))
 
   -- a bad record
-  pub items-bad : (chosen : ℕ → Bool) (s : State) (fault : FrameFault) → items limit chosen s (Err fault ∷ []) ≡ item.Bad s.records fault ∷ []
-  items-bad chosen s fault = refl
-
   pub after-bad : (chosen : ℕ → Bool) (s : State) (fault : FrameFault) → HasShape limit chosen s
       → after limit chosen s (Err fault ∷ []) ≡ record { records = s.records + 1; master = s.master; channels = s.channels }
   after-bad chosen s fault v = channels-kept chosen s (Err fault) v tt (λ c small e. refl)
@@ -230,7 +209,4 @@ module _ (limit : ℕ) where
       channels-kept chosen s (Ok g) v fit
       (λ c small e.
       cond-false (eqb g.channel c) (member s.records g ∷ []) []
-      (ne_eqb g.channel c (λ z. true_not_false (sym e ∙ ap chosen (sym z) ∙ not_chosen))))
-    where
-      true_not_false : true ≡ false → ⊥
-      true_not_false h = cc
+      (ne_eqb g.channel c (λ z. both_ways (chosen c) (ap chosen (sym z) ∙ not_chosen) e)))

@@ -1,20 +1,69 @@
--- The parts that starts become, with places in the text.
-use Rattle.std.proofs.Common.{◌≡◌, ℕ, ◌+◌, ◌-◌, Bool, true, false, ◌&&◌, Option, Some, None, List, [], ◌∷◌, ◌++◌, length, take, drop, refl, sym, ap, ◌∙◌, ⊎_elim, arith, length-append, leb, ltb}
+-- Where a packet ends or is broken off, and the parts that starts become, with places in the text.
+use Rattle.std.proofs.lemmas.Option.{none-some, same_Some}
+use Rattle.tm_reassembly.proofs.Split.{holder-settled}
+use Rattle.std.proofs.Common.{◌≡◌, ℕ, ◌+◌, ◌-◌, Bool, true, false, ◌&&◌, Option, Some, None, List, [], ◌∷◌, ◌++◌, length, take, drop, refl, sym, ap, ◌∙◌, ⊎_elim, arith, ◌<◌, ◌≤◌, length-append, leb, ltb}
 use Rattle.std.specs.Prelude.{is_none}
 use Rattle.std.specs.List.{slice_range}
 use Rattle.std.proofs.Math.Seq.{take-append_seam, take-append-add, take-length}
 use Rattle.std.proofs.lemmas.List.Concat.{flat_map-append}
-use Rattle.std.proofs.lemmas.Bool.{cases_Bool, cond-true, cond-false, lt-ltb, and_right, and_from}
+use Rattle.std.proofs.lemmas.Bool.{cases_Bool, cond-true, cond-false, lt-ltb, and_right, and_from, and_parts, both_ways, lt-leb}
 use Rattle.tm_items.specs.declared.items.Reason.TheVariants as why
 use Rattle.tm_reassembly.specs.Chain.{Member, End}
 use Rattle.tm_reassembly.specs.Parts.{Part, Fate, Given, Lost, Start, text, far_end, is_long, begins_packet, reason_at, unread_reason, agrees_at, broken_part, start_part, packet_part, fate_at, agrees, open_after, joined, breaker, holder}
 use Rattle.tm_items.specs.OnePacket.{reach, is_packet}
 use Rattle.tm_reassembly.specs.Absolute.{reach_at, IsVersionZero, IsLong, BeginsPacket, AgreesAt, Agrees, IsOpen, IsWhole, LiesAfter, part_at}
-use Rattle.tm_reassembly.proofs.Long.{and_both, begins-zero, begins-short}
+use Rattle.tm_reassembly.proofs.Long.{begins-zero, begins-short}
 use Rattle.tm_items.specs.declared.items.Reason.{Reason}
-use Rattle.tm_reassembly.proofs.Places.{drop-place, both_true, none-from, open-to, unbroken-from, text_split, text-length, begins-at, ends-at, place-at, agreement-at, own-long-at, zero-to, zero-from, begins-from, open-at, whole-at}
+use Rattle.tm_reassembly.proofs.Places.{drop-place, none-from, open-to, unbroken-from, text_split, text-length, begins-at, ends-at, place-at, agreement-at, own-long-at, zero-to, zero-from, begins-from, open-at, whole-at}
+
+-- a packet is seen at the record that holds its last octet
+pub holder-is : (far at number : ℕ) (between more : List Member) (m : Member)
+    → at + length (text between) < far → far ≤ (at + length (text between)) + length m.field
+    → holder far at number (between ++ m ∷ more) ≡ m.number
+holder-is far at number [] more m h k =
+    cond-false (leb far at) _ _ (lt-leb far at (omega arith)) ∙ holder-settled far (at + length m.field) m.number more (omega arith)
+holder-is far at number (f ∷ between) more m h k =
+    let len : length (f.field ++ text between) ≡ length f.field + length (text between) = length-append f.field (text between) in
+    cond-false (leb far at) _ _ (lt-leb far at (omega arith))
+    ∙ holder-is far (at + length f.field) f.number between more m (omega arith) (omega arith)
 
 module _ (limit : ℕ) where
+  -- the frame that breaks a start off: the start is open there, the frame doesn't agree, and those between are the ones that joined
+  abbrev pub Breaks : ℕ → ℕ → List Member → Member → Type 0
+  Breaks far at later m =
+      (between : List Member) × (more : List Member) × (later ≡ between ++ m ∷ more) × (open_after limit far at between ≡ true)
+      × (agrees limit far (at + length (text between)) m ≡ false) × (joined limit far at later ≡ between)
+
+  pub breaker-is : (far at : ℕ) (later : List Member) (m : Member) → breaker limit far at later ≡ Some m → Breaks far at later m
+  breaker-is far at [] m h = absurd (none-some m h)
+  breaker-is far at (f ∷ later) m h =
+      ⊎_elim
+      (λ past.
+      ⊎_elim
+      (λ agree.
+      let rest = breaker-is far (at + length f.field) later m (sym (cond-true (ltb at far) _ _ past ∙ cond-true (agrees limit far at f) _ _ agree) ∙ h) in
+      let len : length (f.field ++ text rest.0) ≡ length f.field + length (text rest.0) = length-append f.field (text rest.0) in (
+        f ∷ rest.0,
+        rest.1,
+        ap (λ (ms : List Member). f ∷ ms) rest.2,
+        and_from (agrees limit far at f) _ agree rest.3,
+        ap (λ (k : ℕ). agrees limit far k m) (omega arith) ∙ rest.4,
+        cond-true (ltb at far && agrees limit far at f) _ _ (and_from (ltb at far) (agrees limit far at f) past agree) ∙ ap (λ (ms : List Member). f ∷ ms) rest.5,
+      ))
+      (λ differ.
+      let same : f ≡ m = same_Some f m (sym (cond-true (ltb at far) _ _ past ∙ cond-false (agrees limit far at f) _ _ differ) ∙ h) in
+      let z : at + 0 ≡ at = omega arith in (
+        [],
+        later,
+        ap (λ (x : Member). x ∷ later) same,
+        past,
+        ap (λ (k : ℕ). agrees limit far k m) z ∙ ap (agrees limit far at) (sym same) ∙ differ,
+        cond-false (ltb at far && agrees limit far at f) _ _ (and_right (ltb at far) (agrees limit far at f) differ),
+      ))
+      (cases_Bool (agrees limit far at f)))
+      (λ past. absurd (none-some m (sym (cond-false (ltb at far) _ _ past) ∙ h)))
+      (cases_Bool (ltb at far))
+
   -- a start is broken off at the first frame that doesn't agree with it
   breaks-off : (far at : ℕ) (between more : List Member) (m : Member) → open_after limit far at between ≡ true
       → agrees limit far (at + length (text between)) m ≡ false
@@ -26,7 +75,7 @@ module _ (limit : ℕ) where
         cond-false (ltb at far && agrees limit far at m) _ _ (and_right (ltb at far) (agrees limit far at m) differ),
       )
   breaks-off far at (f ∷ between) more m o a =
-      let both = and_both (agrees limit far at f) (open_after limit far (at + length f.field) between) o in
+      let both = and_parts (agrees limit far at f) (open_after limit far (at + length f.field) between) o in
       let past = open-to limit far (at + length f.field) between both.1 in
       let reaches : ltb at far ≡ true = lt-ltb at far (let p = past.0 in omega arith) in
       let len : length (f.field ++ text between) ≡ length f.field + length (text between) = length-append f.field (text between) in
@@ -87,11 +136,8 @@ module _ (limit : ℕ) where
         → start_part limit f later end s ≡ part_at f s all here (length (text before) + length f.field) (Lost why.Length f.number)
     unread_long-at end zero long =
         let is : is_long limit (reach s.octets) (length s.octets) ≡ true = (own-long-at limit before f skipped s.octets lies.0 later).1 long in
-        unread-by end why.Length (λ packet. true_false (sym is ∙ begins-short limit s.octets packet))
+        unread-by end why.Length (λ packet. both_ways _ (begins-short limit s.octets packet) is)
         (cond-true (is_packet s.octets) _ _ (zero-from limit before f skipped s.octets lies.0 lies.2 later zero))
-      where
-        true_false : true ≡ false → ⊥
-        true_false h = cc
 
     -- a start of version 0, by the frame that breaks it off, if one does
     packet-place : (end : End) → begins_packet limit s.octets ≡ true
@@ -111,8 +157,8 @@ module _ (limit : ℕ) where
     packet-at end whole =
         let far : ℕ = far_end s.octets later in
         let fits : Bool = leb (far_end s.octets later) (length (s.octets ++ text later)) in
-        let one = and_both (begins_packet limit s.octets) (is_none (breaker limit far (length s.octets) later) && fits) ((whole-at limit before f skipped s.octets lies.0 lies.2 later).1 whole) in
-        let two = and_both (is_none (breaker limit far (length s.octets) later)) fits one.1 in
+        let one = and_parts (begins_packet limit s.octets) (is_none (breaker limit far (length s.octets) later) && fits) ((whole-at limit before f skipped s.octets lies.0 lies.2 later).1 whole) in
+        let two = and_parts (is_none (breaker limit far (length s.octets) later)) fits one.1 in
         unbroken-place end one.0 (none-from _ two.0)
         ∙ cond-true (leb (far_end s.octets later) (length (s.octets ++ text later))) _ _ two.1
         ∙ part-place (reach_at all here) far (take far (s.octets ++ text later)) (Given (holder far (length s.octets) f.number later))
@@ -127,7 +173,7 @@ module _ (limit : ℕ) where
         ≡ part_at f s all here (length (text ((before ++ f ∷ []) ++ between))) (Lost r m.number)
     broken-by end between more m r split opened differs reason =
         let far : ℕ = far_end s.octets later in
-        let one = and_both (begins_packet limit s.octets) (open_after limit far (length s.octets) between) ((open-at limit before f skipped s.octets lies.0 lies.2 between later).1 opened) in
+        let one = and_parts (begins_packet limit s.octets) (open_after limit far (length s.octets) between) ((open-at limit before f skipped s.octets lies.0 lies.2 between later).1 opened) in
         let differ : agrees limit (far_end s.octets later) (length s.octets + length (text between)) m ≡ false =
         ⊎_elim (λ agree. absurd (differs ((agreement-at limit before f skipped s.octets lies.0 between later m).0 agree))) (λ d. d)
         (cases_Bool (agrees limit (far_end s.octets later) (length s.octets + length (text between)) m)) in
@@ -183,13 +229,13 @@ module _ (limit : ℕ) where
         (agreement-at limit before f skipped s.octets lies.0 between later m).1
         (each between more m e
         ((open-at limit before f skipped s.octets lies.0 lies.2 between later).0
-        (both_true (begins_packet limit s.octets) (open_after limit (far_end s.octets later) (length s.octets) between) packet o)))) in
+        (and_from (begins_packet limit s.octets) (open_after limit (far_end s.octets later) (length s.octets) between) packet o)))) in
         unbroken-place end packet none
         ∙ ⊎_elim
         (λ fits.
         absurd (not_whole ((whole-at limit before f skipped s.octets lies.0 lies.2 later).0
-        (both_true (begins_packet limit s.octets) _ packet
-        (both_true (is_none (breaker limit far (length s.octets) later)) _ (ap (λ (b : Option Member). is_none b) none) fits)))))
+        (and_from (begins_packet limit s.octets) _ packet
+        (and_from (is_none (breaker limit far (length s.octets) later)) _ (ap (λ (b : Option Member). is_none b) none) fits)))))
         (λ past. cond-false (leb (far_end s.octets later) (length (s.octets ++ text later))) _ _ past)
         (cases_Bool (leb (far_end s.octets later) (length (s.octets ++ text later))))
         ∙ part-place (length all) (length (s.octets ++ text later)) (s.octets ++ text later) (fate_at end)

@@ -1,9 +1,10 @@
 -- The definitions relative to a start are those with places in the text.
-use Rattle.std.proofs.Common.{◌≡◌, ℕ, ◌+◌, ◌<◌, ◌≤◌, Bool, true, false, ◌&&◌, Option, Some, None, List, [], ◌∷◌, ◌++◌, length, take, drop, refl, sym, ap, subst, ◌∙◌, ⊎_elim, arith, append_assoc, length-append, ltb, leb}
+use Rattle.std.proofs.lemmas.Option.{none-some}
+use Rattle.std.proofs.Common.{◌≡◌, ℕ, ◌+◌, ◌<◌, ◌≤◌, true, false, ◌&&◌, Option, Some, None, List, [], ◌∷◌, ◌++◌, length, take, drop, refl, sym, ap, ◌∙◌, ⊎_elim, arith, append_assoc, length-append, ltb, leb}
 use Rattle.std.specs.Prelude.{is_none}
 use Rattle.std.proofs.lemmas.List.{append-nil, take-append-le}
 use Rattle.std.proofs.lemmas.List.Concat.{flat_map-append}
-use Rattle.std.proofs.lemmas.Bool.{and_from, cases_Bool, cases_lt, cond-true, cond-false, ltb-true, leb-true, lt-ltb, le-leb, lt-leb, eqb-true, eq-eqb}
+use Rattle.std.proofs.lemmas.Bool.{and_from, cases_Bool, cases_lt, cond-true, cond-false, ltb-true, leb-true, lt-ltb, le-leb, lt-leb, eqb-true, eq-eqb, and_parts, both_ways}
 use Rattle.std.proofs.Math.Seq.{drop-append_seam}
 use Rattle.tm_packet.specs.Header.{version_of, header_of}
 use Rattle.tm_reassembly.specs.Chain.{Member}
@@ -12,11 +13,8 @@ use Rattle.tm_items.specs.OnePacket.{reach, is_packet}
 use Rattle.tm_reassembly.specs.Verdict.{is_whole}
 use Rattle.tm_reassembly.specs.Absolute.{reach_at, IsVersionZero, IsLong, BeginsPacket, AgreesAt, Agrees, IsOpen, IsWhole, Iff}
 use Rattle.tm_items.proofs.Reach.{reach-short, reach-long}
-use Rattle.tm_reassembly.proofs.Long.{and_both, and_not, agrees-place, agrees-short, begins-zero, begins-short}
+use Rattle.tm_reassembly.proofs.Long.{and_not, agrees-place, agrees-short, begins-zero, begins-short}
 use Rattle.tm_reassembly.proofs.Settled.{own-long-settled}
-
-pub both_true : (a b : Bool) → a ≡ true → b ≡ true → (a && b) ≡ true
-both_true a b e f = rw (e, f) refl
 
 -- what follows some octets
 pub drop-place : (before t : List ℕ) → drop (length before) (before ++ t) ≡ t
@@ -69,16 +67,13 @@ module _ (limit : ℕ) where
 
   long-from : (q r b far at : ℕ) → r ≡ q + far → b ≡ q + at → is_long limit far at ≡ true → (q + limit < r) × (q + 6 ≤ b)
   long-from q r b far at e g h =
-      let both = and_both (leb 6 at) (ltb limit far) h in
+      let both = and_parts (leb 6 at) (ltb limit far) h in
       let there = leb-true 6 at both.0 in
       let past = ltb-true limit far both.1 in
       (omega arith, omega arith)
 
   short-to : (q r b far at : ℕ) → r ≡ q + far → b ≡ q + at → is_long limit far at ≡ false → (q + limit < r) × (q + 6 ≤ b) → ⊥
-  short-to q r b far at e g h l = true_false (sym (long-to q r b far at e g l) ∙ h)
-    where
-      true_false : true ≡ false → ⊥
-      true_false p = cc
+  short-to q r b far at e g h l = both_ways (is_long limit far at) h (long-to q r b far at e g l)
 
   short-from : (q r b far at : ℕ) → r ≡ q + far → b ≡ q + at → ((q + limit < r) × (q + 6 ≤ b) → ⊥) → is_long limit far at ≡ false
   short-from q r b far at e g h =
@@ -112,7 +107,7 @@ module _ (limit : ℕ) where
   pub open-to : (far at : ℕ) (between : List Member) → open_after limit far at between ≡ true → (at + length (text between) < far) × Each far at between
   open-to far at [] h = (let e = ltb-true at far h in omega arith, λ earlier later g e. absurd (not_split earlier later g e))
   open-to far at (m ∷ between) h =
-      let both = and_both (agrees limit far at m) (open_after limit far (at + length m.field) between) h in
+      let both = and_parts (agrees limit far at m) (open_after limit far (at + length m.field) between) h in
       let rest = open-to far (at + length m.field) between both.1 in
       let len : length (m.field ++ text between) ≡ length m.field + length (text between) = length-append m.field (text between) in
       (let r = rest.0 in omega arith, each-cons far at m between both.0 rest.1)
@@ -121,7 +116,7 @@ module _ (limit : ℕ) where
   open-from far at [] h each = lt-ltb at far (omega arith)
   open-from far at (m ∷ between) h each =
       let len : length (m.field ++ text between) ≡ length m.field + length (text between) = length-append m.field (text between) in
-      both_true (agrees limit far at m) (open_after limit far (at + length m.field) between) (each-first far at m between each)
+      and_from (agrees limit far at m) (open_after limit far (at + length m.field) between) (each-first far at m between each)
       (open-from far (at + length m.field) between (omega arith) (each-rest far at m between each))
 
   -- no frame breaks
@@ -138,15 +133,12 @@ module _ (limit : ℕ) where
       ap (λ (k : ℕ). agrees limit far k m) z
       ∙ ap (agrees limit far at) (sym same)
       ∙ ⊎_elim (λ a. a)
-      (λ a. absurd (some_none (sym (cond-true (ltb at far) _ _ o ∙ cond-false (agrees limit far at f) _ _ a) ∙ h)))
+      (λ a. absurd (none-some f (sym h ∙ cond-true (ltb at far) _ _ o ∙ cond-false (agrees limit far at f) _ _ a)))
       (cases_Bool (agrees limit far at f))
-    where
-      some_none : {x : Member} → ◌≡◌ {A = Option Member} (Some x) None → ⊥
-      some_none p = cc
   unbroken-to far at (f ∷ later) h (x ∷ between) more m e o =
       let same : f ≡ x = cc in
       let rest : later ≡ between ++ m ∷ more = cc in
-      let both = and_both (agrees limit far at x) (open_after limit far (at + length x.field) between) o in
+      let both = and_parts (agrees limit far at x) (open_after limit far (at + length x.field) between) o in
       let past = open-to far (at + length x.field) between both.1 in
       let size : length f.field ≡ length x.field = ap (λ (z : Member). length z.field) same in
       let len : length (x.field ++ text between) ≡ length x.field + length (text between) = length-append x.field (text between) in
@@ -169,7 +161,7 @@ module _ (limit : ℕ) where
       (λ between more m e o.
       let len : length (f.field ++ text between) ≡ length f.field + length (text between) = length-append f.field (text between) in
       ap (λ (k : ℕ). agrees limit far k m) (omega arith)
-      ∙ h (f ∷ between) more m (ap (λ (ms : List Member). f ∷ ms) e) (both_true (agrees limit far at f) _ agreed o)))
+      ∙ h (f ∷ between) more m (ap (λ (ms : List Member). f ∷ ms) e) (and_from (agrees limit far at f) _ agreed o)))
       (λ past. cond-false (ltb at far) _ _ past)
       (cases_Bool (ltb at far))
 
@@ -221,14 +213,8 @@ module _ (limit : ℕ) where
         let far : ℕ = far_end start later in
         let at : ℕ = length start + length (text between) in (
           λ h. rw (ends-at later, begins-at between) (agrees-to q far at (length m.field) m.place h),
-          λ h. agrees-from q far at (length m.field) m.place (moved h),
+          λ h. agrees-from q far at (length m.field) m.place (rw (ends-at later, begins-at between) at h),
         )
-      where
-        moved : AgreesAt (reach_at (text (before ++ f ∷ later)) (length (text before) + length skipped)) (length (text ((before ++ f ∷ []) ++ between))) (length m.field) m.place
-            → AgreesAt ((length (text before) + length skipped) + far_end start later) ((length (text before) + length skipped) + (length start + length (text between))) (length m.field) m.place
-        moved h =
-            subst (λ (k : ℕ). AgreesAt k ((length (text before) + length skipped) + (length start + length (text between))) (length m.field) m.place) (ends-at later)
-            (subst (λ (k : ℕ). AgreesAt (reach_at (text (before ++ f ∷ later)) (length (text before) + length skipped)) k (length m.field) m.place) (begins-at between) h)
 
     pub long-at : (between later : List Member) (m : Member)
         → Iff (is_long limit (far_end start later) ((length start + length (text between)) + length m.field) ≡ true)
@@ -301,14 +287,14 @@ module _ (limit : ℕ) where
           (IsOpen limit (text (before ++ f ∷ later)) (length (text before) + length skipped) (before ++ f ∷ []) between)
       open-at between later = (
         λ h.
-            let both = and_both (begins_packet limit start) (open_after limit (far_end start later) (length start) between) h in
+            let both = and_parts (begins_packet limit start) (open_after limit (far_end start later) (length start) between) h in
             let o = open-to (far_end start later) (length start) between both.1 in (
               begins-to later both.0,
               begins-before _ (length (text before) + length skipped) _ (far_end start later) (length start + length (text between)) (ends-at later) (begins-at between) o.0,
               λ earlier more g e. (agreement-at earlier later g).0 (o.1 earlier more g e),
             ),
         λ h.
-            both_true (begins_packet limit start) (open_after limit (far_end start later) (length start) between) (begins-from later h.0)
+            and_from (begins_packet limit start) (open_after limit (far_end start later) (length start) between) (begins-from later h.0)
             (open-from (far_end start later) (length start) between
             (reaches-past _ (length (text before) + length skipped) _ (far_end start later) (length start + length (text between)) (ends-at later) (begins-at between) h.1)
             (λ earlier more g e. (agreement-at earlier later g).1 (h.2 earlier more g e))),
@@ -331,24 +317,24 @@ module _ (limit : ℕ) where
           (IsWhole limit (text (before ++ f ∷ later)) (length (text before) + length skipped) (before ++ f ∷ []) later)
       whole-at later = (
         λ h.
-            let one = and_both (begins_packet limit start) (is_none (breaker limit (far_end start later) (length start) later) && leb (far_end start later) (length (start ++ text later))) h in
-            let two = and_both (is_none (breaker limit (far_end start later) (length start) later)) (leb (far_end start later) (length (start ++ text later))) one.1 in
+            let one = and_parts (begins_packet limit start) (is_none (breaker limit (far_end start later) (length start) later) && leb (far_end start later) (length (start ++ text later))) h in
+            let two = and_parts (is_none (breaker limit (far_end start later) (length start) later)) (leb (far_end start later) (length (start ++ text later))) one.1 in
             let unbroken = unbroken-to (far_end start later) (length start) later (none-from _ two.0) in (
               begins-to later one.0,
               fits-to _ (length (text before) + length skipped) _ (far_end start later) (length (start ++ text later)) (ends-at later) (text-length later)
                   (leb-true (far_end start later) (length (start ++ text later)) two.1),
               λ between more m e o.
                   (agreement-at between later m).0
-                  (unbroken between more m e (and_both (begins_packet limit start) (open_after limit (far_end start later) (length start) between) ((open-at between later).1 o)).1),
+                  (unbroken between more m e (and_parts (begins_packet limit start) (open_after limit (far_end start later) (length start) between) ((open-at between later).1 o)).1),
             ),
         λ h.
-            both_true (begins_packet limit start) _ (begins-from later h.0)
-            (both_true (is_none (breaker limit (far_end start later) (length start) later)) (leb (far_end start later) (length (start ++ text later)))
+            and_from (begins_packet limit start) _ (begins-from later h.0)
+            (and_from (is_none (breaker limit (far_end start later) (length start) later)) (leb (far_end start later) (length (start ++ text later)))
             (ap (λ (b : Option Member). is_none b)
             (unbroken-from (far_end start later) (length start) later
             (λ between more m e o.
             (agreement-at between later m).1
-            (h.2 between more m e ((open-at between later).0 (both_true (begins_packet limit start) (open_after limit (far_end start later) (length start) between) (begins-from later h.0) o))))))
+            (h.2 between more m e ((open-at between later).0 (and_from (begins_packet limit start) (open_after limit (far_end start later) (length start) between) (begins-from later h.0) o))))))
             (le-leb (far_end start later) (length (start ++ text later))
             (fits-from _ (length (text before) + length skipped) _ (far_end start later) (length (start ++ text later)) (ends-at later) (text-length later) h.1))),
       )

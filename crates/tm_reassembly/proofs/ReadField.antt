@@ -28,9 +28,6 @@ module _ {S F : Type 0} {takes : S → Item → S → Type 0} {refuses : S → I
         refused = λ fault new h. l.refused fault new (subst (λ (xs : List Item). RefusesOne takes refuses now xs fault new) (sym e) (inr (mid, t, h)));
       }
 
-  pub leads_refuse : (fault : F) (new : S) (x : Item) (more : List Item) → rest ≡ x ∷ more → refuses now x fault new → RefusesOne takes refuses start all fault new
-  leads_refuse fault new x more e r = l.refused fault new (subst (λ (xs : List Item). RefusesOne takes refuses now xs fault new) (sym e) (inl r))
-
 drop-pred : (n x : ℕ) (xs : List ℕ) → 0 < n → drop n (x ∷ xs) ≡ drop (pred n) xs
 drop-pred zero x xs h = absurd (omega arith)
 drop-pred (suc n) x xs h = refl
@@ -72,16 +69,12 @@ leads_refused {takes = takes} {refuses = refuses} {now = now} l fault new xs mor
 module _ (limit : ℕ) where
   -- octets that hold no start may be dropped
   pub field_parts-skip : (number stop skip : ℕ) (octets : List ℕ) → field_parts limit number stop skip octets ≡ field_parts limit number stop 0 (drop skip octets)
-  field_parts-skip number stop zero [] = refl
-  field_parts-skip number stop zero (x ∷ xs) = refl
-  field_parts-skip number stop (suc skip) [] = refl
   field_parts-skip number stop (suc skip) (x ∷ xs) = field_parts-skip number stop skip xs
+  field_parts-skip number stop skip octets = refl
 
   pub unfinished-skip : (skip : ℕ) (octets : List ℕ) → unfinished limit skip octets ≡ unfinished limit 0 (drop skip octets)
-  unfinished-skip zero [] = refl
-  unfinished-skip zero (x ∷ xs) = refl
-  unfinished-skip (suc skip) [] = refl
   unfinished-skip (suc skip) (x ∷ xs) = unfinished-skip skip xs
+  unfinished-skip skip octets = refl
 
   -- the items that a field gives from a place on
   abbrev pub items_from : ℕ → ℕ → List ℕ → ℕ → List Item

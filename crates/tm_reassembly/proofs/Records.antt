@@ -1,5 +1,7 @@
 -- Joining, over records: the items and the state after a record and more records are those of the record, and then of the others.
-use Rattle.std.proofs.Common.{◌≡◌, Ok, Err, ◌≢◌, ℕ, suc, zero, ◌+◌, ◌<◌, Bool, true, Option, Some, None, List, [], ◌∷◌, ◌++◌, map, length, refl, sym, ap, subst, ◌∙◌, ⊎_elim, lit<, arith, append_assoc, eqb}
+use Rattle.tm_reassembly.proofs.Each.{Each, Each-append, Each-weaken}
+use Rattle.std.proofs.lemmas.Option.{slice_get_within, none-some}
+use Rattle.std.proofs.Common.{◌≡◌, Ok, Err, ◌≢◌, ℕ, suc, zero, ◌+◌, ◌<◌, Bool, true, Option, Some, None, List, [], ◌∷◌, ◌++◌, map, length, refl, sym, ap, subst, ◌∙◌, ⊎_elim, lit<, arith, append_assoc, eqb, ◌≤◌}
 use Rattle.std.specs.List.{flat_map, slice_get}
 use Rattle.std.proofs.lemmas.List.{append-nil}
 use Rattle.std.proofs.lemmas.List.Concat.{flat_map-append}
@@ -12,15 +14,12 @@ use Rattle.tm_reassembly.specs.Chain.{Member, has_gap, stem_of, stem_with, chain
 use Rattle.tm_reassembly.specs.Parts.{Part}
 use Rattle.tm_reassembly.specs.Field.{chain_parts_at, chain_tail_at}
 use Rattle.tm_rules.specs.Channels.{eight}
-use Rattle.tm_reassembly.specs.Items.{seen_at, held_part, channel_items, chain_parts, last_count, last_with, first_of, channel_after, after, record_items, merged, items}
+use Rattle.tm_reassembly.specs.Items.{seen_at, held_part, channel_items, chain_parts, last_count, last_with, first_of, channel_after, after, record_items, merged, items, empty}
 use Rattle.tm_reassembly.proofs.Step.{PlaceFits}
 use Rattle.tm_reassembly.proofs.Chained.{IsOpenTail, chained, chained_step, chained_end, chain_parts-stem, chain_parts-fresh, left_parts}
 use Rattle.tm_reassembly.proofs.Seen.{held-none, chain_parts_at-at, chain_tail_at-open}
 use Rattle.tm_reassembly.proofs.Masters.{masters-now, masters-later, master-moved, master-later}
 use Rattle.tm_reassembly.proofs.Joining.{before_of, tail_of, items_after, channel_items-is, member_items, FitFrom, items-here, items-there}
-
-tails : List Part → List Tail
-tails ps = flat_map (λ p. held_part p p.fate) ps
 
 last_count-is : (x : Option (Option Last)) (fs : List Member) → last_count None (stem_of x ++ fs) ≡ last_count (before_of x) fs
 last_count-is None fs = refl
@@ -42,6 +41,10 @@ at_eight f (suc (suc (suc (suc (suc (suc zero)))))) h = refl
 at_eight f (suc (suc (suc (suc (suc (suc (suc zero))))))) h = refl
 at_eight f (suc (suc (suc (suc (suc (suc (suc (suc c)))))))) h = absurd (omega arith)
 
+-- at the start nothing is kept
+pub none_kept : (c : ℕ) (last : Last) → slice_get empty.channels c ≡ Some (Some last) → ⊥
+none_kept c last e = let there = at_eight (λ d. None) c (slice_get_within empty.channels c (Some last) e) in cc
+
 -- a record has no frame of the channel, or one
 data FrameOf (c k : ℕ) (fs : List Member) : Type 0 where
   no_frame : fs ≡ [] → FrameOf c k fs
@@ -52,17 +55,16 @@ frame_cases c k (Err fault) h = no_frame refl
 frame_cases c k (Ok f) h =
     cond_both (eqb f.channel c) (member k f ∷ []) [] (FrameOf c k) (λ e. one_frame (member k f) refl refl h.1) (λ e. no_frame refl)
 
-FitFrom-weaken : (k : ℕ) (fs : List Member) → FitFrom (k + 1) fs → FitFrom k fs
-FitFrom-weaken k [] h = tt
-FitFrom-weaken k (f ∷ fs) h = let b = h.0 in (omega arith, h.1, FitFrom-weaken k fs h.2)
-
 pub frames-fit : (c k : ℕ) (rs : List Reading) → AllFit rs → FitFrom k (frames c k rs)
 frames-fit c k [] h = tt
-frames-fit c k (r ∷ rs) h = put (member_of c k r) (frame_cases c k r h.0) (FitFrom-weaken k _ (frames-fit c (k + 1) rs h.1))
+frames-fit c k (r ∷ rs) h =
+    Each-append (λ m. (k ≤ m.number) × PlaceFits m.place (length m.field)) (member_of c k r) (frames c (k + 1) rs) (own (member_of c k r) (frame_cases c k r h.0))
+    (Each-weaken (λ m. (k + 1 ≤ m.number) × PlaceFits m.place (length m.field)) (λ m. (k ≤ m.number) × PlaceFits m.place (length m.field)) (frames c (k + 1) rs)
+    (λ m p. (let b = p.0 in omega arith, p.1)) (frames-fit c (k + 1) rs h.1))
   where
-    put : (fs : List Member) → FrameOf c k fs → FitFrom k (frames c (k + 1) rs) → FitFrom k (fs ++ frames c (k + 1) rs)
-    put fs (no_frame e) q = subst (λ (xs : List Member). FitFrom k (xs ++ frames c (k + 1) rs)) (sym e) q
-    put fs (one_frame f e n p) q = subst (λ (xs : List Member). FitFrom k (xs ++ frames c (k + 1) rs)) (sym e) (omega arith, p, q)
+    own : (fs : List Member) → FrameOf c k fs → Each (λ m. (k ≤ m.number) × PlaceFits m.place (length m.field)) fs
+    own fs (no_frame e) = rw e tt
+    own fs (one_frame f e n p) = rw e ((omega arith, p), tt)
 
 no_tail : (x : Option (Option Last)) → before_of x ≡ None → tail_of x ≡ None
 no_tail None h = refl
@@ -87,6 +89,9 @@ map_eight f g h =
 pub state_same : {a b : ℕ} {m n : Option ℕ} {x y : List (Option Last)} → a ≡ b → m ≡ n → x ≡ y
     → ◌≡◌ {A = State} (record { records = a; master = m; channels = x }) (record { records = b; master = n; channels = y })
 state_same e f g = rw (e, f, g)
+
+append_same : {a b c d : List Item} → a ≡ c → b ≡ d → a ++ b ≡ c ++ d
+append_same e f = rw (e, f)
 
 AllFit-append : (rs qs : List Reading) → AllFit rs → AllFit qs → AllFit (rs ++ qs)
 AllFit-append [] qs h k = k
@@ -117,7 +122,7 @@ module _ (limit : ℕ) where
       ap (λ (ps : List Part). first_of (flat_map (λ p. held_part p p.fate) ps)) (chained_step limit before tail f fs h k)
       ∙ ap first_of
       (flat_map-append (λ p. held_part p p.fate) here rest
-      ∙ ap (λ (ts : List Tail). ts ++ flat_map (λ p. held_part p p.fate) rest) (held-none f.number here (chain_parts_at-at limit (has_gap before f) f.is_vca tail f)))
+      ∙ ap (λ (ts : List Tail). ts ++ flat_map (λ p. held_part p p.fate) rest) (held-none limit f.number here (chain_parts_at-at limit (has_gap before f) f.is_vca tail f)))
 
   -- what a channel's state is after records
   pub channel_after-is : (chosen : ℕ → Bool) (s : State) (rs : List Reading) (c : ℕ) → chosen c ≡ true
@@ -138,12 +143,6 @@ module _ (limit : ℕ) where
     pub tails_open : (c : ℕ) → c < 8 → chosen c ≡ true → IsOpenTail limit (tail_of (slice_get s.channels c))
 
   module _ (chosen : ℕ → Bool) (s : State) (r : Reading) (valid : HasOpenTails chosen s) (fit : IsFit r) (c : ℕ) (small : c < 8) (is_chosen : chosen c ≡ true) where
-    old : Option (Option Last)
-    old = slice_get s.channels c
-
-    new : Option (Option Last)
-    new = slice_get (after limit chosen s (r ∷ [])).channels c
-
     open_tail : IsOpenTail limit (tail_of (slice_get s.channels c))
     open_tail = valid.tails_open c small is_chosen
 
@@ -184,19 +183,13 @@ module _ (limit : ℕ) where
           ∙ tail_after-end (Some f.count) left (chain_tail_at-open limit (has_gap (before_of (slice_get s.channels c)) f) f.is_vca (tail_of (slice_get s.channels c)) f open_tail) in
           let n : last_count (before_of (slice_get s.channels c)) (member_of c s.records r ++ []) ≡ Some f.count =
           ap (λ (fs : List Member). last_count (before_of (slice_get s.channels c)) (fs ++ [])) e in
-          ap tail_of new-is ∙ tail_with _ _ (λ z. some_not_none f.count (sym n ∙ z)) ∙ t
-        where
-          some_not_none : {A : Type 0} (n : ℕ) → ◌≡◌ {A = Option ℕ} (Some n) None → A
-          some_not_none n h = absurd (cc)
+          ap tail_of new-is ∙ tail_with _ _ (λ z. absurd (none-some f.count (sym z ∙ n))) ∙ t
 
     -- at a later record the channel's items are as from the state after this one
     items-later : (rs : List Reading) (n : ℕ) → (s.records ≡ n → ⊥)
         → seen_at n (channel_items limit c (chain s c (r ∷ rs))) ≡ seen_at n (channel_items limit c (chain (after limit chosen s (r ∷ [])) c rs))
     items-later rs n ne = by_case (frame_cases c s.records r fit)
       where
-        fs : List Member
-        fs = frames c (s.records + 1) rs
-
         moved : {a b : Option ℕ} {t u : Option Tail} → a ≡ b → t ≡ u
             → seen_at n (items_after limit c a t (frames c (s.records + 1) rs)) ≡ seen_at n (items_after limit c b u (frames c (s.records + 1) rs))
         moved e f = rw (e, f)
@@ -252,9 +245,6 @@ module _ (limit : ℕ) where
             ≡ last_with (tail_after b u (frames c (s.records + 1) rs)) (last_count b (frames c (s.records + 1) rs))
         same e f = rw (e, f)
 
-        b : Option ℕ
-        b = before_of (slice_get s.channels c)
-
         stop : last_with
             (tail_after (before_of (slice_get (after limit chosen s (r ∷ [])).channels c)) (tail_of (slice_get (after limit chosen s (r ∷ [])).channels c)) (frames c (s.records + 1) rs))
             (last_count (before_of (slice_get (after limit chosen s (r ∷ [])).channels c)) (frames c (s.records + 1) rs))
@@ -293,7 +283,7 @@ module _ (limit : ℕ) where
       → record_items limit chosen s (r ∷ rs) s.records r ≡ record_items limit chosen s (r ∷ []) s.records r
   record_items-now chosen s (Err fault) valid fit rs fits = refl
   record_items-now chosen s (Ok g) valid fit rs fits =
-      both (masters-now s g rs ∙ sym (masters-now s g []))
+      append_same (masters-now s g rs ∙ sym (masters-now s g []))
       (⊎_elim
       (λ e.
       cond-true (chosen g.channel) _ _ e
@@ -303,23 +293,17 @@ module _ (limit : ℕ) where
       ∙ sym (cond-true (chosen g.channel) _ _ e))
       (λ e. cond-false (chosen g.channel) _ _ e ∙ sym (cond-false (chosen g.channel) _ _ e))
       (cases_Bool (chosen g.channel)))
-    where
-      both : {a b c d : List Item} → a ≡ c → b ≡ d → a ++ b ≡ c ++ d
-      both e f = rw (e, f)
 
   module _ (chosen : ℕ → Bool) (s : State) (r : Reading) (valid : HasOpenTails chosen s) (fit : IsFit r) where
     merged-later : (rs : List Reading) (n : ℕ) (qs : List Reading) → s.records < n → AllFit qs
         → merged limit chosen s (r ∷ rs) n qs ≡ merged limit chosen (after limit chosen s (r ∷ [])) rs n qs
     merged-later rs n [] h fits = refl
-    merged-later rs n (q ∷ qs) h fits = both (one q fits.0) (merged-later rs (n + 1) qs (omega arith) fits.1)
+    merged-later rs n (q ∷ qs) h fits = append_same (one q fits.0) (merged-later rs (n + 1) qs (omega arith) fits.1)
       where
-        both : {a b c d : List Item} → a ≡ c → b ≡ d → a ++ b ≡ c ++ d
-        both e f = rw (e, f)
-
         one : (q : Reading) → IsFit q → record_items limit chosen s (r ∷ rs) n q ≡ record_items limit chosen (after limit chosen s (r ∷ [])) rs n q
         one (Err fault) k = refl
         one (Ok g) k =
-            both (masters-later s (after limit chosen s (r ∷ [])) r (master-moved s r) (omega arith) rs n (λ z. omega arith))
+            append_same (masters-later s (after limit chosen s (r ∷ [])) r (master-moved s r) (omega arith) rs n (λ z. omega arith))
             (⊎_elim
             (λ e.
             cond-true (chosen g.channel) _ _ e
@@ -352,18 +336,6 @@ module _ (limit : ℕ) where
         (cases_Bool (chosen c))))
 
   -- joining, over any two lists of records
-  pub valid-after-all : (chosen : ℕ → Bool) (s : State) (rs : List Reading) → HasOpenTails chosen s → AllFit rs → rs ≢ [] → HasOpenTails chosen (after limit chosen s rs)
-  valid-after-all chosen s [] valid fits some = absurd (some refl)
-  valid-after-all chosen s (r ∷ []) valid fits some = valid-after chosen s r valid fits.0
-  valid-after-all chosen s (r ∷ q ∷ rs) valid fits some =
-      subst (HasOpenTails chosen) (sym (after-cons chosen s r valid fits.0 (q ∷ rs)))
-      (valid-after-all chosen (after limit chosen s (r ∷ [])) (q ∷ rs) (valid-after chosen s r valid fits.0) fits.1 (λ e. cc))
-
-  -- after a first record, the state is one that `after` gave, and no records leave it as it is
-  pub record Steps (chosen : ℕ → Bool) (s : State) : Type 0 where
-    pub valid : HasOpenTails chosen s
-    pub still : after limit chosen s [] ≡ s
-
   pub items-append : (chosen : ℕ → Bool) (s : State) (rs qs : List Reading) → HasOpenTails chosen s → after limit chosen s [] ≡ s → AllFit rs → AllFit qs
       → items limit chosen s (rs ++ qs) ≡ items limit chosen s rs ++ items limit chosen (after limit chosen s rs) qs
   items-append chosen s [] qs valid still fits more = ap (λ (z : State). items limit chosen z qs) (sym still)

@@ -1,13 +1,14 @@
 -- The slots of the channels: what is kept in each, and its limit.
 use Rattle.std.proofs.Common.{◌≡◌, ℕ, suc, zero, ◌+◌, ◌*◌, ◌<◌, min, Option, Some, List, [], ◌∷◌, ◌++◌, length, take, drop, refl, sym, ap, subst, ◌∙◌, arith}
-use Rattle.std.specs.Prelude.{slice_index_or, slice_set, replicate}
+use Rattle.std.specs.Prelude.{slice_index_or, slice_set}
 use Rattle.std.specs.List.{flat_map, slice_get}
 use Rattle.std.proofs.lemmas.List.{append-nil, length-map}
+use Rattle.std.proofs.lemmas.Option.{slice_get-get_or}
 use Rattle.std.proofs.lemmas.List.Concat.{flat_map-append}
 use Rattle.std.proofs.Math.Seq.{take-suc}
 use Rattle.tm_reassembly.specs.Checkpoint.{block}
 use Rattle.tm_reassembly.specs.Items.{close_last, close_channels}
-use Rattle.tm_reassembly.specs.Kept.{Slot, HaveLimit, IsFor, lasts, rooms, unused}
+use Rattle.tm_reassembly.specs.Kept.{Slot, HaveLimit, IsFor, lasts, rooms}
 use Rattle.tm_reassembly.specs.State.{Last}
 
 -- what is kept in a slot
@@ -25,32 +26,16 @@ pub lasts_length : (slots : List Slot) → length (lasts slots) ≡ length slots
 lasts_length slots = length-map slots (λ x. x.last)
 
 -- the limits
-there : (slots : List Slot) (c : ℕ) (d : Slot) → c < length slots → slice_get slots c ≡ Some (slice_index_or slots c d)
-there [] c d h = absurd (omega arith)
-there (x ∷ xs) zero d h = refl
-there (x ∷ xs) (suc c) d h = there xs c d (omega arith)
-
 pub limit_at : (limit : ℕ) (slots : List Slot) (c : ℕ) (d : Slot) → HaveLimit limit slots → c < length slots → IsFor limit (slice_index_or slots c d)
-limit_at limit slots c d h inside = h c (slice_index_or slots c d) (there slots c d inside)
+limit_at limit slots c d h inside = h c (slice_index_or slots c d) (slice_get-get_or slots c d inside)
 
 pub limit_set : (limit : ℕ) (slots : List Slot) (c : ℕ) (x : Slot) → HaveLimit limit slots → IsFor limit x → HaveLimit limit (slice_set slots c x)
 limit_set limit slots c x h e = λ i y f. at slots c i y (λ y f. h i y f) f
   where
     at : (slots : List Slot) (c i : ℕ) (y : Slot) → ((z : Slot) → slice_get slots i ≡ Some z → IsFor limit z) → slice_get (slice_set slots c x) i ≡ Some y → IsFor limit y
-    at [] c i y k f = k y f
     at (z ∷ zs) zero zero y k f = let same : x ≡ y = cc in subst (IsFor limit) same e
-    at (z ∷ zs) zero (suc i) y k f = k y f
-    at (z ∷ zs) (suc c) zero y k f = k y f
     at (z ∷ zs) (suc c) (suc i) y k f = at zs c i y k f
-
--- before any record
-pub limit_unused : (limit : ℕ) → HaveLimit limit (replicate 8 (unused limit))
-limit_unused limit = λ c x e. at 8 c x e
-  where
-    at : (n c : ℕ) (x : Slot) → slice_get (replicate n (unused limit)) c ≡ Some x → IsFor limit x
-    at zero c x e = absurd (cc)
-    at (suc n) zero x e = let same : unused limit ≡ x = cc in subst (IsFor limit) same (refl, omega arith)
-    at (suc n) (suc c) x e = at n c x e
+    at zs c i y k f = k y f
 
 -- the room of them all
 rooms_are : (limit : ℕ) (slots : List Slot) → HaveLimit limit slots → rooms slots ≡ length slots * limit

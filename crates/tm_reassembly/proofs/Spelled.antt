@@ -32,13 +32,25 @@ four_again a b c d p q r s =
 
 -- ---- a block
 
--- the octets at the front are the block of what was read
-pub record IsBlock (xs : List ℕ) (one : Read) : Type 0 where
-  pub inside : one.octets ≤ length xs
-  pub same : take one.octets xs ≡ block one.kept
+-- the first n octets are there, and they are these
+pub record Begins (xs : List ℕ) (n : ℕ) (these : List ℕ) : Type 0 where
+  pub inside : n ≤ length xs
+  pub same : take n xs ≡ these
 
+both : (xs : List ℕ) (n m : ℕ) (a b : List ℕ) → Begins xs n a → Begins (drop n xs) m b → Begins xs (n + m) (a ++ b)
+both xs n m a b h k =
+    let first = h.inside in
+    let later = k.inside in
+    let len = length-drop n xs in
+    record { inside = omega arith; same = take-add n m xs ∙ ap (λ (l : List ℕ). l ++ take m (drop n xs)) h.same ∙ ap (λ (l : List ℕ). a ++ l) k.same }
+
+four_spelled : (xs : List ℕ) → AreOctets xs → 4 ≤ length xs → Begins xs 4 (four (four_at xs 0))
+four_spelled (a ∷ b ∷ c ∷ d ∷ more) h long = record { inside = long; same = sym (four_again a b c d (h.below 0) (h.below 1) (h.below 2) (h.below 3)) }
+four_spelled xs h long = absurd (omega arith)
+
+-- the octets at the front are the block of what was read
 pub IsSpelled : List ℕ → Result Read StateFault → Type 0
-IsSpelled xs (Ok one) = IsBlock xs one
+IsSpelled xs (Ok one) = Begins xs one.octets (block one.kept)
 IsSpelled xs (Err found) = Unit {0}
 
 abbrev tail_of : List ℕ → ℕ → Tail
@@ -111,33 +123,18 @@ module _ (limit : ℕ) (layout : LayoutParts) (records : ℕ) where
 -- ---- the blocks
 
 -- the octets at the front are the blocks of what was read
-record AreBlocks (xs : List ℕ) (all : ReadAll) : Type 0 where
-  inside : all.octets ≤ length xs
-  same : take all.octets xs ≡ flat_map block all.kept
-
 AllSpelled : List ℕ → Result ReadAll StateFault → Type 0
-AllSpelled xs (Ok all) = AreBlocks xs all
+AllSpelled xs (Ok all) = Begins xs all.octets (flat_map block all.kept)
 AllSpelled xs (Err found) = Unit {0}
-
-front_spelled : (xs : List ℕ) (one : Read) (x : Result ReadAll StateFault) → IsBlock xs one → AllSpelled (drop one.octets xs) x → AllSpelled xs (in_front one x)
-unfolding AllSpelled
-front_spelled xs one (Ok rest) h g =
-    let here = h.inside in
-    let later = g.inside in
-    let len = length-drop one.octets xs in
-    record {
-      inside = omega arith;
-      same =
-          take-add one.octets rest.octets xs
-          ∙ ap (λ (l : List ℕ). l ++ take rest.octets (drop one.octets xs)) h.same
-          ∙ ap (λ (l : List ℕ). block one.kept ++ l) g.same;
-    }
-front_spelled xs one (Err found) h g = tt
 
 then_spelled : (xs : List ℕ) (x : Result Read StateFault) (others : ℕ → Result ReadAll StateFault) → IsSpelled xs x
     → ((used : ℕ) → AllSpelled (drop used xs) (others used)) → AllSpelled xs (and_then x others)
 unfolding AllSpelled IsSpelled
-then_spelled xs (Ok one) others h g = front_spelled xs one (others one.octets) h (g one.octets)
+then_spelled xs (Ok one) others h g = by_rest (others one.octets) (g one.octets)
+  where
+    by_rest : (x : Result ReadAll StateFault) → AllSpelled (drop one.octets xs) x → AllSpelled xs (in_front one x)
+    by_rest (Ok rest) k = both xs one.octets rest.octets (block one.kept) (flat_map block rest.kept) h k
+    by_rest (Err found) k = tt
 then_spelled xs (Err found) others h g = tt
 
 blocks_spelled : (rules : Rules) (records n c : ℕ) (xs : List ℕ) → AreOctets xs → AllSpelled xs (blocks_read rules records n c xs)
@@ -151,12 +148,8 @@ blocks_spelled rules records (suc n) c xs h =
 -- ---- the state
 
 -- the last master channel count
-record IsMaster (xs : List ℕ) (read : ReadMaster) : Type 0 where
-  inside : read.octets ≤ length xs
-  same : take read.octets xs ≡ master_octets read.count
-
 MasterSpelled : List ℕ → Result ReadMaster StateFault → Type 0
-MasterSpelled xs (Ok read) = IsMaster xs read
+MasterSpelled xs (Ok read) = Begins xs read.octets (master_octets read.count)
 MasterSpelled xs (Err found) = Unit {0}
 
 master_spelled : (xs : List ℕ) → MasterSpelled xs (master_read xs)
@@ -180,30 +173,17 @@ master_spelled (flag ∷ xs) =
 
 -- the octets at the front are the spelling of what was read
 StateSpelled : List ℕ → Result Decoded StateFault → Type 0
-StateSpelled xs (Ok d) = (d.octets ≤ length xs) × (take d.octets xs ≡ spelling d.state)
+StateSpelled xs (Ok d) = Begins xs d.octets (spelling d.state)
 StateSpelled xs (Err found) = Unit {0}
 
-channels_spelled : (xs : List ℕ) (read : ReadMaster) (x : Result ReadAll StateFault) → AreOctets xs → 4 ≤ length xs → IsMaster (drop 4 xs) read
+channels_spelled : (xs : List ℕ) (read : ReadMaster) (x : Result ReadAll StateFault) → AreOctets xs → 4 ≤ length xs → Begins (drop 4 xs) read.octets (master_octets read.count)
     → AllSpelled (drop read.octets (drop 4 xs)) x → StateSpelled xs (with_channels (four_at xs 0) read.count (4 + read.octets) x)
 unfolding AllSpelled StateSpelled
-channels_spelled (a ∷ b ∷ c ∷ d ∷ more) read (Ok all) h long m g =
-    let xs : List ℕ = a ∷ b ∷ c ∷ d ∷ more in
-    let first = m.inside in
-    let later = g.inside in
-    let len = length-drop read.octets more in
-    let n : (4 + read.octets) + all.octets ≡ 4 + (read.octets + all.octets) = omega arith in (
-      omega arith,
-      ap (λ (k : ℕ). take k xs) n
-          ∙ take-add 4 (read.octets + all.octets) xs
-          ∙ ap (λ (l : List ℕ). (a ∷ b ∷ c ∷ d ∷ []) ++ l)
-          (take-add read.octets all.octets more
-          ∙ ap (λ (l : List ℕ). l ++ take all.octets (drop read.octets more)) m.same
-          ∙ ap (λ (l : List ℕ). master_octets read.count ++ l) g.same)
-          ∙ ap (λ (l : List ℕ). l ++ (master_octets read.count ++ flat_map block all.kept))
-          (sym (four_again a b c d (h.below 0) (h.below 1) (h.below 2) (h.below 3))),
-    )
+channels_spelled xs read (Ok all) h long m g =
+    let n : 4 + (read.octets + all.octets) ≡ (4 + read.octets) + all.octets = omega arith in
+    subst (λ (k : ℕ). Begins xs k (four (four_at xs 0) ++ (master_octets read.count ++ flat_map block all.kept))) n
+    (both xs 4 (read.octets + all.octets) _ _ (four_spelled xs h long) (both (drop 4 xs) read.octets all.octets _ _ m g))
 channels_spelled xs read (Err found) h long m g = tt
-channels_spelled xs read (Ok all) h long m g = absurd (omega arith)
 
 master_then : (rules : Rules) (xs : List ℕ) (x : Result ReadMaster StateFault) → AreOctets xs → 4 ≤ length xs → MasterSpelled (drop 4 xs) x
     → StateSpelled xs (with_master rules (four_at xs 0) (drop 4 xs) x)
@@ -222,28 +202,20 @@ decoding_spelled rules xs h =
 pub spelled-again : (rules : Rules) (octets : List ℕ) (d : Decoded) → AreOctets octets → decoding_of rules octets ≡ Ok d
     → (d.octets ≤ length octets) × (take d.octets octets ≡ spelling d.state)
 unfolding StateSpelled
-spelled-again rules octets d h e = subst (StateSpelled octets) e (decoding_spelled rules octets h)
+spelled-again rules octets d h e =
+    let b : Begins octets d.octets (spelling d.state) = subst (StateSpelled octets) e (decoding_spelled rules octets h) in (b.inside, b.same)
 
 -- ---- the same in the form of versions 1 and 2
 
 OldSpelled : List ℕ → Result Decoded StateFault → Type 0
-OldSpelled xs (Ok d) = (d.octets ≤ length xs) × (take d.octets xs ≡ old_spelling d.state) × (d.state.master ≡ None)
+OldSpelled xs (Ok d) = Begins xs d.octets (old_spelling d.state) × (d.state.master ≡ None)
 OldSpelled xs (Err found) = Unit {0}
 
 old_channels_spelled : (xs : List ℕ) (x : Result ReadAll StateFault) → AreOctets xs → 4 ≤ length xs → AllSpelled (drop 4 xs) x
     → OldSpelled xs (with_channels (four_at xs 0) None 4 x)
 unfolding AllSpelled OldSpelled
-old_channels_spelled (a ∷ b ∷ c ∷ d ∷ more) (Ok all) h long g =
-    let xs : List ℕ = a ∷ b ∷ c ∷ d ∷ more in
-    let later = g.inside in (
-      omega arith,
-      take-add 4 all.octets xs
-          ∙ ap (λ (l : List ℕ). (a ∷ b ∷ c ∷ d ∷ []) ++ l) g.same
-          ∙ ap (λ (l : List ℕ). l ++ flat_map block all.kept) (sym (four_again a b c d (h.below 0) (h.below 1) (h.below 2) (h.below 3))),
-      refl,
-    )
+old_channels_spelled xs (Ok all) h long g = (both xs 4 all.octets _ _ (four_spelled xs h long) g, refl)
 old_channels_spelled xs (Err found) h long g = tt
-old_channels_spelled xs (Ok all) h long g = absurd (omega arith)
 
 old_decoding_spelled : (rules : Rules) (xs : List ℕ) → AreOctets xs → OldSpelled xs (old_decoding_of rules xs)
 unfolding old_decoding_of OldSpelled
@@ -256,4 +228,6 @@ old_decoding_spelled rules xs h =
 pub old-spelled-again : (rules : Rules) (octets : List ℕ) (d : Decoded) → AreOctets octets → old_decoding_of rules octets ≡ Ok d
     → (d.octets ≤ length octets) × (take d.octets octets ≡ old_spelling d.state) × (d.state.master ≡ None)
 unfolding OldSpelled
-old-spelled-again rules octets d h e = subst (OldSpelled octets) e (old_decoding_spelled rules octets h)
+old-spelled-again rules octets d h e =
+    let b : Begins octets d.octets (old_spelling d.state) × (d.state.master ≡ None) = subst (OldSpelled octets) e (old_decoding_spelled rules octets h) in
+    (b.0.inside, b.0.same, b.1)

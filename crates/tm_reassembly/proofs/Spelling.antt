@@ -1,16 +1,16 @@
 -- What is spelled is read again.
-use Rattle.std.proofs.Common.{◌≡◌, ℕ, suc, ◌+◌, ◌-◌, ◌*◌, ◌/◌, ◌%◌, ◌<◌, ◌≤◌, Bool, true, false, not, ◌||◌, Ok, Err, Result, Option, Some, None, List, [], ◌∷◌, ◌++◌, length, take, drop, refl, sym, ap, subst, ◌∙◌, ⊎_elim, arith, append_assoc, length-append, ltb, leb, eqb}
+use Rattle.std.proofs.Common.{◌≡◌, ℕ, suc, ◌+◌, ◌-◌, ◌*◌, ◌/◌, ◌%◌, ◌<◌, ◌≤◌, Bool, true, false, not, ◌||◌, Ok, Err, Result, Option, Some, None, List, [], ◌∷◌, ◌++◌, length, take, drop, refl, sym, ap, subst, ◌∙◌, arith, append_assoc, length-append, ltb, leb, eqb}
 use Rattle.std.specs.Prelude.{slice_index, slice_range}
 use Rattle.std.specs.List.{slice_get, flat_map}
 use Rattle.std.proofs.Math.Seq.{take-append_seam, drop-append_seam}
-use Rattle.std.proofs.lemmas.Bool.{cases_Bool, cond-false, lt-ltb, lt-leb, le-ltb, ne_eqb, and_from, or_from, true≢false}
+use Rattle.std.proofs.lemmas.Bool.{cond-false, lt-ltb, lt-leb, le-ltb, ne_eqb, and_from, or_from, true≢false, true_from_ne_false}
 use Rattle.std.proofs.lemmas.Option.{slice_get_within}
 use Rattle.std.proofs.lemmas.List.{append-nil, nil_from_length}
 use Rattle.tm_frame.specs.declared.layout.LayoutParts.{LayoutParts}
 use Rattle.tm_reassembly.specs.declared.fault.StateFault.{StateFault}
 use Rattle.tm_rules.specs.Rules.{Rules, chooses}
 use Rattle.tm_reassembly.specs.State.{State, Last, Tail}
-use Rattle.tm_reassembly.specs.Checkpoint.{block, with_tail, master_octets, spelling, old_spelling, four_at, two_at, Read, ReadAll, Decoded, is_unfinished, tail_read, flagged, block_read, blocks_read, in_front, and_then, master_read, with_channels, with_master, decoding_of, old_decoding_of}
+use Rattle.tm_reassembly.specs.Checkpoint.{block, with_tail, master_octets, spelling, old_spelling, four_at, two_at, Read, Decoded, is_unfinished, tail_read, flagged, block_read, blocks_read, in_front, and_then, master_read, with_channels, with_master, decoding_of, old_decoding_of}
 use Rattle.tm_reassembly.specs.Parts.{begins_packet}
 use Rattle.tm_items.specs.OnePacket.{reach}
 use Rattle.tm_reassembly.specs.Valid as ok
@@ -29,6 +29,9 @@ pub not_zero : (n : ℕ) → 0 < n → eqb n 0 ≡ false
 not_zero n h = ne_eqb n 0 (λ e. omega arith)
 
 -- ---- a block
+
+abbrev good : Last → ℕ → Result Read StateFault
+good last octets = Ok (record { kept = Some last; octets = octets })
 
 module _ (limit : ℕ) where
   -- what is kept of a channel fits: the channel is chosen if it is anything, and a tail begins in the records and is unfinished
@@ -74,9 +77,6 @@ module _ (limit : ℕ) where
         (ap (λ (o : List ℕ). not (is_unfinished limit o)) octets ∙ ap not (unfinished-is t.octets h.2))
         ∙ ap (λ (o : List ℕ). good (record { count = slice_index xs 1; tail = Some (record { first = t.first; place = t.place; octets = o }) }) (12 + size)) octets
         ∙ ap (λ (n : ℕ). good (record { count = n; tail = Some t }) (12 + size)) at_one
-      where
-        good : Last → ℕ → Result Read StateFault
-        good last octets = Ok (record { kept = Some last; octets = octets })
 
     -- octets that there are, by their first one
     by_flag : (b : Bool) (xs : List ℕ) → 0 < length xs → block_read limit layout b records xs ≡ flagged limit layout b records xs (slice_index xs 0)
@@ -101,9 +101,6 @@ module _ (limit : ℕ) where
         ∙ ap (λ (n : ℕ). tail_read limit layout records xs t.first t.place n) (four_digits size)
         ∙ tail-again xs count t rest refl refl long h
         ∙ ap (λ (n : ℕ). good (record { count = count; tail = Some t }) n) (let z : 12 + size ≡ length (with_tail count (Some t)) = omega arith in z)
-      where
-        good : Last → ℕ → Result Read StateFault
-        good last octets = Ok (record { kept = Some last; octets = octets })
 
     pub block-again : (b : Bool) (o : Option Last) (rest : List ℕ) → Fits layout b records o
         → block_read limit layout b records (block o ++ rest) ≡ Ok (record { kept = o; octets = length (block o) })
@@ -132,10 +129,7 @@ module _ (rules : Rules) (records : ℕ) where
       ∙ ap (λ (l : List ℕ). in_front (record { kept = o; octets = length (block o) }) (blocks_read rules records (length os) (c + 1) l))
       (drop-append_seam (block o) (flat_map block os ++ rest))
       ∙ ap (in_front (record { kept = o; octets = length (block o) })) (blocks-again (c + 1) os rest h.1)
-      ∙ ap (good (o ∷ os)) (sym (length-append (block o) (flat_map block os)))
-    where
-      good : List (Option Last) → ℕ → Result ReadAll StateFault
-      good kept octets = Ok (record { kept = kept; octets = octets })
+      ∙ ap (λ (n : ℕ). Ok (record { kept = o ∷ os; octets = n })) (sym (length-append (block o) (flat_map block os)))
 
   all_fit : (c : ℕ) (os : List (Option Last)) → ((i : ℕ) (o : Option Last) → slice_get os i ≡ Some o → Fits rules.max_packet rules.layout (chooses rules (c + i)) records o) → AllFit c os
   unfolding AllFit
@@ -157,6 +151,9 @@ master-again (Some count) rest = cond-false (eqb (length (count ∷ rest)) 0) _ 
 
 -- ---- the state
 
+abbrev pub decoded : State → ℕ → Result Decoded StateFault
+decoded state octets = Ok (record { state = state; octets = octets })
+
 module _ (rules : Rules) where
   tail_fits : (s : State) → IsState rules s → (c : ℕ) (last : Last) → slice_get s.channels c ≡ Some (Some last) → (tail : Option Tail) → last.tail ≡ tail
       → TailFits rules.max_packet rules.layout s.records tail
@@ -172,12 +169,9 @@ module _ (rules : Rules) where
       let eight = v.shape.eight_channels in
       let there = slice_get_within s.channels c (Some last) e in (
         subst (λ (n : ℕ). chooses rules n ≡ true) zeroth
-            (⊎_elim (λ p. p) (λ p. absurd (some_none last (sym e ∙ v.shape.only_chosen c p (omega arith)))) (cases_Bool (chooses rules c))),
+            (true_from_ne_false (chooses rules c) (λ p. let none = v.shape.only_chosen c p (omega arith) in absurd (cc))),
         tail_fits s v c last e last.tail refl,
       )
-    where
-      some_none : (last : Last) → ◌≡◌ {A = Option (Option Last)} (Some (Some last)) (Some None) → ⊥
-      some_none last p = cc
 
   channels-again : (s : State) (rest : List ℕ) → IsState rules s
       → blocks_read rules s.records 8 0 (flat_map block s.channels ++ rest) ≡ Ok (record { kept = s.channels; octets = length (flat_map block s.channels) })
@@ -196,12 +190,9 @@ module _ (rules : Rules) where
       ∙ ap (λ (l : List ℕ). with_channels s.records s.master (4 + length (master_octets s.master)) (blocks_read rules s.records 8 0 l))
       (drop-append_seam (master_octets s.master) (flat_map block s.channels ++ rest))
       ∙ ap (with_channels s.records s.master (4 + length (master_octets s.master))) (channels-again s rest v)
-      ∙ ap (λ (n : ℕ). good s n)
+      ∙ ap (decoded s)
       (let l = length-append (master_octets s.master) (flat_map block s.channels) in
       let z : (4 + length (master_octets s.master)) + length (flat_map block s.channels) ≡ length (spelling s) = omega arith in z)
-    where
-      good : State → ℕ → Result Decoded StateFault
-      good state octets = Ok (record { state = state; octets = octets })
 
   -- in the form of versions 1 and 2 the state comes back without its last master channel count
   pub old-read-again : (s : State) (rest : List ℕ) → IsState rules s
@@ -213,16 +204,13 @@ module _ (rules : Rules) where
       cond-false (ltb (length xs) 4) _ _ (le-ltb (length xs) 4 (omega arith))
       ∙ ap (λ (n : ℕ). with_channels n None 4 (blocks_read rules n 8 0 (drop 4 xs))) (four_digits s.records)
       ∙ ap (with_channels s.records None 4) (channels-again s rest v)
-      ∙ ap (λ (n : ℕ). good n) (let z : 4 + length (flat_map block s.channels) ≡ length (old_spelling s) = omega arith in z)
-    where
-      good : ℕ → Result Decoded StateFault
-      good octets = Ok (record { state = record { records = s.records; master = None; channels = s.channels }; octets = octets })
+      ∙ ap (decoded (record { records = s.records; master = None; channels = s.channels })) (let z : 4 + length (flat_map block s.channels) ≡ length (old_spelling s) = omega arith in z)
 
-  state_in : Result Decoded StateFault → State → State
+  unfoldable pub state_in : Result Decoded StateFault → State → State
   state_in (Ok d) s = d.state
   state_in (Err found) s = s
 
-  octets_in : Result Decoded StateFault → ℕ
+  unfoldable pub octets_in : Result Decoded StateFault → ℕ
   octets_in (Ok d) = d.octets
   octets_in (Err found) = 0
 
@@ -230,11 +218,8 @@ module _ (rules : Rules) where
   pub no-prefix : (s t : State) (rest : List ℕ) → IsState rules s → IsState rules t → spelling s ++ rest ≡ spelling t → (s ≡ t) × (rest ≡ [])
   unfolding state_in octets_in
   no-prefix s t rest v w e =
-      let same : good s (length (spelling s)) ≡ good t (length (spelling t)) =
+      let same : decoded s (length (spelling s)) ≡ decoded t (length (spelling t)) =
       sym (read-again s rest v) ∙ ap (decoding_of rules) (e ∙ sym (append-nil (spelling t))) ∙ read-again t [] w in
       let long : length (spelling s) ≡ length (spelling t) = ap octets_in same in
       let sum : length (spelling s) + length rest ≡ length (spelling t) = sym (length-append (spelling s) rest) ∙ ap length e in
       (ap (λ (x : Result Decoded StateFault). state_in x s) same, nil_from_length rest (omega arith))
-    where
-      good : State → ℕ → Result Decoded StateFault
-      good state octets = Ok (record { state = state; octets = octets })

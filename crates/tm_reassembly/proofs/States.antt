@@ -1,8 +1,9 @@
 -- A record leaves a valid state valid.
-use Rattle.std.proofs.Common.{◌≡◌, ℕ, suc, zero, pred, ◌+◌, ◌^◌, ◌<◌, ◌≤◌, Ok, Err, Bool, true, false, Option, Some, None, List, [], ◌∷◌, ◌++◌, length, set, refl, sym, ap, subst, ◌∙◌, ⊎_elim, arith, ◌&&◌, leb, ltb}
+use Rattle.std.proofs.lemmas.Option.{same_Some}
+use Rattle.std.proofs.Common.{◌≡◌, ℕ, suc, zero, pred, ◌+◌, ◌^◌, ◌<◌, ◌≤◌, Ok, Err, Bool, true, false, Option, Some, None, List, [], ◌∷◌, ◌++◌, length, set, refl, sym, ap, subst, ◌∙◌, ⊎_elim, arith, leb}
 use Rattle.std.specs.List.{slice_get}
 use Rattle.std.proofs.lemmas.List.{length-set}
-use Rattle.std.proofs.lemmas.Bool.{cases_Bool, cases_eq, cases_lt, cond_both, le-leb, ltb-false}
+use Rattle.std.proofs.lemmas.Bool.{cases_Bool, cases_eq, cases_lt, cond_both, both_ways}
 use Rattle.tm_bits.specs.Bits.{AreOctets}
 use Rattle.tm_bits.proofs.PartLemmas.{octets_after}
 use Rattle.tm_frame.specs.declared.layout.LayoutParts.{LayoutParts}
@@ -24,9 +25,9 @@ use Rattle.tm_reassembly.specs.Valid.{HasShape, IsCount, IsState, IsWithin, AllO
 use Rattle.tm_reassembly.proofs.Chained.{IsOpenTail, IsTail}
 use Rattle.tm_reassembly.proofs.Seen.{chain_tail_at-open}
 use Rattle.tm_reassembly.proofs.Joining.{before_of, tail_of}
-use Rattle.tm_reassembly.proofs.Records.{after-append}
-use Rattle.tm_reassembly.proofs.OneStep.{valid-from, after-nil, after-one, after-bad, after-other, get_set-same, get_set-other}
-use Rattle.tm_reassembly.proofs.Long.{begins-short}
+use Rattle.tm_reassembly.proofs.Records.{after-append, at_eight, none_kept}
+use Rattle.tm_reassembly.proofs.OneStep.{valid-from, after-nil, after-one, after-bad, after-other, get_set-same, get_set-other, open-at}
+use Rattle.tm_reassembly.proofs.Long.{begins-short, within-limit}
 use Rattle.tm_rules.specs.Rules.{Rules, IsLimit, chooses}
 use Rattle.tm_reassembly.proofs.Fits.{IsGood, IsRead, reading-fit, reading-good, octets_append}
 
@@ -34,16 +35,12 @@ no_octets : AreOctets []
 no_octets = record { below = λ i. omega arith }
 
 octets_field : (kind : Kind) (field : List ℕ) → AreOctets field → AreOctets (counted_field kind field)
-octets_field (got.Packets place) field h = h
-octets_field got.NoStart field h = h
 octets_field got.Idle field h = no_octets
-octets_field got.Vca field h = h
+octets_field kind field h = h
 
 field_most : (kind : Kind) (field : List ℕ) → length (counted_field kind field) ≤ length field
-field_most (got.Packets place) field = omega arith
-field_most got.NoStart field = omega arith
 field_most got.Idle field = omega arith
-field_most got.Vca field = omega arith
+field_most kind field = omega arith
 
 abbrev Within : LayoutParts → ℕ → Option Tail → Type 0
 Within layout records None = Unit {0}
@@ -53,12 +50,6 @@ within-more : (layout : LayoutParts) (records : ℕ) (t : Option Tail) → Withi
 within-more layout records None h = tt
 within-more layout records (Some t) h =
     record { first = (let e = h.first in omega arith); place = h.place; octets = h.octets }
-
-some_last : (x y : Option Last) → ◌≡◌ {A = Option (Option Last)} (Some x) (Some y) → x ≡ y
-some_last x y h = cc
-
-same_last : (x y : Last) → ◌≡◌ {A = Option (Option Last)} (Some (Some x)) (Some (Some y)) → x ≡ y
-same_last x y h = cc
 
 module _ (limit : ℕ) where
   -- the octets of an unfinished packet are octets of its field
@@ -132,14 +123,10 @@ pub keeps-at : (rules : Rules) (s : State) → IsState rules s → (c : ℕ) (la
     → slice_get s.channels c ≡ Some (Some last) → Keeps rules.max_packet rules.layout s.records last
 keeps-at rules s v c last e = record {
   count = v.counts c last e;
-  open_tail = opened last.tail refl;
+  open_tail = subst (IsOpenTail rules.max_packet) (ap tail_of e) (open-at rules.max_packet (chooses rules) s v.shape c);
   within = inside last.tail refl;
 }
   where
-    opened : (t : Option Tail) → last.tail ≡ t → IsOpenTail rules.max_packet t
-    opened None f = tt
-    opened (Some t) f = v.shape.tails c last t e f
-
     inside : (t : Option Tail) → last.tail ≡ t → Within rules.layout s.records t
     inside None f = tt
     inside (Some t) f = v.within c last t e f
@@ -153,54 +140,43 @@ state-from rules s range small octet eight only keeps = record {
   limit = range;
   records = small;
   master = octet;
-  shape = record { eight_channels = eight; only_chosen = only; tails = λ c last t e f. tail_is c last t e f };
+  shape = record { eight_channels = eight; only_chosen = only; tails = λ c last t e f. subst (IsOpenTail rules.max_packet) f (keeps c last e).open_tail };
   counts = λ c last e. (keeps c last e).count;
   within = λ c last t e f. subst (Within rules.layout s.records) f (keeps c last e).within;
 }
-  where
-    tail_is : (c : ℕ) (last : Last) (t : Tail) → slice_get s.channels c ≡ Some (Some last) → last.tail ≡ Some t → ok.IsTail rules.max_packet t.octets
-    tail_is c last t e f = subst (IsOpenTail rules.max_packet) f (keeps c last e).open_tail
+
+keeps-more : (limit : ℕ) (layout : LayoutParts) (records : ℕ) (last : Last) → Keeps limit layout records last → Keeps limit layout (records + 1) last
+keeps-more limit layout records last k = record { count = k.count; open_tail = k.open_tail; within = within-more layout records last.tail k.within }
 
 module _ (rules : Rules) (s : State) (v : IsState rules s) (more : s.records + 1 < 2 ^ 32) where
   -- where the channels stay, the state stays valid
   kept-valid : (master : Option ℕ) → ok.IsCount master → IsState rules (record { records = s.records + 1; master = master; channels = s.channels })
   kept-valid master octet =
       state-from rules (record { records = s.records + 1; master = master; channels = s.channels }) v.limit more octet v.shape.eight_channels v.shape.only_chosen
-      (λ c last e.
-      let k = keeps-at rules s v c last e in
-      let w : Keeps rules.max_packet rules.layout (s.records + 1) last = record { count = k.count; open_tail = k.open_tail; within = within-more rules.layout s.records last.tail k.within } in w)
+      (λ c last e. keeps-more rules.max_packet rules.layout s.records last (keeps-at rules s v c last e))
 
-  -- where one (chooses rules) channel keeps something else that it may
+  -- where one chosen channel keeps something else that it may
   set-valid : (master : Option ℕ) → ok.IsCount master → (channel : ℕ) (kept : Last) → channel < 8 → chooses rules channel ≡ true → Keeps rules.max_packet rules.layout (s.records + 1) kept
       → IsState rules (record { records = s.records + 1; master = master; channels = set s.channels channel (Some kept) })
   set-valid master octet channel kept small e k =
       state-from rules (record { records = s.records + 1; master = master; channels = set s.channels channel (Some kept) }) v.limit more octet
       (length-set s.channels channel (Some kept) ∙ v.shape.eight_channels)
       (λ c n less.
-      get_set-other s.channels channel c (Some kept) (λ z. true_false (sym e ∙ ap (chooses rules) (sym z) ∙ n))
+      get_set-other s.channels channel c (Some kept) (λ z. both_ways (chooses rules c) n (ap (chooses rules) z ∙ e))
       ∙ v.shape.only_chosen c n less)
       (λ c last f. ⊎_elim (at_it c last f) (other c last f) (cases_eq c channel))
     where
-      true_false : true ≡ false → ⊥
-      true_false h = cc
-
       at_it : (c : ℕ) (last : Last) → slice_get (set s.channels channel (Some kept)) c ≡ Some (Some last) → c ≡ channel → Keeps rules.max_packet rules.layout (s.records + 1) last
       at_it c last f z =
           let there : slice_get (set s.channels channel (Some kept)) channel ≡ Some (Some kept) = get_set-same s.channels channel (Some kept) (rw v.shape.eight_channels small) in
-          let same : kept ≡ last = same_last kept last (sym there ∙ ap (λ (k : ℕ). slice_get (set s.channels channel (Some kept)) k) (sym z) ∙ f) in
+          let same : kept ≡ last = same_Some kept last (same_Some (Some kept) (Some last) (sym there ∙ ap (λ (k : ℕ). slice_get (set s.channels channel (Some kept)) k) (sym z) ∙ f)) in
           subst (Keeps rules.max_packet rules.layout (s.records + 1)) same k
 
       other : (c : ℕ) (last : Last) → slice_get (set s.channels channel (Some kept)) c ≡ Some (Some last) → (c ≡ channel → ⊥) → Keeps rules.max_packet rules.layout (s.records + 1) last
       other c last f ne =
-          let q = keeps-at rules s v c last (sym (get_set-other s.channels channel c (Some kept) ne) ∙ f) in
-          record { count = q.count; open_tail = q.open_tail; within = within-more rules.layout s.records last.tail q.within }
+          keeps-more rules.max_packet rules.layout s.records last (keeps-at rules s v c last (sym (get_set-other s.channels channel c (Some kept) ne) ∙ f))
 
   -- what the entry of a channel says
-  open_now : (c : ℕ) (x : Option (Option Last)) → slice_get s.channels c ≡ x → IsOpenTail rules.max_packet (tail_of x)
-  open_now c None e = tt
-  open_now c (Some None) e = tt
-  open_now c (Some (Some last)) e = (keeps-at rules s v c last e).open_tail
-
   within_now : (c : ℕ) (x : Option (Option Last)) → slice_get s.channels c ≡ x → Within rules.layout s.records (tail_of x)
   within_now c None e = tt
   within_now c (Some None) e = tt
@@ -225,36 +201,14 @@ module _ (rules : Rules) (s : State) (v : IsState rules s) (more : s.records + 1
           let tail = tail_of (slice_get s.channels g.channel) in
           record {
             count = h.count;
-            open_tail = chain_tail_at-open rules.max_packet gap (is_vca_kind g.kind) tail (member s.records g) (open_now g.channel (slice_get s.channels g.channel) refl);
+            open_tail = chain_tail_at-open rules.max_packet gap (is_vca_kind g.kind) tail (member s.records g) (open-at rules.max_packet (chooses rules) s v.shape g.channel);
             within = within-chain rules.max_packet rules.layout s.records g h gap (is_vca_kind g.kind) tail (within_now g.channel (slice_get s.channels g.channel) refl);
           }
 
 -- the state of no records is valid
 pub empty-valid : (rules : Rules) → IsLimit rules.max_packet → IsState rules empty
 empty-valid rules range =
-    state-from rules empty range (omega arith) tt refl (λ c n less. nothing c less) (λ c last e. absurd (none_kept c last e))
-  where
-    nothing : (c : ℕ) → c < 8 → slice_get empty.channels c ≡ Some None
-    nothing zero h = refl
-    nothing (suc zero) h = refl
-    nothing (suc (suc zero)) h = refl
-    nothing (suc (suc (suc zero))) h = refl
-    nothing (suc (suc (suc (suc zero)))) h = refl
-    nothing (suc (suc (suc (suc (suc zero))))) h = refl
-    nothing (suc (suc (suc (suc (suc (suc zero)))))) h = refl
-    nothing (suc (suc (suc (suc (suc (suc (suc zero))))))) h = refl
-    nothing (suc (suc (suc (suc (suc (suc (suc (suc c)))))))) h = absurd (omega arith)
-
-    none_kept : (c : ℕ) (last : Last) → slice_get empty.channels c ≡ Some (Some last) → ⊥
-    none_kept zero last e = cc
-    none_kept (suc zero) last e = cc
-    none_kept (suc (suc zero)) last e = cc
-    none_kept (suc (suc (suc zero))) last e = cc
-    none_kept (suc (suc (suc (suc zero)))) last e = cc
-    none_kept (suc (suc (suc (suc (suc zero))))) last e = cc
-    none_kept (suc (suc (suc (suc (suc (suc zero)))))) last e = cc
-    none_kept (suc (suc (suc (suc (suc (suc (suc zero))))))) last e = cc
-    none_kept (suc (suc (suc (suc (suc (suc (suc (suc c)))))))) last e = cc
+    state-from rules empty range (omega arith) tt refl (λ c n less. at_eight (λ d. None) c less) (λ c last e. absurd (none_kept c last e))
 
 -- and so is the state after one record, and after any
 pub record-valid : (rules : Rules) (s : State) (octets : List ℕ) → IsState rules s → AreOctets octets
@@ -281,14 +235,8 @@ tail-short limit (x ∷ xs) least h =
     let less : length (x ∷ xs) < reach (x ∷ xs) = h.1 in
     ⊎_elim
     (λ short. omega arith)
-    (λ enough.
-    let header : leb 6 (length (x ∷ xs)) ≡ true = le-leb 6 (length (x ∷ xs)) enough in
-    let fits = ltb-false limit (reach (x ∷ xs)) (second (leb 6 (length (x ∷ xs))) (ltb limit (reach (x ∷ xs))) header (begins-short limit (x ∷ xs) h.0)) in omega arith)
+    (λ enough. let most = within-limit limit (reach (x ∷ xs)) (length (x ∷ xs)) enough (begins-short limit (x ∷ xs) h.0) in omega arith)
     (cases_lt (length (x ∷ xs)) 6)
-  where
-    second : (a b : Bool) → a ≡ true → (a && b) ≡ false → b ≡ false
-    second true b e f = f
-    second false b e f = absurd (cc)
 
 pub short-tails : (rules : Rules) (s : State) → IsState rules s → (c : ℕ) (last : Last) (t : Tail)
     → slice_get s.channels c ≡ Some (Some last) → last.tail ≡ Some t → length t.octets < rules.max_packet

@@ -25,9 +25,6 @@ pub octets_again : (first place : ℕ) (octets : List ℕ) → octets_in (tail_o
 octets_again first place [] = refl
 octets_again first place (x ∷ xs) = refl
 
-take_longer : (t field : List ℕ) (start : ℕ) → take (length t + start) (t ++ field) ≡ t ++ take start field
-take_longer t field start = take-append-add t field start
-
 -- a packet that ends at the frame's place
 pub step_completed : (limit : ℕ) (tail : Option Tail) (seen start : ℕ) (field : List ℕ) → 0 < length (octets_in tail) → start ≤ length field
     → length (octets_in tail) + start ≡ reach (octets_in tail ++ field)
@@ -38,7 +35,7 @@ step_completed limit (Some t) seen start field some inside h short =
     let far : ℕ = reach (t.octets ++ field) in
     let l : length (t.octets ++ field) ≡ length t.octets + length field = length-append t.octets field in
     ap (λ (o : List ℕ). record { first = t.first; place = t.place; octets = o; fate = Given seen } ∷ frame_parts limit (member_at seen (Some start) field))
-    (sym (take_longer t.octets field start) ∙ ap (λ (n : ℕ). take n (t.octets ++ field)) h)
+    (sym (take-append-add t.octets field start) ∙ ap (λ (n : ℕ). take n (t.octets ++ field)) h)
     ∙ sym
     (cond-true (eqb far (length t.octets + start) && not (is_long limit far (length t.octets + length field))) _ _
     (and_not (eqb far (length t.octets + start)) (is_long limit far (length t.octets + length field)) (eq-eqb far (length t.octets + start) (sym h)) short)

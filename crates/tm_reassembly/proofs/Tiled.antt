@@ -1,9 +1,10 @@
 -- The packets and dropped parts of a channel, in the order given, and then its held tail, lie one after the other in its fields.
-use Rattle.std.proofs.Common.{◌≡◌, Ok, Err, ℕ, suc, zero, ◌+◌, ◌<◌, ◌≤◌, ◌⊎◌, Bool, true, false, if◌then◌else◌, Option, Some, None, List, [], ◌∷◌, ◌++◌, length, refl, sym, ap, subst, ◌∙◌, ⊎_elim, inl, inr, arith, append_assoc, eqb}
+use Rattle.tm_reassembly.proofs.Each.{Each, Each-append, Each-cond, filter-none}
+use Rattle.std.proofs.Common.{◌≡◌, Ok, Err, ℕ, ◌+◌, ◌<◌, Bool, true, false, if◌then◌else◌, Option, Some, None, List, [], ◌∷◌, ◌++◌, length, refl, sym, ap, subst, ◌∙◌, ⊎_elim, append_assoc, eqb}
 use Rattle.std.specs.List.{slice_get}
 use Rattle.std.proofs.lemmas.List.{append-nil, length-map}
 use Rattle.std.proofs.lemmas.List.Elements.{filter-append}
-use Rattle.std.proofs.lemmas.Bool.{cases_Bool, cases_eq, eq-eqb, ne_eqb, cond_both, cond-true, cond-false}
+use Rattle.std.proofs.lemmas.Bool.{cases_Bool, cases_eq, eq-eqb, ne_eqb, cond-true, cond-false}
 use Rattle.tm_reassembly.specs.State.{State, Last, Tail}
 use Rattle.tm_frame.specs.Frame.{GoodFrame}
 use Rattle.tm_frame.specs.declared.frame.Kind.TheVariants as got
@@ -18,9 +19,9 @@ use Rattle.tm_reassembly.specs.Items.{items, after, empty, part_item, gap_item, 
 use Rattle.tm_reassembly.specs.Valid.{HasShape, IsFit, AllFit}
 use Rattle.tm_reassembly.specs.Tiles.{Spot, field_spots, kind_spots, record_spots, channel_spots, IsHeld, Takes, Tile, is_part_of, parts_of, tail_of, held_tail}
 use Rattle.tm_reassembly.proofs.Chained.{IsOpenTail}
-use Rattle.tm_reassembly.proofs.Seen.{AllAt, FateAt, chain_parts_at-at}
-use Rattle.tm_reassembly.proofs.Joining.{before_of, member_items}
-use Rattle.tm_reassembly.proofs.Records.{HasOpenTails, valid-after, items-cons, after-cons, tail-kept, tail-moved}
+use Rattle.tm_reassembly.proofs.Seen.{AllAt, chain_parts_at-at, IsAt}
+use Rattle.tm_reassembly.proofs.Joining.{before_of, member_items, gap-each}
+use Rattle.tm_reassembly.proofs.Records.{HasOpenTails, valid-after, items-cons, after-cons, tail-kept, tail-moved, at_eight, none_kept}
 use Rattle.tm_reassembly.proofs.OneStep.{items-one-valid, items-other, after-nil}
 use Rattle.tm_reassembly.proofs.Laying.{Lay, Laid, spots_of, plain_spots, chain_lays}
 
@@ -33,25 +34,21 @@ Takes-more a b more (item.Packet seen channel first place octets) h =
     (h.0, ap (λ (s : List Spot). s ++ more) h.1 ∙ append_assoc h.0 b more, h.2, h.3)
 Takes-more a b more (item.Dropped seen channel first place octets reason) h =
     (h.0, ap (λ (s : List Spot). s ++ more) h.1 ∙ append_assoc h.0 b more, h.2, h.3)
-Takes-more a b more (item.Bad seen fault) h = absurd h
-Takes-more a b more (item.MasterGap seen expected found missing) h = absurd h
-Takes-more a b more (item.Gap seen channel expected found missing) h = absurd h
-Takes-more a b more (item.Vca seen channel) h = absurd h
-Takes-more a b more (item.Short seen octets) h = absurd h
+Takes-more a b more x h = absurd h
 
 Tile-more : (a b more : List Spot) (xs : List Item) → Tile a xs b → Tile (a ++ more) xs (b ++ more)
 Tile-more a b more [] h = ap (λ (s : List Spot). s ++ more) h
 Tile-more a b more (x ∷ xs) h = (h.0 ++ more, Takes-more a h.0 more x h.1, Tile-more h.0 b more xs h.2)
 
 -- parts and their items
-tile-parts : (c n : ℕ) (spots rest : List Spot) (ps : List Part) → AllAt n ps → Lay spots ps rest → Tile spots (parts_of c (part_items c ps)) rest
-tile-parts c n spots rest [] k h = h
-tile-parts c n spots rest (p ∷ ps) k h = one p.fate k.0 (tile-parts c n h.0 rest ps k.1 h.2)
+tile-parts : (limit c n : ℕ) (spots rest : List Spot) (ps : List Part) → AllAt limit n ps → Lay spots ps rest → Tile spots (parts_of c (part_items c ps)) rest
+tile-parts limit c n spots rest [] k h = h
+tile-parts limit c n spots rest (p ∷ ps) k h = one p.fate k.0 (tile-parts limit c n h.0 rest ps k.1 h.2)
   where
     kept : (b : Bool) → b ≡ true → (x : Item) (xs : List Item) → Takes spots x h.0 → Tile h.0 xs rest → Tile spots (if b then x ∷ xs else xs) rest
     kept b e x xs t u = subst (λ (z : Bool). Tile spots (if z then x ∷ xs else xs) rest) (sym e) (h.0, t, u)
 
-    one : (f : Fate) → FateAt n f → Tile h.0 (parts_of c (part_items c ps)) rest → Tile spots (parts_of c (part_item c p f ++ part_items c ps)) rest
+    one : (f : Fate) → IsAt limit n p f → Tile h.0 (parts_of c (part_items c ps)) rest → Tile spots (parts_of c (part_item c p f ++ part_items c ps)) rest
     one (Given seen) e t =
         kept (eqb c c) (eq-eqb c c refl) (item.Packet seen c p.first p.place p.octets) (parts_of c (part_items c ps)) h.1 t
     one (Lost reason seen) e t =
@@ -60,72 +57,46 @@ tile-parts c n spots rest (p ∷ ps) k h = one p.fate k.0 (tile-parts c n h.0 re
     one Held e t = absurd e
 
 -- the items of other channels, and those that are no parts, don't count
-others-none : (c own : ℕ) (ps : List Part) → eqb own c ≡ false → parts_of c (part_items own ps) ≡ []
-others-none c own [] h = refl
-others-none c own (p ∷ ps) h = one p.fate (others-none c own ps h)
+others-none : (c own : ℕ) (ps : List Part) → eqb own c ≡ false → Each (λ x. is_part_of c x ≡ false) (part_items own ps)
+others-none c own [] h = tt
+others-none c own (p ∷ ps) h = Each-append (λ x. is_part_of c x ≡ false) (part_item own p p.fate) (part_items own ps) (one p.fate) (others-none c own ps h)
   where
-    left : (b : Bool) → b ≡ false → (x : Item) (xs : List Item) → xs ≡ [] → (if b then x ∷ xs else xs) ≡ []
-    left b e x xs f = rw (e, f)
+    one : (f : Fate) → Each (λ x. is_part_of c x ≡ false) (part_item own p f)
+    one Held = tt
+    one f = (h, tt)
 
-    one : (f : Fate) → parts_of c (part_items own ps) ≡ [] → parts_of c (part_item own p f ++ part_items own ps) ≡ []
-    one (Given seen) k = left (eqb own c) h _ _ k
-    one (Lost reason seen) k = left (eqb own c) h _ _ k
-    one Held k = k
+of-none : (c : ℕ) (xs ys : List Item) → Each (λ x. is_part_of c x ≡ false) xs → parts_of c (xs ++ ys) ≡ parts_of c ys
+of-none c xs ys h = filter-append (λ x. is_part_of c x) xs ys ∙ ap (λ (zs : List Item). zs ++ parts_of c ys) (filter-none (λ x. is_part_of c x) xs h)
 
-gaps-none : (c own : ℕ) (before : Option ℕ) (m : Member) → parts_of c (gap_at (gap_item own) before m) ≡ []
-gaps-none c own None m = refl
-gaps-none c own (Some before) m = cond_both (has_gap (Some before) m) _ _ (λ xs. parts_of c xs ≡ []) (λ p. refl) (λ p. refl)
-
-vcas-none : (c own : ℕ) (m : Member) → parts_of c (vca_at own m) ≡ []
-vcas-none c own m = cond_both m.is_vca _ _ (λ xs. parts_of c xs ≡ []) (λ p. refl) (λ p. refl)
-
-of-three : (c : ℕ) (a b d : List Item) → parts_of c a ≡ [] → parts_of c b ≡ [] → parts_of c ((a ++ b) ++ d) ≡ parts_of c d
-of-three c a b d e f =
-    filter-append (λ x. is_part_of c x) (a ++ b) d
-    ∙ ap (λ (xs : List Item). xs ++ parts_of c d)
-    (filter-append (λ x. is_part_of c x) a b ∙ ap (λ (xs : List Item). xs ++ parts_of c b) e ∙ f)
-
--- nor do master gaps
-masters-none : (c : ℕ) (before : Option ℕ) (m : Member) → parts_of c (gap_at master_gap_item before m) ≡ []
-masters-none c None m = refl
-masters-none c (Some before) m = cond_both (has_gap (Some before) m) _ _ (λ xs. parts_of c xs ≡ []) (λ p. refl) (λ p. refl)
-
-past-master : (c : ℕ) (before : Option ℕ) (m : Member) (xs : List Item) → parts_of c (gap_at master_gap_item before m ++ xs) ≡ parts_of c xs
-past-master c before m xs =
-    filter-append (λ x. is_part_of c x) (gap_at master_gap_item before m) xs ∙ ap (λ (ys : List Item). ys ++ parts_of c xs) (masters-none c before m)
+gap-none : (c : ℕ) (before : Option ℕ) (m : Member) → Each (λ x. is_part_of c x ≡ false) (gap_at master_gap_item before m)
+gap-none c before m = gap-each (λ x. is_part_of c x ≡ false) master_gap_item before m (λ expected. refl)
 
 -- what a frame adds to the fields of its channel
 plain-kind : (k : ℕ) (kind : Kind) (field : List ℕ)
     → kind_spots k kind field ≡ plain_spots (is_vca_kind kind) (field_spots k 0 (counted_field kind field))
-plain-kind k (got.Packets place) field = refl
-plain-kind k got.NoStart field = refl
-plain-kind k got.Idle field = refl
 plain-kind k got.Vca field = refl
+plain-kind k kind field = refl
 
 -- at the start nothing is kept
-empty-at : (c : ℕ) → (slice_get empty.channels c ≡ Some None) ⊎ ((8 ≤ c) × (slice_get empty.channels c ≡ None))
-empty-at zero = inl refl
-empty-at (suc zero) = inl refl
-empty-at (suc (suc zero)) = inl refl
-empty-at (suc (suc (suc zero))) = inl refl
-empty-at (suc (suc (suc (suc zero)))) = inl refl
-empty-at (suc (suc (suc (suc (suc zero))))) = inl refl
-empty-at (suc (suc (suc (suc (suc (suc zero)))))) = inl refl
-empty-at (suc (suc (suc (suc (suc (suc (suc zero))))))) = inl refl
-empty-at (suc (suc (suc (suc (suc (suc (suc (suc c)))))))) = inr (omega arith, refl)
-
 empty-tail : (c : ℕ) → held_tail empty c ≡ None
-empty-tail c = ⊎_elim (λ e. ap tail_of e) (λ e. ap tail_of e.1) (empty-at c)
+empty-tail c = by_entry (slice_get empty.channels c) refl
+  where
+    by_entry : (x : Option (Option Last)) → slice_get empty.channels c ≡ x → tail_of x ≡ None
+    by_entry (Some (Some last)) e = absurd (none_kept c last e)
+    by_entry None e = refl
+    by_entry (Some None) e = refl
 
 module _ (limit : ℕ) where
   member-parts : (c own : ℕ) (before : Option ℕ) (tail : Option Tail) (m : Member)
       → parts_of c (member_items limit own before tail m) ≡ parts_of c (part_items own (chain_parts_at limit (has_gap before m) m.is_vca tail m))
   member-parts c own before tail m =
-      of-three c (gap_at (gap_item own) before m) (vca_at own m) _ (gaps-none c own before m) (vcas-none c own m)
+      of-none c (gap_at (gap_item own) before m ++ vca_at own m) _
+      (Each-append (λ x. is_part_of c x ≡ false) (gap_at (gap_item own) before m) (vca_at own m)
+      (gap-each (λ x. is_part_of c x ≡ false) (gap_item own) before m (λ expected. refl)) (Each-cond (λ x. is_part_of c x ≡ false) m.is_vca _ (λ e. (refl, tt))))
 
   other-member : (c own : ℕ) (before : Option ℕ) (tail : Option Tail) (m : Member) → eqb own c ≡ false → parts_of c (member_items limit own before tail m) ≡ []
   other-member c own before tail m h =
-      member-parts c own before tail m ∙ others-none c own (chain_parts_at limit (has_gap before m) m.is_vca tail m) h
+      member-parts c own before tail m ∙ filter-none (λ x. is_part_of c x) _ (others-none c own (chain_parts_at limit (has_gap before m) m.is_vca tail m) h)
 
   -- one record
   abbrev Result : (ℕ → Bool) → State → Reading → ℕ → List Spot → Type 0
@@ -156,11 +127,11 @@ module _ (limit : ℕ) where
       let spots : record_spots g.channel s.records (Ok g) ≡ plain_spots (is_vca_kind g.kind) (spots_of (member s.records g)) =
       cond-true (eqb g.channel g.channel) (kind_spots s.records g.kind g.field) [] (eq-eqb g.channel g.channel refl) ∙ plain-kind s.records g.kind g.field in
       let given : parts_of c (items limit chosen s (Ok g ∷ [])) ≡ parts_of c (part_items c (chain_parts_at limit (has_gap (before_of x) m) m.is_vca (tail_of x) m)) =
-      ap (parts_of c) (items-one-valid limit chosen s g valid fit is_chosen) ∙ past-master c s.master (master_member s.records g) _ ∙ member-parts c c (before_of x) (tail_of x) m in (
+      ap (parts_of c) (items-one-valid limit chosen s g valid fit is_chosen) ∙ of-none c _ _ (gap-none c s.master (master_member s.records g)) ∙ member-parts c c (before_of x) (tail_of x) m in (
         lies.0,
         subst (λ (xs : List Item). Tile (h ++ record_spots c s.records (Ok g)) xs lies.0) (sym given)
             (subst (λ (z : List Spot). Tile (h ++ z) (parts_of c (part_items c (chain_parts_at limit (has_gap (before_of x) m) m.is_vca (tail_of x) m))) lies.0) (sym spots)
-            (tile-parts c m.number _ lies.0 _ (chain_parts_at-at limit (has_gap (before_of x) m) m.is_vca (tail_of x) m) lies.1)),
+            (tile-parts limit c m.number _ lies.0 _ (chain_parts_at-at limit (has_gap (before_of x) m) m.is_vca (tail_of x) m) lies.1)),
         subst (λ (t : Option Tail). IsHeld t lies.0)
             (sym (tail-moved limit chosen s (Ok g) valid fit g.channel fit.0 is_chosen (member s.records g) one fit.1)) lies.2,
       )
@@ -179,9 +150,9 @@ module _ (limit : ℕ) where
       (⊎_elim
       (λ e.
       ap (parts_of c) (items-one-valid limit chosen s g valid fit e)
-      ∙ past-master c s.master (master_member s.records g) _
+      ∙ of-none c _ _ (gap-none c s.master (master_member s.records g))
       ∙ other-member c g.channel _ _ (member s.records g) other)
-      (λ e. ap (parts_of c) (items-other limit chosen s g e) ∙ masters-none c s.master (master_member s.records g))
+      (λ e. ap (parts_of c) (items-other limit chosen s g e) ∙ filter-none (λ x. is_part_of c x) _ (gap-none c s.master (master_member s.records g)))
       (cases_Bool (chosen g.channel)))
       (cond-false (eqb g.channel c) _ _ other)
       (cond-false (eqb g.channel c) _ _ other))
@@ -212,15 +183,11 @@ module _ (limit : ℕ) where
       )
 
   pub empty-state : (chosen : ℕ → Bool) → HasShape limit chosen empty
-  empty-state chosen =
-      record {
-        eight_channels = refl;
-        only_chosen = λ c e small. ⊎_elim (λ f. f) (λ f. let g = f.0 in absurd (omega arith)) (empty-at c);
-        tails = λ c last t e f. let g = empty-tail c in let k = ap tail_of e in absurd (no_tail (sym g ∙ k ∙ f));
-      }
-    where
-      no_tail : {t : Tail} → ◌≡◌ {A = Option Tail} None (Some t) → ⊥
-      no_tail h = cc
+  empty-state chosen = record {
+    eight_channels = refl;
+    only_chosen = λ c e small. at_eight (λ d. None) c small;
+    tails = λ c last t e f. absurd (none_kept c last e);
+  }
 
   pub tiled : (chosen : ℕ → Bool) (channel : ℕ) (records : List Reading) → channel < 8 → chosen channel ≡ true → AllFit records
       → (rest : List Spot) × Tile (channel_spots channel 0 records) (parts_of channel (items limit chosen empty records)) rest

@@ -1,12 +1,9 @@
-use Rattle.std.proofs.Common.{◌≡◌, ◌∙◌, true, false, Bool, List, Ok, Err, refl, sym, ap, subst, arith}
+use Rattle.std.proofs.Common.{◌∙◌, List, refl, sym, ap, subst, arith}
 use Rattle.std.proofs.lemmas.Result.{on_ok_weaker, IfErr-weaker}
-use Rattle.tm_frame.specs.declared.layout.LayoutParts.{LayoutParts}
-use Rattle.tm_frame.specs.Fault.{reading_of}
-use Rattle.tm_rules.specs.Channels.{is_chosen}
 use Rattle.tm_items.specs.Item.{Item}
-use Rattle.tm_rules.specs.Rules.{Rules, chooses}
+use Rattle.tm_rules.specs.Rules.{chooses}
 use Rattle.tm_items.specs.Sinks.{TakesAll, RefusesOne}
-use Rattle.tm_reassembly.proofs.OneRecord.{open_slot, items_slot, after_slot, items_good, items_unchosen, after_unchosen, limit_slot, items_bad_record, after_bad_record, refused_bad_record}
+use Rattle.tm_reassembly.proofs.OneRecord.{open_slot, items_slot, after_slot, items_good, items_unchosen, after_unchosen, limit_slot, items_bad_record, after_bad_record, refused_bad_record, read_as, chosen_as}
 use Rattle.tm_reassembly.proofs.ReadField.{TakesAll-append, RefusesOne-left, RefusesOne-right}
 use Rattle.tm_reassembly.proofs.reassembly.take_record.Goals as goal
 
@@ -15,18 +12,15 @@ take_frame-requires-clause-open g c = open_slot c.args.rules.now c.args.seen c.a
 
 pub returns-in-Err-give_master_gap-clause-refused : goal.returns-in-Err-give_master_gap-clause-refused
 returns-in-Err-give_master_gap-clause-refused g c =
-    let layout : c.rules.inside.layout ≡ c.args.rules.now.layout = ap (λ (r : Rules). r.layout) c.rules.view_is in
-    let e : reading_of c.args.rules.now.layout c.args.octets.now ≡ Ok c.in-Ok.frame = ap (λ (l : LayoutParts). reading_of l c.args.octets.now) (sym layout) ∙ sym c.in-Ok.ensures in
+    let e = read_as c.args.octets.now c.rules.view_is c.in-Ok.ensures in
     let r = items_good c.args.rules.now c.args.seen c.args.master.now c.args.kept.now c.requires.state c.requires.limit c.args.octets.now c.in-Ok.frame e c.master_count-count.result c.master_count-count.ensures in
     subst (λ (xs : List Item). RefusesOne g.S.Sink.takes g.S.Sink.refuses c.args.sink.now xs c.in-Err-give_master_gap.fault c.give_master_gap.new.sink) r.1
     (RefusesOne-left g.S.Sink.takes g.S.Sink.refuses _ _ _ r.0 _ c.in-Err-give_master_gap.ensures.refused)
 
 pub returns-then-has-clause-taken : goal.returns-then-has-clause-taken
 returns-then-has-clause-taken g c =
-    let layout : c.rules.inside.layout ≡ c.args.rules.now.layout = ap (λ (r : Rules). r.layout) c.rules.view_is in
-    let e : reading_of c.args.rules.now.layout c.args.octets.now ≡ Ok c.in-Ok.frame = ap (λ (l : LayoutParts). reading_of l c.args.octets.now) (sym layout) ∙ sym c.in-Ok.ensures in
-    let channels : c.rules.inside.channels ≡ c.args.rules.now.channels = ap (λ (r : Rules). r.channels) c.rules.view_is in
-    let is_chosen : chooses c.args.rules.now c.channel-channel.result ≡ true = ap (λ (l : List Bool). is_chosen l c.channel-channel.result) (sym channels) ∙ sym c.has.ensures ∙ c.if-has.true in
+    let e = read_as c.args.octets.now c.rules.view_is c.in-Ok.ensures in
+    let is_chosen = chosen_as c.channel-channel.result c.rules.view_is c.has.ensures c.if-has.true in
     on_ok_weaker c.take_frame.result
     (λ h.
     subst (λ (xs : List Item). TakesAll g.S.Sink.takes c.args.sink.now xs c.take_frame.new.sink)
@@ -36,10 +30,8 @@ returns-then-has-clause-taken g c =
 
 pub returns-then-has-clause-left : goal.returns-then-has-clause-left
 returns-then-has-clause-left g c =
-    let layout : c.rules.inside.layout ≡ c.args.rules.now.layout = ap (λ (r : Rules). r.layout) c.rules.view_is in
-    let e : reading_of c.args.rules.now.layout c.args.octets.now ≡ Ok c.in-Ok.frame = ap (λ (l : LayoutParts). reading_of l c.args.octets.now) (sym layout) ∙ sym c.in-Ok.ensures in
-    let channels : c.rules.inside.channels ≡ c.args.rules.now.channels = ap (λ (r : Rules). r.channels) c.rules.view_is in
-    let is_chosen : chooses c.args.rules.now c.channel-channel.result ≡ true = ap (λ (l : List Bool). is_chosen l c.channel-channel.result) (sym channels) ∙ sym c.has.ensures ∙ c.if-has.true in
+    let e = read_as c.args.octets.now c.rules.view_is c.in-Ok.ensures in
+    let is_chosen = chosen_as c.channel-channel.result c.rules.view_is c.has.ensures c.if-has.true in
     on_ok_weaker c.take_frame.result (λ h. after_slot c.args.rules.now c.args.seen c.args.master.now c.args.kept.now c.requires.state c.requires.limit c.args.octets.now c.in-Ok.frame e c.master_count-count.result c.master_count-count.ensures c.channel-channel.result c.index-kept-channel.result c.channel-channel.ensures.value is_chosen _ h) c.take_frame.ensures.left
 
 pub returns-then-has-clause-limit : goal.returns-then-has-clause-limit
@@ -48,10 +40,8 @@ returns-then-has-clause-limit g c =
 
 pub returns-then-has-clause-refused : goal.returns-then-has-clause-refused
 returns-then-has-clause-refused g c =
-    let layout : c.rules.inside.layout ≡ c.args.rules.now.layout = ap (λ (r : Rules). r.layout) c.rules.view_is in
-    let e : reading_of c.args.rules.now.layout c.args.octets.now ≡ Ok c.in-Ok.frame = ap (λ (l : LayoutParts). reading_of l c.args.octets.now) (sym layout) ∙ sym c.in-Ok.ensures in
-    let channels : c.rules.inside.channels ≡ c.args.rules.now.channels = ap (λ (r : Rules). r.channels) c.rules.view_is in
-    let is_chosen : chooses c.args.rules.now c.channel-channel.result ≡ true = ap (λ (l : List Bool). is_chosen l c.channel-channel.result) (sym channels) ∙ sym c.has.ensures ∙ c.if-has.true in
+    let e = read_as c.args.octets.now c.rules.view_is c.in-Ok.ensures in
+    let is_chosen = chosen_as c.channel-channel.result c.rules.view_is c.has.ensures c.if-has.true in
     IfErr-weaker c.take_frame.result _ _
     (λ fault h.
     subst (λ (xs : List Item). RefusesOne g.S.Sink.takes g.S.Sink.refuses c.args.sink.now xs fault c.take_frame.new.sink)
@@ -61,37 +51,30 @@ returns-then-has-clause-refused g c =
 
 pub returns-else-has-clause-taken : goal.returns-else-has-clause-taken
 returns-else-has-clause-taken g c =
-    let layout : c.rules.inside.layout ≡ c.args.rules.now.layout = ap (λ (r : Rules). r.layout) c.rules.view_is in
-    let e : reading_of c.args.rules.now.layout c.args.octets.now ≡ Ok c.in-Ok.frame = ap (λ (l : LayoutParts). reading_of l c.args.octets.now) (sym layout) ∙ sym c.in-Ok.ensures in
-    let channels : c.rules.inside.channels ≡ c.args.rules.now.channels = ap (λ (r : Rules). r.channels) c.rules.view_is in
-    let is_chosen : chooses c.args.rules.now c.channel-channel.result ≡ false = ap (λ (l : List Bool). is_chosen l c.channel-channel.result) (sym channels) ∙ sym c.has.ensures ∙ c.if-has.false in
+    let e = read_as c.args.octets.now c.rules.view_is c.in-Ok.ensures in
+    let is_chosen = chosen_as c.channel-channel.result c.rules.view_is c.has.ensures c.if-has.false in
     subst (λ (xs : List Item). TakesAll g.S.Sink.takes c.args.sink.now xs c.give_master_gap.new.sink) (items_unchosen c.args.rules.now c.args.seen c.args.master.now c.args.kept.now c.requires.state c.requires.limit c.args.octets.now c.in-Ok.frame e c.master_count-count.result c.master_count-count.ensures (ap (chooses c.args.rules.now) (sym c.channel-channel.ensures.value) ∙ is_chosen))
     c.in_default.ensures.taken
 
 pub returns-else-has-clause-left : goal.returns-else-has-clause-left
 returns-else-has-clause-left g c =
-    let layout : c.rules.inside.layout ≡ c.args.rules.now.layout = ap (λ (r : Rules). r.layout) c.rules.view_is in
-    let e : reading_of c.args.rules.now.layout c.args.octets.now ≡ Ok c.in-Ok.frame = ap (λ (l : LayoutParts). reading_of l c.args.octets.now) (sym layout) ∙ sym c.in-Ok.ensures in
-    let channels : c.rules.inside.channels ≡ c.args.rules.now.channels = ap (λ (r : Rules). r.channels) c.rules.view_is in
-    let is_chosen : chooses c.args.rules.now c.channel-channel.result ≡ false = ap (λ (l : List Bool). is_chosen l c.channel-channel.result) (sym channels) ∙ sym c.has.ensures ∙ c.if-has.false in
+    let e = read_as c.args.octets.now c.rules.view_is c.in-Ok.ensures in
+    let is_chosen = chosen_as c.channel-channel.result c.rules.view_is c.has.ensures c.if-has.false in
     after_unchosen c.args.rules.now c.args.seen c.args.master.now c.args.kept.now c.requires.state c.requires.limit c.args.octets.now c.in-Ok.frame e c.master_count-count.result c.master_count-count.ensures (ap (chooses c.args.rules.now) (sym c.channel-channel.ensures.value) ∙ is_chosen)
 
 pub returns-in-Ok-take-clause-taken : goal.returns-in-Ok-take-clause-taken
 returns-in-Ok-take-clause-taken g c =
-    let layout : c.rules.inside.layout ≡ c.args.rules.now.layout = ap (λ (r : Rules). r.layout) c.rules.view_is in
-    let e : reading_of c.args.rules.now.layout c.args.octets.now ≡ Err c.in-Err.fault = ap (λ (l : LayoutParts). reading_of l c.args.octets.now) (sym layout) ∙ sym c.in-Err.ensures in
+    let e = read_as c.args.octets.now c.rules.view_is c.in-Err.ensures in
     subst (λ (xs : List Item). TakesAll g.S.Sink.takes c.args.sink.now xs c.take.new.self)
     (items_bad_record c.args.rules.now c.args.seen c.args.master.now _ c.requires.state c.args.octets.now c.in-Err.fault e)
     (c.take.new.self, c.in-Ok-take.ensures.taken, refl)
 
 pub returns-in-Ok-take-clause-left : goal.returns-in-Ok-take-clause-left
 returns-in-Ok-take-clause-left g c =
-    let layout : c.rules.inside.layout ≡ c.args.rules.now.layout = ap (λ (r : Rules). r.layout) c.rules.view_is in
-    let e : reading_of c.args.rules.now.layout c.args.octets.now ≡ Err c.in-Err.fault = ap (λ (l : LayoutParts). reading_of l c.args.octets.now) (sym layout) ∙ sym c.in-Err.ensures in
+    let e = read_as c.args.octets.now c.rules.view_is c.in-Err.ensures in
     after_bad_record c.args.rules.now c.args.seen c.args.master.now _ c.requires.state c.args.octets.now c.in-Err.fault e
 
 pub returns-in-Err-take-clause-refused : goal.returns-in-Err-take-clause-refused
 returns-in-Err-take-clause-refused g c =
-    let layout : c.rules.inside.layout ≡ c.args.rules.now.layout = ap (λ (r : Rules). r.layout) c.rules.view_is in
-    let e : reading_of c.args.rules.now.layout c.args.octets.now ≡ Err c.in-Err.fault = ap (λ (l : LayoutParts). reading_of l c.args.octets.now) (sym layout) ∙ sym c.in-Err.ensures in
+    let e = read_as c.args.octets.now c.rules.view_is c.in-Err.ensures in
     refused_bad_record c.args.rules.now c.args.seen c.args.master.now _ c.requires.state c.args.octets.now _ _ _ _ _ c.in-Err.fault e c.in-Err-take.ensures.refused

@@ -3,4 +3,3 @@ pub mod FaultLines
 pub mod Files
 pub mod Program
 pub mod Reports
-pub mod Shelves

@@ -6,7 +6,6 @@ mod files;
 mod kept;
 mod lines;
 mod report;
-mod shelf;
 mod steps;
 
 pub use fault::{NoMemory, ToolFault};

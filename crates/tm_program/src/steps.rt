@@ -1,21 +1,21 @@
 //! The order of steps: command line, settings, definition, checkpoint, recording, report, run, checkpoint of the run.
 
 ghost use Rattle.std.specs.Prelude.{◌≡◌, ◌≢◌, ◌⊎◌, [], Ok, false, IfErr, IfOk, IfSome, IsSome, MatchOption, OnOk, is_some, map, option_map, string_bytes};
+ghost use Rattle.tm_shelf.specs.Shelves.{HoldsNone};
 ghost use Rattle.tm_program.specs.Endings.{HasDone, IsDone, ending_of};
 ghost use Rattle.tm_program.specs.Files.{IsFileFault};
 ghost use Rattle.tm_program.specs.Reports.{is_file};
-ghost use Rattle.tm_program.specs.Shelves.{HoldsNone};
 ghost use Rattle.tm_program.specs.Program.{HasFault, IsAsked, IsClear, IsNoMemory, IsOfDefinition, IsOfOutputs, IsOfResumed, IsOfSettings, IsOfStreams, IsResumed, IsRunFault, MayCome, MayEnd, beside, has_name, is_checkpoint, is_in_the_way, is_read};
 
 use crate::fault::ToolFault;
 use crate::files::{append, create, file_fault, open, read_file};
 use crate::kept::{ending_by, job_by, keep, resumed_by};
 use crate::report::Report;
-use crate::shelf::{FileShelf, ShelfFault};
 use std::alloc::Global;
 use std::io::{self, BufReader, BufWriter, Read, Write};
 use std::rt::Files;
 use tm_fields::Definition;
+use tm_shelf::{FileShelf, ShelfFault};
 use tm_tool::{
     Command, Done, Drain, Ending, Job, Octets, Reading, RunFault, Settings, Shelf, Source, Writing,
     list_frames, run as run_job, split,
@@ -183,7 +183,7 @@ fn split_packets<R: Files + AllocGlobal, S: Read + Drop, V: Write + Drop>(
     ending: Ending,
 ) -> Result<Done, ToolFault>
     ensures done { IfOk result (λ done. IsDone ending job.work done.records (option_map (λ kept. kept.work) done.kept)) }
-    ensures written { OnOk result (HoldsNone shelf.new.held.items) }
+    ensures written { OnOk result (HoldsNone shelf.new.held) }
     ensures refused { IfErr result IsRunFault }
 {
     let alloc = rt.alloc();
@@ -199,7 +199,7 @@ fn shelf_in<'a, R: Files + AllocGlobal>(
     dir: &'a Octets,
     goes_on: bool,
 ) -> Result<FileShelf<'a, R>, ToolFault>
-    ensures folder { IfOk result (λ s. (s.folder.dir.now ≡ dir.now) × (s.folder.goes_on ≡ goes_on) × (dir.now ≢ [])) }
+    ensures folder { IfOk result (λ s. (s.folder ≡ dir.now) × (s.goes_on ≡ goes_on) × (dir.now ≢ [])) }
     ensures refused { IfErr result (IsFileFault dir.now) }
 {
     let path = match std::str::from_utf8(dir.as_slice()) {

@@ -1,3 +1,4 @@
+pub mod Decisions
 pub mod Endings
 pub mod FaultLines
 pub mod Files

@@ -1,10 +1,12 @@
 //! What the program does: fault lines and statuses, files, and the order of steps.
 #![tactic(auto)]
 
+mod decisions;
 mod fault;
 mod files;
 mod kept;
 mod lines;
+mod names;
 mod report;
 mod steps;
 

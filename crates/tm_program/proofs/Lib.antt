@@ -1,4 +1,3 @@
 pub mod EndingLemmas
 pub mod FileLemmas
-pub mod ShelfLemmas
 pub mod ProgramLemmas

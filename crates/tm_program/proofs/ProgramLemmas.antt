@@ -1,5 +1,5 @@
 -- Faults of files and of runs, as faults that may come of a plan.
-use Rattle.std.proofs.Common.{ℕ, ◌≡◌, List, Option, None, Some, inl, inr, refl, subst, sym}
+use Rattle.std.proofs.Common.{ℕ, ◌≡◌, ◌⊎◌, List, Option, None, Some, inl, inr, refl, subst, sym}
 use Rattle.tm_program.specs.Files.{IsFaultOf, IsFileFault}
 use Rattle.tm_program.specs.Program.{HasFault, HasReadFault, IsAsked, IsNamed, IsNoMemory, IsOfDefinition, IsOfOutputs, IsOfResumed, IsOfSettings, IsOfStreams, IsReadWhole, IsRunFault, MayCome, MayEnd}
 use Rattle.tm_output.specs.declared.fault.RunFault.TheVariants.{NoMemory, Read, Report, ShortRecording, TooMany, Write}
@@ -90,6 +90,11 @@ outputs_come p fault (inr (inl h)) = file_of_comes p p.report fault (λ name is.
 outputs_come p fault (inr (inr (inl h))) = file_of_comes p p.checkpoint fault (λ name is. inr (inr (inr (inl is)))) h
 outputs_come p fault (inr (inr (inr h))) = file_of_comes p p.dir fault (λ name is. inr (inr (inr (inr is)))) h
 
+-- the names of the checkpoint and of the report are checked
+pub names_come : (p : Plan) (fault : ToolFault) → HasFault p.report fault ⊎ HasFault p.checkpoint fault → IsOfOutputs p fault
+names_come p fault (inl h) = inr (inl h)
+names_come p fault (inr h) = inr (inr (inl h))
+
 -- want of memory is a fault of a run, and may come of each file
 pub starved_run : (fault : ToolFault) → IsNoMemory fault → IsRunFault fault
 starved_run (tool.Usage f) h = absurd h
@@ -117,6 +122,9 @@ starved_file name (tool.Run NoMemory) h = tt
 -- a file that there is
 pub starved_there : (file : Option (List ℕ)) (name : List ℕ) (fault : ToolFault) → file ≡ Some name → IsNoMemory fault → HasFault file fault
 starved_there file name fault is h = subst (λ o. HasFault o fault) (sym is) (starved_file name fault h)
+
+pub fault_there : (file : Option (List ℕ)) (name : List ℕ) (fault : ToolFault) → file ≡ Some name → IsFileFault name fault → HasFault file fault
+fault_there file name fault is h = subst (λ o. HasFault o fault) (sym is) h
 
 -- what may come of the plan of words may be their end
 pub plan_ends : (words : List (List ℕ)) (p : Plan) (fault : ToolFault) → IsAsked words p → MayCome p fault → MayEnd words fault

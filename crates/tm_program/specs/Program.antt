@@ -45,10 +45,13 @@ beside name = name ++ codes ".new"
 abbrev pub is_in_the_way : Plan → List ℕ → Bool
 is_in_the_way p name = is_read p name || is_read p (beside name) || has_name (beside name) p.report || has_name (beside name) p.resume
 
--- neither the checkpoint nor the report takes the place of a file that is read, or of one another; a list of frames has neither
+-- neither the checkpoint nor the report takes the place of a file that is read, or of one another
+abbrev pub AreClear : Plan → Type 0
+AreClear p = IfSome p.checkpoint (λ name. is_in_the_way p name ≡ false) × IfSome p.report (λ name. (is_read p name ≡ false) × (is_checkpoint p name ≡ false))
+
+-- likewise; a list of frames has neither
 abbrev pub IsClear : Plan → Type 0
-IsClear p = (p.action ≡ Frames)
-    ⊎ (IfSome p.checkpoint (λ name. is_in_the_way p name ≡ false) × IfSome p.report (λ name. (is_read p name ≡ false) × (is_checkpoint p name ≡ false)))
+IsClear p = (p.action ≡ Frames) ⊎ AreClear p
 
 -- ---- what comes of a plan
 

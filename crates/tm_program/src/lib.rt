@@ -1,12 +1,13 @@
 //! What the program does: fault lines and statuses, files, and the order of steps.
 #![tactic(auto)]
 
+mod decisions;
 mod fault;
 mod files;
 mod kept;
 mod lines;
+mod names;
 mod report;
-mod shelf;
 mod steps;
 
 pub use fault::{NoMemory, ToolFault};

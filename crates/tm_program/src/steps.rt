@@ -1,21 +1,27 @@
 //! The order of steps: command line, settings, definition, checkpoint, recording, report, run, checkpoint of the run.
 
 ghost use Rattle.std.specs.Prelude.{◌≡◌, ◌≢◌, ◌⊎◌, [], Ok, false, IfErr, IfOk, IfSome, IsSome, MatchOption, OnOk, is_some, map, option_map, string_bytes};
+ghost use Rattle.tm_shelf.specs.Shelves.{HoldsNone};
+ghost use Rattle.tm_program.specs.Decisions.{split_end_of, stream_fault_of};
 ghost use Rattle.tm_program.specs.Endings.{HasDone, IsDone, ending_of};
 ghost use Rattle.tm_program.specs.Files.{IsFileFault};
 ghost use Rattle.tm_program.specs.Reports.{is_file};
-ghost use Rattle.tm_program.specs.Shelves.{HoldsNone};
-ghost use Rattle.tm_program.specs.Program.{HasFault, IsAsked, IsClear, IsNoMemory, IsOfDefinition, IsOfOutputs, IsOfResumed, IsOfSettings, IsOfStreams, IsResumed, IsRunFault, MayCome, MayEnd, beside, has_name, is_checkpoint, is_in_the_way, is_read};
+ghost use Rattle.tm_program.specs.Program.{HasFault, IsAsked, IsClear, IsNoMemory, IsOfDefinition, IsOfOutputs, IsOfResumed, IsOfSettings, IsOfStreams, IsResumed, IsRunFault, MayCome, MayEnd};
 
+use crate::decisions::{
+    Destination, Opening, Recording, Stream, destination_by, opening_by, recording_by,
+    stream_fault, writes_errors, writes_output,
+};
 use crate::fault::ToolFault;
 use crate::files::{append, create, file_fault, open, read_file};
 use crate::kept::{ending_by, job_by, keep, resumed_by};
+use crate::names::{Checked, check_names};
 use crate::report::Report;
-use crate::shelf::{FileShelf, ShelfFault};
 use std::alloc::Global;
 use std::io::{self, BufReader, BufWriter, Read, Write};
 use std::rt::Files;
 use tm_fields::Definition;
+use tm_shelf::{FileShelf, ShelfFault};
 use tm_tool::{
     Command, Done, Drain, Ending, Job, Octets, Reading, RunFault, Settings, Shelf, Source, Writing,
     list_frames, run as run_job, split,
@@ -149,6 +155,7 @@ fn split_end(
     ensures done { IfOk result (λ d. done ≡ Ok d) }
     ensures written { OnOk result (written ≡ Ok tt) }
     ensures refused { IfErr result IsRunFault }
+    ensures end { result ≡ split_end_of done written is_starved }
 {
     match (done, written) {
         (Ok(done), Ok(())) => Ok(done),
@@ -183,7 +190,7 @@ fn split_packets<R: Files + AllocGlobal, S: Read + Drop, V: Write + Drop>(
     ending: Ending,
 ) -> Result<Done, ToolFault>
     ensures done { IfOk result (λ done. IsDone ending job.work done.records (option_map (λ kept. kept.work) done.kept)) }
-    ensures written { OnOk result (HoldsNone shelf.new.held.items) }
+    ensures written { OnOk result (HoldsNone shelf.new.held) }
     ensures refused { IfErr result IsRunFault }
 {
     let alloc = rt.alloc();
@@ -199,7 +206,7 @@ fn shelf_in<'a, R: Files + AllocGlobal>(
     dir: &'a Octets,
     goes_on: bool,
 ) -> Result<FileShelf<'a, R>, ToolFault>
-    ensures folder { IfOk result (λ s. (s.folder.dir.now ≡ dir.now) × (s.folder.goes_on ≡ goes_on) × (dir.now ≢ [])) }
+    ensures folder { IfOk result (λ s. (s.folder ≡ dir.now) × (s.goes_on ≡ goes_on) × (dir.now ≢ [])) }
     ensures refused { IfErr result (IsFileFault dir.now) }
 {
     let path = match std::str::from_utf8(dir.as_slice()) {
@@ -212,90 +219,21 @@ fn shelf_in<'a, R: Files + AllocGlobal>(
     }
 }
 
-// There is such a file, and it has this name.
-fn has_name(file: &Option<Octets>, name: &Octets) -> bool
-    ensures { result ≡ has_name name.now file.now }
-{
-    match file {
-        Some(file) => file.as_slice() == name.as_slice(),
-        None => false,
-    }
-}
-
-// A file of this name is read, and so must not be written.
-fn is_read(plan: &Plan, name: &Octets) -> bool
-    ensures { result ≡ is_read plan.now name.now }
-{
-    has_name(&plan.recording, name)
-        || has_name(&plan.settings, name)
-        || has_name(&plan.definition, name)
-}
-
-// A file of this name has the checkpoint, before the run or after it.
-fn is_checkpoint(plan: &Plan, name: &Octets) -> bool
-    ensures { result ≡ is_checkpoint plan.now name.now }
-{
-    has_name(&plan.checkpoint, name) || has_name(&plan.resume, name)
-}
-
-// The name of the file in which a checkpoint is written before it takes its name.
-fn beside(alloc: Global, name: &Octets) -> Result<Octets, ToolFault>
-    ensures name { IfOk result (λ found. found ≡ beside name.now) }
-    ensures refused { IfErr result IsNoMemory }
-{
-    let Ok(mut octets) = Vec::from_slice(alloc, name.as_slice()) else {
-        return Err(no_memory());
-    };
-    match octets.extend_from_slice(b".new") {
-        Ok(()) => Ok(Octets::new(octets)),
-        Err(_) => Err(no_memory()),
-    }
-}
-
-// A file that the plan reads or writes has the name of the checkpoint or of the file beside it.
-fn is_in_the_way(plan: &Plan, name: &Octets, new_name: &Octets) -> bool
-    requires { new_name.now ≡ beside name.now }
-    ensures { result ≡ is_in_the_way plan.now name.now }
-{
-    is_read(plan, name)
-        || is_read(plan, new_name)
-        || has_name(&plan.report, new_name)
-        || has_name(&plan.resume, new_name)
-}
-
-// The checkpoint must not take the place of a file that is read or of the report, nor the file beside it.
-#[tactic(auto, using(crate::proofs::ProgramLemmas::starved_there))]
-fn check_checkpoint(alloc: Global, plan: &Plan) -> Result<(), ToolFault>
-    ensures ok { OnOk result (IfSome plan.now.checkpoint (λ name. is_in_the_way plan.now name ≡ false)) }
-    ensures refused { IfErr result (HasFault plan.now.checkpoint) }
-{
-    let Some(name) = &plan.checkpoint else {
-        return Ok(());
-    };
-    let new_name = beside(alloc, name)?;
-    if is_in_the_way(plan, name, &new_name) {
-        return Err(file_fault(alloc, name));
-    }
-    Ok(())
-}
-
-// Where the plan wants the report.
+// Where the plan wants the report, once its names are checked.
+#[tactic(auto, using(crate::proofs::ProgramLemmas::fault_there))]
 fn report_by<R: Files + AllocGlobal, E: Write + Drop>(
     rt: &R,
     plan: &Plan,
+    _: Checked,
     errors: E,
 ) -> Result<Report<R::File, E>, ToolFault>
-    ensures ok { OnOk result (IfSome plan.now.report (λ name. (is_read plan.now name ≡ false) × (is_checkpoint plan.now name ≡ false))) }
     ensures file { IfOk result (λ report. is_file report ≡ is_some plan.now.report) }
     ensures refused { IfErr result (HasFault plan.now.report) }
 {
-    match &plan.report {
-        Some(name) if is_read(plan, name) || is_checkpoint(plan, name) => {
-            Err(file_fault(rt.alloc(), name))
-        }
-        Some(name) if plan.resume.is_some() => Ok(Report::File(append(rt, name)?)),
-        Some(name) => Ok(Report::File(create(rt, name)?)),
-        None => Ok(Report::Errors(errors)),
+    match opening_by(plan) {
+        Opening::New(name) => Ok(Report::File(create(rt, name)?)),
+        Opening::Behind(name) => Ok(Report::File(append(rt, name)?)),
+        Opening::Errors => Ok(Report::Errors(errors)),
     }
 }
 
@@ -372,6 +310,7 @@ fn inputs_by<R: Files + AllocGlobal>(rt: &R, plan: &Plan) -> Result<Inputs, Tool
 }
 
 // Goes on with the job over the recording, to where the plan wants the packets.
+#[tactic(auto, using(crate::proofs::ProgramLemmas::fault_there))]
 fn go_on<R: Files + Print + AllocGlobal, S: Read + Drop, V: Write + Drop>(
     rt: &R,
     plan: &Plan,
@@ -385,17 +324,17 @@ fn go_on<R: Files + Print + AllocGlobal, S: Read + Drop, V: Write + Drop>(
 {
     let ending = ending_by(plan);
     let ends = ends_with(rt.alloc(), recording, report)?;
-    match (plan.action, &plan.dir) {
-        (Action::Split, Some(dir)) => {
-            let mut shelf = shelf_in(rt, dir, plan.resume.is_some())?;
+    match destination_by(plan) {
+        Destination::Folder { dir, goes_on } => {
+            let mut shelf = shelf_in(rt, dir, goes_on)?;
             split_packets(rt, job, &mut shelf, ends, ending)
         }
-        _ => give_packets(rt, job, command_by(plan, definition), ends, ending),
+        Destination::Output => give_packets(rt, job, command_by(plan, definition), ends, ending),
     }
 }
 
 // Does what the plan asks for with the recording, and answers what was done, but for a list of frames.
-#[tactic(auto, using(crate::proofs::ProgramLemmas::starved_run, crate::proofs::EndingLemmas::done_from))]
+#[tactic(auto, using(crate::proofs::ProgramLemmas::starved_run, crate::proofs::ProgramLemmas::names_come, crate::proofs::EndingLemmas::done_from))]
 fn run_on<R: Files + Print + AllocGlobal, S: Read + Drop, E: Write + Drop>(
     rt: &R,
     plan: &Plan,
@@ -417,8 +356,8 @@ fn run_on<R: Files + Print + AllocGlobal, S: Read + Drop, E: Write + Drop>(
         definition,
         resumed,
     } = inputs;
-    check_checkpoint(rt.alloc(), plan)?;
-    let report = report_by(rt, plan, errors)?;
+    let checked = check_names(rt.alloc(), plan)?;
+    let report = report_by(rt, plan, checked, errors)?;
     let job = job_by(rt, resumed, &settings)?;
     let done = go_on(rt, plan, definition.as_ref(), job, recording, report)?;
     keep(rt, plan, &done)?;
@@ -437,22 +376,32 @@ fn plan_by(alloc: Global, words: Vec<String>) -> Result<Plan, ToolFault>
 }
 
 // A writer of a standard stream is closed: a file that is opened would take its place.
-fn is_closed<W: Write>(stream: &mut W) -> bool {
-    match stream.write(&[]) {
+fn is_closed<W: Write>(writer: &mut W) -> bool {
+    match writer.write(&[]) {
         Ok(_) => false,
         Err(error) => error.raw_os_error() == Some(CLOSED),
     }
+}
+
+// The standard stream that has this writer is open.
+fn check_stream<W: Write>(stream: Stream, writer: &mut W) -> Result<(), ToolFault>
+    ensures { IfErr result (λ fault. fault ≡ stream_fault_of stream) }
+{
+    if is_closed(writer) {
+        return Err(stream_fault(stream));
+    }
+    Ok(())
 }
 
 // The standard streams to which the plan writes are open.
 fn check_streams<R: Print, E: Write>(rt: &R, plan: &Plan, errors: &mut E) -> Result<(), ToolFault>
     ensures { IfErr result (IsOfStreams plan.now) }
 {
-    if plan.action != Action::Split && is_closed(&mut io::writer(rt)) {
-        return Err(ToolFault::Run(RunFault::Write));
+    if writes_output(plan) {
+        check_stream(Stream::Output, &mut io::writer(rt))?;
     }
-    if plan.action != Action::Frames && plan.report.is_none() && is_closed(errors) {
-        return Err(ToolFault::Run(RunFault::Report));
+    if writes_errors(plan) {
+        check_stream(Stream::Errors, errors)?;
     }
     Ok(())
 }
@@ -470,9 +419,9 @@ fn run_plan<R: Files + Input + Print + AllocGlobal, E: Write + Drop>(
 {
     check_streams(rt, plan, &mut errors)?;
     let inputs = inputs_by(rt, plan)?;
-    let done = match &plan.recording {
-        Some(name) => run_on(rt, plan, inputs, open(rt, name)?, errors),
-        None => run_on(rt, plan, inputs, rt.reader(), errors),
+    let done = match recording_by(plan) {
+        Recording::File(name) => run_on(rt, plan, inputs, open(rt, name)?, errors),
+        Recording::Input => run_on(rt, plan, inputs, rt.reader(), errors),
     };
     match done {
         Ok(_) => Ok(()),

@@ -1,13 +1,14 @@
-//! A file for each application.
+//! The files of a folder, and what is held of each before it is written.
 
-ghost use Rattle.std.specs.Prelude.{◌≡◌, ◌≢◌, ◌<◌, ◌+◌, ◌++◌, ◌⊎◌, ℕ, [], Some, true, false, length, vec_len, slice_get, replicate, IfErr, IfOk, OnOk};
-ghost use Rattle.tm_program.specs.Shelves.{HoldsNone, IsAdded};
+ghost use Rattle.std.specs.Prelude.{◌≡◌, ◌≢◌, ◌<◌, ◌+◌, ◌++◌, ◌⊎◌, ℕ, [], Some, true, false, length, vec_len, slice_get, replicate, IfErr, IfOk, MatchResult, OnOk};
+ghost use Rattle.tm_devices.specs.Devices.{Counts};
+ghost use Rattle.tm_shelf.specs.Buffers.{AreEmpty, IsExtended};
+ghost use Rattle.tm_shelf.specs.ShelfFaults.{is_starving};
 
 use std::alloc::{AllocError, Global};
 use std::fs::{File, OpenOptions};
 use std::io::{self, Write};
 use std::rt::Files;
-use tm_tool::Shelf;
 
 // So many applications there are.
 const APPLICATIONS: usize = 2048;
@@ -105,10 +106,10 @@ impl<R: Files + AllocGlobal> Folder<'_, R> {
     }
 
     // Writes what is held of all applications. Where a file can't be written the others still are.
-    #[tactic(auto, using(crate::proofs::ShelfLemmas::none_so_far))]
+    #[tactic(auto, using(crate::proofs::BufferLemmas::none_so_far))]
     fn write_all(&self, held: &mut [Vec<u8>]) -> Result<(), ShelfFault>
         requires { length held.now ≡ 2048 }
-        ensures { OnOk result (HoldsNone held.new) }
+        ensures { OnOk result (AreEmpty held.new) }
     {
         let mut done = Ok(());
         for application in 0..APPLICATIONS {
@@ -121,10 +122,10 @@ impl<R: Files + AllocGlobal> Folder<'_, R> {
 }
 
 // As many empty buffers as there are applications.
-#[tactic(auto, using(crate::proofs::ShelfLemmas::none_of_next))]
+#[tactic(auto, using(crate::proofs::BufferLemmas::none_of_next))]
 fn none_held(alloc: Global) -> Result<Vec<Vec<u8>>, AllocError>
     ensures count { IfOk result (λ held. vec_len held ≡ 2048) }
-    ensures none { IfOk result (λ held. HoldsNone held.items) }
+    ensures none { IfOk result (λ held. AreEmpty held.items) }
 {
     let mut held = Vec::with_capacity(alloc, APPLICATIONS)?;
     for application in 0..APPLICATIONS {
@@ -136,7 +137,7 @@ fn none_held(alloc: Global) -> Result<Vec<Vec<u8>>, AllocError>
 // Holds octets behind those that are held of an application.
 fn add(held: &mut [Vec<u8>], application: usize, octets: &[u8]) -> Result<(), ShelfFault>
     requires { application < length held.now }
-    ensures added { OnOk result (IsAdded held.old held.new application octets.now) }
+    ensures added { OnOk result (IsExtended held.old held.new application octets.now) }
     ensures refused { IfErr result (λ fault. fault ≡ ShelfFault.NoMemory) }
 {
     match held[application].extend_from_slice(octets) {
@@ -145,10 +146,9 @@ fn add(held: &mut [Vec<u8>], application: usize, octets: &[u8]) -> Result<(), Sh
     }
 }
 
-/// The files `apid-NNNN.pkt` of a folder. A file is made at its application's first packet, or gone on with where a run goes on. Octets are held in memory and written
-/// from time to time, with one file open at a time.
+/// The files of a folder, with what is not written yet. Octets are held in memory and written from time to time, with one file open at a time.
 #[derive(Drop)]
-pub struct FileShelf<'a, R> {
+pub struct HeldFiles<'a, R> {
     folder: Folder<'a, R>,
     // For each application what is not written yet, and whether its file was begun.
     held: Vec<Vec<u8>>,
@@ -161,13 +161,13 @@ pub struct FileShelf<'a, R> {
     ghost all_begun: { vec_len begun ≡ 2048 },
 }
 
-impl<'a, R: Files + AllocGlobal> FileShelf<'a, R> {
+impl<'a, R: Files + AllocGlobal> HeldFiles<'a, R> {
     /// Files in this folder, none begun. Those that are there are gone on with where the run goes on, and else begin empty.
     pub fn new(rt: &'a R, dir: &'a str, goes_on: bool) -> Result<Self, AllocError>
         ensures folder { IfOk result (λ s. (s.folder.dir ≡ dir.entry) × (s.folder.goes_on ≡ goes_on)) }
         ensures counts { IfOk result (λ s. (s.octets ≡ 0) × (s.refused ≡ 0) × (s.starved ≡ false)) }
         ensures begun { IfOk result (λ s. s.begun.items ≡ replicate 2048 false) }
-        ensures held { IfOk result (λ s. HoldsNone s.held.items) }
+        ensures held { IfOk result (λ s. AreEmpty s.held.items) }
     {
         let alloc = rt.alloc();
         let held = none_held(alloc)?;
@@ -178,7 +178,7 @@ impl<'a, R: Files + AllocGlobal> FileShelf<'a, R> {
             dir,
             goes_on,
         };
-        Ok(FileShelf {
+        Ok(HeldFiles {
             folder,
             held,
             begun,
@@ -197,7 +197,7 @@ impl<'a, R: Files + AllocGlobal> FileShelf<'a, R> {
 
     /// Writes all that is held. Where a file can't be written the others still are.
     pub fn write_held(&mut self) -> Result<(), ShelfFault>
-        ensures held { OnOk result (HoldsNone self.new.held.items) }
+        ensures held { OnOk result (AreEmpty self.new.held.items) }
         ensures octets { self.new.octets ≡ 0 }
         ensures begun { self.new.begun ≡ self.old.begun }
         ensures same { (self.new.folder ≡ self.old.folder) × (self.new.refused ≡ self.old.refused) × (self.new.starved ≡ self.old.starved) }
@@ -211,8 +211,8 @@ impl<'a, R: Files + AllocGlobal> FileShelf<'a, R> {
         requires { application < 2048 }
         ensures begun { OnOk result (slice_get self.new.begun.items application ≡ Some true) }
         ensures others { (other : ℕ) → other ≢ application → slice_get self.new.begun.items other ≡ slice_get self.old.begun.items other }
-        ensures held { OnOk result ((IsAdded self.old.held.items self.new.held.items application octets.now × (self.new.octets ≡ self.old.octets + length octets.now))
-            ⊎ HoldsNone self.new.held.items) }
+        ensures held { OnOk result ((IsExtended self.old.held.items self.new.held.items application octets.now × (self.new.octets ≡ self.old.octets + length octets.now))
+            ⊎ AreEmpty self.new.held.items) }
         ensures few { OnOk result (self.new.octets < 8388608) }
         ensures same { (self.new.folder ≡ self.old.folder) × (self.new.refused ≡ self.old.refused) × (self.new.starved ≡ self.old.starved) }
     {
@@ -225,25 +225,27 @@ impl<'a, R: Files + AllocGlobal> FileShelf<'a, R> {
         }
         self.write_held()
     }
-}
 
-impl<R: Files + AllocGlobal> Shelf for FileShelf<'_, R> {
-    type Fault = ShelfFault;
-
-    ghost refusals = { λ s. s.refused };
-
-    #[tactic(auto, using(crate::proofs::ShelfLemmas::none_put))]
-    fn put(&mut self, application: u16, octets: &[u8]) -> Result<(), ShelfFault> {
-        let at = usize::from(application);
-        let put = if at < APPLICATIONS {
-            self.hold(at, octets)
+    /// Holds octets of an application, and remembers a refusal and its cause.
+    pub fn put(&mut self, application: usize, octets: &[u8]) -> Result<(), ShelfFault>
+        ensures begun { OnOk result (slice_get self.new.begun.items application ≡ Some true) }
+        ensures others { (other : ℕ) → other ≢ application → slice_get self.new.begun.items other ≡ slice_get self.old.begun.items other }
+        ensures held { OnOk result ((IsExtended self.old.held.items self.new.held.items application octets.now × (self.new.octets ≡ self.old.octets + length octets.now))
+            ⊎ AreEmpty self.new.held.items) }
+        ensures few { OnOk result (self.new.octets < 8388608) }
+        ensures same { self.new.folder ≡ self.old.folder }
+        ensures counts { Counts self.old.refused self.new.refused result }
+        ensures starved { MatchResult result (λ _. self.new.starved ≡ self.old.starved) (λ fault. self.new.starved ≡ is_starving fault) }
+    {
+        let put = if application < APPLICATIONS {
+            self.hold(application, octets)
         } else {
             Err(ShelfFault::NotWritten)
         };
         let Err(fault) = put else {
             return Ok(());
         };
-        self.starved = fault == ShelfFault::NoMemory;
+        self.starved = matches!(fault, ShelfFault::NoMemory);
         self.refused = self.refused.saturating_add(1);
         Err(fault)
     }

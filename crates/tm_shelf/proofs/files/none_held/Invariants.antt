@@ -1,10 +1,10 @@
 -- So many applications have their place, and nothing is held of them.
 use Rattle.std.proofs.Common.{◌≡◌}
 use Rattle.std.specs.Prelude.{vec_len}
-use Rattle.tm_program.specs.Shelves.{HoldsNoneOf}
-use Rattle.tm_program.proofs.shelf.none_held.Given as goal
+use Rattle.tm_shelf.specs.Buffers.{AreEmptyOf}
+use Rattle.tm_shelf.proofs.files.none_held.Given as goal
 
 abbrev pub invariant-loop-application : goal.invariant-loop-application
 invariant-loop-application l =
     (vec_len l.held ≡ l.application)
-    × HoldsNoneOf l.application l.held.items
+    × AreEmptyOf l.application l.held.items

@@ -1,0 +1,109 @@
+//! What a plan decides of files and streams, before any is opened. The steps carry it out.
+
+ghost use Rattle.std.specs.Prelude.{◌≡◌};
+ghost use Rattle.tm_program.specs.Decisions.{IsDestination, IsOpening, IsRecording, stream_fault_of, writes_errors, writes_output};
+
+use crate::fault::ToolFault;
+use tm_tool::{Octets, RunFault};
+use tm_words::{Action, Plan};
+
+/// Where the recording comes from.
+pub enum Recording<'p> {
+    /// Standard input.
+    Input,
+    /// The file of this name.
+    File(&'p Octets),
+}
+
+/// How the report is opened.
+pub enum Opening<'p> {
+    /// The file of this name begins empty.
+    New(&'p Octets),
+    /// It is written behind what the file of this name has.
+    Behind(&'p Octets),
+    /// It goes to standard error.
+    Errors,
+}
+
+/// Where the packets go.
+pub enum Destination<'p> {
+    /// To files in a folder, which are gone on with or else begin empty.
+    Folder { dir: &'p Octets, goes_on: bool },
+    /// To standard output.
+    Output,
+}
+
+/// A standard stream that is written.
+#[derive(Clone, Copy)]
+pub enum Stream {
+    Output,
+    Errors,
+}
+
+/// Where the plan's recording comes from: standard input exactly where no file is named.
+pub fn recording_by(plan: &Plan) -> Recording<'_>
+    ensures { IsRecording plan.now result }
+{
+    match &plan.recording {
+        Some(name) => Recording::File(name),
+        None => Recording::Input,
+    }
+}
+
+/// How the plan's report is opened: a file that is named is gone on with exactly where the job is.
+pub fn opening_by(plan: &Plan) -> Opening<'_>
+    ensures { IsOpening plan.now result }
+{
+    match (&plan.report, &plan.resume) {
+        (Some(name), None) => Opening::New(name),
+        (Some(name), Some(_)) => Opening::Behind(name),
+        (None, _) => Opening::Errors,
+    }
+}
+
+/// Where the plan's packets go: files of a folder are gone on with exactly where the job is.
+pub fn destination_by(plan: &Plan) -> Destination<'_>
+    ensures { IsDestination plan.now result }
+{
+    match plan.action {
+        Action::Split => match &plan.dir {
+            Some(dir) => Destination::Folder {
+                dir,
+                goes_on: plan.resume.is_some(),
+            },
+            None => Destination::Output,
+        },
+        _ => Destination::Output,
+    }
+}
+
+/// The plan writes to standard output.
+pub fn writes_output(plan: &Plan) -> bool
+    ensures { result ≡ writes_output plan.now.action }
+{
+    match plan.action {
+        Action::Split => false,
+        _ => true,
+    }
+}
+
+/// The plan writes its report to standard error.
+pub fn writes_errors(plan: &Plan) -> bool
+    ensures { result ≡ writes_errors plan.now.action plan.now.report }
+{
+    match (plan.action, &plan.report) {
+        (Action::Frames, _) => false,
+        (_, None) => true,
+        (_, Some(_)) => false,
+    }
+}
+
+/// The fault of a stream that can't be written.
+pub fn stream_fault(stream: Stream) -> ToolFault
+    ensures { result ≡ stream_fault_of stream }
+{
+    match stream {
+        Stream::Output => ToolFault::Run(RunFault::Write),
+        Stream::Errors => ToolFault::Run(RunFault::Report),
+    }
+}

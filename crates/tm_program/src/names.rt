@@ -1,0 +1,104 @@
+//! Which files of a plan are in each other's way by their names.
+
+ghost use Rattle.std.specs.Prelude.{◌≡◌, ◌⊎◌, false, IfErr, IfOk, IfSome, OnOk};
+ghost use Rattle.tm_program.specs.Program.{AreClear, HasFault, IsNoMemory, beside, has_name, is_checkpoint, is_in_the_way, is_read};
+
+use crate::fault::ToolFault;
+use crate::files::file_fault;
+use std::alloc::Global;
+use tm_tool::{Octets, RunFault};
+use tm_words::Plan;
+
+/// The names of a plan were checked. Only `check_names` says so, and the report is opened by this alone: so not before.
+#[derive(Clone, Copy)]
+pub struct Checked(());
+
+// There is such a file, and it has this name.
+fn has_name(file: &Option<Octets>, name: &Octets) -> bool
+    ensures { result ≡ has_name name.now file.now }
+{
+    match file {
+        Some(file) => file.as_slice() == name.as_slice(),
+        None => false,
+    }
+}
+
+// A file of this name is read, and so must not be written.
+fn is_read(plan: &Plan, name: &Octets) -> bool
+    ensures { result ≡ is_read plan.now name.now }
+{
+    has_name(&plan.recording, name)
+        || has_name(&plan.settings, name)
+        || has_name(&plan.definition, name)
+}
+
+// A file of this name has the checkpoint, before the run or after it.
+fn is_checkpoint(plan: &Plan, name: &Octets) -> bool
+    ensures { result ≡ is_checkpoint plan.now name.now }
+{
+    has_name(&plan.checkpoint, name) || has_name(&plan.resume, name)
+}
+
+// The name of the file in which a checkpoint is written before it takes its name.
+fn beside(alloc: Global, name: &Octets) -> Result<Octets, ToolFault>
+    ensures name { IfOk result (λ found. found ≡ beside name.now) }
+    ensures refused { IfErr result IsNoMemory }
+{
+    let Ok(mut octets) = Vec::from_slice(alloc, name.as_slice()) else {
+        return Err(ToolFault::Run(RunFault::NoMemory));
+    };
+    match octets.extend_from_slice(b".new") {
+        Ok(()) => Ok(Octets::new(octets)),
+        Err(_) => Err(ToolFault::Run(RunFault::NoMemory)),
+    }
+}
+
+// A file that the plan reads or writes has the name of the checkpoint or of the file beside it.
+fn is_in_the_way(plan: &Plan, name: &Octets, new_name: &Octets) -> bool
+    requires { new_name.now ≡ beside name.now }
+    ensures { result ≡ is_in_the_way plan.now name.now }
+{
+    is_read(plan, name)
+        || is_read(plan, new_name)
+        || has_name(&plan.report, new_name)
+        || has_name(&plan.resume, new_name)
+}
+
+// The checkpoint must not take the place of a file that is read or of the report, nor the file beside it.
+#[tactic(auto, using(crate::proofs::ProgramLemmas::starved_there))]
+fn check_checkpoint(alloc: Global, plan: &Plan) -> Result<(), ToolFault>
+    ensures ok { OnOk result (IfSome plan.now.checkpoint (λ name. is_in_the_way plan.now name ≡ false)) }
+    ensures refused { IfErr result (HasFault plan.now.checkpoint) }
+{
+    let Some(name) = &plan.checkpoint else {
+        return Ok(());
+    };
+    let new_name = beside(alloc, name)?;
+    if is_in_the_way(plan, name, &new_name) {
+        return Err(file_fault(alloc, name));
+    }
+    Ok(())
+}
+
+// The report must not take the place of a file that is read or has a checkpoint.
+fn check_report(alloc: Global, plan: &Plan) -> Result<(), ToolFault>
+    ensures ok { OnOk result (IfSome plan.now.report (λ name. (is_read plan.now name ≡ false) × (is_checkpoint plan.now name ≡ false))) }
+    ensures refused { IfErr result (HasFault plan.now.report) }
+{
+    match &plan.report {
+        Some(name) if is_read(plan, name) || is_checkpoint(plan, name) => {
+            Err(file_fault(alloc, name))
+        }
+        _ => Ok(()),
+    }
+}
+
+/// What the run writes must not take the place of what is read, nor of one another: first the checkpoint, then the report.
+pub fn check_names(alloc: Global, plan: &Plan) -> Result<Checked, ToolFault>
+    ensures ok { OnOk result (AreClear plan.now) }
+    ensures refused { IfErr result (λ fault. HasFault plan.now.report fault ⊎ HasFault plan.now.checkpoint fault) }
+{
+    check_checkpoint(alloc, plan)?;
+    check_report(alloc, plan)?;
+    Ok(Checked(()))
+}

@@ -1,0 +1,33 @@
+-- What a shelf of files is seen as.
+use Rattle.std.specs.Prelude.{◌≡◌, ◌≢◌, ◌<◌, ◌++◌, ℕ, Bool, List, [], Some, Vec, map, option_map, slice_get}
+
+-- a shelf of files
+pub record ShelfState : Type 0 where
+  -- the name of the files' folder
+  pub folder : List ℕ
+  -- a file that is there is gone on with, and else it begins empty
+  pub goes_on : Bool
+  -- for each application whether its file was begun
+  pub begun : List Bool
+  -- for each application the octets that are not written yet
+  pub held : List (List ℕ)
+  -- how many octets came to be held since all that was held was last written
+  pub octets : ℕ
+  -- how many puts were refused, up to 2^64 - 1
+  pub refused : ℕ
+  -- the last put that was refused was so for want of memory
+  pub starved : Bool
+
+-- the octets in each of these buffers
+abbrev pub octets_of : {Z : Type 0} → List (Vec ℕ Z) → List (List ℕ)
+octets_of buffers = map (λ octets. octets.items) buffers
+
+-- nothing is held of any application
+abbrev pub HoldsNone : List (List ℕ) → Type 0
+HoldsNone held = (application : ℕ) → application < 2048 → slice_get held application ≡ Some []
+
+-- these octets are held behind those of their application, and of the others the same as before
+abbrev pub IsAdded : List (List ℕ) → List (List ℕ) → ℕ → List ℕ → Type 0
+IsAdded old new application added =
+    (slice_get new application ≡ option_map (λ octets. octets ++ added) (slice_get old application))
+    × ((other : ℕ) → other ≢ application → slice_get new other ≡ slice_get old other)

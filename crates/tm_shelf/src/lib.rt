@@ -1,0 +1,8 @@
+//! The files of `split`: one for each application.
+#![tactic(auto)]
+
+mod files;
+mod shelf;
+
+pub use files::ShelfFault;
+pub use shelf::FileShelf;

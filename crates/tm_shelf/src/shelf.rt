@@ -1,0 +1,89 @@
+//! A file for each application.
+
+ghost use Rattle.std.specs.Prelude.{◌≡◌, ◌≢◌, ◌<◌, ◌+◌, ◌⊎◌, ℕ, None, Some, true, false, length, slice_get, replicate, IfOk, MatchResult, OnErr, OnOk};
+ghost use Rattle.tm_devices.specs.Devices.{Counts, Puts, PutsFront};
+ghost use Rattle.tm_shelf.specs.ShelfFaults.{is_starving};
+ghost use Rattle.tm_shelf.specs.Shelves.{HoldsNone, IsAdded};
+
+use crate::files::{HeldFiles, ShelfFault};
+use std::alloc::AllocError;
+use std::marker::Model;
+use std::rt::Files;
+use tm_devices::Shelf;
+
+/// The files `apid-NNNN.pkt` of a folder. A file is made at its application's first packet, or gone on with where a run goes on. Octets are held in memory and written
+/// from time to time, with one file open at a time.
+#[derive(Drop)]
+pub struct FileShelf<'a, R> {
+    files: HeldFiles<'a, R>,
+}
+
+impl<'a, R> Model for FileShelf<'a, R> {
+    ghost use Rattle.tm_shelf.specs.Shelves.{ShelfState, octets_of};
+
+    ghost Value = { ShelfState };
+
+    ghost view = { λ s. record {
+      folder = s.files.folder.dir.now;
+      goes_on = s.files.folder.goes_on;
+      begun = s.files.begun.items;
+      held = octets_of s.files.held.items;
+      octets = s.files.octets;
+      refused = s.files.refused;
+      starved = s.files.starved;
+    } };
+}
+
+impl<'a, R: Files + AllocGlobal> FileShelf<'a, R> {
+    /// Files in this folder, none begun. Those that are there are gone on with where the run goes on, and else begin empty.
+    #[tactic(auto, using(crate::proofs::ShelfLemmas::none_seen))]
+    pub fn new(rt: &'a R, dir: &'a str, goes_on: bool) -> Result<Self, AllocError>
+        ensures folder { IfOk result (λ s. (s.folder ≡ dir.entry.now) × (s.goes_on ≡ goes_on)) }
+        ensures counts { IfOk result (λ s. (s.octets ≡ 0) × (s.refused ≡ 0) × (s.starved ≡ false)) }
+        ensures begun { IfOk result (λ s. s.begun ≡ replicate 2048 false) }
+        ensures held { IfOk result (λ s. HoldsNone s.held) }
+    {
+        let files = HeldFiles::new(rt, dir, goes_on)?;
+        Ok(FileShelf { files })
+    }
+
+    /// The last put that was refused was so for want of memory.
+    pub fn is_starved(&self) -> bool
+        ensures { result ≡ self.now.starved }
+    {
+        self.files.is_starved()
+    }
+
+    /// Writes all that is held. Where a file can't be written the others still are.
+    #[tactic(auto, using(crate::proofs::ShelfLemmas::none_of_call))]
+    pub fn write_held(&mut self) -> Result<(), ShelfFault>
+        ensures held { OnOk result (HoldsNone self.new.held) }
+        ensures octets { self.new.octets ≡ 0 }
+        ensures begun { self.new.begun ≡ self.old.begun }
+        ensures same { (self.new.folder ≡ self.old.folder) × (self.new.goes_on ≡ self.old.goes_on) × (self.new.refused ≡ self.old.refused) × (self.new.starved ≡ self.old.starved) }
+    {
+        self.files.write_held()
+    }
+}
+
+impl<R: Files + AllocGlobal> Shelf for FileShelf<'_, R> {
+    type Fault = ShelfFault;
+
+    ghost refusals = { λ s. s.refused };
+
+    // Its files don't tell what they have: so the first two clauses say nothing of them.
+    #[tactic(auto, using(crate::proofs::ShelfLemmas::none_put, crate::proofs::ShelfLemmas::put_seen))]
+    fn put(&mut self, application: u16, octets: &[u8]) -> Result<(), ShelfFault>
+        ensures whole { OnOk result (Puts None None application octets.now) }
+        ensures front { OnErr result (PutsFront None None application octets.now) }
+        ensures counts { Counts self.old.refused self.new.refused result }
+        ensures starved { MatchResult result (λ _. self.new.starved ≡ self.old.starved) (λ fault. self.new.starved ≡ is_starving fault) }
+        ensures begun { OnOk result (slice_get self.new.begun application ≡ Some true) }
+        ensures others { (other : ℕ) → other ≢ application → slice_get self.new.begun other ≡ slice_get self.old.begun other }
+        ensures held { OnOk result ((IsAdded self.old.held self.new.held application octets.now × (self.new.octets ≡ self.old.octets + length octets.now)) ⊎ HoldsNone self.new.held) }
+        ensures few { OnOk result (self.new.octets < 8388608) }
+        ensures same { (self.new.folder ≡ self.old.folder) × (self.new.goes_on ≡ self.old.goes_on) }
+    {
+        self.files.put(usize::from(application), octets)
+    }
+}

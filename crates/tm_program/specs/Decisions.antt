@@ -1,5 +1,7 @@
 -- What a plan decides of files and streams, and how splitting ends.
 use Rattle.std.specs.Prelude.{◌≡◌, ⊤, ℕ, Bool, true, false, List, Option, None, Some, Result, Ok, Err, is_some}
+use Rattle.tm_output.specs.Faults.{Caused, RunCaused}
+use Rattle.tm_output.specs.Outputs.{View}
 use Rattle.tm_output.specs.declared.fault.RunFault.{RunFault}
 use Rattle.tm_output.specs.declared.fault.RunFault.TheVariants as run
 use Rattle.tm_program.specs.declared.decisions.Destination.{Destination}
@@ -49,6 +51,16 @@ writes_errors _ (Some name) = false
 abbrev pub stream_fault_of : Stream → ToolFault
 stream_fault_of stream.Output = tool.Run run.Write
 stream_fault_of stream.Errors = tool.Run run.Report
+
+-- A device is blamed only where a call of it failed: `Read` where the source's count of failures rose, `Write` where the drain's did, and no other count rises.
+abbrev pub IsBlamed : ℕ → ℕ → ℕ → ℕ → ToolFault → Type 0
+IsBlamed source_old source_new out_old out_new (tool.Run fault) = Caused source_old source_new out_old out_new fault
+IsBlamed source_old source_new out_old out_new _ = ⊥
+
+-- likewise, of a source and two outputs
+abbrev pub IsBlamedOf : {K : Type 0} → ℕ → ℕ → View K → View K → ToolFault → Type 0
+IsBlamedOf source_old source_new old new (tool.Run fault) = RunCaused source_old source_new old new fault
+IsBlamedOf source_old source_new old new _ = ⊥
 
 -- what splitting ends with, of what its run says, of what writing says of that which was held, and of whether memory was wanting when the shelf last refused a put
 abbrev pub split_end_of : {D : Type 0} → Result D RunFault → Result ⊤ ShelfFault → Bool → Result D ToolFault

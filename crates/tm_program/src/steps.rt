@@ -1,8 +1,10 @@
 //! The order of steps: command line, settings, definition, checkpoint, recording, report, run, checkpoint of the run.
 
-ghost use Rattle.std.specs.Prelude.{◌≡◌, ◌≢◌, ◌⊎◌, [], Ok, false, IfErr, IfOk, IfSome, IsSome, MatchOption, OnOk, is_some, map, option_map, string_bytes};
+ghost use Rattle.std.specs.Prelude.{◌≡◌, ◌≢◌, ◌⊎◌, [], None, Ok, Some, IfErr, IfOk, IfSome, IsSome, MatchOption, OnOk, is_some, map, option_map, string_bytes};
+ghost use Rattle.tm_output.specs.Faults.{RunCounted};
+ghost use Rattle.tm_output.specs.Seen.{both, shelf_both};
 ghost use Rattle.tm_shelf.specs.Shelves.{HoldsNone};
-ghost use Rattle.tm_program.specs.Decisions.{split_end_of, stream_fault_of};
+ghost use Rattle.tm_program.specs.Decisions.{IsBlamed, IsBlamedOf, split_end_of, stream_fault_of};
 ghost use Rattle.tm_program.specs.Endings.{HasDone, IsDone, ending_of};
 ghost use Rattle.tm_program.specs.Files.{IsFileFault};
 ghost use Rattle.tm_program.specs.Reports.{is_file};
@@ -69,6 +71,22 @@ fn drain<W: Write + Drop>(
     }
 }
 
+// Lists the frames of a recording.
+fn list_to<S: Source, W: Drain>(
+    alloc: Global,
+    settings: &Settings,
+    source: &mut S,
+    out: &mut W,
+) -> Result<(), ToolFault>
+    ensures blamed { IfErr result (IsBlamed (S.failures source.old) (S.failures source.new) (W.failures out.old) (W.failures out.new)) }
+    ensures refused { IfErr result IsRunFault }
+{
+    match list_frames(alloc, settings, source, out) {
+        Ok(_) => Ok(()),
+        Err(fault) => Err(ToolFault::Run(fault)),
+    }
+}
+
 // Lists the frames of a recording on standard output.
 #[tactic(auto, using(crate::proofs::ProgramLemmas::starved_run))]
 fn list<R: Print + AllocGlobal, S: Read + Drop>(
@@ -81,10 +99,7 @@ fn list<R: Print + AllocGlobal, S: Read + Drop>(
     let alloc = rt.alloc();
     let mut source = source(alloc, recording)?;
     let mut out = drain(alloc, BUFFER, io::writer(rt))?;
-    match list_frames(alloc, settings, &mut source, &mut out) {
-        Ok(_) => Ok(()),
-        Err(fault) => Err(ToolFault::Run(fault)),
-    }
+    list_to(alloc, settings, &mut source, &mut out)
 }
 
 // The devices of every run of a job: the recording, and the report.
@@ -119,6 +134,9 @@ fn give_to<S: Source, W: Drain, V: Drain>(
     ending: Ending,
 ) -> Result<Done, ToolFault>
     ensures done { IfOk result (λ done. IsDone ending job.work done.records (option_map (λ kept. kept.work) done.kept)) }
+    ensures blamed { IfErr result (IsBlamedOf (S.failures source.old) (S.failures source.new)
+        (both W.Drain V.Drain out.old report.old)
+        (both W.Drain V.Drain out.new report.new)) }
     ensures refused { IfErr result IsRunFault }
 {
     match run_job(alloc, job, command, source, out, report, ending) {
@@ -176,7 +194,10 @@ fn split_to<S: Source, H: Shelf, V: Drain>(
     report: &mut V,
     ending: Ending,
 ) -> Result<Done, RunFault>
-    ensures { IfOk result (λ done. IsDone ending job.work done.records (option_map (λ kept. kept.work) done.kept)) }
+    ensures done { IfOk result (λ done. IsDone ending job.work done.records (option_map (λ kept. kept.work) done.kept)) }
+    ensures counts { RunCounted (S.failures source.old) (S.failures source.new)
+        (shelf_both H.Shelf V.Drain shelf.old report.old)
+        (shelf_both H.Shelf V.Drain shelf.new report.new) result }
 {
     split(alloc, job, source, shelf, report, ending)
 }
@@ -216,6 +237,22 @@ fn shelf_in<'a, R: Files + AllocGlobal>(
     match FileShelf::new(rt, path, goes_on) {
         Ok(shelf) => Ok(shelf),
         Err(_) => Err(ToolFault::Run(RunFault::NoMemory)),
+    }
+}
+
+// The files for the applications, where the plan's packets go to a folder.
+#[tactic(auto, using(crate::proofs::ProgramLemmas::fault_there))]
+fn shelf_by<'a, R: Files + AllocGlobal>(
+    rt: &'a R,
+    plan: &'a Plan,
+) -> Result<Option<FileShelf<'a, R>>, ToolFault>
+    ensures found { IfOk result (λ found. MatchOption found (plan.now.action ≡ Action.Split → plan.now.dir ≡ None)
+        (λ s. (plan.now.action ≡ Action.Split) × (plan.now.dir ≡ Some s.folder) × (s.goes_on ≡ is_some plan.now.resume))) }
+    ensures refused { IfErr result (HasFault plan.now.dir) }
+{
+    match destination_by(plan) {
+        Destination::Folder { dir, goes_on } => Ok(Some(shelf_in(rt, dir, goes_on)?)),
+        Destination::Output => Ok(None),
     }
 }
 
@@ -310,7 +347,6 @@ fn inputs_by<R: Files + AllocGlobal>(rt: &R, plan: &Plan) -> Result<Inputs, Tool
 }
 
 // Goes on with the job over the recording, to where the plan wants the packets.
-#[tactic(auto, using(crate::proofs::ProgramLemmas::fault_there))]
 fn go_on<R: Files + Print + AllocGlobal, S: Read + Drop, V: Write + Drop>(
     rt: &R,
     plan: &Plan,
@@ -324,12 +360,9 @@ fn go_on<R: Files + Print + AllocGlobal, S: Read + Drop, V: Write + Drop>(
 {
     let ending = ending_by(plan);
     let ends = ends_with(rt.alloc(), recording, report)?;
-    match destination_by(plan) {
-        Destination::Folder { dir, goes_on } => {
-            let mut shelf = shelf_in(rt, dir, goes_on)?;
-            split_packets(rt, job, &mut shelf, ends, ending)
-        }
-        Destination::Output => give_packets(rt, job, command_by(plan, definition), ends, ending),
+    match shelf_by(rt, plan)? {
+        Some(mut shelf) => split_packets(rt, job, &mut shelf, ends, ending),
+        None => give_packets(rt, job, command_by(plan, definition), ends, ending),
     }
 }
 

@@ -2,7 +2,7 @@
 use Rattle.std.proofs.Common.{◌≡◌, ℕ, ◌+◌, ◌-◌, ◌*◌, ◌^◌, ◌<◌, ◌≤◌, min, true, false, Option, Some, None, List, [], ◌∷◌, length, drop, set, sym, subst, ◌∙◌, ⊎_elim, arith}
 use Rattle.std.specs.Prelude.{slice_range}
 use Rattle.std.proofs.Math.Pow.{pow_mono}
-use Rattle.std.proofs.lemmas.Bool.{cases_Bool, cases_eq, cond_both, eq-eqb}
+use Rattle.std.proofs.lemmas.Bool.{cases_Bool, cases_eq, cond_both, eqb-false}
 use Rattle.std.proofs.lemmas.List.{length-set, length-take, get_or-set_other}
 use Rattle.std.proofs.lemmas.Grind.{get_or-set_at}
 use Rattle.tm_bits.specs.Bits.{part, bits_of}
@@ -66,10 +66,7 @@ not_idle : (channel : ℕ) (p : Sent) → Fits p → is_idle p.header ≡ false 
 not_idle channel p fits h e =
     let small = fits.application in
     let idle : p.header.application ≡ 2047 = omega arith in
-    true_false (sym (eq-eqb p.header.application 2047 idle) ∙ h)
-  where
-    true_false : true ≡ false → ⊥
-    true_false h = cc
+    eqb-false p.header.application 2047 h idle
 
 -- an entry with counts may be put at the key of a packet that isn't idle
 set-valid : (s : List (Option Last)) (p : Sent) (kept : Last) → IsState s → Fits p → is_idle p.header ≡ false → IsEntry kept

@@ -130,7 +130,7 @@ run-append [] ys register = refl
 run-append (x ∷ xs) ys register = run-append xs ys (next register x)
 
 pub zeros-subtract_16 : (ds : List Bool) → length ds ≡ 16 → subtract (replicate 16 false) ds ≡ ds
-zeros-subtract_16 ds h = rw (← h) (zeros-subtract ds)
+zeros-subtract_16 ds h = ap (λ n. subtract (replicate n false) ds) (sym h) ∙ zeros-subtract ds
 
 pub remainder_from-run : (register : ℕ) (bits : List Bool) → remainder_from register bits ≡ number (run (low_bits 16 register) bits)
 unfolding remainder_from
@@ -146,12 +146,16 @@ unfolding run
 remainder_from-nil register h =
     remainder_from-run register [] ∙ number-low_bits 16 register ∙ omega arith
 
+-- the bits of the number that the bits spell
+pub bits_spelled : (n w : ℕ) (xs : List Bool) → length xs ≡ n → w ≡ number xs → low_bits n w ≡ xs
+bits_spelled n w xs l e = rw (e, ← l) (low_bits-number xs)
+
 pub remainder_from-append : (register : ℕ) (xs ys : List Bool)
     → remainder_from register (xs ++ ys) ≡ remainder_from (remainder_from register xs) ys
 remainder_from-append register xs ys =
     let after : List Bool = run (low_bits 16 register) xs in
     let width : length after ≡ 16 = length-run xs (low_bits 16 register) ∙ length-low_bits 16 register in
-    let same : low_bits 16 (number after) ≡ after = rw (← width) (low_bits-number after) in
+    let same : low_bits 16 (number after) ≡ after = bits_spelled 16 (number after) after width refl in
     rw (remainder_from-run register (xs ++ ys), run-append xs ys (low_bits 16 register), remainder_from-run register xs, remainder_from-run (number after) ys, same) refl
 
 -- to invert bits is to subtract ones

@@ -8,7 +8,7 @@ use Rattle.std.proofs.Math.Seq.{drop-cons}
 use Rattle.tm_bits.specs.Bits.{low_bits, bits_of, number}
 use Rattle.tm_bits.proofs.BitLemmas.{length-low_bits, number-low_bits, number-append, low_bits-number, low_bits-split, length-bits_of, bits_of-append, bits_of-one}
 use Rattle.tm_frame.specs.ErrorControl.{subtract, long_division, remainder_from, entry_of}
-use Rattle.tm_frame.proofs.Division.{length-subtract, number-subtract, subtract-zeros, remainder_from-nil, remainder_from-append, remainder_from-lt, zeros-subtract_16}
+use Rattle.tm_frame.proofs.Division.{bits_spelled, length-subtract, number-subtract, subtract-zeros, remainder_from-nil, remainder_from-append, remainder_from-lt, zeros-subtract_16}
 use Rattle.tm_frame.proofs.Linear.{subtract-append, zeros-subtract_n, long_division-subtract, long_division-zeros, length-long_division, remainder_from-is, remainder_from-zero, remainder_from-subtract, remainder_from-register, remainder_from-zeros}
 
 entry_of-is : (behind octet : ℕ) → entry_of behind octet ≡ remainder_from 0 (bits_of (octet ∷ replicate behind 0))
@@ -47,7 +47,7 @@ remainder-cons x xs =
     let r : List Bool = bits_of xs in
     let z : List Bool = replicate (8 * length xs) false in
     let zeros : List Bool = replicate 8 false in
-    let same : length (b ++ z) ≡ length (zeros ++ r) = simp (length-append, length-low_bits, length-replicate, length-bits_of) in
+    let same : length (b ++ z) ≡ length (zeros ++ r) = simp (length-append, length-low_bits, length-replicate, length-bits_of) (omega arith) in
     let apart : subtract (b ++ z) (zeros ++ r) ≡ b ++ r =
     rw (subtract-append b z zeros r (length-low_bits 8 x ∙ sym (length-replicate 8 false)), subtract-zeros 8 b, zeros-subtract_n (8 * length xs) r (length-bits_of xs)) refl in
     let first : entry_of (length xs) x ≡ remainder_from 0 (b ++ z) =
@@ -65,10 +65,6 @@ remainder-joined (x ∷ xs) = rw (remainder-cons x xs, remainder-joined xs) refl
 
 -- ---- the register
 
--- the bits of the number that the bits spell
-bits_spelled : (n w : ℕ) (xs : List Bool) → length xs ≡ n → w ≡ number xs → low_bits n w ≡ xs
-bits_spelled n w xs l e = rw (e, ← l) (low_bits-number xs)
-
 -- an octet with eight bits of the register subtracted
 mixed : (x y : ℕ) → x < 2 ^ 8 → low_bits 8 (bit_xor x (y % 2 ^ 8)) ≡ subtract (low_bits 8 x) (low_bits 8 y)
 mixed x y small =
@@ -85,8 +81,8 @@ register_into register x y rest fits small_x small_y =
     let h : List Bool = low_bits 8 (register / 2 ^ 8) in
     let l : List Bool = low_bits 8 register in
     let r : List Bool = bits_of rest in
-    let high : register / 2 ^ 8 ≡ register / 2 ^ 8 % 2 ^ 8 = omega arith in
-    let first : low_bits 8 (bit_xor x (register / 2 ^ 8)) ≡ subtract a h = rw high (mixed x (register / 2 ^ 8) small_x) in
+    let high : register / 2 ^ 8 % 2 ^ 8 ≡ register / 2 ^ 8 = omega arith in
+    let first : low_bits 8 (bit_xor x (register / 2 ^ 8)) ≡ subtract a h = rw high at (mixed x (register / 2 ^ 8) small_x) in
     let two : (p q : ℕ) → bits_of (p ∷ q ∷ rest) ≡ low_bits 8 p ++ (low_bits 8 q ++ r) = λ p q. rw (bits_of-cons p (q ∷ rest), bits_of-cons q rest) refl in
     let behind : subtract (b ++ r) l ≡ subtract b l ++ r =
     rw (← append-nil l, subtract-append b r l [] (simp length-low_bits), subtract-zeros 0 r, append-nil l) refl in
@@ -180,8 +176,9 @@ octet_by_entry register octet fits small =
     let padded : subtract z l ≡ q =
     ap (subtract z) (sym (append-nil l))
     ∙ rw (subtract-append eight eight l [] (length-replicate 8 false ∙ sym width_l), zeros-subtract_n 8 l width_l, subtract-zeros 0 eight) refl in
+    let eight_steps : long_division 8 (p ++ q) ≡ subtract e q = rw width_p at (long_division-split p q width_q) in
     let divided : remainder_from register m ≡ number (subtract e q) =
-    rw (remainder_from-is register m, low_bits-split 8 8 register, subtract-append m z h l same, padded, width_m, ← width_p, long_division-split p q width_q) refl in
+    rw (remainder_from-is register m, low_bits-split 8 8 register, subtract-append m z h l same, padded, width_m, eight_steps) refl in
     let value_q : number q ≡ register * 2 ^ 8 % 2 ^ 16 =
     number-append l eight ∙ rw (number-low_bits 8 register, number-zeros) (omega arith) in
     let high : register / 2 ^ 8 % 2 ^ 8 ≡ register / 2 ^ 8 = omega arith in

@@ -8,19 +8,23 @@ use Rattle.tm_frame.specs.ErrorControl.{differ, generator, subtract, long_divisi
 use Rattle.tm_frame.proofs.Division.{feedback, length-subtract, number-subtract, subtract_assoc, subtract-zeros, zeros-subtract}
 
 differ_swap : (a b d : Bool) → differ (differ a b) d ≡ differ (differ a d) b
-differ_swap false false d = refl
+differ_swap false false false = refl
+differ_swap false false true = refl
 differ_swap false true false = refl
 differ_swap false true true = refl
-differ_swap true false d = refl
+differ_swap true false false = refl
+differ_swap true false true = refl
 differ_swap true true false = refl
 differ_swap true true true = refl
 
 differ_both : (a b d : Bool) → differ (differ a d) (differ b d) ≡ differ a b
-differ_both false b false = refl
-differ_both true b false = refl
+differ_both false false false = refl
 differ_both false false true = refl
+differ_both false true false = refl
 differ_both false true true = refl
+differ_both true false false = refl
 differ_both true false true = refl
+differ_both true true false = refl
 differ_both true true true = refl
 
 pub subtract-nil : (xs : List Bool) → subtract xs [] ≡ xs

@@ -1,7 +1,7 @@
 -- The entries that octets spell, one by one.
 use Rattle.std.proofs.Common.{◌≡◌, ℕ, zero, suc, ◌+◌, ◌-◌, ◌*◌, ◌%◌, ◌<◌, ◌≤◌, Bool, true, false, not, ◌||◌, ◌==◌, Option, Some, None, List, [], ◌∷◌, drop, set, refl, sym, ap, ◌∙◌, arith}
 use Rattle.std.specs.Prelude.{nat_lt, replicate, if◌then◌else◌}
-use Rattle.std.proofs.lemmas.Bool.{ne_eqb, and_parts, eq-eqb, ltb-true}
+use Rattle.std.proofs.lemmas.Bool.{ne_eqb, not-true, and_parts, eq-eqb, ltb-true}
 use Rattle.std.proofs.lemmas.List.{drop-drop}
 use Rattle.tm_packet.specs.declared.tracker.Last.{Last}
 use Rattle.tm_packet.specs.declared.tracker.Numbers.{Numbers}
@@ -68,10 +68,6 @@ pub record AreValues (r : Numbers) : Type 0 where
   pub count : r.count < 16384
   pub first : (nat_lt r.first 16384 || (r.first == 65535)) ≡ true
 
-not_true_is : (b : Bool) → not b ≡ true → b ≡ false
-not_true_is true h = cc
-not_true_is false h = refl
-
 pub values_of : (r : Numbers) → has_values r ≡ true → AreValues r
 values_of r h =
     let one = and_parts _ _ h in
@@ -79,7 +75,7 @@ values_of r h =
     let three = and_parts _ _ two.0 in
     record {
       key = ltb-true r.key 16384 three.0;
-      packets = not_true_is (r.key % 2048 == 2047) three.1;
+      packets = not-true (r.key % 2048 == 2047) three.1;
       count = ltb-true r.count 16384 two.1;
       first = one.1;
     }

@@ -16,15 +16,6 @@ use Rattle.tm_tool.proofs.RunPieces.{always, weaker, run_told, run_cut, run_memo
 module _ {A K : Type 0} (grows : K → K → List A → Type 0) (grows-nil : (k : K) → grows k k [])
     (grows-trans : (j k l : K) (xs ys : List A) → grows j k xs → grows k l ys → grows j l (xs ++ ys))
     (way : Way) (text : Texts A) (ending : Ending) (w : Work) where
-  -- where there is no head
-  pub unheaded_run : (first next : Option (List ℕ)) (old new : View K) (count : ℕ) (kept : Option Work) → IsRun grows way text ending w first next old new count kept
-      → IsHeadedRun grows way text ending w [] first next old new count kept
-  unheaded_run first next old new count kept h = record { mid = old; headed = took_none grows grows-nil grows-trans old; run = h }
-
-  pub unheaded_stop : (first next : Option (List ℕ)) (old new : View K) (fault : RunFault) → IsStoppedAt grows way text ending w first next old new fault
-      → IsHeadedStop grows way text ending w [] first next old new fault
-  unheaded_stop first next old new fault h = inr (record { mid = old; headed = took_none grows grows-nil grows-trans old; stopped = h })
-
   module _ (head : List (Piece A)) (valid : IsValid w) (some : 0 < record_length_of w.rules.layout) (first next : Option (List ℕ)) (old new : View K) where
     pub headed_told : (count : ℕ) (kept : Option Work) → IsHeadedRun grows way text ending w head first next old new count kept
         → IfSome first (λ octets. Took grows old new (head ++ pieces text ending w octets)

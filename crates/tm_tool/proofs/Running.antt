@@ -76,15 +76,11 @@ module _ (w : Work) (valid : IsValid w) where
   pub records-append : {A : Type 0} (text : Texts A) (a b : List (List ℕ))
       → record_pieces text w (a ++ b) ≡ record_pieces text w a ++ record_pieces text (worked w a) b
   records-append text a b =
-      ap (pieces_of text w.entries) (items-join w.rules w.state a b valid)
-      ∙ pieces-append text w.entries (items_of w a) (items_of (worked w a) b)
+      rw (items-join w.rules w.state a b valid) (pieces-append text w.entries (items_of w a) (items_of (worked w a) b))
 
   pub worked-append : (a b : List (List ℕ)) → worked w (a ++ b) ≡ worked (worked w a) b
   worked-append a b =
-      ap (λ (s : State). record { rules = w.rules; state = s; entries = noted_all w.entries (items_of w (a ++ b)) })
-      (states-join w.rules w.state a b valid)
-      ∙ ap (λ (e : Entries). record { rules = w.rules; state = after w.rules (worked w a).state b; entries = e })
-      (ap (noted_all w.entries) (items-join w.rules w.state a b valid) ∙ noted-append w.entries (items_of w a) (items_of (worked w a) b))
+      rw (states-join w.rules w.state a b valid, items-join w.rules w.state a b valid, noted-append w.entries (items_of w a) (items_of (worked w a) b)) refl
 
 -- the number of records that are done
 pub records-counted : (w : Work) (rs : List (List ℕ)) → (worked w rs).state.records ≡ w.state.records + length rs

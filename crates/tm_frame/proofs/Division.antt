@@ -181,14 +181,7 @@ pub octets_step : (start register : ℕ) (octets : List ℕ) (i after : ℕ) →
     → after ≡ remainder_from start (bits_of (take (i + 1) octets))
 octets_step start register octets i after inside before moved =
     let x : ℕ = get_or octets i 0 in
-    rw (
-      moved,
-      before,
-      take_more octets i 0 inside,
-      bits_of-append (take i octets) (x ∷ []),
-      bits_of-one x,
-      remainder_from-append start (bits_of (take i octets)) (low_bits 8 x),
-    ) refl
+    rw (moved, before, take_more octets i 0 inside, bits_of-append (take i octets) (x ∷ []), bits_of-one x, remainder_from-append start (bits_of (take i octets)) (low_bits 8 x)) refl
 
 -- of no octets
 pub octets_none : (start : ℕ) (octets : List ℕ) → start < 2 ^ 16 → start ≡ remainder_from start (bits_of (take 0 octets))

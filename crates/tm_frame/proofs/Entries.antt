@@ -118,25 +118,9 @@ sixteen_octets register xs fits octets h =
     let next : (i behind : ℕ) → i + suc behind ≡ length xs → joined (drop i xs) ≡ bit_xor (entry_of behind (get_or xs i 0)) (joined (drop (suc i) xs)) = next_joined xs in
     ap (λ l. remainder_from register (bits_of l)) split
     ∙ register_into register (get_or xs 0 0) (get_or xs 1 0) rest fits (octets 0) (octets 1)
-    ∙ rw (
-      left,
-      next 2 13 (omega arith),
-      next 3 12 (omega arith),
-      next 4 11 (omega arith),
-      next 5 10 (omega arith),
-      next 6 9 (omega arith),
-      next 7 8 (omega arith),
-      next 8 7 (omega arith),
-      next 9 6 (omega arith),
-      next 10 5 (omega arith),
-      next 11 4 (omega arith),
-      next 12 3 (omega arith),
-      next 13 2 (omega arith),
-      next 14 1 (omega arith),
-      next 15 0 (omega arith),
-      none,
-      xor_zero_r (entry_of 0 (get_or xs 15 0)),
-    ) refl
+    ∙ rw (left, next 2 13 (omega arith), next 3 12 (omega arith), next 4 11 (omega arith), next 5 10 (omega arith), next 6 9 (omega arith), next 7 8 (omega arith), next 8 7 (omega arith))
+    (rw (next 9 6 (omega arith), next 10 5 (omega arith), next 11 4 (omega arith), next 12 3 (omega arith), next 13 2 (omega arith), next 14 1 (omega arith), next 15 0 (omega arith), none)
+    (rw (xor_zero_r (entry_of 0 (get_or xs 15 0))) refl))
 
 -- ---- one octet
 
@@ -186,13 +170,8 @@ octet_by_entry register octet fits small =
     let value_p : bit_xor (register / 2 ^ 8) octet ≡ number p =
     sym (rw (number-subtract m h same, xor_comm (number m) (number h), number-low_bits 8 (register / 2 ^ 8), number-low_bits 8 octet, high, whole) refl) in
     let value_e : entry_of 0 (bit_xor (register / 2 ^ 8) octet) ≡ number e =
-    rw (
-      entry_of-is 0 (bit_xor (register / 2 ^ 8) octet),
-      bits_of-one (bit_xor (register / 2 ^ 8) octet),
-      bits_spelled 8 (bit_xor (register / 2 ^ 8) octet) p width_p value_p,
-      remainder_from-zero p,
-      width_p,
-    ) refl in
+    rw (entry_of-is 0 (bit_xor (register / 2 ^ 8) octet), bits_of-one (bit_xor (register / 2 ^ 8) octet), bits_spelled 8 (bit_xor (register / 2 ^ 8) octet) p width_p value_p, remainder_from-zero p)
+    (rw (width_p) refl) in
     rw (divided, number-subtract e q (width_e ∙ sym width_q), value_q, value_e) (xor_comm (register * 2 ^ 8 % 2 ^ 16) (number e))
 
 -- one zero octet more behind an octet
@@ -205,12 +184,5 @@ entry_of-suc behind octet =
     let longer : octet ∷ replicate (suc behind) 0 ≡ zeros ++ 0 ∷ [] =
     ap (λ l. octet ∷ l) (sym (replicate-append-replicate behind 1 0 ∙ ap (λ n. replicate n 0) more)) in
     entry_of-is (suc behind) octet
-    ∙ rw (
-      longer,
-      bits_of-append zeros (0 ∷ []),
-      remainder_from-append 0 (bits_of zeros) (bits_of (0 ∷ [])),
-      ← entry_of-is behind octet,
-      bits_of-one 0,
-      ← octet_by_entry r 0 (entry_of-lt behind octet) (omega arith),
-      xor_zero_r (r / 2 ^ 8),
-    ) refl
+    ∙ rw (longer, bits_of-append zeros (0 ∷ []), remainder_from-append 0 (bits_of zeros) (bits_of (0 ∷ [])), ← entry_of-is behind octet, bits_of-one 0)
+    (rw (← octet_by_entry r 0 (entry_of-lt behind octet) (omega arith), xor_zero_r (r / 2 ^ 8)) refl)

@@ -124,16 +124,9 @@ remainder_from-subtract xs ys same =
     let z : List Bool = replicate 16 false in
     let padded : subtract xs ys ++ z ≡ subtract (xs ++ z) (ys ++ z) = rw (subtract-append xs z ys z same, subtract-zeros 16 z) refl in
     let width : length (xs ++ z) ≡ length (ys ++ z) = length-append xs z ∙ omega arith ∙ sym (length-append ys z) in
-    rw (
-      remainder_from-zero (subtract xs ys),
-      remainder_from-zero xs,
-      remainder_from-zero ys,
-      length-subtract xs ys,
-      padded,
-      long_division-subtract (length xs) (xs ++ z) (ys ++ z) width (omega (arith, length-append ys z)),
-      ← same,
-      number-subtract (long_division (length xs) (xs ++ z)) (long_division (length xs) (ys ++ z)) (length-divided xs ∙ sym (rw (← same) at (length-divided ys))),
-    ) refl
+    rw (remainder_from-zero (subtract xs ys), remainder_from-zero xs, remainder_from-zero ys, length-subtract xs ys, padded)
+    (rw (long_division-subtract (length xs) (xs ++ z) (ys ++ z) width (omega (arith, length-append ys z)), ← same)
+    (rw (number-subtract (long_division (length xs) (xs ++ z)) (long_division (length xs) (ys ++ z)) (length-divided xs ∙ sym (rw (← same) at (length-divided ys)))) refl))
 
 -- what is subtracted from the front of enough bits leaves those behind
 subtract-front : (xs ys ds : List Bool) → length ds ≤ length xs → subtract (xs ++ ys) ds ≡ subtract xs ds ++ ys
@@ -153,12 +146,7 @@ pub remainder_from-register : (register : ℕ) (bits : List Bool) → 16 ≤ len
     → remainder_from register bits ≡ remainder_from 0 (subtract bits (low_bits 16 register))
 remainder_from-register register bits room =
     let ds : List Bool = low_bits 16 register in
-    rw (
-      remainder_from-is register bits,
-      subtract-front bits (replicate 16 false) ds (omega (arith, length-low_bits 16 register)),
-      remainder_from-zero (subtract bits ds),
-      length-subtract bits ds,
-    ) refl
+    rw (remainder_from-is register bits, subtract-front bits (replicate 16 false) ds (omega (arith, length-low_bits 16 register)), remainder_from-zero (subtract bits ds), length-subtract bits ds) refl
 
 number-zeros : number (replicate 16 false) ≡ 0
 unfolding number

@@ -43,10 +43,8 @@ header-fits channel octets h = record { channel = h; application = (header-range
 -- ---- the entry of a key
 
 begun-fits : (flags : Flags) (count : ℕ) → count < 16384 → FirstFits (begun flags count)
-begun-fits flag.Continuation count h = tt
 begun-fits flag.First count h = h
-begun-fits flag.Last count h = tt
-begun-fits flag.Unsegmented count h = tt
+begun-fits _ count h = tt
 
 first_in-fits : (e : Option Last) → EntryFits e → FirstFits (first_in e)
 first_in-fits None h = tt

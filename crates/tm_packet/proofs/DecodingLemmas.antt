@@ -1,14 +1,14 @@
 -- The entries that octets spell, one by one.
-use Rattle.std.proofs.Common.{◌≡◌, ℕ, zero, suc, ◌+◌, ◌-◌, ◌*◌, ◌%◌, ◌<◌, ◌≤◌, Bool, true, false, not, ◌||◌, ◌==◌, Option, Some, None, List, [], ◌∷◌, drop, set, refl, sym, ap, ◌∙◌, arith}
+use Rattle.std.proofs.Common.{◌≡◌, ℕ, zero, suc, ◌+◌, ◌-◌, ◌*◌, ◌%◌, ◌<◌, ◌≤◌, Bool, true, false, not, ◌||◌, ◌==◌, Option, Some, None, Ok, length, subst, List, [], ◌∷◌, drop, set, refl, sym, ap, ◌∙◌, arith}
 use Rattle.std.specs.Prelude.{nat_lt, replicate, if◌then◌else◌}
-use Rattle.std.proofs.lemmas.Bool.{ne_eqb, not-true, and_parts, eq-eqb, ltb-true}
+use Rattle.std.proofs.lemmas.Bool.{ne_eqb, not-true, and_parts, eq-eqb, ltb-true, ltb-false}
 use Rattle.std.proofs.lemmas.List.{drop-drop}
 use Rattle.tm_packet.specs.declared.tracker.Last.{Last}
 use Rattle.tm_packet.specs.declared.tracker.Numbers.{Numbers}
 use Rattle.tm_packet.specs.declared.tracker.TrackerFault.{TrackerFault}
 use Rattle.tm_packet.specs.declared.tracker.TrackerFault.TheVariants.{Order, Value}
 use Rattle.tm_packet.specs.Merge.{no_entries}
-use Rattle.tm_packet.specs.Spelling.{raw_of, raws, has_values, rises, fault_after, first_of, place_of, places, state_of}
+use Rattle.tm_packet.specs.Spelling.{Decoded, number_at, decoding_of, decoding_with, raw_of, raws, has_values, rises, fault_after, first_of, place_of, places, state_of}
 
 -- the entries from one on are it and those after it
 pub raws-step : (n at : ℕ) (xs : List ℕ) → at < n
@@ -60,6 +60,20 @@ valued_each (suc n) (suc i) before xs h inside =
 pub valued_at : (n i : ℕ) (xs : List ℕ) → fault_after None (raws n (drop 2 xs)) ≡ None → i < n → has_values (raw_of (drop (2 + 6 * i) xs)) ≡ true
 valued_at n i xs h inside =
     rw (← drop-drop (6 * i) 2 xs) (valued_each n i None (drop 2 xs) h inside)
+
+-- what holds of entries that are all there and have no fault holds of what is read
+pub read_faultless : (P : Decoded → Type 0) (xs : List ℕ) (d : Decoded) → decoding_of xs ≡ Ok d
+    → (2 + 6 * number_at xs 0 ≤ length xs → fault_after None (raws (number_at xs 0) (drop 2 xs)) ≡ None
+    → P (record { entries = state_of (raws (number_at xs 0) (drop 2 xs)); octets = 2 + 6 * number_at xs 0 })) → P d
+read_faultless P xs d e holds =
+    by_tests (nat_lt (length xs) 2) (nat_lt (length xs) (2 + 6 * number_at xs 0)) refl (fault_after None (raws (number_at xs 0) (drop 2 xs))) refl e
+  where
+    by_tests : (b c : Bool) → nat_lt (length xs) (2 + 6 * number_at xs 0) ≡ c → (found : Option TrackerFault) → fault_after None (raws (number_at xs 0) (drop 2 xs)) ≡ found
+        → decoding_with (if b then None else if c then None else Some (number_at xs 0)) xs ≡ Ok d → P d
+    by_tests true c is found none e = cc
+    by_tests false true is found none e = cc
+    by_tests false false is (Some fault) none e = let refused = rw none at e in cc
+    by_tests false false is None none e = let read = rw none at e in subst P (cc read) (holds (ltb-false (length xs) (2 + 6 * number_at xs 0) is) none)
 
 -- the numbers are those of an entry
 pub record AreValues (r : Numbers) : Type 0 where

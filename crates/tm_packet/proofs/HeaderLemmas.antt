@@ -30,13 +30,8 @@ pub part_in_word : (k : ℕ) (octets : List ℕ) (from to : ℕ) → AreOctets o
     → part octets (8 * k + from) (8 * k + to) ≡ (256 * get_or octets k 0 + get_or octets (k + 1) 0) / 2 ^ (16 - to) % 2 ^ (to - from)
 part_in_word k octets from to are room ordered inside =
     let zeroth : k + 0 ≡ k = omega arith in
-    rw (
-      part-behind k octets from to (omega arith) ordered,
-      part_front (drop k octets) from to (octets_behind k octets are) (omega (arith, length-drop k octets)) ordered inside,
-      get_or-drop k octets 0 0,
-      get_or-drop k octets 1 0,
-      zeroth,
-    ) refl
+    rw (part-behind k octets from to (omega arith) ordered, part_front (drop k octets) from to (octets_behind k octets are) (omega (arith, length-drop k octets)) ordered inside)
+    (rw (get_or-drop k octets 0 0, get_or-drop k octets 1 0, zeroth) refl)
 
 -- what the code reads of the word in which a part lies
 pub part_read : (octets : List ℕ) (word from to read : ℕ) → AreOctets octets → 2 * (from / 16) + 2 ≤ length octets

@@ -8,7 +8,7 @@ use Rattle.tm_packet.specs.declared.tracker.TrackerFault.{TrackerFault}
 use Rattle.tm_packet.specs.declared.tracker.TrackerFault.TheVariants.{Order, Value}
 use Rattle.tm_packet.specs.Spelling.{Decoded, has_values, rises, fault_after, first_of, place_of, places, state_of, raws, unless, count_of, decoding_with, decoding_of}
 use Rattle.tm_packet.specs.Valid.{IsState, EntryFits, FirstFits}
-use Rattle.tm_packet.proofs.DecodingLemmas.{AreValues, values_of, all_right, last_in}
+use Rattle.tm_packet.proofs.DecodingLemmas.{read_faultless, AreValues, values_of, all_right, last_in}
 
 abbrev AllValues : List Numbers → Type 0
 AllValues [] = Unit {0}
@@ -62,18 +62,5 @@ entries-valid rs h = record {
       (no_idle (0 + (2048 * channel + 2047)) rs h (omega arith)) refl;
 }
 
-abbrev AreRead : Result Decoded TrackerFault → Type 0
-AreRead (Ok d) = IsState d.entries
-AreRead (Err found) = Unit {0}
-
-unless-valid : (found : Option TrackerFault) (rs : List Numbers) (octets : ℕ) → fault_after None rs ≡ found
-    → AreRead (unless found (record { entries = state_of rs; octets = octets }))
-unless-valid None rs octets e = entries-valid rs (all-values None rs e)
-unless-valid (Some found) rs octets e = tt
-
-with-valid : (xs : List ℕ) (count : Option ℕ) → AreRead (decoding_with count xs)
-with-valid xs None = tt
-with-valid xs (Some n) = unless-valid (fault_after None (raws n (drop 2 xs))) (raws n (drop 2 xs)) (2 + 6 * n) refl
-
 pub entries_read : (xs : List ℕ) (d : Decoded) → decoding_of xs ≡ Ok d → IsState d.entries
-entries_read xs d e = subst (λ (r : Result Decoded TrackerFault). AreRead r) e (with-valid xs (count_of xs))
+entries_read xs d e = read_faultless (λ (d : Decoded). IsState d.entries) xs d e (λ long none. entries-valid _ (all-values None _ none))

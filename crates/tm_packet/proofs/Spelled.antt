@@ -10,7 +10,7 @@ use Rattle.tm_packet.specs.declared.tracker.Numbers.{Numbers}
 use Rattle.tm_packet.specs.declared.tracker.TrackerFault.{TrackerFault}
 use Rattle.tm_packet.specs.declared.tracker.TrackerFault.TheVariants.{Order, Value}
 use Rattle.tm_packet.specs.Spelling.{Entry, Decoded, two, number_at, first_number, first_of, entries_from, spelled, spelling, raws, has_values, rises, fault_after, place_of, places, state_of, unless, decoding_with, decoding_of}
-use Rattle.tm_packet.proofs.DecodingLemmas.{AreValues, values_of, all_right, last_in, places-above}
+use Rattle.tm_packet.proofs.DecodingLemmas.{read_faultless, AreValues, values_of, all_right, last_in, places-above}
 
 -- ---- the entries that numbers are
 
@@ -91,17 +91,8 @@ spelled_from zero xs h long = refl
 spelled_from (suc n) (a ∷ b ∷ c ∷ d ∷ e ∷ f ∷ more) h long =
     let m : 6 * suc n ≡ suc (suc (suc (suc (suc (suc (6 * n)))))) = omega arith in
     let xs : List ℕ = a ∷ b ∷ c ∷ d ∷ e ∷ f ∷ more in
-    rw (
-      first_again (256 * e + f),
-      high a b (h.below 1),
-      low a b (h.below 1),
-      high c d (h.below 3),
-      low c d (h.below 3),
-      high e f (h.below 5),
-      low e f (h.below 5),
-      spelled_from n more (octets_behind 6 xs h) (omega arith),
-      m,
-    ) refl
+    rw (first_again (256 * e + f), high a b (h.below 1), low a b (h.below 1), high c d (h.below 3), low c d (h.below 3), high e f (h.below 5), low e f (h.below 5))
+    (rw (spelled_from n more (octets_behind 6 xs h) (omega arith), m) refl)
 spelled_from (suc n) xs h long = absurd (omega arith)
 
 length-raws : (n : ℕ) (xs : List ℕ) → length (raws n xs) ≡ n
@@ -109,14 +100,6 @@ length-raws zero xs = refl
 length-raws (suc n) xs = ap suc (length-raws n (drop 6 xs))
 
 -- ---- all
-
--- the octets at the front are the spelling of what was read
-IsSpelled : List ℕ → Result Decoded TrackerFault → Type 0
-IsSpelled xs (Ok d) = (d.octets ≤ length xs) × (take d.octets xs ≡ spelling d.entries)
-IsSpelled xs (Err fault) = Unit {0}
-
-abbrev decoded : List ℕ → ℕ → Decoded
-decoded xs n = record { entries = state_of (raws n (drop 2 xs)); octets = 2 + 6 * n }
 
 faultless : (xs : List ℕ) (n : ℕ) → AreOctets xs → n ≡ number_at xs 0 → 2 + 6 * n ≤ length xs → fault_after None (raws n (drop 2 xs)) ≡ None
     → take (2 + 6 * n) xs ≡ spelling (state_of (raws n (drop 2 xs)))
@@ -136,22 +119,8 @@ faultless (a ∷ b ∷ more) n h e long none =
     ∙ rw (many, first, second, spelled_from n more (octets_behind 2 xs h) (omega arith), m) refl)
 faultless xs n h e long none = absurd (omega arith)
 
-with_fault : (xs : List ℕ) (n : ℕ) (found : Option TrackerFault) → AreOctets xs → n ≡ number_at xs 0 → 2 + 6 * n ≤ length xs
-    → fault_after None (raws n (drop 2 xs)) ≡ found → IsSpelled xs (unless found (decoded xs n))
-unfolding IsSpelled
-with_fault xs n (Some fault) h e long found = tt
-with_fault xs n None h e long found = (long, faultless xs n h e long found)
-
-is-spelled : (xs : List ℕ) → AreOctets xs → IsSpelled xs (decoding_of xs)
-unfolding IsSpelled
-is-spelled xs h =
-    let n : ℕ = number_at xs 0 in
-    cond_both (ltb (length xs) 2) _ _ (λ (o : Option ℕ). IsSpelled xs (decoding_with o xs)) (λ p. tt)
-    (λ p.
-    cond_both (ltb (length xs) (2 + 6 * n)) _ _ (λ (o : Option ℕ). IsSpelled xs (decoding_with o xs)) (λ q. tt)
-    (λ q. with_fault xs n (fault_after None (raws n (drop 2 xs))) h refl (ltb-false (length xs) (2 + 6 * n) q) refl))
-
 pub spelled-again : (octets : List ℕ) (d : Decoded) → AreOctets octets → decoding_of octets ≡ Ok d
     → (d.octets ≤ length octets) × (take d.octets octets ≡ spelling d.entries)
-unfolding IsSpelled
-spelled-again octets d h e = subst (IsSpelled octets) e (is-spelled octets h)
+spelled-again octets d h e =
+    read_faultless (λ (d : Decoded). (d.octets ≤ length octets) × (take d.octets octets ≡ spelling d.entries)) octets d e
+    (λ long none. (long, faultless octets (number_at octets 0) h refl long none))

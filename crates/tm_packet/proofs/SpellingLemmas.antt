@@ -54,12 +54,7 @@ valued k l s h =
     let fits : IsEntry l = h.entries 0 in
     let keys = h.keys in
     let zeroth : k + 0 ≡ k = omega arith in
-    rw (
-      lt-ltb k 16384 (omega arith),
-      ne_eqb (k % 2048) 2047 (λ e. none_not_some l (h.idle 0 (rw zeroth e))),
-      lt-ltb l.count 16384 fits.count,
-      first_valued l.first fits.first,
-    ) refl
+    rw (lt-ltb k 16384 (omega arith), ne_eqb (k % 2048) 2047 (λ e. none_not_some l (h.idle 0 (rw zeroth e))), lt-ltb l.count 16384 fits.count, first_valued l.first fits.first) refl
 
 rises_next : (before : Option ℕ) (k : ℕ) → rises before k ≡ true → rises before (k + 1) ≡ true
 rises_next None k h = refl

@@ -126,11 +126,10 @@ state_most rules s h =
 
 -- the fewest octets of a state in a version: one more where the last master channel count stands
 pub state_least : (v : Version) (rules : Rules) (s : State) → IsState rules s → (form_of v).least ≤ length (state_octets v s) + (9 + (form_of v).settings)
-state_least One rules s h = let eight = h.shape.eight_channels in let blocks = blocks_least s.channels in omega arith
-state_least Two rules s h = let eight = h.shape.eight_channels in let blocks = blocks_least s.channels in omega arith
 state_least Three rules s h =
     let eight = h.shape.eight_channels in
     let blocks = blocks_least s.channels in
     let master = (master_length s.master).0 in
     let sum = length-append (master_octets s.master) (flat_map block s.channels) in
     omega arith
+state_least _ rules s h = let eight = h.shape.eight_channels in let blocks = blocks_least s.channels in omega arith

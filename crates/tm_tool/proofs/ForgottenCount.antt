@@ -37,14 +37,8 @@ states_same w rs valid =
 
 entries_same : (entries : Entries) (xs ys : List Item) → LacksMasterGap xs ys → noted_all entries xs ≡ noted_all entries ys
 entries_same entries xs ys h =
-    rw (
-      h.all_is,
-      noted-append entries h.front (h.gap ++ h.back),
-      noted-append (noted_all entries h.front) h.gap h.back,
-      gap_noted (noted_all entries h.front) h.gap h.gap_is,
-      h.fewer_is,
-      noted-append entries h.front h.back,
-    ) refl
+    rw (h.all_is, noted-append entries h.front (h.gap ++ h.back), noted-append (noted_all entries h.front) h.gap h.back, gap_noted (noted_all entries h.front) h.gap h.gap_is, h.fewer_is)
+    (rw (noted-append entries h.front h.back) refl)
 
 -- the works that records leave differ in the last master channel count alone
 works_same : (w : Work) (rs : List (List ℕ)) → IsValid w → without_master (worked w rs) ≡ without_master (worked (without_master w) rs)
@@ -87,8 +81,7 @@ module _ {A : Type 0} (text : Texts A) (none : (seen expected found missing : �
   -- what an ending has does not rest on the last master channel count
   same_end : (ending : Ending) (w : Work) (rest : ℕ) → end_pieces text ending w rest ≡ end_pieces text ending (without_master w) rest
   same_end Close w rest = refl
-  same_end Keep w rest = refl
-  same_end (StopAfter n) w rest = refl
+  same_end _ w rest = refl
 
   ends_same : (ending : Ending) (w : Work) (rs : List (List ℕ)) (rest : ℕ) → IsValid w
       → end_pieces text ending (worked (without_master w) rs) rest ≡ end_pieces text ending (worked w rs) rest

@@ -30,14 +30,9 @@ same_Ok x y e = cc
 
 presence_told : (p q : Presence) → presence_octet p ≡ presence_octet q → p ≡ q
 presence_told Flag Flag e = refl
-presence_told Flag Always e = absurd (omega arith)
-presence_told Flag Never e = absurd (omega arith)
-presence_told Always Flag e = absurd (omega arith)
 presence_told Always Always e = refl
-presence_told Always Never e = absurd (omega arith)
-presence_told Never Flag e = absurd (omega arith)
-presence_told Never Always e = absurd (omega arith)
 presence_told Never Never e = refl
+presence_told _ _ e = absurd (omega arith)
 
 abbrev truth_octet : Bool → ℕ
 truth_octet b = if b then 1 else 0
@@ -45,8 +40,7 @@ truth_octet b = if b then 1 else 0
 truth_told : (a b : Bool) → truth_octet a ≡ truth_octet b → a ≡ b
 truth_told true true e = refl
 truth_told false false e = refl
-truth_told true false e = absurd (omega arith)
-truth_told false true e = absurd (omega arith)
+truth_told _ _ e = absurd (omega arith)
 
 power : (c : ℕ) → 2 ^ (c + 1) ≡ 2 * 2 ^ c
 power c = ap (λ (n : ℕ). 2 ^ n) (let z : c + 1 ≡ suc c = omega arith in z) ∙ omega arith
@@ -90,17 +84,9 @@ made spacecraft frame_length skip_before skip_after secondary ocf error_control 
 twelve_told : (s t : Rules) → length s.channels ≡ length t.channels → take 12 (settings_octets s) ≡ take 12 (settings_octets t) → s.max_packet ≡ t.max_packet → s ≡ t
 twelve_told s t l e limit =
     let all : made s.layout.spacecraft s.layout.frame_length s.layout.skip_before s.layout.skip_after s.layout.secondary s.layout.ocf s.layout.error_control s.channels s.max_packet ≡ t =
-    rw (
-      number_told s.layout.spacecraft t.layout.spacecraft (cc) (cc),
-      number_told s.layout.frame_length t.layout.frame_length (cc) (cc),
-      number_told s.layout.skip_before t.layout.skip_before (cc) (cc),
-      number_told s.layout.skip_after t.layout.skip_after (cc) (cc),
-      presence_told s.layout.secondary t.layout.secondary (cc),
-      presence_told s.layout.ocf t.layout.ocf (cc),
-      truth_told s.layout.error_control t.layout.error_control (cc),
-      mask_told s.channels t.channels l (cc),
-      limit,
-    ) refl in
+    rw (number_told s.layout.spacecraft t.layout.spacecraft (cc) (cc), number_told s.layout.frame_length t.layout.frame_length (cc) (cc))
+    (rw (number_told s.layout.skip_before t.layout.skip_before (cc) (cc), number_told s.layout.skip_after t.layout.skip_after (cc) (cc), presence_told s.layout.secondary t.layout.secondary (cc))
+    (rw (presence_told s.layout.ocf t.layout.ocf (cc), truth_told s.layout.error_control t.layout.error_control (cc), mask_told s.channels t.channels l (cc), limit) refl)) in
     all
 
 -- and all fifteen tell them all
@@ -112,8 +98,7 @@ fifteen_told s t l e =
 -- where a version can tell the settings its octets do
 settings_told : (v : Version) (s t : Rules) → length s.channels ≡ length t.channels → tells v s ≡ true → tells v t ≡ true → head_octets v s ≡ head_octets v t → s ≡ t
 settings_told One s t l p q e = twelve_told s t l (ap (drop 5) e) (eqb-true s.max_packet 65542 p ∙ sym (eqb-true t.max_packet 65542 q))
-settings_told Two s t l p q e = fifteen_told s t l (ap (drop 5) e)
-settings_told Three s t l p q e = fifteen_told s t l (ap (drop 5) e)
+settings_told _ s t l p q e = fifteen_told s t l (ap (drop 5) e)
 
 -- ---- spellings in front of octets
 

@@ -22,28 +22,24 @@ use Rattle.tm_tool.proofs.Running.{IsValid, records-append, records-counted, wor
 -- a stop has no pieces of its own
 no_end : {A : Type 0} (text : Texts A) (ending : Ending) (w : Work) (rest : ℕ) → KeepsJob ending → end_pieces text ending w rest ≡ []
 no_end text Close w rest keeps = absurd keeps
-no_end text Keep w rest keeps = refl
-no_end text (StopAfter n) w rest keeps = refl
+no_end text _ w rest keeps = refl
 
 -- one run ends as the last did
 same_end : {A : Type 0} (text : Texts A) (ending : Ending) (count : ℕ) (w : Work) (rest : ℕ) → end_pieces text (in_one ending count) w rest ≡ end_pieces text ending w rest
 same_end text Close count w rest = refl
-same_end text Keep count w rest = refl
-same_end text (StopAfter n) count w rest = refl
+same_end text _ count w rest = refl
 
 -- how many records an ending takes
 chosen-counted : (ending : Ending) (done more : List (List ℕ)) → length (done ++ chosen ending more) ≡ done_by ending (length done) (length (done ++ more))
-chosen-counted Close done more = refl
-chosen-counted Keep done more = refl
 chosen-counted (StopAfter n) done more =
     let left : length (done ++ more) - length done ≡ length more = omega (arith, length-append done more) in
     rw (length-append done (take n more), length-take n more, left) refl
+chosen-counted _ done more = refl
 
 -- what an ending takes comes first, and a closed end takes all
 chosen-front : (ending : Ending) (more : List (List ℕ)) → (others : List (List ℕ)) × (more ≡ chosen ending more ++ others) × (ending ≡ Close → others ≡ [])
-chosen-front Close more = ([], sym (append-nil more), λ e. refl)
-chosen-front Keep more = ([], sym (append-nil more), λ e. refl)
 chosen-front (StopAfter n) more = (drop n more, sym (take-append-drop n more), λ (e : StopAfter n ≡ Close). cc)
+chosen-front _ more = ([], sym (append-nil more), λ e. refl)
 
 module _ {A : Type 0} (head : Bool → List (Piece A)) (none : head false ≡ []) (text : Texts A) (ending : Ending) (last : List ℕ)
     (start : Work) (zero : start.state.records ≡ 0)
@@ -115,11 +111,7 @@ module _ {A : Type 0} (head : Bool → List (Piece A)) (none : head false ≡ []
         let w : Work = worked start done in
         let end : List (Piece A) = end_pieces text ending (worked start ((done ++ c) ++ t)) (length (rest_of size last)) in
         let here : run_pieces head text stop.ending (record { work = w; fresh = fresh }) stop.recording ≡ head fresh ++ record_pieces text w c =
-        rw (
-          pieces_is done stop.recording more is stop.ending v,
-          no_end text stop.ending (worked start (done ++ c)) (length (rest_of size stop.recording)) keeps,
-          append-nil (record_pieces text w c),
-        ) refl in
+        rw (pieces_is done stop.recording more is stop.ending v, no_end text stop.ending (worked start (done ++ c)) (length (rest_of size stop.recording)) keeps, append-nil (record_pieces text w c)) refl in
         let left : left_by stop.ending w stop.recording ≡ worked start (done ++ c) =
         rw (further_is done stop.recording more is) (sym (worked-append start v done c)) in
         let (others, split) = front (done ++ c) stops rest in
@@ -141,9 +133,7 @@ module _ {A : Type 0} (head : Bool → List (Piece A)) (none : head false ≡ []
         by_cases : (e : Ending) → ending ≡ e → (others : List (List ℕ)) → records size last ≡ taken [] stops h ++ others → (ending ≡ Close → others ≡ [])
             → chosen (in_one e (done_in_all size ending last 0 stops)) (records size last) ≡ taken [] stops h
         by_cases Close is others split all = rw (split, all is) (append-nil (taken [] stops h))
-        by_cases Keep is others split all =
-            rw (split, counted [] stops h) (take-append_seam (taken [] stops h) others)
-        by_cases (StopAfter n) is others split all =
+        by_cases _ is others split all =
             rw (split, counted [] stops h) (take-append_seam (taken [] stops h) others)
 
     pub joined : (fresh : Bool) (stops : List Stop) → Follows size last [] stops

@@ -64,12 +64,10 @@ module _ {A K : Type 0} (grows : K → K → List A → Type 0) (grows-nil : (k 
     -- writing stopped at a piece of the ending
     pub end_stopped : (new : View K) (fault : RunFault) → Stopped grows way mid new (end_pieces text ending work n) fault
         → IsStoppedAt grows way text ending w first next old new fault
-    end_stopped new Read h = absurd h.cause
     end_stopped new Write h = inr (at_end new Write h)
     end_stopped new Report h = inr (at_end new Report h)
-    end_stopped new ShortRecording h = absurd h.cause
-    end_stopped new TooMany h = absurd h.cause
     end_stopped new NoMemory h = inr (at_end new NoMemory h)
+    end_stopped new _ h = absurd h.cause
 
     module _ (ended : View K) (took_end : Took grows mid ended (end_pieces text ending work n)) where
       -- nothing was left to write, and a flush failed

@@ -3,6 +3,7 @@ use Rattle.std.proofs.Common.{◌≡◌, ◌⊎◌, ◌<◌, ◌≤◌, ◌+◌,
 use Rattle.std.specs.List.{concat}
 use Rattle.std.specs.Io.KnownBytes.{Consumes, IsAtEnd}
 use Rattle.std.proofs.lemmas.Bool.{cases_lt}
+use Rattle.std.proofs.lemmas.Option.{IfSome_then}
 use Rattle.std.proofs.lemmas.List.{drop-append-le, take-append-le}
 use Rattle.std.proofs.Math.Seq.{take-append-add}
 use Rattle.tm_frame.specs.Layout.{record_length_of}
@@ -33,33 +34,29 @@ module _ (w : Work) (read : List (List ℕ)) (passed : w.state.records ≤ lengt
 
   -- all of them, where no more follow
   chosen_all : (ending : Ending) → Reached ending w.state.records (length read) → chosen ending (behind w read) ≡ behind w read
-  chosen_all Close h = refl
-  chosen_all Keep h = refl
   chosen_all (StopAfter n) h = take_all n (behind w read) (omega (arith, h, size, passed))
+  chosen_all _ h = refl
 
   -- those that were read come first
   chosen_front : (ending : Ending) (more : List (List ℕ)) → Reached ending w.state.records (length read)
       → (others : List (List ℕ)) × (chosen ending (behind w read ++ more) ≡ behind w read ++ others)
-  chosen_front Close more h = (more, refl)
-  chosen_front Keep more h = (more, refl)
   chosen_front (StopAfter n) more h =
       let count : n ≡ length (behind w read) + (n - length (behind w read)) = omega (arith, h, size, passed) in (
         take (n - length (behind w read)) more,
         ap (λ (k : ℕ). take k (behind w read ++ more)) count ∙ take-append-add (behind w read) more (n - length (behind w read)),
       )
+  chosen_front _ more h = (more, refl)
 
   -- and are all, where no more are wanted
   chosen_enough : (ending : Ending) (more : List (List ℕ)) → Suffices ending w.state.records (length read) → chosen ending (behind w read ++ more) ≡ behind w read
-  chosen_enough Close more h = absurd h
-  chosen_enough Keep more h = absurd h
   chosen_enough (StopAfter n) more h =
       take-append-le n (behind w read) more (omega (arith, h, size, passed)) ∙ take_all n (behind w read) (omega (arith, h, size, passed))
+  chosen_enough _ more h = absurd h
 
 -- where no more are wanted the ending has no pieces
 end_none : {A : Type 0} (text : Texts A) (ending : Ending) (done count : ℕ) (w : Work) (rest : ℕ) → Suffices ending done count → end_pieces text ending w rest ≡ []
-end_none text Close done count w rest h = absurd h
-end_none text Keep done count w rest h = absurd h
 end_none text (StopAfter n) done count w rest h = refl
+end_none text _ done count w rest h = absurd h
 
 -- what is said of a recording of which these octets were read: nothing is left at its end
 told : (P : List ℕ → Type 0) (octets : List ℕ) (old new : Option (List ℕ)) → Consumes old new octets
@@ -71,10 +68,6 @@ told P octets (Some all) (Some left) c h = subst P (sym c) (h left (λ end. end)
 pub always : {P : List ℕ → Type 0} (o : Option (List ℕ)) → ((x : List ℕ) → P x) → IfSome o P
 always None f = tt
 always (Some x) f = f x
-
-pub weaker : {P Q : List ℕ → Type 0} (o : Option (List ℕ)) → ((x : List ℕ) → P x → Q x) → IfSome o P → IfSome o Q
-weaker None f h = tt
-weaker (Some x) f h = f x h
 
 module _ {A K : Type 0} (grows : K → K → List A → Type 0) (grows-nil : (k : K) → grows k k [])
     (grows-trans : (j k l : K) (xs ys : List A) → grows j k xs → grows k l ys → grows j l (xs ++ ys))
@@ -230,18 +223,18 @@ module _ {A K : Type 0} (grows : K → K → List A → Type 0) (grows-nil : (k 
 
     pub run_cut : (fault : RunFault) → IsStoppedAt grows way text ending w first next old new fault → IfSome first (λ octets. AppendsCut grows old new (pieces text ending w octets))
     run_cut Read h = read_cut h
-    run_cut Write h = weaker first (λ octets s. s.cut) (stopped_at Write h)
-    run_cut Report h = weaker first (λ octets s. s.cut) (stopped_at Report h)
+    run_cut Write h = IfSome_then first (stopped_at Write h) (λ octets s. s.cut)
+    run_cut Report h = IfSome_then first (stopped_at Report h) (λ octets s. s.cut)
     run_cut ShortRecording h = none_cut h.took
     run_cut TooMany h = some_cut h.read h.one h.octets (λ passed. wanted_reached ending w.state.records (length h.read) h.wanted) h.took
-    run_cut NoMemory h = weaker first (λ octets s. s.cut) (stopped_at NoMemory h)
+    run_cut NoMemory h = IfSome_then first (stopped_at NoMemory h) (λ octets s. s.cut)
 
     pub run_memory : IsStoppedAt grows way text ending w first next old new NoMemory → IfSome first (λ octets. WantsMemory grows way old new (pieces text ending w octets))
-    run_memory h = weaker first (λ octets s. s.memory refl) (stopped_at NoMemory h)
+    run_memory h = IfSome_then first (stopped_at NoMemory h) (λ octets s. s.memory refl)
 
     -- a put was refused, of an outlet of which nothing waits for a flush
     pub run_refused : way.flush ≡ false → IsStoppedAt grows way text ending w first next old new Write → IfSome first (λ octets. RefusesPut grows old new (pieces text ending w octets))
-    run_refused kept h = weaker first (λ octets s. s.refused refl kept) (stopped_at Write h)
+    run_refused kept h = IfSome_then first (stopped_at Write h) (λ octets s. s.refused refl kept)
 
     -- the recording has more records than can be counted
     pub run_many : IsStoppedAt grows way text ending w first next old new TooMany → IfSome first (λ octets. 2 ^ 32 - 1 < record_count (record_length_of w.rules.layout) octets)

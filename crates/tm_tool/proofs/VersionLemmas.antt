@@ -52,9 +52,8 @@ kept_spelled Three s = refl
 
 pub state_again : (v : Version) (rules : Rules) (s : State) (rest : List ℕ) → IsState rules s
     → state_in v rules (state_octets v s ++ rest) ≡ Ok (record { state = kept_state v s; octets = length (state_octets v s) })
-state_again One rules s rest h = old-read-again rules s rest h
-state_again Two rules s rest h = old-read-again rules s rest h
 state_again Three rules s rest h = read-again rules s rest h
+state_again _ rules s rest h = old-read-again rules s rest h
 
 -- octets that are read are the spelling of what they are read as, which has just what the version keeps
 pub record IsSpelled (v : Version) (octets : List ℕ) (d : Decoded) : Type 0 where
@@ -66,6 +65,5 @@ without : (s : State) → s.master ≡ None → record { records = s.records; ma
 without s none = ap (λ (m : Option ℕ). record { records = s.records; master = m; channels = s.channels }) (sym none)
 
 pub state_spelled : (v : Version) (rules : Rules) (octets : List ℕ) (d : Decoded) → AreOctets octets → state_in v rules octets ≡ Ok d → IsSpelled v octets d
-state_spelled One rules octets d h e = let (inside, same, none) = old-spelled-again rules octets d h e in record { inside = inside; same = same; kept = without d.state none }
-state_spelled Two rules octets d h e = let (inside, same, none) = old-spelled-again rules octets d h e in record { inside = inside; same = same; kept = without d.state none }
 state_spelled Three rules octets d h e = let (inside, same) = spelled-again rules octets d h e in record { inside = inside; same = same; kept = refl }
+state_spelled _ rules octets d h e = let (inside, same, none) = old-spelled-again rules octets d h e in record { inside = inside; same = same; kept = without d.state none }

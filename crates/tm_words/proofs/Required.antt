@@ -242,11 +242,9 @@ reaches words h =
 -- ---- the plan
 
 needs_there : (action : Action) (rows : List Row) → GivenFor action rows → HasNeeds action (plan_with rows action)
-needs_there Frames rows given = tt
-needs_there Packets rows given = tt
-needs_there Extract rows given = tt
 needs_there Split rows given = given
 needs_there Fields rows given = given
+needs_there _ rows given = tt
 
 pub required_by : (words : List Text) (plan : Plan) → Reaches (matches_of words) → plan_of words ≡ Some plan → HasRequired plan
 required_by words plan (name, rows, action, is, named, settings, given, stop) e =

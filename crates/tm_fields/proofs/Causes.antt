@@ -15,11 +15,7 @@ use Rattle.tm_fields.specs.declared.faults.DefinitionFault.TheVariants.{Csv}
 pub cause : {R : Type 0} (rem : R → Option (List ℕ)) (a b : Reader R) (k : ErrorKind) → fault_of_kind k ≡ Csv → ExplainsRead rem a b false k
     → (x : ℕ) × (fields : List (List ℕ)) × (a.expected ≡ Some x) × (x ≢ length fields) × TookRecord rem a b fields
 cause rem a b (kind.UnequalLengths pos expected len) e h = (expected, h.3, h.1, λ q. h.2 (q ∙ h.5), h.4)
-cause rem a b (kind.Io why) e h = absurd (cc e)
-cause rem a b (kind.Utf8 pos err) e h = absurd (cc e)
-cause rem a b kind.OutOfMemory e h = absurd (cc e)
-cause rem a b (kind.Serialize text) e h = absurd (cc e)
-cause rem a b (kind.Deserialize pos err) e h = absurd (cc e)
+cause rem a b _ e h = absurd (cc e)
 
 next_is : (o : Option Read) (f : List (List ℕ)) (s : State) (z : List ℕ) → NextIs o true f s z → (p : Read) × (o ≡ Some p) × (f ≡ p.0)
 next_is None f s z n = absurd (cc n)

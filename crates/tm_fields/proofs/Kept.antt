@@ -1,9 +1,8 @@
 -- A definition is told by the records that are kept.
 use Rattle.std.proofs.Common.{◌≡◌, ℕ, zero, suc, ◌<◌, ◌≤◌, true, List, [], ◌∷◌, ◌++◌, length, take, refl, ap, ◌∙◌, arith, inl, inr, Ok, Err, length-take-le}
 use Rattle.std.specs.Prelude.{nat_lt}
-use Rattle.std.proofs.lemmas.Bool.{cases_lt}
-use Rattle.std.proofs.lemmas.List.{take_all}
-use Rattle.std.proofs.lemmas.Bool.Decides.{nat_tests}
+use Rattle.std.proofs.lemmas.Bool.{cases_lt, lt-ltb}
+use Rattle.std.proofs.lemmas.List.{take_all, take-append-le}
 use Rattle.tm_fields.specs.Columns.{Read, and_then, columns_of}
 use Rattle.tm_fields.specs.Reading.{definition_of, fields_in, fields_under}
 use Rattle.tm_fields.specs.Table.{kept, same_lengths, table}
@@ -12,13 +11,7 @@ use Rattle.tm_fields.specs.declared.columns.Columns.{Columns}
 take_again : {A : Type 0} (n : ℕ) (xs : List A) (x : A) → take n (take n xs ++ (x ∷ [])) ≡ take n (xs ++ (x ∷ []))
 take_again zero xs x = refl
 take_again (suc n) [] x = refl
-take_again (suc n) (y ∷ xs) x = ap (λ l. y ∷ l) (take_again n xs x)
-
-take_full : {A : Type 0} (n : ℕ) (xs : List A) (x : A) → length xs ≡ n → take n (xs ++ (x ∷ [])) ≡ xs
-take_full zero [] x h = refl
-take_full zero (y ∷ xs) x h = absurd (omega arith)
-take_full (suc n) [] x h = absurd (omega arith)
-take_full (suc n) (y ∷ xs) x h = ap (λ l. y ∷ l) (take_full n xs x (omega arith))
+take_again (suc n) (y ∷ xs) x = rw (take_again n xs x) refl
 
 -- one record more, of all and of those that were kept
 pub kept_again : (records : List (List (List ℕ))) (values : List (List ℕ)) → kept (kept records ++ (values ∷ [])) ≡ kept (records ++ (values ∷ []))
@@ -30,10 +23,7 @@ kept_short records h = take_all 1002 records h
 
 -- a record more, where as many are kept as count
 pub kept_full : (records : List (List (List ℕ))) (values : List (List ℕ)) → length records ≡ 1002 → kept (records ++ (values ∷ [])) ≡ records
-kept_full records values h = take_full 1002 records values h
-
-is_less : (a b : ℕ) → a < b → nat_lt a b ≡ true
-is_less a b h = grind (arith, nat_tests)
+kept_full records values h = take-append-le 1002 records (values ∷ []) (omega arith) ∙ take_all 1002 records (omega arith)
 
 same_next : {A B : Type 0} (r : Read A) (f g : A → Read B) → ((x : A) → f x ≡ g x) → and_then r f ≡ and_then r g
 same_next (Ok x) f g h = h x
@@ -43,7 +33,7 @@ under_kept : (records : List (List (List ℕ))) (columns : Columns) → fields_u
 under_kept records columns = elim (cases_lt 1000 (length records)) [
   | inl many ↦
       let size : length (take 1001 records) ≡ 1001 = length-take-le 1001 records (omega arith) in
-      rw (is_less 1000 (length records) many, is_less 1000 (length (take 1001 records)) (omega (arith, size))) refl
+      rw (lt-ltb 1000 (length records) many, lt-ltb 1000 (length (take 1001 records)) (omega (arith, size))) refl
   | inr few ↦ ap (λ l. fields_under l columns) (take_all 1001 records (omega arith))
 ]
 

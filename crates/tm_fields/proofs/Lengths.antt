@@ -3,7 +3,8 @@ use Rattle.std.proofs.Common.{◌≡◌, ◌≢◌, ℕ, Bool, true, false, List
 use Rattle.std.specs.Prelude.{Option, ◌==◌, ◌&&◌}
 use Rattle.std.specs.List.{list_all}
 use Rattle.std.proofs.lemmas.List.Folds.{list_all-append}
-use Rattle.std.proofs.lemmas.Bool.Decides.{nat_tests}
+use Rattle.std.proofs.Math.Bool.{and-false}
+use Rattle.std.proofs.lemmas.Bool.{eq-eqb, ne_eqb}
 use Rattle.tm_fields.specs.Table.{same_lengths}
 
 -- the length that the next record must have
@@ -11,16 +12,8 @@ abbrev pub Expects : Option ℕ → List (List (List ℕ)) → Type 0
 Expects e [] = e ≡ None
 Expects e (first ∷ more) = (e ≡ Some (length first)) × (same_lengths (first ∷ more) ≡ true)
 
-test_true : (a n : ℕ) → a ≡ n → (a == n) ≡ true
-test_true a n e = grind (arith, nat_tests)
-
-test_false : (a n : ℕ) → a ≢ n → (a == n) ≡ false
-test_false a n e = grind (arith, nat_tests)
-
 all_more : (n : ℕ) (rows : List (List (List ℕ))) (f : List (List ℕ)) → list_all (λ row. length row == n) rows ≡ true → length f ≡ n → list_all (λ row. length row == n) (rows ++ (f ∷ [])) ≡ true
-all_more n rows f all e =
-    let last = test_true (length f) n e in
-    list_all-append (λ row. length row == n) rows (f ∷ []) ∙ rw (all, last) refl
+all_more n rows f all e = list_all-append (λ row. length row == n) rows (f ∷ []) ∙ rw (all, eq-eqb (length f) n e) refl
 
 pub expects_more : (e new : Option ℕ) (rows : List (List (List ℕ))) (f : List (List ℕ)) → Expects e rows → IfSome e (λ x. new ≡ Some x) × (new ≡ Some (length f)) → Expects new (rows ++ (f ∷ []))
 expects_more e new [] f h k = (k.1, refl)
@@ -30,12 +23,8 @@ expects_more e new (first ∷ more) f h k =
     (expected, all_more (length first) more f h.1 same)
 
 not_all : (n : ℕ) (rows more : List (List (List ℕ))) (f : List (List ℕ)) → length f ≢ n → list_all (λ row. length row == n) (rows ++ (f ∷ more)) ≡ false
-not_all n [] more f apart = let no = test_false (length f) n apart in rw no refl
-not_all n (r ∷ rows) more f apart = let rest = not_all n rows more f apart in rw rest (last (length r == n))
-  where
-    last : (b : Bool) → (b && false) ≡ false
-    last true = refl
-    last false = refl
+not_all n [] more f apart = rw (ne_eqb (length f) n apart) refl
+not_all n (r ∷ rows) more f apart = rw (not_all n rows more f apart) (and-false (length r == n))
 
 pub not_expected : (e : Option ℕ) (x : ℕ) (rows more : List (List (List ℕ))) (f : List (List ℕ)) → Expects e rows → e ≡ Some x → x ≢ length f → same_lengths (rows ++ (f ∷ more)) ≡ false
 not_expected e x [] more f h k apart = absurd (cc)

@@ -20,8 +20,7 @@ pub line_more : (old new : Option (List ℕ)) (values : List (List ℕ)) (value 
 line_more old None values value written e n a = absurd (rw e at a)
 line_more old (Some y) values value written e n a =
     let whole : y ≡ row_body default_writer values ++ (next_sep default_writer written ++ field_text default_writer value) = rw e at a in
-    let before : next_sep default_writer written ≡ next_sep default_writer (length values) = separator written (length values) n in
-    ap Some (whole ∙ ap (λ s. row_body default_writer values ++ (s ++ field_text default_writer value)) before ∙ sym (row-more default_writer values value))
+    rw (whole, separator written (length values) n, row-more default_writer values value) refl
 
 ended : (wrote : Bool) (written : ℕ) → 2 ≤ written → tail_text default_writer wrote written ≡ end_text default_writer.terminator
 ended wrote zero h = absurd (omega arith)
@@ -41,7 +40,7 @@ pub line_end : (old new : Option (List ℕ)) (values : List (List ℕ)) (wrote :
 line_end old None values wrote written h e n a = absurd (rw e at a)
 line_end old (Some y) values wrote written h e n a =
     let whole : y ≡ row_body default_writer values ++ tail_text default_writer wrote written = rw e at a in
-    ap Some (whole ∙ ap (λ t. row_body default_writer values ++ t) (ended wrote written (omega arith)) ∙ sym (row_is values h))
+    rw (whole, ended wrote written (omega arith), row_is values h) refl
 
 behind : (xs ys : List ℕ) → ys ≢ [] → xs ++ ys ≢ []
 behind [] ys some e = some e
@@ -53,7 +52,3 @@ some_text values = behind (row_body default_writer values) _ (behind _ (end_text
   where
     line_feed : end_text default_writer.terminator ≢ []
     line_feed e = cc
-
--- texts that are known to be the same
-pub text_of : (xs ys : List ℕ) → Some xs ≡ Some ys → xs ≡ ys
-text_of xs ys e = cc e

@@ -16,9 +16,7 @@ number_of_one x h = ap number (bits_of-one x) ∙ number-low_bits 8 x ∙ omega 
 pub number_more : (octets : List ℕ) (x : ℕ) → x < 256 → number (bits_of (octets ++ (x ∷ []))) ≡ 256 * number (bits_of octets) + x
 number_more octets x h =
     let size : length (bits_of (x ∷ [])) ≡ 8 = length-bits_of (x ∷ []) in
-    ap number (bits_of-append octets (x ∷ []))
-    ∙ number-append (bits_of octets) (bits_of (x ∷ []))
-    ∙ rw (size, number_of_one x h) (omega arith)
+    rw (bits_of-append octets (x ∷ []), number-append (bits_of octets) (bits_of (x ∷ [])), size, number_of_one x h) (omega arith)
 
 -- the octets up to one more place
 pub spelled_next : (octets : List ℕ) (all i x : ℕ) → i < length octets → x ≡ get_or octets i 0 → x < 256 → all ≡ number (bits_of (take i octets))
@@ -41,21 +39,26 @@ part_between octets first last from to inside low ordered high forward =
     let width : to - 8 * first - (from - 8 * first) ≡ to - from = omega arith in
     ap (λ n. part octets n to) start
     ∙ ap (part octets (8 * first + (from - 8 * first))) stop
-    ∙ part-behind first octets (from - 8 * first) (to - 8 * first) (omega arith) (omega arith)
-    ∙ part-word (last - first) (drop first octets) (from - 8 * first) (to - 8 * first) room (omega arith) (omega arith)
-    ∙ ap (λ n. number (bits_of (slice_range octets first last)) / 2 ^ n % 2 ^ (to - 8 * first - (from - 8 * first))) behind
-    ∙ ap (λ n. number (bits_of (slice_range octets first last)) / 2 ^ (8 * last - to) % 2 ^ n) width
+    ∙ rw (
+      part-behind first octets (from - 8 * first) (to - 8 * first) (omega arith) (omega arith),
+      part-word (last - first) (drop first octets) (from - 8 * first) (to - 8 * first) room (omega arith) (omega arith),
+      behind,
+      width,
+    ) refl
 
 -- the eight bits of an octet
 part_octet : (octets : List ℕ) (i : ℕ) → AreOctets octets → i < length octets → part octets (8 * i) (8 * i + 8) ≡ get_or octets i 0
 part_octet octets i are h =
     let x : ℕ = get_or octets i 0 in
+    let small : x < 256 = are.below i in
     let place : 8 * i ≡ 8 * i + 0 = omega arith in
     ap (λ n. part octets n (8 * i + 8)) place
-    ∙ part-behind i octets 0 8 (omega arith) (omega arith)
-    ∙ ap (λ l. part l 0 8) (drop-cons octets i 0 h)
-    ∙ part-word 1 (x ∷ drop (suc i) octets) 0 8 (omega arith) (omega arith) (omega arith)
-    ∙ rw (number_of_one x (are.below i)) (let small : x < 256 = are.below i in omega arith)
+    ∙ rw (
+      part-behind i octets 0 8 (omega arith) (omega arith),
+      drop-cons octets i 0 h,
+      part-word 1 (x ∷ drop (suc i) octets) 0 8 (omega arith) (omega arith) (omega arith),
+      number_of_one x small,
+    ) (omega arith)
 
 octets_behind : (octets : List ℕ) (first count : ℕ) → AreOctets octets → first + count ≤ length octets → octets_at octets (8 * first) count ≡ take count (drop first octets)
 octets_behind octets first zero are h = refl
@@ -70,9 +73,7 @@ pub octets_at_border : (octets : List ℕ) (at count : ℕ) → AreOctets octets
 octets_at_border octets at count are border h =
     let place : 8 * (at / 8) ≡ at = omega arith in
     let size : at / 8 + count - at / 8 ≡ count = omega arith in
-    ap (λ n. take n (drop (at / 8) octets)) size
-    ∙ sym (octets_behind octets (at / 8) count are h)
-    ∙ ap (λ n. octets_at octets n count) place
+    rw (size, ← octets_behind octets (at / 8) count are h, place) refl
 
 -- one octet more
 pub octets_more : (octets text new : List ℕ) (at count i x : ℕ) → i < count → new ≡ text ++ (x ∷ []) → x ≡ part octets (at + 8 * i) (at + 8 * i + 8)

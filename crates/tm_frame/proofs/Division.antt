@@ -146,17 +146,17 @@ unfolding run
 remainder_from-nil register h =
     remainder_from-run register [] ∙ number-low_bits 16 register ∙ omega arith
 
+-- the bits of the number that the bits spell
+pub bits_spelled : (n w : ℕ) (xs : List Bool) → length xs ≡ n → w ≡ number xs → low_bits n w ≡ xs
+bits_spelled n w xs l e = rw (e, ← l) (low_bits-number xs)
+
 pub remainder_from-append : (register : ℕ) (xs ys : List Bool)
     → remainder_from register (xs ++ ys) ≡ remainder_from (remainder_from register xs) ys
 remainder_from-append register xs ys =
     let after : List Bool = run (low_bits 16 register) xs in
     let width : length after ≡ 16 = length-run xs (low_bits 16 register) ∙ length-low_bits 16 register in
-    let same : low_bits 16 (number after) ≡ after = ap (λ n. low_bits n (number after)) (sym width) ∙ low_bits-number after in
-    remainder_from-run register (xs ++ ys)
-    ∙ ap number (run-append xs ys (low_bits 16 register))
-    ∙ ap (λ r. number (run r ys)) (sym same)
-    ∙ sym (remainder_from-run (number after) ys)
-    ∙ ap (λ r. remainder_from r ys) (sym (remainder_from-run register xs))
+    let same : low_bits 16 (number after) ≡ after = bits_spelled 16 (number after) after width refl in
+    rw (remainder_from-run register (xs ++ ys), run-append xs ys (low_bits 16 register), remainder_from-run register xs, remainder_from-run (number after) ys, same) refl
 
 -- to invert bits is to subtract ones
 pub invert_first-subtract : (n : ℕ) (xs : List Bool) → n ≤ length xs → invert_first n xs ≡ subtract xs (replicate n true)
@@ -181,12 +181,7 @@ pub octets_step : (start register : ℕ) (octets : List ℕ) (i after : ℕ) →
     → after ≡ remainder_from start (bits_of (take (i + 1) octets))
 octets_step start register octets i after inside before moved =
     let x : ℕ = get_or octets i 0 in
-    moved
-    ∙ ap (λ r. remainder_from r (low_bits 8 x)) before
-    ∙ sym (remainder_from-append start (bits_of (take i octets)) (low_bits 8 x))
-    ∙ ap (λ xs. remainder_from start (bits_of (take i octets) ++ xs)) (sym (bits_of-one x))
-    ∙ ap (remainder_from start) (sym (bits_of-append (take i octets) (x ∷ [])))
-    ∙ ap (λ xs. remainder_from start (bits_of xs)) (sym (take_more octets i 0 inside))
+    rw (moved, before, take_more octets i 0 inside, bits_of-append (take i octets) (x ∷ []), bits_of-one x, remainder_from-append start (bits_of (take i octets)) (low_bits 8 x)) refl
 
 -- of no octets
 pub octets_none : (start : ℕ) (octets : List ℕ) → start < 2 ^ 16 → start ≡ remainder_from start (bits_of (take 0 octets))
@@ -202,14 +197,11 @@ octets_done start octets register i all held = held ∙ ap (λ xs. remainder_fro
 pub octets_apart : (register after n : ℕ) (octets : List ℕ) → after ≡ remainder_from register (bits_of (take n octets))
     → remainder_from after (bits_of (drop n octets)) ≡ remainder_from register (bits_of octets)
 octets_apart register after n octets moved =
-    ap (λ r. remainder_from r (bits_of (drop n octets))) moved
-    ∙ sym (remainder_from-append register (bits_of (take n octets)) (bits_of (drop n octets)))
-    ∙ ap (remainder_from register) (sym (bits_of-append (take n octets) (drop n octets)))
-    ∙ ap (λ xs. remainder_from register (bits_of xs)) (take-append-drop n octets)
+    rw (moved, ← remainder_from-append register (bits_of (take n octets)) (bits_of (drop n octets)), ← bits_of-append (take n octets) (drop n octets), take-append-drop n octets) refl
 
 -- what is left has 16 bits
 pub remainder_from-lt : (register : ℕ) (bits : List Bool) → remainder_from register bits < 2 ^ 16
 remainder_from-lt register bits =
     let after : List Bool = run (low_bits 16 register) bits in
     let width : length after ≡ 16 = length-run bits (low_bits 16 register) ∙ length-low_bits 16 register in
-    subst (λ n. n < 2 ^ 16) (sym (remainder_from-run register bits)) (subst (λ n. number after < 2 ^ n) width (number-lt after))
+    rw (remainder_from-run register bits) (rw width at (number-lt after))

@@ -19,8 +19,7 @@ number-bits_of-take (suc n) (x ∷ xs) h room =
 part-big : (n : ℕ) (octets : List ℕ) (from to : ℕ) → AreOctets octets → n ≤ length octets → from ≤ to → to ≤ 8 * n
     → part octets from to ≡ big_number n octets / 2 ^ (8 * n - to) % 2 ^ (to - from)
 part-big n octets from to are room ordered inside =
-    part-word n octets from to room ordered inside
-    ∙ ap (λ m. m / 2 ^ (8 * n - to) % 2 ^ (to - from)) (number-bits_of-take n octets are room)
+    rw (part-word n octets from to room ordered inside, number-bits_of-take n octets are room) refl
 
 -- what the code reads of the word is the part of the frame
 pub part_read : (frame : List ℕ) (word from to read : ℕ) → AreOctets frame → 6 ≤ length frame → word ≡ big_number 6 frame → from ≤ to → to ≤ 48
@@ -34,9 +33,7 @@ pub part_secondary : (frame : List ℕ) (from to : ℕ) → AreOctets frame → 
 part_secondary frame from to octets room ordered inside =
     let left : 1 ≤ length (drop 6 frame) = omega (arith, length-drop 6 frame) in
     let value : big_number 1 (drop 6 frame) ≡ get_or frame 6 0 = rw (get_or-drop 6 frame 0 0) (omega arith) in
-    part-behind 6 frame from to (omega arith) ordered
-    ∙ part-big 1 (drop 6 frame) from to (octets_behind 6 frame octets) left ordered inside
-    ∙ ap (λ n. n / 2 ^ (8 - to) % 2 ^ (to - from)) value
+    rw (part-behind 6 frame from to (omega arith) ordered, part-big 1 (drop 6 frame) from to (octets_behind 6 frame octets) left ordered inside, value) refl
 
 -- the last two octets
 pub part_control : (frame : List ℕ) → AreOctets frame → 2 ≤ length frame

@@ -78,10 +78,7 @@ long_division-subtract (suc n) (x ∷ xs) [] same room = absurd (omega arith)
 long_division-subtract (suc n) (x ∷ xs) (y ∷ ys) same room =
     let l : length (after x xs) ≡ length (after y ys) = length-after x xs ∙ omega arith ∙ sym (length-after y ys) in
     let m : n + 16 ≤ length (after y ys) = omega (arith, length-after y ys) in
-    ap (long_division n) (after_is (differ x y) (subtract xs ys) ∙ after-subtract x y xs ys (omega arith))
-    ∙ long_division-subtract n (after x xs) (after y ys) l m
-    ∙ ap (λ zs. subtract (long_division n zs) (long_division n (after y ys))) (sym (after_is x xs))
-    ∙ ap (λ zs. subtract (long_division n (drop 1 (cond x (subtract (x ∷ xs) generator) (x ∷ xs)))) (long_division n zs)) (sym (after_is y ys))
+    rw (after_is (differ x y) (subtract xs ys), after-subtract x y xs ys (omega arith), after_is x xs, after_is y ys) (long_division-subtract n (after x xs) (after y ys) l m)
 
 -- zeros in front are passed over
 pub long_division-zeros : (n : ℕ) (xs : List Bool) → long_division n (replicate n false ++ xs) ≡ xs
@@ -94,28 +91,18 @@ unfolding long_division
 length-long_division zero xs = omega arith
 length-long_division (suc n) [] = omega arith
 length-long_division (suc n) (x ∷ xs) =
-    ap (λ zs. length (long_division n zs)) (after_is x xs) ∙ length-long_division n (after x xs) ∙ omega (arith, length-after x xs)
+    rw (after_is x xs, length-long_division n (after x xs)) (omega (arith, length-after x xs))
 
 pub subtract-append : (xs ys ps qs : List Bool) → length xs ≡ length ps → subtract (xs ++ ys) (ps ++ qs) ≡ subtract xs ps ++ subtract ys qs
 unfolding subtract
 subtract-append [] ys [] qs h = refl
 subtract-append [] ys (p ∷ ps) qs h = absurd (omega arith)
 subtract-append (x ∷ xs) ys [] qs h = absurd (omega arith)
-subtract-append (x ∷ xs) ys (p ∷ ps) qs h = ap (λ zs. differ x p ∷ zs) (subtract-append xs ys ps qs (omega arith))
+subtract-append (x ∷ xs) ys (p ∷ ps) qs h = rw (subtract-append xs ys ps qs (omega arith)) refl
 
 -- zeros with bits subtracted are these bits
 pub zeros-subtract_n : (n : ℕ) (ds : List Bool) → length ds ≡ n → subtract (replicate n false) ds ≡ ds
-zeros-subtract_n n ds h = ap (λ m. subtract (replicate m false) ds) (sym h) ∙ zeros-subtract ds
-
--- bits subtracted from themselves are zeros
-subtract-self : (xs : List Bool) → subtract xs xs ≡ replicate (length xs) false
-unfolding subtract
-subtract-self [] = refl
-subtract-self (false ∷ xs) = ap (λ ys. false ∷ ys) (subtract-self xs)
-subtract-self (true ∷ xs) = ap (λ ys. false ∷ ys) (subtract-self xs)
-
-subtract-same : (n : ℕ) (xs : List Bool) → length xs ≡ n → subtract xs xs ≡ replicate n false
-subtract-same n xs h = subtract-self xs ∙ ap (λ m. replicate m false) h
+zeros-subtract_n n ds h = rw (← h) (zeros-subtract ds)
 
 -- a register of zeros takes nothing away
 low_bits-zero : low_bits 16 0 ≡ replicate 16 false
@@ -124,9 +111,7 @@ low_bits-zero = refl
 
 pub remainder_from-zero : (bits : List Bool) → remainder_from 0 bits ≡ number (long_division (length bits) (bits ++ replicate 16 false))
 unfolding remainder_from
-remainder_from-zero bits =
-    ap (λ ds. number (long_division (length bits) (subtract (bits ++ replicate 16 false) ds))) low_bits-zero
-    ∙ ap (λ xs. number (long_division (length bits) xs)) (subtract-zeros 16 (bits ++ replicate 16 false))
+remainder_from-zero bits = rw (low_bits-zero, subtract-zeros 16 (bits ++ replicate 16 false)) refl
 
 length-divided : (bits : List Bool) → length (long_division (length bits) (bits ++ replicate 16 false)) ≡ 16
 length-divided bits =
@@ -137,20 +122,11 @@ pub remainder_from-subtract : (xs ys : List Bool) → length xs ≡ length ys
     → remainder_from 0 (subtract xs ys) ≡ bit_xor (remainder_from 0 xs) (remainder_from 0 ys)
 remainder_from-subtract xs ys same =
     let z : List Bool = replicate 16 false in
-    let e : List Bool = long_division (length xs) (xs ++ z) in
-    let f : List Bool = long_division (length ys) (ys ++ z) in
-    let padded : subtract xs ys ++ z ≡ subtract (xs ++ z) (ys ++ z) =
-    sym (subtract-append xs z ys z same ∙ ap (λ l. subtract xs ys ++ l) (subtract-zeros 16 z)) in
+    let padded : subtract xs ys ++ z ≡ subtract (xs ++ z) (ys ++ z) = rw (subtract-append xs z ys z same, subtract-zeros 16 z) refl in
     let width : length (xs ++ z) ≡ length (ys ++ z) = length-append xs z ∙ omega arith ∙ sym (length-append ys z) in
-    remainder_from-zero (subtract xs ys)
-    ∙ ap number
-    (ap (λ n. long_division n (subtract xs ys ++ z)) (length-subtract xs ys)
-    ∙ ap (long_division (length xs)) padded
-    ∙ long_division-subtract (length xs) (xs ++ z) (ys ++ z) width (omega (arith, length-append ys z))
-    ∙ ap (λ n. subtract e (long_division n (ys ++ z))) same)
-    ∙ number-subtract e f (length-divided xs ∙ sym (length-divided ys))
-    ∙ ap (λ n. bit_xor n (number f)) (sym (remainder_from-zero xs))
-    ∙ ap (bit_xor (remainder_from 0 xs)) (sym (remainder_from-zero ys))
+    rw (remainder_from-zero (subtract xs ys), remainder_from-zero xs, remainder_from-zero ys, length-subtract xs ys, padded)
+    (rw (long_division-subtract (length xs) (xs ++ z) (ys ++ z) width (omega (arith, length-append ys z)), ← same)
+    (rw (number-subtract (long_division (length xs) (xs ++ z)) (long_division (length xs) (ys ++ z)) (length-divided xs ∙ sym (rw (← same) at (length-divided ys)))) refl))
 
 -- what is subtracted from the front of enough bits leaves those behind
 subtract-front : (xs ys ds : List Bool) → length ds ≤ length xs → subtract (xs ++ ys) ds ≡ subtract xs ds ++ ys
@@ -158,7 +134,7 @@ unfolding subtract
 subtract-front [] ys [] h = subtract-nil ys
 subtract-front [] ys (d ∷ ds) h = absurd (omega arith)
 subtract-front (x ∷ xs) ys [] h = refl
-subtract-front (x ∷ xs) ys (d ∷ ds) h = ap (λ l. differ x d ∷ l) (subtract-front xs ys ds (omega arith))
+subtract-front (x ∷ xs) ys (d ∷ ds) h = rw (subtract-front xs ys ds (omega arith)) refl
 
 pub remainder_from-is : (register : ℕ) (bits : List Bool)
     → remainder_from register bits ≡ number (long_division (length bits) (subtract (bits ++ replicate 16 false) (low_bits 16 register)))
@@ -170,11 +146,7 @@ pub remainder_from-register : (register : ℕ) (bits : List Bool) → 16 ≤ len
     → remainder_from register bits ≡ remainder_from 0 (subtract bits (low_bits 16 register))
 remainder_from-register register bits room =
     let ds : List Bool = low_bits 16 register in
-    let fits : length ds ≤ length bits = omega (arith, length-low_bits 16 register) in
-    remainder_from-is register bits
-    ∙ ap (λ xs. number (long_division (length bits) xs)) (subtract-front bits (replicate 16 false) ds fits)
-    ∙ ap (λ n. number (long_division n (subtract bits ds ++ replicate 16 false))) (sym (length-subtract bits ds))
-    ∙ sym (remainder_from-zero (subtract bits ds))
+    rw (remainder_from-is register bits, subtract-front bits (replicate 16 false) ds (omega (arith, length-low_bits 16 register)), remainder_from-zero (subtract bits ds), length-subtract bits ds) refl
 
 number-zeros : number (replicate 16 false) ≡ 0
 unfolding number
@@ -183,7 +155,4 @@ number-zeros = refl
 -- zeros leave a register of zeros as it is
 pub remainder_from-zeros : (n : ℕ) → remainder_from 0 (replicate n false) ≡ 0
 remainder_from-zeros n =
-    remainder_from-zero (replicate n false)
-    ∙ ap (λ m. number (long_division m (replicate n false ++ replicate 16 false))) (length-replicate n false)
-    ∙ ap number (long_division-zeros n (replicate 16 false))
-    ∙ number-zeros
+    rw (remainder_from-zero (replicate n false), length-replicate n false, long_division-zeros n (replicate 16 false)) number-zeros

@@ -1,5 +1,6 @@
 -- Each entry of the tables is the remainder that it stands for.
 use Rattle.std.proofs.Common.{◌≡◌, ℕ, zero, suc, ◌+◌, ◌*◌, ◌/◌, ◌%◌, ◌^◌, ◌<◌, Bool, true, List, [], ◌∷◌, length, map, ◌==◌, inl, inr, refl, sym, ap, ◌∙◌, arith}
+use Rattle.std.proofs.lemmas.List.{get_or-map, length-map}
 use Rattle.std.proofs.lemmas.Bool.{and_parts, eqb-true, cases_lt}
 use Rattle.std.specs.Prelude.{◌&&◌, slice_index, slice_index_or, bit_xor}
 use Rattle.tm_bits.specs.Bits.{bits_of, low_bits, number}
@@ -51,37 +52,24 @@ record IsRow (behind : ℕ) (row : List ℕ) : Type 0 where
   all : length row ≡ 256
   right : (octet : ℕ) → octet < 256 → slice_index row octet ≡ entry_of behind octet
 
-slice_index-map : (f : ℕ → ℕ) (xs : List ℕ) (i : ℕ) → i < length xs → slice_index (map f xs) i ≡ f (slice_index xs i)
-slice_index-map f [] i h = absurd (omega arith)
-slice_index-map f (x ∷ xs) zero h = refl
-slice_index-map f (x ∷ xs) (suc i) h = slice_index-map f xs i (omega arith)
-
-length-map : (f : ℕ → ℕ) (xs : List ℕ) → length (map f xs) ≡ length xs
-length-map f [] = refl
-length-map f (x ∷ xs) = ap suc (length-map f xs)
-
 next_row : (behind : ℕ) (row : List ℕ) → IsRow behind row → IsRow (suc behind) (map moved row)
 next_row behind row is = record {
-  all = length-map moved row ∙ is.all;
+  all = length-map row moved ∙ is.all;
   right = λ octet below.
       let entry : ℕ = entry_of behind octet in
       let high : entry / 2 ^ 8 < 256 = let fits = entry_of-lt behind octet in omega arith in
-      slice_index-map moved row octet (omega (arith, is.all))
-      ∙ ap moved (is.right octet below)
-      ∙ ap (bit_xor (entry * 2 ^ 8 % 2 ^ 16)) (first_is_right (entry / 2 ^ 8) high)
-      ∙ sym (entry_of-suc behind octet);
+      get_or-map moved row octet 0 0 (omega (arith, is.all))
+      ∙ rw (is.right octet below, first_is_right (entry / 2 ^ 8) high) (sym (entry_of-suc behind octet));
 }
 
 grown_right : (n : ℕ) (row : List ℕ) (first behind octet : ℕ) → IsRow first row → behind < n → octet < 256
     → slice_index (slice_index_or (grown n row) behind []) octet ≡ entry_of (first + behind) octet
 grown_right zero row first behind octet is inside below = absurd (omega arith)
 grown_right (suc n) row first zero octet is inside below =
-    let place : first ≡ first + 0 = omega arith in
-    is.right octet below ∙ ap (λ k. entry_of k octet) place
+    let place : first + 0 ≡ first = omega arith in rw place (is.right octet below)
 grown_right (suc n) row first (suc behind) octet is inside below =
     let place : suc first + behind ≡ first + suc behind = omega arith in
-    grown_right n (map moved row) (suc first) behind octet (next_row first row is) (omega arith) below
-    ∙ ap (λ k. entry_of k octet) place
+    rw place at (grown_right n (map moved row) (suc first) behind octet (next_row first row is) (omega arith) below)
 
 -- each entry is the remainder of its octet with the zero octets of its table behind it
 pub tables_are_right : (behind octet : ℕ) → behind < 16 → octet < 256 → slice_index (slice_index_or TABLES behind []) octet ≡ entry_of behind octet

@@ -2,7 +2,7 @@
 use Rattle.std.proofs.Common.{◌≡◌, ℕ, ◌+◌, ◌-◌, ◌*◌, ◌^◌, ◌<◌, ◌≤◌, min, true, false, Option, Some, None, List, [], ◌∷◌, length, drop, set, sym, subst, ◌∙◌, ⊎_elim, arith}
 use Rattle.std.specs.Prelude.{slice_range}
 use Rattle.std.proofs.Math.Pow.{pow_mono}
-use Rattle.std.proofs.lemmas.Bool.{cases_Bool, cases_eq, cond_both, eq-eqb}
+use Rattle.std.proofs.lemmas.Bool.{cases_Bool, cases_eq, cond_both, eqb-false}
 use Rattle.std.proofs.lemmas.List.{length-set, length-take, get_or-set_other}
 use Rattle.std.proofs.lemmas.Grind.{get_or-set_at}
 use Rattle.tm_bits.specs.Bits.{part, bits_of}
@@ -43,10 +43,8 @@ header-fits channel octets h = record { channel = h; application = (header-range
 -- ---- the entry of a key
 
 begun-fits : (flags : Flags) (count : ℕ) → count < 16384 → FirstFits (begun flags count)
-begun-fits flag.Continuation count h = tt
 begun-fits flag.First count h = h
-begun-fits flag.Last count h = tt
-begun-fits flag.Unsegmented count h = tt
+begun-fits _ count h = tt
 
 first_in-fits : (e : Option Last) → EntryFits e → FirstFits (first_in e)
 first_in-fits None h = tt
@@ -66,10 +64,7 @@ not_idle : (channel : ℕ) (p : Sent) → Fits p → is_idle p.header ≡ false 
 not_idle channel p fits h e =
     let small = fits.application in
     let idle : p.header.application ≡ 2047 = omega arith in
-    true_false (sym (eq-eqb p.header.application 2047 idle) ∙ h)
-  where
-    true_false : true ≡ false → ⊥
-    true_false h = cc
+    eqb-false p.header.application 2047 h idle
 
 -- an entry with counts may be put at the key of a packet that isn't idle
 set-valid : (s : List (Option Last)) (p : Sent) (kept : Last) → IsState s → Fits p → is_idle p.header ≡ false → IsEntry kept

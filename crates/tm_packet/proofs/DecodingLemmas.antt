@@ -1,15 +1,14 @@
 -- The entries that octets spell, one by one.
-use Rattle.std.proofs.Common.{◌≡◌, ℕ, zero, suc, ◌+◌, ◌-◌, ◌*◌, ◌%◌, ◌<◌, ◌≤◌, Bool, true, false, not, ◌||◌, ◌==◌, Option, Some, None, List, [], ◌∷◌, drop, set, refl, sym, ap, ◌∙◌, arith}
+use Rattle.std.proofs.Common.{◌≡◌, ℕ, zero, suc, ◌+◌, ◌-◌, ◌*◌, ◌%◌, ◌<◌, ◌≤◌, Bool, true, false, not, ◌||◌, ◌==◌, Option, Some, None, Ok, length, subst, List, [], ◌∷◌, drop, set, refl, sym, ap, ◌∙◌, arith}
 use Rattle.std.specs.Prelude.{nat_lt, replicate, if◌then◌else◌}
-use Rattle.std.proofs.lemmas.Bool.{and_parts, eq-eqb, ltb-true}
+use Rattle.std.proofs.lemmas.Bool.{ne_eqb, not-true, and_parts, eq-eqb, ltb-true, ltb-false}
 use Rattle.std.proofs.lemmas.List.{drop-drop}
 use Rattle.tm_packet.specs.declared.tracker.Last.{Last}
 use Rattle.tm_packet.specs.declared.tracker.Numbers.{Numbers}
 use Rattle.tm_packet.specs.declared.tracker.TrackerFault.{TrackerFault}
 use Rattle.tm_packet.specs.declared.tracker.TrackerFault.TheVariants.{Order, Value}
 use Rattle.tm_packet.specs.Merge.{no_entries}
-use Rattle.tm_packet.specs.Spelling.{raw_of, raws, has_values, rises, fault_after, first_of, place_of, places, state_of}
-use Rattle.tm_packet.proofs.Merging.{differ}
+use Rattle.tm_packet.specs.Spelling.{Decoded, number_at, decoding_of, decoding_with, raw_of, raws, has_values, rises, fault_after, first_of, place_of, places, state_of}
 
 -- the entries from one on are it and those after it
 pub raws-step : (n at : ℕ) (xs : List ℕ) → at < n
@@ -17,16 +16,14 @@ pub raws-step : (n at : ℕ) (xs : List ℕ) → at < n
 raws-step n at xs h =
     let one : n - at ≡ suc (n - (at + 1)) = omega arith in
     let next : 2 + 6 * at + 6 ≡ 2 + 6 * (at + 1) = omega arith in
-    ap (λ k. raws k (drop (2 + 6 * at) xs)) one
-    ∙ ap (λ ys. raw_of (drop (2 + 6 * at) xs) ∷ raws (n - (at + 1)) ys) (drop-drop 6 (2 + 6 * at) xs ∙ ap (λ k. drop k xs) next)
+    rw (one, drop-drop 6 (2 + 6 * at) xs, next) refl
 
 -- the fault of the entries from one on: of its values, of its order, or of those after it
 fault_here : (before : Option ℕ) (n at : ℕ) (xs : List ℕ) (r : Numbers) → at < n → r ≡ raw_of (drop (2 + 6 * at) xs)
     → fault_after before (raws (n - at) (drop (2 + 6 * at) xs))
     ≡ (if has_values r then (if rises before r.key then fault_after (Some r.key) (raws (n - (at + 1)) (drop (2 + 6 * (at + 1)) xs)) else Some Order) else Some Value)
 fault_here before n at xs r h e =
-    ap (fault_after before) (raws-step n at xs h)
-    ∙ ap (λ (q : Numbers). fault_after before (q ∷ raws (n - (at + 1)) (drop (2 + 6 * (at + 1)) xs))) (sym e)
+    rw (raws-step n at xs h, e) refl
 
 pub fault_of_values : (before : Option ℕ) (n at : ℕ) (xs : List ℕ) (r : Numbers) → at < n → r ≡ raw_of (drop (2 + 6 * at) xs)
     → has_values r ≡ false → fault_after before (raws (n - at) (drop (2 + 6 * at) xs)) ≡ Some Value
@@ -41,30 +38,42 @@ pub fault_of_rest : (before : Option ℕ) (n at : ℕ) (xs : List ℕ) (r : Numb
     → fault_after before (raws (n - at) (drop (2 + 6 * at) xs)) ≡ fault_after (Some r.key) (raws (n - (at + 1)) (drop (2 + 6 * (at + 1)) xs))
 fault_of_rest before n at xs r h e values order = fault_here before n at xs r h e ∙ rw values (rw order refl)
 
--- where there is no fault the first entry has its values, and there is none after it
-no_fault : (values order : Bool) (rest : Option TrackerFault) → (if values then (if order then rest else Some Order) else Some Value) ≡ None
-    → (values ≡ true) × (rest ≡ None)
-no_fault true true rest h = (refl, h)
-no_fault true false rest h = cc
-no_fault false order rest h = cc
+-- where there is no fault the first entry has its values and its order, and there is none after it
+pub all_right : (before : Option ℕ) (r : Numbers) (rs : List Numbers) → fault_after before (r ∷ rs) ≡ None
+    → (has_values r ≡ true) × (rises before r.key ≡ true) × (fault_after (Some r.key) rs ≡ None)
+all_right before r rs h = by_tests (has_values r) (rises before r.key) (fault_after (Some r.key) rs) h
+  where
+    by_tests : (values order : Bool) (rest : Option TrackerFault) → (if values then (if order then rest else Some Order) else Some Value) ≡ None
+        → (values ≡ true) × (order ≡ true) × (rest ≡ None)
+    by_tests true true rest h = (refl, refl, h)
+    by_tests true false rest h = cc
+    by_tests false order rest h = cc
 
 valued_each : (n i : ℕ) (before : Option ℕ) (xs : List ℕ) → fault_after before (raws n xs) ≡ None → i < n → has_values (raw_of (drop (6 * i) xs)) ≡ true
 valued_each zero i before xs h inside = absurd (omega arith)
-valued_each (suc n) zero before xs h inside =
-    let r : Numbers = raw_of xs in
-    (no_fault (has_values r) (rises before r.key) (fault_after (Some r.key) (raws n (drop 6 xs))) h).0
+valued_each (suc n) zero before xs h inside = (all_right before (raw_of xs) (raws n (drop 6 xs)) h).0
 valued_each (suc n) (suc i) before xs h inside =
-    let r : Numbers = raw_of xs in
-    let rest : fault_after (Some r.key) (raws n (drop 6 xs)) ≡ None =
-    (no_fault (has_values r) (rises before r.key) (fault_after (Some r.key) (raws n (drop 6 xs))) h).1 in
-    let behind : 6 + 6 * i ≡ 6 * suc i = omega arith in
-    ap (λ ys. has_values (raw_of ys)) (sym (drop-drop (6 * i) 6 xs ∙ ap (λ k. drop k xs) behind))
-    ∙ valued_each n i (Some r.key) (drop 6 xs) rest (omega arith)
+    let behind : 6 * suc i ≡ 6 + 6 * i = omega arith in
+    rw (behind, ← drop-drop (6 * i) 6 xs) (valued_each n i (Some (raw_of xs).key) (drop 6 xs) (all_right before (raw_of xs) (raws n (drop 6 xs)) h).2 (omega arith))
 
 -- each entry of faultless octets has its values
 pub valued_at : (n i : ℕ) (xs : List ℕ) → fault_after None (raws n (drop 2 xs)) ≡ None → i < n → has_values (raw_of (drop (2 + 6 * i) xs)) ≡ true
 valued_at n i xs h inside =
-    ap (λ ys. has_values (raw_of ys)) (sym (drop-drop (6 * i) 2 xs)) ∙ valued_each n i None (drop 2 xs) h inside
+    rw (← drop-drop (6 * i) 2 xs) (valued_each n i None (drop 2 xs) h inside)
+
+-- what holds of entries that are all there and have no fault holds of what is read
+pub read_faultless : (P : Decoded → Type 0) (xs : List ℕ) (d : Decoded) → decoding_of xs ≡ Ok d
+    → (2 + 6 * number_at xs 0 ≤ length xs → fault_after None (raws (number_at xs 0) (drop 2 xs)) ≡ None
+    → P (record { entries = state_of (raws (number_at xs 0) (drop 2 xs)); octets = 2 + 6 * number_at xs 0 })) → P d
+read_faultless P xs d e holds =
+    by_tests (nat_lt (length xs) 2) (nat_lt (length xs) (2 + 6 * number_at xs 0)) refl (fault_after None (raws (number_at xs 0) (drop 2 xs))) refl e
+  where
+    by_tests : (b c : Bool) → nat_lt (length xs) (2 + 6 * number_at xs 0) ≡ c → (found : Option TrackerFault) → fault_after None (raws (number_at xs 0) (drop 2 xs)) ≡ found
+        → decoding_with (if b then None else if c then None else Some (number_at xs 0)) xs ≡ Ok d → P d
+    by_tests true c is found none e = cc
+    by_tests false true is found none e = cc
+    by_tests false false is (Some fault) none e = let refused = rw none at e in cc
+    by_tests false false is None none e = let read = rw none at e in subst P (cc read) (holds (ltb-false (length xs) (2 + 6 * number_at xs 0) is) none)
 
 -- the numbers are those of an entry
 pub record AreValues (r : Numbers) : Type 0 where
@@ -73,10 +82,6 @@ pub record AreValues (r : Numbers) : Type 0 where
   pub count : r.count < 16384
   pub first : (nat_lt r.first 16384 || (r.first == 65535)) ≡ true
 
-not_true_is : (b : Bool) → not b ≡ true → b ≡ false
-not_true_is true h = cc
-not_true_is false h = refl
-
 pub values_of : (r : Numbers) → has_values r ≡ true → AreValues r
 values_of r h =
     let one = and_parts _ _ h in
@@ -84,34 +89,30 @@ values_of r h =
     let three = and_parts _ _ two.0 in
     record {
       key = ltb-true r.key 16384 three.0;
-      packets = not_true_is (r.key % 2048 == 2047) three.1;
+      packets = not-true (r.key % 2048 == 2047) three.1;
       count = ltb-true r.count 16384 two.1;
       first = one.1;
     }
 
-abbrev last_in : Numbers → Last
+abbrev pub last_in : Numbers → Last
 last_in r = record { count = r.count; first = first_of r.first }
 
 -- an entry says nothing of greater keys
 pub places-above : (n k : ℕ) (r : Numbers) (rs : List Numbers) → r.key < k → places n k (r ∷ rs) ≡ places n k rs
 places-above zero k r rs h = refl
 places-above (suc n) k r rs h =
-    ap (λ b. (if b then Some (last_in r) else place_of k rs) ∷ places n (k + 1) (r ∷ rs)) (differ r.key k (λ (e : r.key ≡ k). omega arith))
-    ∙ ap (λ l. place_of k rs ∷ l) (places-above n (k + 1) r rs (omega arith))
+    rw (ne_eqb r.key k (λ (e : r.key ≡ k). omega arith), places-above n (k + 1) r rs (omega arith)) refl
 
 places-set : (n k i : ℕ) (r : Numbers) (rs : List Numbers) → r.key ≡ k + i → i < n
-    → set (places n k rs) i (Some (record { count = r.count; first = first_of r.first })) ≡ places n k (r ∷ rs)
+    → set (places n k rs) i (Some (last_in r)) ≡ places n k (r ∷ rs)
 places-set zero k i r rs e h = absurd (omega arith)
-places-set (suc n) k zero r rs e h =
-    sym (ap (λ b. (if b then Some (last_in r) else place_of k rs) ∷ places n (k + 1) (r ∷ rs)) (eq-eqb r.key k (omega arith))
-    ∙ ap (λ l. Some (last_in r) ∷ l) (places-above n (k + 1) r rs (omega arith)))
+places-set (suc n) k zero r rs e h = rw (eq-eqb r.key k (omega arith), places-above n (k + 1) r rs (omega arith)) refl
 places-set (suc n) k (suc i) r rs e h =
-    ap (λ l. place_of k rs ∷ l) (places-set n (k + 1) i r rs (omega arith) (omega arith))
-    ∙ sym (ap (λ b. (if b then Some (last_in r) else place_of k rs) ∷ places n (k + 1) (r ∷ rs)) (differ r.key k (λ (same : r.key ≡ k). omega arith)))
+    rw (ne_eqb r.key k (λ (same : r.key ≡ k). omega arith), places-set n (k + 1) i r rs (omega arith) (omega arith)) refl
 
 -- one more entry in front is put in its place
 pub state-set : (r : Numbers) (rs : List Numbers) → r.key < 16384
-    → set (state_of rs) r.key (Some (record { count = r.count; first = first_of r.first })) ≡ state_of (r ∷ rs)
+    → set (state_of rs) r.key (Some (last_in r)) ≡ state_of (r ∷ rs)
 unfolding state_of
 state-set r rs h = places-set 16384 0 r.key r rs (omega arith) h
 
@@ -126,19 +127,13 @@ state-none = sym (places-none 16384 0)
 -- no entries are read, and all places are empty
 pub state-begin : (s : List (Option Last)) (n : ℕ) (xs : List ℕ) → s ≡ no_entries → s ≡ state_of (raws (n - n) (drop (2 + 6 * n) xs))
 state-begin s n xs h =
-    let none : n - n ≡ 0 = omega arith in
-    h ∙ state-none ∙ ap (λ k. state_of (raws k (drop (2 + 6 * n) xs))) (sym none)
+    let none : n - n ≡ 0 = omega arith in rw (h, none) state-none
 
 -- the entries from one on are put where those after it are
 pub state-step : (old new : List (Option Last)) (n at : ℕ) (xs : List ℕ) (r : Numbers) → 1 ≤ at → at ≤ n
     → old ≡ state_of (raws (n - at) (drop (2 + 6 * at) xs)) → r ≡ raw_of (drop (2 + 6 * (at - 1)) xs) → r.key < 16384
-    → new ≡ set old r.key (Some (record { count = r.count; first = first_of r.first }))
+    → new ≡ set old r.key (Some (last_in r))
     → new ≡ state_of (raws (n - (at - 1)) (drop (2 + 6 * (at - 1)) xs))
 state-step old new n at xs r some inside before e key put =
     let back : at - 1 + 1 ≡ at = omega arith in
-    put
-    ∙ ap (λ s. set s r.key (Some (record { count = r.count; first = first_of r.first }))) before
-    ∙ state-set r (raws (n - at) (drop (2 + 6 * at) xs)) key
-    ∙ ap (λ (q : Numbers). state_of (q ∷ raws (n - at) (drop (2 + 6 * at) xs))) e
-    ∙ ap (λ k. state_of (raw_of (drop (2 + 6 * (at - 1)) xs) ∷ raws (n - k) (drop (2 + 6 * k) xs))) (sym back)
-    ∙ ap state_of (sym (raws-step n (at - 1) xs (omega arith)))
+    rw (put, before, state-set r (raws (n - at) (drop (2 + 6 * at) xs)) key, e, raws-step n (at - 1) xs (omega arith), back) refl

@@ -1,7 +1,8 @@
 -- All pairs' headers together.
 use Rattle.std.proofs.Common.{◌≡◌, ℕ, ◌+◌, ◌<◌, zero, suc, Bool, true, false, not, ◌&&◌, ◌==◌, Option, Some, None, List, [], ◌∷◌, ◌++◌, length, get_or, set, refl, sym, ap, ◌∙◌, append_assoc, arith, length-append, subst}
 use Rattle.std.proofs.lemmas.List.{append-nil, get_or-append-add, get_or_append_left}
-use Rattle.std.proofs.lemmas.Bool.{eq-eqb, eqb-true}
+use Rattle.std.proofs.Math.Bool.{and-false}
+use Rattle.std.proofs.lemmas.Bool.{eq-eqb, ne_eqb}
 use Rattle.std.specs.Prelude.{if◌then◌else◌}
 use Rattle.tm_packet.specs.declared.notes.Note.{Note}
 use Rattle.tm_packet.specs.declared.tracker.Last.{Last}
@@ -14,16 +15,14 @@ use Rattle.tm_packet.proofs.Pairs.{pair_notes-append, pair_notes-cons, pair_afte
 
 pub pair-append : (key : ℕ) (xs ys : List Sent) → pair key (xs ++ ys) ≡ pair key xs ++ pair key ys
 pair-append key [] ys = refl
-pair-append key (p ∷ ps) ys =
-    ap (λ r. (if belongs key p then p.header ∷ [] else []) ++ r) (pair-append key ps ys)
-    ∙ sym (append_assoc (if belongs key p then p.header ∷ [] else []) (pair key ps) (pair key ys))
+pair-append key (p ∷ ps) ys = rw (pair-append key ps ys, append_assoc) refl
 
 own_key : (p : Sent) → is_idle p.header ≡ false → belongs (key_of p) p ≡ true
-own_key p h = ap (λ b. not b && (key_of p == key_of p)) h ∙ eq-eqb (key_of p) (key_of p) refl
+own_key p h = rw (h, eq-eqb (key_of p) (key_of p) refl) refl
 
 -- a header is among those of its pair
 pub pair_own : (p : Sent) (ps : List Sent) → is_idle p.header ≡ false → pair (key_of p) (p ∷ ps) ≡ p.header ∷ pair (key_of p) ps
-pair_own p ps h = ap (λ b. (if b then p.header ∷ [] else []) ++ pair (key_of p) ps) (own_key p h)
+pair_own p ps h = rw (own_key p h) refl
 
 pub unless_idle : (b : Bool) (x y : List Note) → (b ≡ false → x ≡ y) → (if b then [] else x) ≡ (if b then [] else y)
 unless_idle true x y h = refl
@@ -43,17 +42,14 @@ notes_at-ahead s before p ahead more =
     let long : length (pair_notes e (pair k (before ++ p ∷ ahead))) ≡ length (pair k before) + suc (length (pair k ahead)) =
     length-pair_notes e (pair k (before ++ p ∷ ahead)) ∙ ap length parts ∙ length-append (pair k before) (p.header ∷ pair k ahead) in
     let inside : length (pair k before) < length (pair_notes e (pair k (before ++ p ∷ ahead))) = omega arith in
-    ap (λ hs. get_or (pair_notes e hs) (length (pair k before)) []) cut
-    ∙ ap (λ ns. get_or ns (length (pair k before)) []) (pair_notes-append e (pair k (before ++ p ∷ ahead)) (pair k more))
-    ∙ get_or_append_left (pair_notes e (pair k (before ++ p ∷ ahead))) (pair_notes (pair_after e (pair k (before ++ p ∷ ahead))) (pair k more)) [] (length (pair k before)) inside)
+    rw (cut, pair_notes-append e (pair k (before ++ p ∷ ahead)) (pair k more)) (get_or_append_left (pair_notes e (pair k (before ++ p ∷ ahead))) _ [] _ inside))
 
 pub entry_at-after : (n : ℕ) (s : List (Option Last)) (ps : List Sent) (i : ℕ) → i < length s
     → entry_at (after_from n s ps) i ≡ pair_after (entry_at s i) (pair (n + i) ps)
 entry_at-after n [] ps i inside = absurd (omega arith)
-entry_at-after n (e ∷ es) ps zero inside = let same : n ≡ n + 0 = omega arith in ap (λ m. pair_after e (pair m ps)) same
+entry_at-after n (e ∷ es) ps zero inside = let same : n + 0 ≡ n = omega arith in rw same refl
 entry_at-after n (e ∷ es) ps (suc i) inside =
-    let same : n + 1 + i ≡ n + suc i = omega arith in
-    entry_at-after (n + 1) es ps i (omega arith) ∙ ap (λ m. pair_after (entry_at es i) (pair m ps)) same
+    let same : n + suc i ≡ n + 1 + i = omega arith in rw same (entry_at-after (n + 1) es ps i (omega arith))
 
 -- what the headers before have left stands for them
 pub notes_at-before : (s : List (Option Last)) (a b : List Sent) (p : Sent) (ahead : List Sent) → key_of p < length s
@@ -68,20 +64,14 @@ notes_at-before s a b p ahead inside =
     let place : length (pair k (a ++ b)) ≡ length (pair_notes e (pair k a)) + length (pair k b) =
     ap length (pair-append k a b) ∙ length-append (pair k a) (pair k b) ∙ ap (λ n. n + length (pair k b)) (sym (length-pair_notes e (pair k a))) in
     let left : pair_after e (pair k a) ≡ entry_at (after s a) k =
-    sym (entry_at-after 0 s a k inside ∙ ap (λ m. pair_after e (pair m a)) (let z : 0 + k ≡ k = omega arith in z)) in
-    ap (λ hs. get_or (pair_notes e hs) (length (pair k (a ++ b))) []) cut
-    ∙ ap (λ ns. get_or ns (length (pair k (a ++ b))) []) (pair_notes-append e (pair k a) rest)
-    ∙ ap (λ n. get_or (pair_notes e (pair k a) ++ pair_notes (pair_after e (pair k a)) rest) n []) place
-    ∙ get_or-append-add (pair_notes e (pair k a)) (pair_notes (pair_after e (pair k a)) rest) (length (pair k b)) []
-    ∙ ap (λ l. get_or (pair_notes l rest) (length (pair k b)) []) left)
+    (let z : 0 + k ≡ k = omega arith in sym (rw z at (entry_at-after 0 s a k inside))) in
+    rw (cut, pair_notes-append e (pair k a) rest, place, get_or-append-add (pair_notes e (pair k a)) (pair_notes (pair_after e (pair k a)) rest) (length (pair k b)) [], left) refl)
 
 pub notes_behind-append : (s : List (Option Last)) (before ps qs : List Sent)
     → notes_behind s before (ps ++ qs) ≡ notes_behind s before ps ++ notes_behind s (before ++ ps) qs
-notes_behind-append s before [] qs = ap (λ b. notes_behind s b qs) (sym (append-nil before))
+notes_behind-append s before [] qs = rw (append-nil before) refl
 notes_behind-append s before (p ∷ ps) qs =
-    ap (λ n. n ∷ notes_behind s (before ++ p ∷ []) (ps ++ qs)) (notes_at-ahead s before p ps qs)
-    ∙ ap (λ r. notes_at s before p ps ∷ r) (notes_behind-append s (before ++ p ∷ []) ps qs)
-    ∙ ap (λ b. notes_at s before p ps ∷ (notes_behind s (before ++ p ∷ []) ps ++ notes_behind s b qs)) (append_assoc before (p ∷ []) ps)
+    rw (notes_at-ahead s before p ps qs, notes_behind-append s (before ++ p ∷ []) ps qs, append_assoc before (p ∷ []) ps) refl
 
 key_fits : (s : List (Option Last)) (p : Sent) → IsState s → Fits p → key_of p < length s
 key_fits s p valid fits = let all = valid.places in let c = fits.channel in let a = fits.application in omega arith
@@ -90,23 +80,17 @@ pub notes_behind-after : (s : List (Option Last)) (a b ps : List Sent) → IsSta
     → notes_behind s (a ++ b) ps ≡ notes_behind (after s a) b ps
 notes_behind-after s a b [] valid fits = refl
 notes_behind-after s a b (p ∷ ps) valid fits =
-    ap (λ n. n ∷ notes_behind s ((a ++ b) ++ p ∷ []) ps) (notes_at-before s a b p ps (key_fits s p valid fits.0))
-    ∙ ap (λ l. notes_at (after s a) b p ps ∷ notes_behind s l ps) (append_assoc a b (p ∷ []))
-    ∙ ap (λ r. notes_at (after s a) b p ps ∷ r) (notes_behind-after s a (b ++ p ∷ []) ps valid fits.1)
+    rw (notes_at-before s a b p ps (key_fits s p valid fits.0), append_assoc a b (p ∷ []), notes_behind-after s a (b ++ p ∷ []) ps valid fits.1) refl
 
 -- the notes of headers and more headers are those of the first, and those of the others from the state after them
 pub notes-append : (s : List (Option Last)) (a b : List Sent) → IsState s → AllFit b → notes s (a ++ b) ≡ notes s a ++ notes (after s a) b
 notes-append s a b valid fits =
-    notes_behind-append s [] a b
-    ∙ ap (λ l. notes s a ++ notes_behind s l b) (sym (append-nil a))
-    ∙ ap (λ r. notes s a ++ r) (notes_behind-after s a [] b valid fits)
+    rw (notes_behind-append s [] a b, ← notes_behind-after s a [] b valid fits, append-nil a) refl
 
 pub after_from-append : (n : ℕ) (s : List (Option Last)) (a b : List Sent) → after_from n s (a ++ b) ≡ after_from n (after_from n s a) b
 after_from-append n [] a b = refl
 after_from-append n (e ∷ es) a b =
-    ap (λ hs. pair_after e hs ∷ after_from (n + 1) es (a ++ b)) (pair-append n a b)
-    ∙ ap (λ l. l ∷ after_from (n + 1) es (a ++ b)) (pair_after-append e (pair n a) (pair n b))
-    ∙ ap (λ r. pair_after (pair_after e (pair n a)) (pair n b) ∷ r) (after_from-append (n + 1) es a b)
+    rw (pair-append n a b, pair_after-append e (pair n a) (pair n b), after_from-append (n + 1) es a b) refl
 
 pub after-append : (s : List (Option Last)) (a b : List Sent) → after s (a ++ b) ≡ after (after s a) b
 after-append s a b = after_from-append 0 s a b
@@ -123,42 +107,24 @@ after_from-none n (e ∷ es) = ap (λ r. e ∷ r) (after_from-none (n + 1) es)
 skipped : (n : ℕ) (s : List (Option Last)) (p : Sent) → ((m : ℕ) → belongs (n + m) p ≡ false) → after_from n s (p ∷ []) ≡ s
 skipped n [] p none = refl
 skipped n (e ∷ es) p none =
-    let here : belongs n p ≡ false = (let z : n ≡ n + 0 = omega arith in ap (λ k. belongs k p) z) ∙ none 0 in
-    let later : (m : ℕ) → belongs (n + 1 + m) p ≡ false =
-    λ m. (let z : n + 1 + m ≡ n + (1 + m) = omega arith in ap (λ k. belongs k p) z) ∙ none (1 + m) in
-    ap (λ b. pair_after e ((if b then p.header ∷ [] else []) ++ []) ∷ after_from (n + 1) es (p ∷ [])) here
-    ∙ ap (λ r. e ∷ r) (skipped (n + 1) es p later)
+    let here : belongs n p ≡ false = (let z : n + 0 ≡ n = omega arith in rw z at (none 0)) in
+    rw (here, skipped (n + 1) es p (λ m. let z : n + 1 + m ≡ n + (1 + m) = omega arith in rw z (none (1 + m)))) refl
 
-no_and : (b : Bool) → (b && false) ≡ false
-no_and true = refl
-no_and false = refl
-
-pub not_true : (t : Bool) → (t ≡ true → ⊥) → t ≡ false
-not_true true never = absurd (never refl)
-not_true false _ = refl
-
-pub differ : (a b : ℕ) → (a ≡ b → ⊥) → (a == b) ≡ false
-differ a b never = not_true (a == b) (λ e. never (eqb-true a b e))
+not_own : (p : Sent) (n : ℕ) → (key_of p ≡ n → ⊥) → belongs n p ≡ false
+not_own p n other = rw (ne_eqb (key_of p) n other) (and-false (not (is_idle p.header)))
 
 pub after-idle : (s : List (Option Last)) (p : Sent) → is_idle p.header ≡ true → after s (p ∷ []) ≡ s
-after-idle s p h = skipped 0 s p (λ m. ap (λ b. not b && (key_of p == 0 + m)) h)
+after-idle s p h = skipped 0 s p (λ m. rw h refl)
 
 pub after_from-one : (n i : ℕ) (s : List (Option Last)) (p : Sent) → is_idle p.header ≡ false → n + i ≡ key_of p → i < length s
     → after_from n s (p ∷ []) ≡ set s i (Some (single_after (entry_at s i) p.header))
 after_from-one n i [] p h at inside = absurd (omega arith)
 after_from-one n zero (e ∷ es) p h at inside =
-    let z : n ≡ n + 0 = omega arith in
-    let here : belongs n p ≡ true = ap (λ k. belongs k p) (z ∙ at) ∙ own_key p h in
-    let later : (m : ℕ) → belongs (n + 1 + m) p ≡ false =
-    λ m. ap (λ b. not (is_idle p.header) && b) (differ (key_of p) (n + 1 + m) (λ (same : key_of p ≡ n + 1 + m). omega arith)) ∙ no_and (not (is_idle p.header)) in
-    ap (λ b. pair_after e ((if b then p.header ∷ [] else []) ++ []) ∷ after_from (n + 1) es (p ∷ [])) here
-    ∙ ap (λ r. pair_after e (p.header ∷ []) ∷ r) (skipped (n + 1) es p later)
-    ∙ ap (λ l. l ∷ es) (pair_after-cons e p.header [])
+    let own : n ≡ key_of p = omega arith in
+    let here : belongs n p ≡ true = rw own (own_key p h) in
+    rw (here, skipped (n + 1) es p (λ m. not_own p (n + 1 + m) (λ same. omega arith)), pair_after-cons e p.header []) refl
 after_from-one n (suc i) (e ∷ es) p h at inside =
-    let here : belongs n p ≡ false =
-    ap (λ b. not (is_idle p.header) && b) (differ (key_of p) n (λ (same : key_of p ≡ n). omega arith)) ∙ no_and (not (is_idle p.header)) in
-    ap (λ b. pair_after e ((if b then p.header ∷ [] else []) ++ []) ∷ after_from (n + 1) es (p ∷ [])) here
-    ∙ ap (λ r. e ∷ r) (after_from-one (n + 1) i es p h (omega arith) (omega arith))
+    rw (not_own p n (λ same. omega arith), after_from-one (n + 1) i es p h (omega arith) (omega arith)) refl
 
 -- one header leaves the place of its key changed
 pub after-one : (s : List (Option Last)) (p : Sent) → is_idle p.header ≡ false → key_of p < length s
@@ -167,15 +133,12 @@ after-one s p h inside = after_from-one 0 (key_of p) s p h (omega arith) inside
 
 -- the notes of one header
 pub notes-idle : (s : List (Option Last)) (p : Sent) → is_idle p.header ≡ true → notes s (p ∷ []) ≡ [] ∷ []
-notes-idle s p h =
-    ap (λ b. (if b then [] else get_or (pair_notes (entry_at s (key_of p)) (pair (key_of p) (p ∷ []))) 0 []) ∷ []) h
+notes-idle s p h = rw h refl
 
 pub notes-one : (s : List (Option Last)) (p : Sent) → is_idle p.header ≡ false
     → notes s (p ∷ []) ≡ single_notes (entry_at s (key_of p)) p.header ∷ []
 notes-one s p h =
-    ap (λ b. (if b then [] else get_or (pair_notes (entry_at s (key_of p)) (pair (key_of p) (p ∷ []))) 0 []) ∷ []) h
-    ∙ ap (λ hs. get_or (pair_notes (entry_at s (key_of p)) hs) 0 [] ∷ []) (pair_own p [] h)
-    ∙ ap (λ ns. get_or ns 0 [] ∷ []) (pair_notes-cons (entry_at s (key_of p)) p.header [])
+    rw (pair_own p [] h, h, pair_notes-cons (entry_at s (key_of p)) p.header []) refl
 
 -- the same, as the code has it
 pub left_by : (old entries : List (Option Last)) (p : Sent) (k : ℕ) (e : Option Last) (kept : Last) → entries ≡ old → k ≡ key_of p
@@ -183,14 +146,8 @@ pub left_by : (old entries : List (Option Last)) (p : Sent) (k : ℕ) (e : Optio
     → set entries k (Some kept) ≡ after old (p ∷ [])
 left_by old entries p k e kept same at h inside found is =
     let there : key_of p < length old = subst (λ n. n < length old) at (subst (λ s. k < length s) same inside) in
-    let entry : e ≡ entry_at old (key_of p) = found ∙ ap (λ s. get_or s k None) same ∙ ap (entry_at old) at in
-    ap (λ s. set s k (Some kept)) same
-    ∙ ap (λ n. set old n (Some kept)) at
-    ∙ ap (λ l. set old (key_of p) (Some l)) (is ∙ ap (λ l. single_after l p.header) entry)
-    ∙ sym (after-one old p h there)
+    rw (after-one old p h there, is, found, same, at) refl
 
 pub noted_by : (old entries : List (Option Last)) (p : Sent) (k : ℕ) (e : Option Last) (result : List Note) → entries ≡ old → k ≡ key_of p
     → is_idle p.header ≡ false → e ≡ get_or entries k None → result ≡ single_notes e p.header → notes old (p ∷ []) ≡ result ∷ []
-noted_by old entries p k e result same at h found is =
-    let entry : e ≡ entry_at old (key_of p) = found ∙ ap (λ s. get_or s k None) same ∙ ap (entry_at old) at in
-    notes-one old p h ∙ ap (λ l. single_notes l p.header ∷ []) (sym entry) ∙ ap (λ r. r ∷ []) (sym is)
+noted_by old entries p k e result same at h found is = rw (notes-one old p h, is, found, same, at) refl

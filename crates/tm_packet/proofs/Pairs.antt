@@ -31,17 +31,10 @@ open_by_test : (b : Bool) (first : Option ℕ) (m : Member) (ms : List Member)
 open_by_test true first m ms = refl
 open_by_test false first m ms = refl
 
-last_of : ℕ → Option ℕ → Last
-last_of count first = record { count = count; first = first }
-
 kept-cons : (entry : Option Last) (m : Member) (ms : List Member)
     → kept_after entry m.count (m ∷ ms) ≡ kept_after (Some (record { count = m.count; first = member_first entry m })) m.count ms
 kept-cons entry m ms =
-    ap {A = Option ℕ} (λ first. let r : Last = record { count = last_count m.count ms; first = first } in r) (open_by_test (goes_on m) (first_in entry) m ms)
-
-kept_head : (entry : Last) (count : ℕ) (hs : List Fields) (h : Fields)
-    → kept_after (Some entry) count (members_after (Some entry.count) (h ∷ hs)) ≡ kept_after (Some entry) h.count (members_after (Some entry.count) (h ∷ hs))
-kept_head entry count hs h = refl
+    rw (open_by_test (goes_on m) (first_in entry) m ms) refl
 
 pub pair_after-cons : (entry : Option Last) (h : Fields) (hs : List Fields)
     → pair_after entry (h ∷ hs) ≡ pair_after (Some (single_after entry h)) hs
@@ -61,9 +54,7 @@ pair_notes-append entry (x ∷ xs) ys =
 pub pair_after-append : (entry : Option Last) (xs ys : List Fields) → pair_after entry (xs ++ ys) ≡ pair_after (pair_after entry xs) ys
 pair_after-append entry [] ys = refl
 pair_after-append entry (x ∷ xs) ys =
-    pair_after-cons entry x (xs ++ ys)
-    ∙ pair_after-append (Some (single_after entry x)) xs ys
-    ∙ ap (λ e. pair_after e ys) (sym (pair_after-cons entry x xs))
+    rw (pair_after-cons entry x (xs ++ ys), pair_after-cons entry x xs) (pair_after-append (Some (single_after entry x)) xs ys)
 
 pub length-pair_notes : (entry : Option Last) (xs : List Fields) → length (pair_notes entry xs) ≡ length xs
 length-pair_notes entry [] = refl

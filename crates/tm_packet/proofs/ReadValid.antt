@@ -1,33 +1,24 @@
 -- What is read are valid entries.
 use Rattle.std.proofs.Common.{◌≡◌, ℕ, zero, suc, ◌+◌, ◌*◌, ◌%◌, Bool, true, false, ◌||◌, Ok, Err, Result, Option, Some, None, List, [], ◌∷◌, length, drop, get_or, refl, sym, ap, subst, ◌∙◌, arith, ltb, eqb}
 use Rattle.std.specs.Prelude.{if◌then◌else◌}
-use Rattle.std.proofs.lemmas.Bool.{cond_both, ltb-true, eqb-true}
+use Rattle.std.proofs.lemmas.Bool.{cond_both, ltb-true, eqb-true, eqb-false}
 use Rattle.tm_packet.specs.declared.tracker.Last.{Last}
 use Rattle.tm_packet.specs.declared.tracker.Numbers.{Numbers}
 use Rattle.tm_packet.specs.declared.tracker.TrackerFault.{TrackerFault}
 use Rattle.tm_packet.specs.declared.tracker.TrackerFault.TheVariants.{Order, Value}
 use Rattle.tm_packet.specs.Spelling.{Decoded, has_values, rises, fault_after, first_of, place_of, places, state_of, raws, unless, count_of, decoding_with, decoding_of}
 use Rattle.tm_packet.specs.Valid.{IsState, EntryFits, FirstFits}
-use Rattle.tm_packet.proofs.DecodingLemmas.{AreValues, values_of}
-
-abbrev last_in : Numbers → Last
-last_in r = record { count = r.count; first = first_of r.first }
+use Rattle.tm_packet.proofs.DecodingLemmas.{read_faultless, AreValues, values_of, all_right, last_in}
 
 abbrev AllValues : List Numbers → Type 0
 AllValues [] = Unit {0}
 AllValues (r ∷ rs) = AreValues r × AllValues rs
 
-all_right : (values order : Bool) (rest : Option TrackerFault) → (if values then (if order then rest else Some Order) else Some Value) ≡ None
-    → (values ≡ true) × (rest ≡ None)
-all_right true true rest h = (refl, h)
-all_right true false rest h = cc
-all_right false order rest h = cc
-
 all-values : (before : Option ℕ) (rs : List Numbers) → fault_after before rs ≡ None → AllValues rs
 all-values before [] h = tt
 all-values before (r ∷ rs) h =
-    let right = all_right (has_values r) (rises before r.key) (fault_after (Some r.key) rs) h in
-    (values_of r right.0, all-values (Some r.key) rs right.1)
+    let right = all_right before r rs h in
+    (values_of r right.0, all-values (Some r.key) rs right.2)
 
 left_of : (a b : Bool) → (a || b) ≡ true → b ≡ false → a ≡ true
 left_of true b e f = refl
@@ -44,17 +35,11 @@ place_fits key (r ∷ rs) h =
     (λ p. record { count = h.0.count; first = first_fits r.first h.0.first })
     (λ p. place_fits key rs h.1)
 
-clash : true ≡ false → ⊥
-clash p = cc
-
-idle_key : (n : ℕ) → n ≡ 2047 → eqb n 2047 ≡ true
-idle_key n e = ap (λ (m : ℕ). eqb m 2047) e
-
 no_idle : (key : ℕ) (rs : List Numbers) → AllValues rs → key % 2048 ≡ 2047 → place_of key rs ≡ None
 no_idle key [] h e = refl
 no_idle key (r ∷ rs) h e =
     cond_both (eqb r.key key) (Some (last_in r)) (place_of key rs) (λ (l : Option Last). l ≡ None)
-    (λ p. absurd (clash (sym (idle_key (r.key % 2048) (ap (λ (n : ℕ). n % 2048) (eqb-true r.key key p) ∙ e)) ∙ h.0.packets)))
+    (λ p. let same = eqb-true r.key key p in absurd (eqb-false (r.key % 2048) 2047 h.0.packets (rw same e)))
     (λ p. no_idle key rs h.1 e)
 
 length-places : (n k : ℕ) (rs : List Numbers) → length (places n k rs) ≡ n
@@ -64,9 +49,9 @@ length-places (suc n) k rs = ap suc (length-places n (k + 1) rs)
 -- what is at a place: what the entries say of its key, or nothing
 place-at : (n k i : ℕ) (rs : List Numbers) (P : Option Last → Type 0) → P (place_of (k + i) rs) → P None → P (get_or (places n k rs) i None)
 place-at zero k i rs P h none = none
-place-at (suc n) k zero rs P h none = subst (λ (m : ℕ). P (place_of m rs)) (let z : k + 0 ≡ k = omega arith in z) h
+place-at (suc n) k zero rs P h none = let z : k + 0 ≡ k = omega arith in rw z at h
 place-at (suc n) k (suc i) rs P h none =
-    place-at n (k + 1) i rs P (subst (λ (m : ℕ). P (place_of m rs)) (let z : k + suc i ≡ k + 1 + i = omega arith in z) h) none
+    let z : k + suc i ≡ k + 1 + i = omega arith in place-at n (k + 1) i rs P (rw z at h) none
 
 entries-valid : (rs : List Numbers) → AllValues rs → IsState (state_of rs)
 unfolding state_of
@@ -77,18 +62,5 @@ entries-valid rs h = record {
       (no_idle (0 + (2048 * channel + 2047)) rs h (omega arith)) refl;
 }
 
-abbrev AreRead : Result Decoded TrackerFault → Type 0
-AreRead (Ok d) = IsState d.entries
-AreRead (Err found) = Unit {0}
-
-unless-valid : (found : Option TrackerFault) (rs : List Numbers) (octets : ℕ) → fault_after None rs ≡ found
-    → AreRead (unless found (record { entries = state_of rs; octets = octets }))
-unless-valid None rs octets e = entries-valid rs (all-values None rs e)
-unless-valid (Some found) rs octets e = tt
-
-with-valid : (xs : List ℕ) (count : Option ℕ) → AreRead (decoding_with count xs)
-with-valid xs None = tt
-with-valid xs (Some n) = unless-valid (fault_after None (raws n (drop 2 xs))) (raws n (drop 2 xs)) (2 + 6 * n) refl
-
 pub entries_read : (xs : List ℕ) (d : Decoded) → decoding_of xs ≡ Ok d → IsState d.entries
-entries_read xs d e = subst (λ (r : Result Decoded TrackerFault). AreRead r) e (with-valid xs (count_of xs))
+entries_read xs d e = read_faultless (λ (d : Decoded). IsState d.entries) xs d e (λ long none. entries-valid _ (all-values None _ none))

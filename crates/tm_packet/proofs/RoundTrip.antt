@@ -7,13 +7,10 @@ use Rattle.tm_bits.specs.Bits.{AreOctets, low_bits, bits_of, number, part}
 use Rattle.tm_packet.specs.Header.{Fields, flags_of, number_of, version_of, header_of, header_bits}
 use Rattle.tm_bits.proofs.BitLemmas.{length-low_bits, number-low_bits, number-lt, low_bits-number, length-bits_of, bits_of-append}
 use Rattle.tm_bits.proofs.PartLemmas.{octets_after}
+use Rattle.tm_packet.proofs.HeaderLemmas.{bits_spelled}
 
 cut : (b : List Bool) (i n : ℕ) → drop i b ≡ take n (drop i b) ++ drop (i + n) b
-cut b i n = sym (take-append-drop n (drop i b)) ∙ ap (λ r. take n (drop i b) ++ r) (drop-drop n i b)
-
--- the bits of a number that bits spell, at their own length
-spelled : (n : ℕ) (xs : List Bool) → length xs ≡ n → low_bits n (number xs) ≡ xs
-spelled n xs l = ap (λ k. low_bits k (number xs)) (sym l) ∙ low_bits-number xs
+cut b i n = rw (← drop-drop n i b) (sym (take-append-drop n (drop i b)))
 
 single : (xs : List Bool) → length xs ≡ 1 → (number xs == 1) ∷ [] ≡ xs
 unfolding number
@@ -34,34 +31,14 @@ parts : (b : List Bool) → length b ≡ 48
     → ((((take 3 b ++ (take 1 (drop 3 b) ++ (take 1 (drop 4 b) ++ take 11 (drop 5 b)))) ++ take 2 (drop 16 b)) ++ take 14 (drop 18 b)) ++ take 16 (drop 32 b)) ≡ b
 parts b l =
     let last : take 16 (drop 32 b) ≡ drop 32 b = take_all 16 (drop 32 b) (omega (arith, length-drop 32 b)) in
-    let p : List Bool = take 3 b ++ (take 1 (drop 3 b) ++ (take 1 (drop 4 b) ++ take 11 (drop 5 b))) in
-    ap (λ r. ((p ++ take 2 (drop 16 b)) ++ take 14 (drop 18 b)) ++ r) last
-    ∙ append_assoc (p ++ take 2 (drop 16 b)) (take 14 (drop 18 b)) (drop 32 b)
-    ∙ ap (λ r. (p ++ take 2 (drop 16 b)) ++ r) (sym (cut b 18 14))
-    ∙ append_assoc p (take 2 (drop 16 b)) (drop 18 b)
-    ∙ ap (λ r. p ++ r) (sym (cut b 16 2))
-    ∙ append_assoc (take 3 b) (take 1 (drop 3 b) ++ (take 1 (drop 4 b) ++ take 11 (drop 5 b))) (drop 16 b)
-    ∙ ap (λ r. take 3 b ++ r)
-    (append_assoc (take 1 (drop 3 b)) (take 1 (drop 4 b) ++ take 11 (drop 5 b)) (drop 16 b)
-    ∙ ap (λ r. take 1 (drop 3 b) ++ r)
-    (append_assoc (take 1 (drop 4 b)) (take 11 (drop 5 b)) (drop 16 b)
-    ∙ ap (λ r. take 1 (drop 4 b) ++ r) (sym (cut b 5 11))
-    ∙ sym (cut b 4 1))
-    ∙ sym (cut b 3 1))
-    ∙ take-append-drop 3 b
+    rw last (simp append_assoc (rw (← cut b 18 14, ← cut b 16 2, ← cut b 5 11, ← cut b 4 1, ← cut b 3 1) (take-append-drop 3 b)))
 
 -- the bits of the written header, part by part
 written_parts : (h : Fields) (v t s a f n d : List Bool) → low_bits 3 0 ≡ v → h.telecommand ∷ [] ≡ t → h.secondary ∷ [] ≡ s
     → low_bits 11 h.application ≡ a → low_bits 2 (number_of h.flags) ≡ f → low_bits 14 h.count ≡ n → low_bits 16 h.data_length ≡ d
     → header_bits h ≡ (((v ++ (t ++ (s ++ a))) ++ f) ++ n) ++ d
 written_parts h v t s a f n d ev et es ea ef en ed =
-    ap (λ x. (((x ++ (h.telecommand ∷ [] ++ (h.secondary ∷ [] ++ low_bits 11 h.application))) ++ low_bits 2 (number_of h.flags)) ++ low_bits 14 h.count) ++ low_bits 16 h.data_length) ev
-    ∙ ap (λ x. (((v ++ (x ++ (h.secondary ∷ [] ++ low_bits 11 h.application))) ++ low_bits 2 (number_of h.flags)) ++ low_bits 14 h.count) ++ low_bits 16 h.data_length) et
-    ∙ ap (λ x. (((v ++ (t ++ (x ++ low_bits 11 h.application))) ++ low_bits 2 (number_of h.flags)) ++ low_bits 14 h.count) ++ low_bits 16 h.data_length) es
-    ∙ ap (λ x. (((v ++ (t ++ (s ++ x))) ++ low_bits 2 (number_of h.flags)) ++ low_bits 14 h.count) ++ low_bits 16 h.data_length) ea
-    ∙ ap (λ x. (((v ++ (t ++ (s ++ a))) ++ x) ++ low_bits 14 h.count) ++ low_bits 16 h.data_length) ef
-    ∙ ap (λ x. (((v ++ (t ++ (s ++ a))) ++ f) ++ x) ++ low_bits 16 h.data_length) en
-    ∙ ap (λ x. (((v ++ (t ++ (s ++ a))) ++ f) ++ n) ++ x) ed
+    rw (← ev, ← et, ← es, ← ea, ← ef, ← en, ← ed) (simp append_assoc)
 
 -- a part lies in the first six octets
 part_of_six : (octets : List ℕ) (from to : ℕ) → 6 ≤ length octets → from ≤ to → to ≤ 48
@@ -74,9 +51,7 @@ part_of_six octets from to room ordered inside =
     let whole : bits_of octets ≡ front ++ back = ap bits_of (sym (take-append-drop 6 octets)) ∙ bits_of-append (take 6 octets) (drop 6 octets) in
     let dropped : drop from (front ++ back) ≡ drop from front ++ back = drop-append-le from front back (omega arith) in
     let left : length (drop from front) ≡ length front - from = length-drop from front in
-    ap (λ bits. number (slice_range bits from to)) whole
-    ∙ ap (λ bits. number (take (to - from) bits)) dropped
-    ∙ ap number (take-append-le (to - from) (drop from front) back (omega arith))
+    rw (whole, dropped, take-append-le (to - from) (drop from front) back (omega arith)) refl
 
 pub written_again : (octets : List ℕ) → AreOctets octets → 6 ≤ length octets → version_of octets ≡ 0 → header_bits (header_of octets) ≡ bits_of (take 6 octets)
 written_again octets are room version =
@@ -86,11 +61,11 @@ written_again octets are room version =
     λ i n h. length-take-le n (drop i b) (omega (arith, length-drop i b)) in
     let bits : (i j n : ℕ) → i ≤ j → j ≤ 48 → j - i ≡ n → low_bits n (part octets i j) ≡ take n (drop i b) =
     λ i j n ordered inside width.
-    ap (low_bits n) (part_of_six octets i j room ordered inside ∙ ap (λ k. number (take k (drop i b))) width) ∙ spelled n (take n (drop i b)) (long i n (omega arith)) in
+    bits_spelled n _ (take n (drop i b)) (long i n (omega arith)) (part_of_six octets i j room ordered inside ∙ rw width refl) in
     let flag_bit : (i j : ℕ) → i + 1 ≡ j → j ≤ 48 → (part octets i j == 1) ∷ [] ≡ take 1 (drop i b) =
     λ i j next inside.
-    ap (λ k. (k == 1) ∷ []) (part_of_six octets i j room (omega arith) inside ∙ ap (λ k. number (take k (drop i b))) (let w : j - i ≡ 1 = omega arith in w))
-    ∙ single (take 1 (drop i b)) (long i 1 (omega arith)) in
+    let w : j - i ≡ 1 = omega arith in
+    rw (part_of_six octets i j room (omega arith) inside, w) (single (take 1 (drop i b)) (long i 1 (omega arith))) in
     let few : part octets 16 18 < 4 =
     subst (λ n. n < 4) (sym (part_of_six octets 16 18 room (omega arith) (omega arith)))
     (let small = number-lt (take 2 (drop 16 b)) in let w = long 16 2 (omega arith) in subst (λ n. number (take 2 (drop 16 b)) < 2 ^ n) w small) in
@@ -108,9 +83,9 @@ pub bits_tell : (xs ys : List ℕ) → AreOctets xs → AreOctets ys → bits_of
 unfolding bits_of
 bits_tell [] [] hx hy e = refl
 bits_tell [] (y ∷ ys) hx hy e =
-    let n = ap length e ∙ length-append (low_bits 8 y) (bits_of ys) ∙ ap (λ n. n + length (bits_of ys)) (length-low_bits 8 y) in absurd (omega arith)
+    let n = simp (length-append, length-low_bits) at (ap length e) in absurd (omega arith)
 bits_tell (x ∷ xs) [] hx hy e =
-    let n = sym (ap length e) ∙ length-append (low_bits 8 x) (bits_of xs) ∙ ap (λ n. n + length (bits_of xs)) (length-low_bits 8 x) in absurd (omega arith)
+    let n = simp (length-append, length-low_bits) at (ap length e) in absurd (omega arith)
 bits_tell (x ∷ xs) (y ∷ ys) hx hy e =
     let front : (z : ℕ) (zs : List Bool) → take 8 (low_bits 8 z ++ zs) ≡ low_bits 8 z =
     λ z zs. take-append-le 8 (low_bits 8 z) zs (omega (arith, length-low_bits 8 z)) ∙ take_all 8 (low_bits 8 z) (omega (arith, length-low_bits 8 z)) in
@@ -121,4 +96,4 @@ bits_tell (x ∷ xs) (y ∷ ys) hx hy e =
     let sx : x < 256 = hx.below 0 in
     let sy : y < 256 = hy.below 0 in
     let same : x ≡ y = (let n = sym (number-low_bits 8 x) ∙ ap number low ∙ number-low_bits 8 y in omega arith) in
-    ap (λ z. z ∷ xs) same ∙ ap (λ zs. y ∷ zs) (bits_tell xs ys (octets_after x xs hx) (octets_after y ys hy) rest)
+    rw (same, bits_tell xs ys (octets_after x xs hx) (octets_after y ys hy) rest) refl

@@ -32,4 +32,4 @@ valid-none = record { places = length-no_entries; fit = λ key. none_fits (entry
 
 pub filled : (xs : List (Option Last)) (n : ℕ) → xs ≡ [] → n ≡ 0 → take 16384 xs ++ replicate (16384 - n) None ≡ no_entries
 unfolding no_entries
-filled xs n e h = ap (λ x. take 16384 x ++ replicate (16384 - n) None) e ∙ ap (λ m. replicate {A = Option Last} (16384 - m) None) h
+filled xs n e h = rw (e, h) refl

@@ -2,8 +2,8 @@
 use Rattle.std.proofs.Common.{◌≡◌, ℕ, suc, ◌+◌, ◌-◌, ◌*◌, ◌/◌, ◌%◌, ◌<◌, ◌≤◌, Bool, true, false, not, ◌&&◌, Ok, Err, Result, Option, Some, None, List, [], ◌∷◌, ◌++◌, length, take, drop, refl, sym, ap, subst, ◌∙◌, arith, length-append, length-drop, append_assoc, ltb, eqb}
 use Rattle.std.specs.Prelude.{slice_index, slice_range, if◌then◌else◌, ◌≢◌, IfOk, IfErr, IsOk}
 use Rattle.std.specs.Str.{bytes_eq}
-use Rattle.std.proofs.lemmas.Bool.{and_parts, cond-false, le-ltb, ltb-false, eqb-true, eq-eqb}
-use Rattle.std.proofs.lemmas.List.{append-nil, get_or-drop, take_all, take-append-drop}
+use Rattle.std.proofs.lemmas.Bool.{and_parts, not-false, le-ltb, ltb-false, eqb-true, eq-eqb}
+use Rattle.std.proofs.lemmas.List.{append-nil, get_or-append-add, get_or-drop, take_all, take-append-drop}
 use Rattle.std.proofs.lemmas.Slice.Eq.{bytes_eq-Decides}
 use Rattle.std.proofs.Math.Seq.{take-add, drop-cons, take-append_seam, drop-append_seam}
 use Rattle.tm_bits.specs.Bits.{AreOctets}
@@ -26,7 +26,7 @@ use Rattle.tm_tool.specs.declared.fault.CheckpointFault.{CheckpointFault}
 use Rattle.tm_tool.specs.declared.fault.CheckpointFault.TheVariants as fault
 use Rattle.tm_tool.specs.declared.version.Version.{Version}
 use Rattle.tm_tool.specs.declared.version.Version.TheVariants.{One, Two, Three}
-use Rattle.tm_tool.specs.Checkpoints.{AsksMemory, IsWork, form_of, version_of, tells, kept_state, kept_in, magic, settings_in, head_octets, state_octets, with_check, spelled_in, checkpoint_of, check_holds, says_settings, framed_as, framed, inner, job_of, with_entries, with_state, state_in, resumed_as, resumed}
+use Rattle.tm_tool.specs.Checkpoints.{IsWork, form_of, version_of, tells, kept_state, kept_in, magic, settings_in, head_octets, state_octets, with_check, spelled_in, checkpoint_of, check_holds, says_settings, framed_as, framed, inner, job_of, with_entries, with_state, state_in, resumed_as, resumed}
 use Rattle.tm_tool.specs.Jobs.{JobState}
 use Rattle.tm_output.specs.Pieces.{Entries}
 use Rattle.tm_tool.specs.RecordingPieces.{Work}
@@ -49,22 +49,8 @@ passed : (b : Bool) (found : CheckpointFault) (rest : Result Version CheckpointF
 passed true found rest v e = cc
 passed false found rest v e = (refl, e)
 
-true_of : (b : Bool) → not b ≡ false → b ≡ true
-true_of true e = refl
-true_of false e = cc
-
-both : (a b : Bool) → a ≡ true → b ≡ true → (a && b) ≡ true
-both true true p q = refl
-both true false p q = q
-both false b p q = p
-
-version_in : Result Version CheckpointFault → Version → Version
-version_in (Ok v) other = v
-version_in (Err found) other = other
-
 framed_in : (s : Rules) (octets : List ℕ) (x : Option Version) (v : Version) → take 4 octets ≡ magic → version_of (slice_index octets 4) ≡ x → framed_as s octets x ≡ Ok v
     → IsFramed v s octets
-unfolding version_in
 framed_in s octets None v first is e = cc
 framed_in s octets (Some u) v first is e =
     let says : Bool = says_settings u s octets in
@@ -74,14 +60,14 @@ framed_in s octets (Some u) v first is e =
     let a = passed (ltb (length octets) (form_of u).least) fault.Short one v e in
     let b = passed (not (check_holds octets)) fault.Check two v a.1 in
     let c = passed (not says) fault.Settings three v b.1 in
-    let same : u ≡ v = ap (λ (r : Result Version CheckpointFault). version_in r v) c.1 in
-    let both_are = and_parts (tells u s) (bytes_eq (slice_range octets 5 (5 + (form_of u).settings)) (settings_in u s)) (true_of says c.0) in
+    let same : u ≡ v = cc in
+    let both_are = and_parts (tells u s) (bytes_eq (slice_range octets 5 (5 + (form_of u).settings)) (settings_in u s)) (not-false says c.0) in
     subst (λ (w : Version). IsFramed w s octets) same
     (record {
       long = ltb-false (length octets) (form_of u).least a.0;
       magic_is = first;
       version_is = own_octet (slice_index octets 4) u is;
-      check_is = true_of _ b.0;
+      check_is = not-false _ b.0;
       told = both_are.0;
       settings_are = (bytes_eq-Decides (slice_range octets 5 (5 + (form_of u).settings)) (settings_in u s)).0 both_are.1;
     })
@@ -93,7 +79,7 @@ is_framed s octets v e =
     let one : Result Version CheckpointFault = if not (bytes_eq (take 4 octets) magic) then Err fault.Magic else two in
     let a = passed (ltb (length octets) 33) fault.Short one v e in
     let b = passed (not (bytes_eq (take 4 octets) magic)) fault.Magic two v a.1 in
-    framed_in s octets (version_of (slice_index octets 4)) v ((bytes_eq-Decides (take 4 octets) magic).0 (true_of _ b.0)) refl b.1
+    framed_in s octets (version_of (slice_index octets 4)) v ((bytes_eq-Decides (take 4 octets) magic).0 (not-false _ b.0)) refl b.1
 
 pub framed_again : (s : Rules) (octets : List ℕ) (v : Version) → IsFramed v s octets → framed s octets ≡ Ok v
 unfolding framed
@@ -104,12 +90,7 @@ framed_again s octets v h =
     let version_there : version_of (slice_index octets 4) ≡ Some v = ap version_of h.version_is ∙ named v in
     let fits = (around_fits v).1 in
     let long = h.long in
-    cond-false (ltb (length octets) 33) _ _ (le-ltb (length octets) 33 (omega arith))
-    ∙ cond-false (not (bytes_eq (take 4 octets) magic)) _ _ (ap not magic_there)
-    ∙ ap (framed_as s octets) version_there
-    ∙ cond-false (ltb (length octets) (form_of v).least) _ _ (le-ltb (length octets) (form_of v).least long)
-    ∙ cond-false (not (check_holds octets)) _ _ (ap not h.check_is)
-    ∙ cond-false (not (says_settings v s octets)) _ _ (ap not (both (tells v s) _ h.told settings_there))
+    rw (le-ltb (length octets) 33 (omega arith), magic_there, version_there, le-ltb (length octets) (form_of v).least long, h.check_is, h.told, settings_there) refl
 
 -- ---- written
 
@@ -121,10 +102,7 @@ checked v w = head_octets v w.rules ++ body v w
 
 -- so many octets before, and two behind
 checked_length : (head inside : List ℕ) (k : ℕ) → length head ≡ 5 + k → length (with_check (head ++ inside)) ≡ length inside + (7 + k)
-checked_length head inside k e =
-    length-append (head ++ inside) (two (error_control_of (head ++ inside)))
-    ∙ ap (λ (n : ℕ). n + 2) (length-append head inside ∙ ap (λ (n : ℕ). n + length inside) e)
-    ∙ omega arith
+checked_length head inside k e = simp length-append (omega arith)
 
 spelled_is : (v : Version) (w : Work) → spelled_in v w ≡ with_check (checked v w)
 unfolding spelled_in
@@ -133,7 +111,7 @@ spelled_is Two w = refl
 spelled_is Three w = refl
 
 length-spelled : (v : Version) (w : Work) → length (spelled_in v w) ≡ length (body v w) + (7 + (form_of v).settings)
-length-spelled v w = ap length (spelled_is v w) ∙ checked_length (head_octets v w.rules) (body v w) (form_of v).settings (length-head v w.rules)
+length-spelled v w = rw (spelled_is v w) (checked_length (head_octets v w.rules) (body v w) (form_of v).settings (length-head v w.rules))
 
 pub bound : (w : Work) → IsWork w → length (checkpoint_of w) ≤ 98374 + 8 * w.rules.max_packet
 bound w h =
@@ -146,58 +124,40 @@ bound w h =
 pub most : (w : Work) → IsWork w → length (checkpoint_of w) ≤ 622710
 most w h = let a = bound w h in let b = h.state.limit.most in omega arith
 
-at_seam : (xs ys : List ℕ) (i : ℕ) → slice_index (xs ++ ys) (length xs + i) ≡ slice_index ys i
-at_seam xs ys i = sym (get_or-drop (length xs) (xs ++ ys) i 0) ∙ ap (λ (l : List ℕ). slice_index l i) (drop-append_seam xs ys)
-
-two_digits : (n : ℕ) → 256 * (n / 256) + n % 256 ≡ n
-two_digits n = omega arith
-
 -- the number that is written behind octets
 number_behind : (xs : List ℕ) (n : ℕ) → two_at (xs ++ two n) (length xs) ≡ n
 number_behind xs n =
-    let z : length xs ≡ length xs + 0 = omega arith in
-    let high : slice_index (xs ++ two n) (length xs) ≡ n / 256 = ap (λ (i : ℕ). slice_index (xs ++ two n) i) z ∙ at_seam xs (two n) 0 in
-    let low : slice_index (xs ++ two n) (length xs + 1) ≡ n % 256 = at_seam xs (two n) 1 in
-    ap (λ (a : ℕ). 256 * a + slice_index (xs ++ two n) (length xs + 1)) high
-    ∙ ap (λ (b : ℕ). 256 * (n / 256) + b) low
-    ∙ two_digits n
+    let z : length xs + 0 ≡ length xs = omega arith in
+    let high : slice_index (xs ++ two n) (length xs) ≡ n / 256 = rw z at (get_or-append-add xs (two n) 0 0) in
+    let low : slice_index (xs ++ two n) (length xs + 1) ≡ n % 256 = get_or-append-add xs (two n) 1 0 in
+    rw (high, low) (omega arith)
 
 check_behind : (xs : List ℕ) → check_holds (with_check xs) ≡ true
 check_behind xs =
     let len : length (with_check xs) - 2 ≡ length xs = let a = length-append xs (two (error_control_of xs)) in omega arith in
-    let front : take (length xs) (with_check xs) ≡ xs = take-append_seam xs (two (error_control_of xs)) in
-    ap (λ (n : ℕ). eqb (two_at (with_check xs) n) (error_control_of (take n (with_check xs)))) len
-    ∙ ap (λ (l : List ℕ). eqb (two_at (with_check xs) (length xs)) (error_control_of l)) front
-    ∙ eq-eqb (two_at (with_check xs) (length xs)) (error_control_of xs) (number_behind xs (error_control_of xs))
+    rw (len, take-append_seam xs (two (error_control_of xs))) (eq-eqb (two_at (with_check xs) (length xs)) (error_control_of xs) (number_behind xs (error_control_of xs)))
 
--- what stands at the front of a checkpoint
-record HasFront (v : Version) (w : Work) (octets : List ℕ) : Type 0 where
-  magic_is : take 4 octets ≡ magic
-  version_is : slice_index octets 4 ≡ (form_of v).octet
-  settings_are : slice_range octets 5 (5 + (form_of v).settings) ≡ settings_in v w.rules
-
-has_front : (v : Version) (w : Work) → HasFront v w (spelled_in v w)
+settings_there : (v : Version) (w : Work) → slice_range (spelled_in v w) 5 (5 + (form_of v).settings) ≡ settings_in v w.rules
 unfolding spelled_in
-has_front One w = record { magic_is = refl; version_is = refl; settings_are = refl }
-has_front Two w = record { magic_is = refl; version_is = refl; settings_are = refl }
-has_front Three w = record { magic_is = refl; version_is = refl; settings_are = refl }
+settings_there One w = refl
+settings_there Two w = refl
+settings_there Three w = refl
 
 framed_spelled : (v : Version) (w : Work) → IsWork w → tells v w.rules ≡ true → IsFramed v w.rules (spelled_in v w)
-framed_spelled v w h told =
-    let front = has_front v w in
-    record {
-      long =
-          let a = length-spelled v w in
-          let b = state_least v w.rules w.state h.state in
-          let c = sequence_least w.entries in
-          let d = length-append (state_octets v w.state) (sequence.spelling w.entries) in
-          omega arith;
-      magic_is = front.magic_is;
-      version_is = front.version_is;
-      check_is = ap check_holds (spelled_is v w) ∙ check_behind (checked v w);
-      told = told;
-      settings_are = front.settings_are;
-    }
+unfolding spelled_in
+framed_spelled v w h told = record {
+  long =
+      let a = length-spelled v w in
+      let b = state_least v w.rules w.state h.state in
+      let c = sequence_least w.entries in
+      let d = length-append (state_octets v w.state) (sequence.spelling w.entries) in
+      omega arith;
+  magic_is = refl;
+  version_is = refl;
+  check_is = ap check_holds (spelled_is v w) ∙ check_behind (checked v w);
+  told = told;
+  settings_are = settings_there v w;
+}
 
 abbrev pub check : Version → Work → List ℕ
 check v w = two (error_control_of (checked v w))
@@ -215,44 +175,27 @@ inner_spelled v w =
     let len : length (spelled_in v w) - 2 - k ≡ length (body v w) = let a = length-spelled v w in omega arith in
     let rest : drop k (spelled_in v w) ≡ body v w ++ check v w =
     ap (drop k) (sym (append-nil (spelled_in v w))) ∙ behind_head v w [] ∙ append-nil (body v w ++ check v w) in
-    ap (take (length (spelled_in v w) - 2 - k)) rest
-    ∙ ap (λ (n : ℕ). take n (body v w ++ check v w)) len
-    ∙ take-append_seam (body v w) (check v w)
-
-abbrev state_is : State → ℕ → Result reassembly.Decoded StateFault
-state_is state octets = Ok (record { state = state; octets = octets })
-
-abbrev entries_are : Entries → ℕ → Result sequence.Decoded TrackerFault
-entries_are entries octets = Ok (record { entries = entries; octets = octets })
+    rw (rest, len) (take-append_seam (body v w) (check v w))
 
 entries_again : (s : Rules) (state : State) (entries : Entries) → valid.IsState entries
     → with_entries s state (length (sequence.spelling entries)) (sequence.decoding_of (sequence.spelling entries)) ≡ Ok (job_of s state entries)
 entries_again s state entries h =
     let spelled : List ℕ = sequence.spelling entries in
-    let read : sequence.decoding_of spelled ≡ entries_are entries (length spelled) =
+    let read : sequence.decoding_of spelled ≡ Ok (record { entries = entries; octets = length spelled }) =
     ap sequence.decoding_of (sym (append-nil spelled)) ∙ sequence_written.decoding-spelling entries [] h in
-    ap (λ (r : Result sequence.Decoded TrackerFault). with_entries s state (length spelled) r) read
-    ∙ cond-false (ltb (length spelled) (length spelled)) _ _ (le-ltb (length spelled) (length spelled) (omega arith))
+    rw (read, le-ltb (length spelled) (length spelled) (omega arith)) refl
 
 body_again : (v : Version) (w : Work) → IsWork w
     → with_state w.rules (body v w) (state_in v w.rules (body v w)) ≡ Ok (job_of w.rules (kept_state v w.state) w.entries)
 body_again v w h =
     let spelled : List ℕ = state_octets v w.state in
     let rest : List ℕ = sequence.spelling w.entries in
-    let kept : State = kept_state v w.state in
-    let read : state_in v w.rules (body v w) ≡ state_is kept (length spelled) = state_again v w.rules w.state rest h.state in
-    ap (λ (r : Result reassembly.Decoded StateFault). with_state w.rules (body v w) r) read
-    ∙ ap (λ (l : List ℕ). with_entries w.rules kept (length l) (sequence.decoding_of l)) (drop-append_seam spelled rest)
-    ∙ entries_again w.rules kept w.entries h.entries
+    rw (state_again v w.rules w.state rest h.state, drop-append_seam spelled rest) (entries_again w.rules (kept_state v w.state) w.entries h.entries)
 
 pub older_again : (v : Version) (w : Work) → IsWork w → tells v w.rules ≡ true → resumed w.rules (spelled_in v w) ≡ Ok (record { work = kept_in v w; fresh = false })
 unfolding resumed
 older_again v w h told =
-    let s : Rules = w.rules in
-    let octets : List ℕ = spelled_in v w in
-    ap (resumed_as s octets) (framed_again s octets v (framed_spelled v w h told))
-    ∙ ap (λ (l : List ℕ). with_state s l (state_in v s l)) (inner_spelled v w)
-    ∙ body_again v w h
+    rw (framed_again w.rules (spelled_in v w) v (framed_spelled v w h told), inner_spelled v w) (body_again v w h)
 
 pub read_again : (w : Work) → IsWork w → resumed w.rules (checkpoint_of w) ≡ Ok (record { work = w; fresh = false })
 read_again w h = older_again Three w h refl
@@ -261,12 +204,7 @@ read_again w h = older_again Three w h refl
 pub joined : (w : Work) (a b c d : List ℕ) → a ≡ head_octets Three w.rules → b ≡ a ++ reassembly.spelling w.state
     → c ≡ b ++ sequence.spelling w.entries → d ≡ with_check c → d ≡ checkpoint_of w
 unfolding spelled_in
-joined w a b c d first second third last =
-    last
-    ∙ ap with_check
-    (third
-    ∙ ap (λ (l : List ℕ). l ++ sequence.spelling w.entries) (second ∙ ap (λ (l : List ℕ). l ++ reassembly.spelling w.state) first)
-    ∙ append_assoc (head_octets Three w.rules) (reassembly.spelling w.state) (sequence.spelling w.entries))
+joined w a b c d first second third last = rw (last, third, second, first) refl
 
 -- ---- read
 
@@ -277,24 +215,13 @@ refused_around s octets found e = ap (resumed_as s octets) e
 pub resumed_in : (s : Rules) (octets : List ℕ) (v : Version) (between : List ℕ) (r : Result JobState CheckpointFault) → framed s octets ≡ Ok v → between ≡ inner v octets
     → with_state s between (state_in v s between) ≡ r → resumed s octets ≡ r
 unfolding resumed
-resumed_in s octets v between r around is e =
-    ap (resumed_as s octets) around ∙ ap (λ (l : List ℕ). with_state s l (state_in v s l)) (sym is) ∙ e
+resumed_in s octets v between r around is e = rw (around, ← is) e
 
 -- where the state is read, what is said of the octets behind it decides
 pub resumed_behind : (s : Rules) (octets : List ℕ) (v : Version) (between rest : List ℕ) (state : State) (read : ℕ) (r : Result JobState CheckpointFault) → framed s octets ≡ Ok v
     → between ≡ inner v octets → state_in v s between ≡ Ok (record { state = state; octets = read }) → rest ≡ drop read between
     → with_entries s state (length rest) (sequence.decoding_of rest) ≡ r → resumed s octets ≡ r
-resumed_behind s octets v between rest state read r around is there behind e =
-    resumed_in s octets v between r around is
-    (ap (λ (d : Result reassembly.Decoded StateFault). with_state s between d) there
-    ∙ ap (λ (l : List ℕ). with_entries s state (length l) (sequence.decoding_of l)) (sym behind)
-    ∙ e)
-
--- memory was asked for
-pub asks_memory : (s : Rules) (octets : List ℕ) (v : Version) (between : List ℕ) → framed s octets ≡ Ok v → between ≡ inner v octets → IsOk (state_in v s between)
-    → AsksMemory s octets
-asks_memory s octets v between around is state =
-    record { version = v; around = around; state = subst (λ (l : List ℕ). IsOk (state_in v s l)) is state }
+resumed_behind s octets v between rest state read r around is there behind e = resumed_in s octets v between r around is (rw (there, ← behind) e)
 
 -- a job that is made, or want of memory
 pub made_job : (s : Rules) (octets : List ℕ) (made : JobState) (r : Result JobState CheckpointFault) → resumed s octets ≡ Ok made
@@ -372,14 +299,12 @@ body_read v s octets job (Ok d) h read e =
       entries = entries.fit;
     }
 
-two_again : (a b : ℕ) → a < 256 → b < 256 → two (256 * a + b) ≡ a ∷ b ∷ []
-two_again a b p q =
-    let x : (256 * a + b) / 256 ≡ a = omega arith in
-    let y : (256 * a + b) % 256 ≡ b = omega arith in
-    rw (x, y) refl
-
 last_two : (ys : List ℕ) → AreOctets ys → length ys ≡ 2 → two (256 * slice_index ys 0 + slice_index ys 1) ≡ ys
-last_two (a ∷ b ∷ []) h e = two_again a b (h.below 0) (h.below 1)
+last_two (a ∷ b ∷ []) h e =
+    let small : b < 256 = h.below 1 in
+    let high : (256 * a + b) / 256 ≡ a = omega arith in
+    let low : (256 * a + b) % 256 ≡ b = omega arith in
+    rw (high, low) refl
 last_two [] h e = absurd (omega arith)
 last_two (a ∷ []) h e = absurd (omega arith)
 last_two (a ∷ b ∷ c ∷ ys) h e = absurd (omega arith)
@@ -390,14 +315,12 @@ check_again octets h long e =
     let n : ℕ = length octets - 2 in
     let ys : List ℕ = drop n octets in
     let z : n + 0 ≡ n = omega arith in
-    let high : slice_index ys 0 ≡ slice_index octets n = get_or-drop n octets 0 0 ∙ ap (λ (i : ℕ). slice_index octets i) z in
+    let high : slice_index ys 0 ≡ slice_index octets n = rw z at (get_or-drop n octets 0 0) in
     let low : slice_index ys 1 ≡ slice_index octets (n + 1) = get_or-drop n octets 1 0 in
     let number : 256 * slice_index ys 0 + slice_index ys 1 ≡ error_control_of (take n octets) =
-    ap (λ (a : ℕ). 256 * a + slice_index ys 1) high ∙ ap (λ (b : ℕ). 256 * slice_index octets n + b) low
-    ∙ eqb-true (two_at octets n) (error_control_of (take n octets)) e in
+    rw (high, low) (eqb-true (two_at octets n) (error_control_of (take n octets)) e) in
     let len : length ys ≡ 2 = length-drop n octets ∙ omega arith in
-    sym (take-append-drop n octets)
-    ∙ ap (λ (l : List ℕ). take n octets ++ l) (sym (last_two ys (octets_behind n octets h) len) ∙ ap two number)
+    rw (← number, last_two ys (octets_behind n octets h) len) (sym (take-append-drop n octets))
 
 -- octets behind a front of four and one more
 front_again : (k : ℕ) (octets first written : List ℕ) (v : ℕ) → 5 ≤ length octets → take 4 octets ≡ first → slice_index octets 4 ≡ v
@@ -405,14 +328,7 @@ front_again : (k : ℕ) (octets first written : List ℕ) (v : ℕ) → 5 ≤ le
 front_again k octets first written v long fore named behind =
     let n : 5 + k ≡ 4 + suc k = omega arith in
     let m : 5 + k - 5 ≡ k = omega arith in
-    let one : drop 4 octets ≡ slice_index octets 4 ∷ drop 5 octets = drop-cons octets 4 0 (omega arith) in
-    ap (λ (i : ℕ). take i octets) n
-    ∙ take-add 4 (suc k) octets
-    ∙ ap (λ (l : List ℕ). l ++ take (suc k) (drop 4 octets)) fore
-    ∙ ap (λ (l : List ℕ). first ++ take (suc k) l) one
-    ∙ ap (λ (i : ℕ). first ++ i ∷ take k (drop 5 octets)) named
-    ∙ ap (λ (i : ℕ). first ++ v ∷ take i (drop 5 octets)) (sym m)
-    ∙ ap (λ (l : List ℕ). first ++ v ∷ l) behind
+    rw (n, take-add 4 (suc k) octets, fore, drop-cons octets 4 0 (omega arith), named, rw m at behind) refl
 
 -- what is before the check: the octets in front, and those between
 before_check : (v : Version) (s : Rules) (octets : List ℕ) → IsFramed v s octets → take (length octets - 2) octets ≡ head_octets v s ++ inner v octets

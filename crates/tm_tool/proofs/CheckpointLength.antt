@@ -30,18 +30,12 @@ few k (None ∷ s) = let h = few (k + 1) s in omega arith
 few k (Some l ∷ s) = let h = few (k + 1) s in omega arith
 
 entries_behind : (k : ℕ) (a b : Places) → sequence.entries_from k (a ++ b) ≡ sequence.entries_from k a ++ sequence.entries_from (k + length a) b
-entries_behind k [] b = ap (λ (n : ℕ). sequence.entries_from n b) (let z : k ≡ k + 0 = omega arith in z)
+entries_behind k [] b = let z : k + 0 ≡ k = omega arith in rw z refl
 entries_behind k (l ∷ a) b =
-    let z : k + 1 + length a ≡ k + suc (length a) = omega arith in
-    ap (λ (es : List sequence.Entry). sequence.entry_of k l ++ es)
-    (entries_behind (k + 1) a b ∙ ap (λ (n : ℕ). sequence.entries_from (k + 1) a ++ sequence.entries_from n b) z)
-    ∙ sym (append_assoc (sequence.entry_of k l) (sequence.entries_from (k + 1) a) (sequence.entries_from (k + suc (length a)) b))
+    let z : k + suc (length a) ≡ k + 1 + length a = omega arith in rw (z, entries_behind (k + 1) a b, append_assoc) refl
 
 split_at : (k : ℕ) (a b : Places) → many k (a ++ b) ≡ many k a + many (k + length a) b
 split_at k a b = ap length (entries_behind k a b) ∙ length-append (sequence.entries_from k a) (sequence.entries_from (k + length a) b)
-
-none_drop : (k : ℕ) (l : Option counted.Last) (s : Places) → l ≡ None → many k (l ∷ s) ≡ many (k + 1) s
-none_drop k l s e = ap (λ (x : Option counted.Last). many k (x ∷ s)) e
 
 -- of each n places the last is empty
 per_channel : (n m k : ℕ) (s : Places) → length s ≡ (n + 1) * m → ((c : ℕ) → get_or s ((n + 1) * c + n) None ≡ None) → many k s ≤ n * m
@@ -56,7 +50,7 @@ per_channel n (suc m) k s l h =
     let cut : many k s ≡ many k front + many (k + length front) (drop n s) =
     ap (λ (x : Places). many k x) (sym (take-append-drop n s)) ∙ split_at k front (drop n s) in
     let here : many (k + length front) (drop n s) ≡ many (k + length front + 1) rest =
-    ap (λ (x : Places). many (k + length front) x) (drop-cons s n None (omega arith)) ∙ none_drop (k + length front) (get_or s n None) rest empty in
+    rw (drop-cons s n None (omega arith), empty) refl in
     let long : length rest ≡ (n + 1) * m = length-drop (suc n) s ∙ omega arith in
     let later : many (k + length front + 1) rest ≤ n * m =
     per_channel n m (k + length front + 1) rest long
@@ -126,17 +120,16 @@ state_most rules s h =
     let master = (master_length s.master).1 in
     let blocks = blocks_most rules.max_packet s.channels (short-tails rules s h) in
     let eight : (11 + rules.max_packet) * length s.channels ≡ 88 + 8 * rules.max_packet =
-    ap (λ (n : ℕ). (11 + rules.max_packet) * n) h.shape.eight_channels ∙ omega arith in
+    rw h.shape.eight_channels (omega arith) in
     let sum = length-append (master_octets s.master) (flat_map block s.channels) in
     omega arith
 
 -- the fewest octets of a state in a version: one more where the last master channel count stands
 pub state_least : (v : Version) (rules : Rules) (s : State) → IsState rules s → (form_of v).least ≤ length (state_octets v s) + (9 + (form_of v).settings)
-state_least One rules s h = let eight = h.shape.eight_channels in let blocks = blocks_least s.channels in omega arith
-state_least Two rules s h = let eight = h.shape.eight_channels in let blocks = blocks_least s.channels in omega arith
 state_least Three rules s h =
     let eight = h.shape.eight_channels in
     let blocks = blocks_least s.channels in
     let master = (master_length s.master).0 in
     let sum = length-append (master_octets s.master) (flat_map block s.channels) in
     omega arith
+state_least _ rules s h = let eight = h.shape.eight_channels in let blocks = blocks_least s.channels in omega arith

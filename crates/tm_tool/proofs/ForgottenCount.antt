@@ -38,20 +38,13 @@ states_same w rs valid =
 
 entries_same : (entries : Entries) (xs ys : List Item) → LacksMasterGap xs ys → noted_all entries xs ≡ noted_all entries ys
 entries_same entries xs ys h =
-    let there : Entries = noted_all entries h.front in
-    ap (noted_all entries) h.all_is
-    ∙ noted-append entries h.front (h.gap ++ h.back)
-    ∙ noted-append there h.gap h.back
-    ∙ ap (λ (e : Entries). noted_all e h.back) (gap_noted there h.gap h.gap_is)
-    ∙ sym (noted-append entries h.front h.back)
-    ∙ ap (noted_all entries) (sym h.fewer_is)
+    rw (h.all_is, noted-append entries h.front (h.gap ++ h.back), noted-append (noted_all entries h.front) h.gap h.back, gap_noted (noted_all entries h.front) h.gap h.gap_is, h.fewer_is)
+    (rw (noted-append entries h.front h.back) refl)
 
 -- the works that records leave differ in the last master channel count alone
 works_same : (w : Work) (rs : List (List ℕ)) → IsValid w → without_master (worked w rs) ≡ without_master (worked (without_master w) rs)
 works_same w rs valid =
-    ap (λ (s : State). record { rules = w.rules; state = s; entries = noted_all w.entries (items_of w rs) }) (states_same w rs valid)
-    ∙ ap (λ (e : Entries). record { rules = w.rules; state = forgotten.without_master (worked (without_master w) rs).state; entries = e })
-    (entries_same w.entries (items_of w rs) (items_of (without_master w) rs) (lacks_item w rs valid))
+    rw (states_same w rs valid, entries_same w.entries (items_of w rs) (items_of (without_master w) rs) (lacks_item w rs valid)) refl
 
 -- of texts that give nothing of a gap of the master channel but its line
 module _ {A : Type 0} (text : Texts A) (none : (seen expected found missing : ℕ) → GivesNone text (MasterGap seen expected found missing)) where
@@ -60,9 +53,7 @@ module _ {A : Type 0} (text : Texts A) (none : (seen expected found missing : �
   line_piece entries seen expected found missing =
       let gives = none seen expected found missing in
       let line : List ℕ = master_gap_line seen expected found missing in
-      ap (λ (out : List A). record { out = out; report = line ++ text.remark (MasterGap seen expected found missing) }) gives.0
-      ∙ ap (λ (more : List ℕ). record { out = []; report = line ++ more }) gives.1
-      ∙ ap (λ (report : List ℕ). record { out = []; report = report }) (append-nil line)
+      rw (gives.0, gives.1, append-nil line) refl
 
   gap_pieces : (entries : Entries) (gap : List Item) → IsMasterGapAtMost gap → IsGapLineAtMost (pieces_of text entries gap)
   gap_pieces entries gap (inl e) = inl (ap (pieces_of text entries) e)
@@ -77,35 +68,26 @@ module _ {A : Type 0} (text : Texts A) (none : (seen expected found missing : �
       let gap : List (Piece A) = pieces_of text there h.gap in
       let back : List (Piece A) = pieces_of text there h.back in
       let all : pieces_of text entries xs ≡ fore ++ (gap ++ back) =
-      ap (pieces_of text entries) h.all_is
-      ∙ pieces-append text entries h.front (h.gap ++ h.back)
-      ∙ ap (λ (ps : List (Piece A)). fore ++ ps)
-      (pieces-append text there h.gap h.back
-      ∙ ap (λ (e : Entries). gap ++ pieces_of text e h.back) (gap_noted there h.gap h.gap_is)) in
+      rw (h.all_is, pieces-append text entries h.front (h.gap ++ h.back), pieces-append text there h.gap h.back, gap_noted there h.gap h.gap_is) refl in
       let some : pieces_of text entries ys ≡ fore ++ back = ap (pieces_of text entries) h.fewer_is ∙ pieces-append text entries h.front h.back in
       record {
         front = fore;
         gap = gap;
         back = back ++ end;
-        all_is =
-            ap (λ (ps : List (Piece A)). ps ++ end) all ∙ append_assoc fore (gap ++ back) end
-            ∙ ap (λ (ps : List (Piece A)). fore ++ ps) (append_assoc gap back end);
-        fewer_is = ap (λ (ps : List (Piece A)). ps ++ end) some ∙ append_assoc fore back end;
+        all_is = rw all (append_assoc fore (gap ++ back) end ∙ ap (λ (ps : List (Piece A)). fore ++ ps) (append_assoc gap back end));
+        fewer_is = rw some (append_assoc fore back end);
         gap_is = gap_pieces there h.gap h.gap_is;
       }
 
   -- what an ending has does not rest on the last master channel count
   same_end : (ending : Ending) (w : Work) (rest : ℕ) → end_pieces text ending w rest ≡ end_pieces text ending (without_master w) rest
   same_end Close w rest = refl
-  same_end Keep w rest = refl
-  same_end (StopAfter n) w rest = refl
+  same_end _ w rest = refl
 
   ends_same : (ending : Ending) (w : Work) (rs : List (List ℕ)) (rest : ℕ) → IsValid w
       → end_pieces text ending (worked (without_master w) rs) rest ≡ end_pieces text ending (worked w rs) rest
   ends_same ending w rs rest valid =
-      same_end ending (worked (without_master w) rs) rest
-      ∙ ap (λ (x : Work). end_pieces text ending x rest) (sym (works_same w rs valid))
-      ∙ sym (same_end ending (worked w rs) rest)
+      rw (same_end ending (worked (without_master w) rs) rest, ← works_same w rs valid) (sym (same_end ending (worked w rs) rest))
 
   lacks_gap : (ending : Ending) (w : Work) (recording : List ℕ) → IsValid w → LacksGapLine (pieces text ending w recording) (pieces text ending (without_master w) recording)
   unfolding pieces

@@ -1,6 +1,7 @@
 -- A run behind a head, in the words of the whole recording.
 use Rattle.std.proofs.Common.{◌≡◌, ◌<◌, ◌+◌, ◌-◌, ◌^◌, ℕ, List, [], ◌++◌, length, refl, inl, inr, Option, IfSome}
 use Rattle.std.proofs.KnownBytes.{Appends-trans}
+use Rattle.std.proofs.lemmas.Option.{IfSome_then}
 use Rattle.tm_frame.specs.Layout.{record_length_of}
 use Rattle.tm_output.specs.declared.fault.RunFault.{RunFault}
 use Rattle.tm_output.specs.declared.fault.RunFault.TheVariants.{NoMemory, ShortRecording, TooMany}
@@ -12,28 +13,19 @@ use Rattle.tm_output.specs.Records.{record_count}
 use Rattle.tm_tool.specs.Runs.{IsRun, IsStoppedAt, IsHeadedRun, IsHeadedStop, kept_of}
 use Rattle.tm_output.proofs.PieceLemmas.{cut_after, took_none, took_took, stopped_more, stops_after}
 use Rattle.tm_tool.proofs.Running.{IsValid}
-use Rattle.tm_tool.proofs.RunPieces.{always, weaker, run_told, run_cut, run_memory, run_many, run_short}
+use Rattle.tm_tool.proofs.RunPieces.{always, run_told, run_cut, run_memory, run_many, run_short}
 
 module _ {A K : Type 0} (grows : K → K → List A → Type 0) (grows-nil : (k : K) → grows k k [])
     (grows-trans : (j k l : K) (xs ys : List A) → grows j k xs → grows k l ys → grows j l (xs ++ ys))
     (way : Way) (text : Texts A) (ending : Ending) (w : Work) where
-  -- where there is no head
-  pub unheaded_run : (first next : Option (List ℕ)) (old new : View K) (count : ℕ) (kept : Option Work) → IsRun grows way text ending w first next old new count kept
-      → IsHeadedRun grows way text ending w [] first next old new count kept
-  unheaded_run first next old new count kept h = record { mid = old; headed = took_none grows grows-nil grows-trans old; run = h }
-
-  pub unheaded_stop : (first next : Option (List ℕ)) (old new : View K) (fault : RunFault) → IsStoppedAt grows way text ending w first next old new fault
-      → IsHeadedStop grows way text ending w [] first next old new fault
-  unheaded_stop first next old new fault h = inr (record { mid = old; headed = took_none grows grows-nil grows-trans old; stopped = h })
-
   module _ (head : List (Piece A)) (valid : IsValid w) (some : 0 < record_length_of w.rules.layout) (first next : Option (List ℕ)) (old new : View K) where
     pub headed_told : (count : ℕ) (kept : Option Work) → IsHeadedRun grows way text ending w head first next old new count kept
         → IfSome first (λ octets. Took grows old new (head ++ pieces text ending w octets)
         × (count ≡ w.state.records + length (chosen ending (further w octets)))
         × (kept ≡ kept_of ending (worked w (chosen ending (further w octets)))))
     headed_told count kept h =
-        weaker first (λ octets told. (took_took grows grows-nil grows-trans old h.mid new head (pieces text ending w octets) h.headed told.0, told.1, told.2))
-        (run_told grows grows-nil grows-trans way text ending w valid some first next h.mid new count kept h.run)
+        IfSome_then first (run_told grows grows-nil grows-trans way text ending w valid some first next h.mid new count kept h.run)
+        (λ octets told. (took_took grows grows-nil grows-trans old h.mid new head (pieces text ending w octets) h.headed told.0, told.1, told.2))
 
     cut_behind : (mid : View K) (ps : List (Piece A)) → Took grows old mid head → AppendsCut grows mid new ps → AppendsCut grows old new (head ++ ps)
     cut_behind mid ps headed h =
@@ -50,16 +42,16 @@ module _ {A K : Type 0} (grows : K → K → List A → Type 0) (grows-nil : (k 
     headed_cut fault (inl h) =
         always first (λ octets. (stopped_more grows grows-nil grows-trans way old new head (pieces text ending w octets) fault h.stopped).cut)
     headed_cut fault (inr h) =
-        weaker first (λ octets cut. cut_behind h.mid (pieces text ending w octets) h.headed cut)
-        (run_cut grows grows-nil grows-trans way text ending w valid some first next h.mid new fault h.stopped)
+        IfSome_then first (run_cut grows grows-nil grows-trans way text ending w valid some first next h.mid new fault h.stopped)
+        (λ octets cut. cut_behind h.mid (pieces text ending w octets) h.headed cut)
 
     pub headed_memory : IsHeadedStop grows way text ending w head first next old new NoMemory
         → IfSome first (λ octets. WantsMemory grows way old new (head ++ pieces text ending w octets))
     headed_memory (inl h) =
         always first (λ octets. (stopped_more grows grows-nil grows-trans way old new head (pieces text ending w octets) NoMemory h.stopped).memory refl)
     headed_memory (inr h) =
-        weaker first (λ octets wants. stops_after grows grows-nil grows-trans old h.mid head (pieces text ending w octets) h.headed wants)
-        (run_memory grows grows-nil grows-trans way text ending w valid some first next h.mid new h.stopped)
+        IfSome_then first (run_memory grows grows-nil grows-trans way text ending w valid some first next h.mid new h.stopped)
+        (λ octets wants. stops_after grows grows-nil grows-trans old h.mid head (pieces text ending w octets) h.headed wants)
 
     pub headed_many : IsHeadedStop grows way text ending w head first next old new TooMany
         → IfSome first (λ octets. 2 ^ 32 - 1 < record_count (record_length_of w.rules.layout) octets)

@@ -16,5 +16,4 @@ pub kept_exact : (kept : Option Kept) (ending : Ending) (w : Work) (size : ℕ) 
     → IfSome kept (λ k. size ≡ record_length_of k.reassembly.rules.layout)
 kept_exact None ending w size is exact = tt
 kept_exact (Some k) Close w size is exact = none_kept _ is
-kept_exact (Some k) Keep w size is exact = exact ∙ sym (ap (λ (x : Work). record_length_of x.rules.layout) (same_Some _ _ is))
-kept_exact (Some k) (StopAfter n) w size is exact = exact ∙ sym (ap (λ (x : Work). record_length_of x.rules.layout) (same_Some _ _ is))
+kept_exact (Some k) _ w size is exact = exact ∙ sym (ap (λ (x : Work). record_length_of x.rules.layout) (same_Some _ _ is))

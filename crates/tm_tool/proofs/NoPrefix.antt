@@ -24,18 +24,16 @@ use Rattle.tm_tool.specs.RecordingPieces.{Work}
 use Rattle.tm_tool.proofs.CheckpointLemmas.{body, check, behind_head}
 use Rattle.tm_tool.proofs.VersionLemmas.{told_apart, kept_spelled, state_again}
 
+same_Ok : {T E : Type 0} (x y : T) → ◌≡◌ {A = Result T E} (Ok x) (Ok y) → x ≡ y
+same_Ok x y e = cc
+
 -- ---- the settings are told by their octets
 
 presence_told : (p q : Presence) → presence_octet p ≡ presence_octet q → p ≡ q
 presence_told Flag Flag e = refl
-presence_told Flag Always e = absurd (omega arith)
-presence_told Flag Never e = absurd (omega arith)
-presence_told Always Flag e = absurd (omega arith)
 presence_told Always Always e = refl
-presence_told Always Never e = absurd (omega arith)
-presence_told Never Flag e = absurd (omega arith)
-presence_told Never Always e = absurd (omega arith)
 presence_told Never Never e = refl
+presence_told _ _ e = absurd (omega arith)
 
 abbrev truth_octet : Bool → ℕ
 truth_octet b = if b then 1 else 0
@@ -43,8 +41,7 @@ truth_octet b = if b then 1 else 0
 truth_told : (a b : Bool) → truth_octet a ≡ truth_octet b → a ≡ b
 truth_told true true e = refl
 truth_told false false e = refl
-truth_told true false e = absurd (omega arith)
-truth_told false true e = absurd (omega arith)
+truth_told _ _ e = absurd (omega arith)
 
 power : (c : ℕ) → 2 ^ (c + 1) ≡ 2 * 2 ^ c
 power c = ap (λ (n : ℕ). 2 ^ n) (let z : c + 1 ≡ suc c = omega arith in z) ∙ omega arith
@@ -87,91 +84,43 @@ made spacecraft frame_length skip_before skip_after secondary ocf error_control 
 -- the first twelve octets tell all but the limit on packets
 twelve_told : (s t : Rules) → length s.channels ≡ length t.channels → take 12 (settings_octets s) ≡ take 12 (settings_octets t) → s.max_packet ≡ t.max_packet → s ≡ t
 twelve_told s t l e limit =
-    let a0 : s.layout.spacecraft / 256 ≡ t.layout.spacecraft / 256 = cc in
-    let a1 : s.layout.spacecraft % 256 ≡ t.layout.spacecraft % 256 = cc in
-    let b0 : s.layout.frame_length / 256 ≡ t.layout.frame_length / 256 = cc in
-    let b1 : s.layout.frame_length % 256 ≡ t.layout.frame_length % 256 = cc in
-    let c0 : s.layout.skip_before / 256 ≡ t.layout.skip_before / 256 = cc in
-    let c1 : s.layout.skip_before % 256 ≡ t.layout.skip_before % 256 = cc in
-    let d0 : s.layout.skip_after / 256 ≡ t.layout.skip_after / 256 = cc in
-    let d1 : s.layout.skip_after % 256 ≡ t.layout.skip_after % 256 = cc in
-    let p : presence_octet s.layout.secondary ≡ presence_octet t.layout.secondary = cc in
-    let q : presence_octet s.layout.ocf ≡ presence_octet t.layout.ocf = cc in
-    let r : truth_octet s.layout.error_control ≡ truth_octet t.layout.error_control = cc in
-    let m : mask_of s.channels ≡ mask_of t.channels = cc in
-    ap (λ (x : ℕ). made x s.layout.frame_length s.layout.skip_before s.layout.skip_after s.layout.secondary s.layout.ocf s.layout.error_control s.channels s.max_packet)
-    (number_told s.layout.spacecraft t.layout.spacecraft a0 a1)
-    ∙ ap (λ (x : ℕ). made t.layout.spacecraft x s.layout.skip_before s.layout.skip_after s.layout.secondary s.layout.ocf s.layout.error_control s.channels s.max_packet)
-    (number_told s.layout.frame_length t.layout.frame_length b0 b1)
-    ∙ ap (λ (x : ℕ). made t.layout.spacecraft t.layout.frame_length x s.layout.skip_after s.layout.secondary s.layout.ocf s.layout.error_control s.channels s.max_packet)
-    (number_told s.layout.skip_before t.layout.skip_before c0 c1)
-    ∙ ap (λ (x : ℕ). made t.layout.spacecraft t.layout.frame_length t.layout.skip_before x s.layout.secondary s.layout.ocf s.layout.error_control s.channels s.max_packet)
-    (number_told s.layout.skip_after t.layout.skip_after d0 d1)
-    ∙ ap (λ (x : Presence). made t.layout.spacecraft t.layout.frame_length t.layout.skip_before t.layout.skip_after x s.layout.ocf s.layout.error_control s.channels s.max_packet)
-    (presence_told s.layout.secondary t.layout.secondary p)
-    ∙ ap (λ (x : Presence). made t.layout.spacecraft t.layout.frame_length t.layout.skip_before t.layout.skip_after t.layout.secondary x s.layout.error_control s.channels s.max_packet)
-    (presence_told s.layout.ocf t.layout.ocf q)
-    ∙ ap (λ (x : Bool). made t.layout.spacecraft t.layout.frame_length t.layout.skip_before t.layout.skip_after t.layout.secondary t.layout.ocf x s.channels s.max_packet)
-    (truth_told s.layout.error_control t.layout.error_control r)
-    ∙ ap (λ (x : List Bool). made t.layout.spacecraft t.layout.frame_length t.layout.skip_before t.layout.skip_after t.layout.secondary t.layout.ocf t.layout.error_control x s.max_packet)
-    (mask_told s.channels t.channels l m)
-    ∙ ap (λ (x : ℕ). made t.layout.spacecraft t.layout.frame_length t.layout.skip_before t.layout.skip_after t.layout.secondary t.layout.ocf t.layout.error_control t.channels x) limit
+    let all : made s.layout.spacecraft s.layout.frame_length s.layout.skip_before s.layout.skip_after s.layout.secondary s.layout.ocf s.layout.error_control s.channels s.max_packet ≡ t =
+    rw (number_told s.layout.spacecraft t.layout.spacecraft (cc) (cc), number_told s.layout.frame_length t.layout.frame_length (cc) (cc))
+    (rw (number_told s.layout.skip_before t.layout.skip_before (cc) (cc), number_told s.layout.skip_after t.layout.skip_after (cc) (cc), presence_told s.layout.secondary t.layout.secondary (cc))
+    (rw (presence_told s.layout.ocf t.layout.ocf (cc), truth_told s.layout.error_control t.layout.error_control (cc), mask_told s.channels t.channels l (cc), limit) refl)) in
+    all
 
 -- and all fifteen tell them all
 fifteen_told : (s t : Rules) → length s.channels ≡ length t.channels → settings_octets s ≡ settings_octets t → s ≡ t
 fifteen_told s t l e =
     let limits : three s.max_packet ≡ three t.max_packet = ap (drop 12) e in
-    let a : s.max_packet / 65536 ≡ t.max_packet / 65536 = cc in
-    let b : (s.max_packet % 65536) / 256 ≡ (t.max_packet % 65536) / 256 = cc in
-    let c : (s.max_packet % 65536) % 256 ≡ (t.max_packet % 65536) % 256 = cc in
-    twelve_told s t l (ap (take 12) e) (three_told s.max_packet t.max_packet a b c)
+    twelve_told s t l (ap (take 12) e) (three_told s.max_packet t.max_packet (cc) (cc) (cc))
 
 -- where a version can tell the settings its octets do
 settings_told : (v : Version) (s t : Rules) → length s.channels ≡ length t.channels → tells v s ≡ true → tells v t ≡ true → head_octets v s ≡ head_octets v t → s ≡ t
 settings_told One s t l p q e = twelve_told s t l (ap (drop 5) e) (eqb-true s.max_packet 65542 p ∙ sym (eqb-true t.max_packet 65542 q))
-settings_told Two s t l p q e = fifteen_told s t l (ap (drop 5) e)
-settings_told Three s t l p q e = fifteen_told s t l (ap (drop 5) e)
+settings_told _ s t l p q e = fifteen_told s t l (ap (drop 5) e)
 
 -- ---- spellings in front of octets
-
-abbrev state_is : State → ℕ → Result reassembly.Decoded StateFault
-state_is state octets = Ok (record { state = state; octets = octets })
-
-state_of : Result reassembly.Decoded StateFault → State → State
-state_of (Ok d) other = d.state
-state_of _ other = other
-
-abbrev entries_are : Entries → ℕ → Result sequence.Decoded TrackerFault
-entries_are entries octets = Ok (record { entries = entries; octets = octets })
-
-entries_in : Result sequence.Decoded TrackerFault → Entries
-entries_in (Ok d) = d.entries
-entries_in _ = []
 
 -- what is behind equal fronts is equal
 behind : (xs ys a b : List ℕ) → xs ≡ ys → xs ++ a ≡ ys ++ b → a ≡ b
 behind xs ys a b e f =
-    sym (drop-append_seam xs a)
-    ∙ ap (drop (length xs)) (f ∙ ap (λ (l : List ℕ). l ++ b) (sym e))
-    ∙ drop-append_seam xs b
+    sym (drop-append_seam ys a) ∙ ap (drop (length ys)) (rw e at f) ∙ drop-append_seam ys b
 
 -- the octets of states that go on in the same way tell what the version keeps of them
 states_told : (v : Version) (rules : Rules) (s t : State) (a b : List ℕ) → IsState rules s → IsState rules t
     → state_octets v s ++ a ≡ state_octets v t ++ b → (kept_state v s ≡ kept_state v t) × (a ≡ b)
-unfolding state_of
 states_told v rules s t a b p q e =
-    let read : state_is (kept_state v s) (length (state_octets v s)) ≡ state_is (kept_state v t) (length (state_octets v t)) =
-    sym (state_again v rules s a p) ∙ ap (state_in v rules) e ∙ state_again v rules t b q in
-    let same : kept_state v s ≡ kept_state v t = ap (λ (r : Result reassembly.Decoded StateFault). state_of r (kept_state v s)) read in
+    let read = sym (state_again v rules s a p) ∙ ap (state_in v rules) e ∙ state_again v rules t b q in
+    let same : kept_state v s ≡ kept_state v t = ap (λ (d : reassembly.Decoded). d.state) (same_Ok _ _ read) in
     let octets : state_octets v s ≡ state_octets v t = sym (kept_spelled v s) ∙ ap (state_octets v) same ∙ kept_spelled v t in
     (same, behind (state_octets v s) (state_octets v t) a b octets e)
 
 entries_told : (s t : Entries) (a b : List ℕ) → valid.IsState s → valid.IsState t → sequence.spelling s ++ a ≡ sequence.spelling t ++ b → s ≡ t
-unfolding entries_in
 entries_told s t a b v w e =
-    let read : entries_are s (length (sequence.spelling s)) ≡ entries_are t (length (sequence.spelling t)) =
-    sym (sequence_written.decoding-spelling s a v) ∙ ap sequence.decoding_of e ∙ sequence_written.decoding-spelling t b w in
-    ap entries_in read
+    let read = sym (sequence_written.decoding-spelling s a v) ∙ ap sequence.decoding_of e ∙ sequence_written.decoding-spelling t b w in
+    ap (λ (d : sequence.Decoded). d.entries) (same_Ok _ _ read)
 
 -- ---- checkpoints
 
@@ -190,9 +139,6 @@ parts v w rest =
     ∙ append_assoc (body v w) (check v w) rest
     ∙ append_assoc (state_octets v w.state) (sequence.spelling w.entries) (check v w ++ rest)
 
-abbrev work_of : Rules → State → Entries → Work
-work_of s state entries = record { rules = s; state = state; entries = entries }
-
 works_told : (v : Version) (a b : Work) (rest more : List ℕ) → IsWork a → IsWork b → tells v a.rules ≡ true → tells v b.rules ≡ true
     → spelled_in v a ++ rest ≡ spelled_in v b ++ more → kept_in v a ≡ kept_in v b
 works_told v a b rest more ha hb ta tb e =
@@ -203,9 +149,7 @@ works_told v a b rest more ha hb ta tb e =
     let moved : IsState a.rules b.state = subst (λ (s : Rules). IsState s b.state) (sym settings) hb.state in
     let told = states_told v a.rules a.state b.state (sequence.spelling a.entries ++ (check v a ++ rest)) (sequence.spelling b.entries ++ (check v b ++ more)) ha.state moved tails in
     let entries : a.entries ≡ b.entries = entries_told a.entries b.entries (check v a ++ rest) (check v b ++ more) ha.entries hb.entries told.1 in
-    ap (λ (s : Rules). work_of s (kept_state v a.state) a.entries) settings
-    ∙ ap (λ (s : State). work_of b.rules s a.entries) told.0
-    ∙ ap (λ (l : Entries). work_of b.rules (kept_state v b.state) l) entries
+    rw (settings, told.0, entries) refl
 
 -- the version is told by the fifth octet
 version_told : (u v : Version) (a b : Work) (rest : List ℕ) → spelled_in u a ++ rest ≡ spelled_in v b → u ≡ v

@@ -20,13 +20,8 @@ use Rattle.tm_tool.proofs.WorkValid.{noted-valid}
 -- an item leaves the entries that its packet leaves, if it is one
 noted_is : (entries : Entries) (x : Item) → noted entries x ≡ sequence.after entries (sent_in x)
 unfolding noted sent_in
-noted_is entries (Bad seen fault) = sym (after_from-none 0 entries)
-noted_is entries (MasterGap seen expected found missing) = sym (after_from-none 0 entries)
-noted_is entries (Gap seen channel expected found missing) = sym (after_from-none 0 entries)
-noted_is entries (Vca seen channel) = sym (after_from-none 0 entries)
-noted_is entries (Dropped seen channel first place octets reason) = sym (after_from-none 0 entries)
 noted_is entries (Packet seen channel first place octets) = refl
-noted_is entries (Short seen octets) = sym (after_from-none 0 entries)
+noted_is entries _ = sym (after_from-none 0 entries)
 
 -- and items those of all their packets
 pub noted_all_is : (entries : Entries) (xs : List Item) → noted_all entries xs ≡ sequence.after entries (sent_among xs)
@@ -41,13 +36,8 @@ HasChannels xs = (c : ℕ) (x : Item) → is_of c x ≡ true → Among x xs → 
 
 item_fits : (x : Item) (others : List Sent) → ((c : ℕ) → is_of c x ≡ true → c < 8) → AllFit others → AllFit (sent_in x ++ others)
 unfolding sent_in
-item_fits (Bad seen fault) others h fit = fit
-item_fits (MasterGap seen expected found missing) others h fit = fit
-item_fits (Gap seen channel expected found missing) others h fit = fit
-item_fits (Vca seen channel) others h fit = fit
-item_fits (Dropped seen channel first place octets reason) others h fit = fit
 item_fits (Packet seen channel first place octets) others h fit = (header-fits channel octets (h channel (eq-eqb channel channel refl)), fit)
-item_fits (Short seen octets) others h fit = fit
+item_fits _ others h fit = fit
 
 all_fit : (xs : List Item) → HasChannels xs → AllFit (sent_among xs)
 all_fit [] h = tt
@@ -59,11 +49,6 @@ module _ {A : Type 0} (text : Texts A) (entries : Entries) (more : List Item) wh
       → piece_of text entries x ∷ pieces_with text others more
       ≡ pieces_with text (sequence.notes entries (sent_in x) ++ others) (x ∷ more)
   unfolding sent_in report_of report_with notes_of
-  one_is (Bad seen fault) others = refl
-  one_is (MasterGap seen expected found missing) others = refl
-  one_is (Gap seen channel expected found missing) others = refl
-  one_is (Vca seen channel) others = refl
-  one_is (Dropped seen channel first place octets reason) others = refl
   one_is (Packet seen channel first place octets) others =
       ap (λ (notes : List Note). record {
         out = text.out (Packet seen channel first place octets);
@@ -71,7 +56,7 @@ module _ {A : Type 0} (text : Texts A) (entries : Entries) (more : List Item) wh
       }
       ∷ pieces_with text others more)
       (append-nil (sequence.notes_at entries [] (sent channel octets) []))
-  one_is (Short seen octets) others = refl
+  one_is _ others = refl
 
 -- the pieces of items have the notes of all their packets
 pub pieces_noted : {A : Type 0} (text : Texts A) (entries : Entries) (xs : List Item) → IsState entries → HasChannels xs

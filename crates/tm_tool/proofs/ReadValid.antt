@@ -62,9 +62,8 @@ module _ (rules : Rules) (range : IsLimit rules.max_packet) where
       (λ p. channels-valid (four_at xs 0) 4 None (drop 4 xs) (blocks_read rules (four_at xs 0) 8 0 (drop 4 xs)) (octets_behind 4 xs h) (four_below xs h) tt refl)
 
   any-valid : (v : Version) (xs : List ℕ) → AreOctets xs → IsRead rules (state_in v rules xs)
-  any-valid One xs h = old_decoding-valid xs h
-  any-valid Two xs h = old_decoding-valid xs h
   any-valid Three xs h = decoding-valid xs h
+  any-valid _ xs h = old_decoding-valid xs h
 
   pub state_valid : (v : Version) (xs : List ℕ) (d : Decoded) → AreOctets xs → state_in v rules xs ≡ Ok d → IsState rules d.state
   state_valid v xs d h e = subst (IsRead rules) e (any-valid v xs h)

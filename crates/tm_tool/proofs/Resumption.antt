@@ -23,32 +23,24 @@ use Rattle.tm_tool.proofs.Running.{IsValid, records-append, records-counted, wor
 -- a stop has no pieces of its own
 no_end : {A : Type 0} (text : Texts A) (ending : Ending) (w : Work) (rest : ℕ) → KeepsJob ending → end_pieces text ending w rest ≡ []
 no_end text Close w rest keeps = absurd keeps
-no_end text Keep w rest keeps = refl
-no_end text (StopAfter n) w rest keeps = refl
+no_end text _ w rest keeps = refl
 
 -- one run ends as the last did
 same_end : {A : Type 0} (text : Texts A) (ending : Ending) (count : ℕ) (w : Work) (rest : ℕ) → end_pieces text (in_one ending count) w rest ≡ end_pieces text ending w rest
 same_end text Close count w rest = refl
-same_end text Keep count w rest = refl
-same_end text (StopAfter n) count w rest = refl
+same_end text _ count w rest = refl
 
 -- how many records an ending takes
 chosen-counted : (ending : Ending) (done more : List (List ℕ)) → length (done ++ chosen ending more) ≡ done_by ending (length done) (length (done ++ more))
-chosen-counted Close done more = refl
-chosen-counted Keep done more = refl
 chosen-counted (StopAfter n) done more =
     let left : length (done ++ more) - length done ≡ length more = omega (arith, length-append done more) in
-    length-append done (take n more) ∙ ap (λ (k : ℕ). length done + k) (length-take n more)
-    ∙ ap (λ (k : ℕ). length done + min n k) (sym left)
+    rw (length-append done (take n more), length-take n more, left) refl
+chosen-counted _ done more = refl
 
 -- what an ending takes comes first, and a closed end takes all
 chosen-front : (ending : Ending) (more : List (List ℕ)) → (others : List (List ℕ)) × (more ≡ chosen ending more ++ others) × (ending ≡ Close → others ≡ [])
-chosen-front Close more = ([], sym (append-nil more), λ e. refl)
-chosen-front Keep more = ([], sym (append-nil more), λ e. refl)
-chosen-front (StopAfter n) more = (drop n more, sym (take-append-drop n more), λ e. not_close n e)
-  where
-    not_close : (n : ℕ) {P : Type 0} → StopAfter n ≡ Close → P
-    not_close n e = cc
+chosen-front (StopAfter n) more = (drop n more, sym (take-append-drop n more), λ (e : StopAfter n ≡ Close). cc)
+chosen-front _ more = ([], sym (append-nil more), λ e. refl)
 
 module _ {A : Type 0} (head : Bool → List (Piece A)) (none : head false ≡ []) (text : Texts A) (ending : Ending) (last : List ℕ)
     (start : Work) (zero : start.state.records ≡ 0)
@@ -84,21 +76,18 @@ module _ {A : Type 0} (head : Bool → List (Piece A)) (none : head false ≡ []
   -- how many they are
   counted : (done : List (List ℕ)) (stops : List Stop) (h : Follows size last done stops)
       → done_in_all size ending last (length done) stops ≡ length (done ++ taken done stops h)
-  counted done [] (more, is) =
-      ap (done_by ending (length done)) (ap (λ (l : List (List ℕ)). length l) is) ∙ sym (chosen-counted ending done more)
+  counted done [] (more, is) = rw is (sym (chosen-counted ending done more))
   counted done (stop ∷ stops) (more, is, keeps, rest) =
       let here : done_by stop.ending (length done) (length (records size stop.recording)) ≡ length (done ++ chosen stop.ending more) =
-      ap (done_by stop.ending (length done)) (ap (λ (l : List (List ℕ)). length l) is) ∙ sym (chosen-counted stop.ending done more) in
-      ap (λ (k : ℕ). done_in_all size ending last k stops) here
-      ∙ counted (done ++ chosen stop.ending more) stops rest
-      ∙ ap (λ (l : List (List ℕ)). length l) (append_assoc done (chosen stop.ending more) (taken (done ++ chosen stop.ending more) stops rest))
+      rw is (sym (chosen-counted stop.ending done more)) in
+      rw (here, counted (done ++ chosen stop.ending more) stops rest, append_assoc done (chosen stop.ending more) (taken (done ++ chosen stop.ending more) stops rest)) refl
 
   module _ (done : List (List ℕ)) (recording : List ℕ) (more : List (List ℕ)) (is : records size recording ≡ done ++ more) where
     -- the records that follow those that are done
     further_is : further (worked start done) recording ≡ more
     further_is =
-        ap (λ (k : ℕ). drop k (records size recording)) (records-counted start done ∙ ap (λ (k : ℕ). k + length done) zero ∙ omega arith)
-        ∙ ap (drop (length done)) is ∙ drop-append_seam done more
+        let count : (worked start done).state.records ≡ length done = rw (records-counted start done, zero) (omega arith) in
+        rw (count, is) (drop-append_seam done more)
 
     -- the pieces of a run from there
     pieces_is : (e : Ending) (v : IsValid start) → pieces text e (worked start done) recording
@@ -106,9 +95,7 @@ module _ {A : Type 0} (head : Bool → List (Piece A)) (none : head false ≡ []
         ++ end_pieces text e (worked start (done ++ chosen e more)) (length (rest_of size recording))
     unfolding pieces
     pieces_is e v =
-        ap (λ (rs : List (List ℕ)). pieces_after text e (worked start done) (chosen e rs) (length (rest_of size recording))) further_is
-        ∙ ap (λ (w : Work). record_pieces text (worked start done) (chosen e more) ++ end_pieces text e w (length (rest_of size recording)))
-        (sym (worked-append start v done (chosen e more)))
+        rw (further_is, worked-append start v done (chosen e more)) refl
 
   module _ (v : IsValid start) where
     abbrev after_stop : Rules → List Stop → Result JobState CheckpointFault → List (Piece A)
@@ -125,28 +112,17 @@ module _ {A : Type 0} (head : Bool → List (Piece A)) (none : head false ≡ []
         let w : Work = worked start done in
         let end : List (Piece A) = end_pieces text ending (worked start ((done ++ c) ++ t)) (length (rest_of size last)) in
         let here : run_pieces head text stop.ending (record { work = w; fresh = fresh }) stop.recording ≡ head fresh ++ record_pieces text w c =
-        ap (λ (ps : List (Piece A)). head fresh ++ ps)
-        (pieces_is done stop.recording more is stop.ending v
-        ∙ ap (λ (ps : List (Piece A)). record_pieces text w c ++ ps) (no_end text stop.ending (worked start (done ++ c)) (length (rest_of size stop.recording)) keeps)
-        ∙ append-nil (record_pieces text w c)) in
+        rw (pieces_is done stop.recording more is stop.ending v, no_end text stop.ending (worked start (done ++ c)) (length (rest_of size stop.recording)) keeps, append-nil (record_pieces text w c)) refl in
         let left : left_by stop.ending w stop.recording ≡ worked start (done ++ c) =
-        ap (λ (rs : List (List ℕ)). worked w (chosen stop.ending rs)) (further_is done stop.recording more is) ∙ sym (worked-append start v done c) in
+        rw (further_is done stop.recording more is) (sym (worked-append start v done c)) in
         let (others, split) = front (done ++ c) stops rest in
         let again : resumed start.rules (checkpoint_of (left_by stop.ending w stop.recording)) ≡ Ok (record { work = worked start (done ++ c); fresh = false }) =
-        ap (λ (x : Work). resumed start.rules (checkpoint_of x)) left ∙ read_again (worked start (done ++ c)) (valid (done ++ c) others split) in
+        rw left (read_again (worked start (done ++ c)) (valid (done ++ c) others split)) in
         let there : after_stop start.rules stops (resumed start.rules (checkpoint_of (left_by stop.ending w stop.recording)))
         ≡ record_pieces text (worked w c) t ++ end =
-        ap (after_stop start.rules stops) again ∙ chain (done ++ c) false stops rest
-        ∙ ap (λ (ps : List (Piece A)). ps ++ (record_pieces text (worked start (done ++ c)) t ++ end)) none
-        ∙ ap (λ (x : Work). record_pieces text x t ++ end) (worked-append start v done c) in
+        rw (again, chain (done ++ c) false stops rest, none) (ap (λ (x : Work). record_pieces text x t ++ end) (worked-append start v done c)) in
         let (more_all, split_all) = front done (stop ∷ stops) (more, is, keeps, rest) in
-        ap (λ (ps : List (Piece A)). ps ++ after_stop start.rules stops (resumed start.rules (checkpoint_of (left_by stop.ending w stop.recording)))) here
-        ∙ ap (λ (ps : List (Piece A)). (head fresh ++ record_pieces text w c) ++ ps) there
-        ∙ append_assoc (head fresh) (record_pieces text w c) (record_pieces text (worked w c) t ++ end)
-        ∙ ap (λ (ps : List (Piece A)). head fresh ++ ps)
-        (sym (append_assoc (record_pieces text w c) (record_pieces text (worked w c) t) end)
-        ∙ ap (λ (ps : List (Piece A)). ps ++ end) (sym (records-append w (valid done more_all split_all).state text c t))
-        ∙ ap (λ (rs : List (List ℕ)). record_pieces text w (c ++ t) ++ end_pieces text ending (worked start rs) (length (rest_of size last))) (append_assoc done c t))
+        rw (here, there, records-append w (valid done more_all split_all).state text c t) (simp append_assoc)
 
     -- all of them, in one run
     chosen_all : (stops : List Stop) (h : Follows size last [] stops)
@@ -157,11 +133,9 @@ module _ {A : Type 0} (head : Bool → List (Piece A)) (none : head false ≡ []
       where
         by_cases : (e : Ending) → ending ≡ e → (others : List (List ℕ)) → records size last ≡ taken [] stops h ++ others → (ending ≡ Close → others ≡ [])
             → chosen (in_one e (done_in_all size ending last 0 stops)) (records size last) ≡ taken [] stops h
-        by_cases Close is others split all = split ∙ ap (λ (l : List (List ℕ)). taken [] stops h ++ l) (all is) ∙ append-nil (taken [] stops h)
-        by_cases Keep is others split all =
-            ap (take (done_in_all size ending last 0 stops)) split ∙ ap (λ (k : ℕ). take k (taken [] stops h ++ others)) (counted [] stops h) ∙ take-append_seam (taken [] stops h) others
-        by_cases (StopAfter n) is others split all =
-            ap (take (done_in_all size ending last 0 stops)) split ∙ ap (λ (k : ℕ). take k (taken [] stops h ++ others)) (counted [] stops h) ∙ take-append_seam (taken [] stops h) others
+        by_cases Close is others split all = rw (split, all is) (append-nil (taken [] stops h))
+        by_cases _ is others split all =
+            rw (split, counted [] stops h) (take-append_seam (taken [] stops h) others)
 
     pub joined : (fresh : Bool) (stops : List Stop) → Follows size last [] stops
         → resumed_pieces head text ending last start.rules (record { work = start; fresh = fresh }) stops

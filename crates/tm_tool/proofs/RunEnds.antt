@@ -31,8 +31,7 @@ module _ {A K : Type 0} (grows : K → K → List A → Type 0) (grows-nil : (k 
         (noted : entries ≡ noted_all work.entries (closing work.state n)) (count : seen ≡ work.state.records) where
       groups_same : unclosed_pieces {A = A} seen (sequence.unclosed 0 entries) ≡ groups_end
       groups_same =
-          ap (λ (m : ℕ). unclosed_pieces {A = A} m (sequence.unclosed 0 entries)) count
-          ∙ ap (λ (e : Entries). unclosed_pieces {A = A} work.state.records (sequence.unclosed 0 e)) noted
+          rw (count, noted)
 
       pub stopped_groups : (new : View K) (fault : RunFault) → Stopped grows way mid new (unclosed_pieces seen (sequence.unclosed 0 entries)) fault
           → Stopped grows way old new (closing_pieces text work n) fault
@@ -49,7 +48,7 @@ module _ {A K : Type 0} (grows : K → K → List A → Type 0) (grows-nil : (k 
       (stepped : HasStepped grows text ending w first next old mid work n) where
     end_same : end_pieces text ending work n ≡ end_pieces text ending (worked w (behind w stepped.read)) (length stepped.rest)
     end_same =
-        ap (λ (x : Work). end_pieces text ending x n) stepped.work ∙ ap (end_pieces text ending (worked w (behind w stepped.read))) (sym stepped.left)
+        rw (stepped.work, stepped.left)
 
     at_end : (new : View K) (fault : RunFault) → Stopped grows way mid new (end_pieces text ending work n) fault
         → StopsAtEnd grows way text ending w first next old new fault
@@ -66,12 +65,10 @@ module _ {A K : Type 0} (grows : K → K → List A → Type 0) (grows-nil : (k 
     -- writing stopped at a piece of the ending
     pub end_stopped : (new : View K) (fault : RunFault) → Stopped grows way mid new (end_pieces text ending work n) fault
         → IsStoppedAt grows way text ending w first next old new fault
-    end_stopped new Read h = absurd h.cause
     end_stopped new Write h = inr (at_end new Write h)
     end_stopped new Report h = inr (at_end new Report h)
-    end_stopped new ShortRecording h = absurd h.cause
-    end_stopped new TooMany h = absurd h.cause
     end_stopped new NoMemory h = inr (at_end new NoMemory h)
+    end_stopped new _ h = absurd h.cause
 
     module _ (ended : View K) (took_end : Took grows mid ended (end_pieces text ending work n)) where
       -- nothing was left to write, and a flush failed

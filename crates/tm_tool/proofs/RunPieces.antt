@@ -1,7 +1,9 @@
 -- How a run ended, in the words of the whole recording.
-use Rattle.std.proofs.Common.{◌≡◌, ◌⊎◌, ◌<◌, ◌≤◌, ◌+◌, ◌-◌, ◌^◌, ℕ, zero, suc, false, List, [], ◌∷◌, ◌++◌, length, take, drop, refl, sym, ap, subst, ◌∙◌, append_assoc, append-nil, length-append, length-drop, take_all, arith, inl, inr, Option, None, Some, IfSome, Result, Err}
+use Rattle.std.proofs.Common.{◌≡◌, ◌⊎◌, ◌<◌, ◌≤◌, ◌+◌, ◌-◌, ◌^◌, ℕ, zero, suc, false, List, [], ◌∷◌, ◌++◌, length, take, drop, refl, sym, ap, subst, ◌∙◌, append_assoc, append-nil, length-append, length-drop, take_all, arith, inl, inr, ⊎_elim, Option, None, Some, IfSome, Result, Err}
 use Rattle.std.specs.List.{concat}
 use Rattle.std.specs.Io.KnownBytes.{Consumes, IsAtEnd}
+use Rattle.std.proofs.lemmas.Bool.{cases_lt}
+use Rattle.std.proofs.lemmas.Option.{IfSome_then}
 use Rattle.std.proofs.lemmas.List.{drop-append-le, take-append-le}
 use Rattle.std.proofs.Math.Seq.{take-append-add}
 use Rattle.tm_frame.specs.Layout.{record_length_of}
@@ -25,18 +27,6 @@ use Rattle.tm_tool.proofs.Running.{IsValid, behind-more, behind-none, records-ap
 pub same_fault : {T : Type 0} {f h : RunFault} → ◌≡◌ {A = Result T RunFault} (Err f) (Err h) → f ≡ h
 same_fault e = cc
 
--- what is said of a recording of which these octets were read
-told : (P : List ℕ → Type 0) (octets : List ℕ) (old new : Option (List ℕ)) → Consumes old new octets → ((left : List ℕ) → P (octets ++ left)) → IfSome old P
-told P octets None new c h = tt
-told P octets (Some all) None c h = absurd c
-told P octets (Some all) (Some left) c h = subst P (sym c) (h left)
-
--- and nothing is left at its end
-told_all : (P : List ℕ → Type 0) (octets : List ℕ) (old new : Option (List ℕ)) → Consumes old new octets → IsAtEnd new → P octets → IfSome old P
-told_all P octets None new c end h = tt
-told_all P octets (Some all) None c end h = absurd c
-told_all P octets (Some all) (Some left) c end h = subst P (sym (c ∙ ap (λ (l : List ℕ). octets ++ l) end ∙ append-nil octets)) h
-
 -- ---- which records an ending takes
 
 module _ (w : Work) (read : List (List ℕ)) (passed : w.state.records ≤ length read) where
@@ -45,58 +35,40 @@ module _ (w : Work) (read : List (List ℕ)) (passed : w.state.records ≤ lengt
 
   -- all of them, where no more follow
   chosen_all : (ending : Ending) → Reached ending w.state.records (length read) → chosen ending (behind w read) ≡ behind w read
-  chosen_all Close h = refl
-  chosen_all Keep h = refl
   chosen_all (StopAfter n) h = take_all n (behind w read) (omega (arith, h, size, passed))
+  chosen_all _ h = refl
 
   -- those that were read come first
   chosen_front : (ending : Ending) (more : List (List ℕ)) → Reached ending w.state.records (length read)
       → (others : List (List ℕ)) × (chosen ending (behind w read ++ more) ≡ behind w read ++ others)
-  chosen_front Close more h = (more, refl)
-  chosen_front Keep more h = (more, refl)
   chosen_front (StopAfter n) more h =
       let count : n ≡ length (behind w read) + (n - length (behind w read)) = omega (arith, h, size, passed) in (
         take (n - length (behind w read)) more,
         ap (λ (k : ℕ). take k (behind w read ++ more)) count ∙ take-append-add (behind w read) more (n - length (behind w read)),
       )
+  chosen_front _ more h = (more, refl)
 
   -- and are all, where no more are wanted
   chosen_enough : (ending : Ending) (more : List (List ℕ)) → Suffices ending w.state.records (length read) → chosen ending (behind w read ++ more) ≡ behind w read
-  chosen_enough Close more h = absurd h
-  chosen_enough Keep more h = absurd h
   chosen_enough (StopAfter n) more h =
       take-append-le n (behind w read) more (omega (arith, h, size, passed)) ∙ take_all n (behind w read) (omega (arith, h, size, passed))
+  chosen_enough _ more h = absurd h
 
 -- where no more are wanted the ending has no pieces
 end_none : {A : Type 0} (text : Texts A) (ending : Ending) (done count : ℕ) (w : Work) (rest : ℕ) → Suffices ending done count → end_pieces text ending w rest ≡ []
-end_none text Close done count w rest h = absurd h
-end_none text Keep done count w rest h = absurd h
 end_none text (StopAfter n) done count w rest h = refl
+end_none text _ done count w rest h = absurd h
 
--- what is left is nothing at the end of a recording
-told_left : (P : List ℕ → Type 0) (octets : List ℕ) (old new : Option (List ℕ)) → Consumes old new octets
+-- what is said of a recording of which these octets were read: nothing is left at its end
+told : (P : List ℕ → Type 0) (octets : List ℕ) (old new : Option (List ℕ)) → Consumes old new octets
     → ((left : List ℕ) → (IsAtEnd new → left ≡ []) → P (octets ++ left)) → IfSome old P
-told_left P octets None new c h = tt
-told_left P octets (Some all) None c h = absurd c
-told_left P octets (Some all) (Some left) c h = subst P (sym c) (h left (λ end. end))
+told P octets None new c h = tt
+told P octets (Some all) None c h = absurd c
+told P octets (Some all) (Some left) c h = subst P (sym c) (h left (λ end. end))
 
 pub always : {P : List ℕ → Type 0} (o : Option (List ℕ)) → ((x : List ℕ) → P x) → IfSome o P
 always None f = tt
 always (Some x) f = f x
-
-pub weaker : {P Q : List ℕ → Type 0} (o : Option (List ℕ)) → ((x : List ℕ) → P x → Q x) → IfSome o P → IfSome o Q
-weaker None f h = tt
-weaker (Some x) f h = f x h
-
--- one number is at most the other, or greater
-nat_le_or_lt : (a b : ℕ) → (a ≤ b) ⊎ (b < a)
-nat_le_or_lt zero b = inl (omega arith)
-nat_le_or_lt (suc a) zero = inr (omega arith)
-nat_le_or_lt (suc a) (suc b) =
-    elim (nat_le_or_lt a b) [
-      | inl h ↦ inl (omega (arith, h))
-      | inr h ↦ inr (omega (arith, h))
-    ]
 
 module _ {A K : Type 0} (grows : K → K → List A → Type 0) (grows-nil : (k : K) → grows k k [])
     (grows-trans : (j k l : K) (xs ys : List A) → grows j k xs → grows k l ys → grows j l (xs ++ ys))
@@ -105,8 +77,7 @@ module _ {A K : Type 0} (grows : K → K → List A → Type 0) (grows-nil : (k 
   further_front : (read : List (List ℕ)) (more : List ℕ) → AreRecords (record_length_of w.rules.layout) read → w.state.records ≤ length read
       → further w (concat read ++ more) ≡ behind w read ++ records (record_length_of w.rules.layout) more
   further_front read more sized passed =
-      ap (drop w.state.records) (records_front (record_length_of w.rules.layout) some read more sized)
-      ∙ drop-append-le w.state.records read (records (record_length_of w.rules.layout) more) passed
+      rw (records_front (record_length_of w.rules.layout) some read more sized) (drop-append-le w.state.records read (records (record_length_of w.rules.layout) more) passed)
 
   -- the records that an ending takes
   chosen_is : (read : List (List ℕ)) (rest : List ℕ) (left_old left_new : Option (List ℕ)) (left : List ℕ) → w.state.records ≤ length read
@@ -115,13 +86,11 @@ module _ {A K : Type 0} (grows : K → K → List A → Type 0) (grows-nil : (k 
   chosen_is read rest left_old left_new left passed (inl h) end sized =
       let n : ℕ = record_length_of w.rules.layout in
       let all : (concat read ++ rest) ++ left ≡ concat read ++ rest = ap (λ (l : List ℕ). (concat read ++ rest) ++ l) (end h.0.ended) ∙ append-nil (concat read ++ rest) in
-      ap (λ (l : List ℕ). chosen ending (further w l)) all
-      ∙ ap (chosen ending) (further_front read rest sized passed ∙ ap (λ (l : List (List ℕ)). behind w read ++ l) (records_short n rest h.0.short) ∙ append-nil (behind w read))
-      ∙ chosen_all w read passed ending (wanted_reached ending w.state.records (length read) h.1)
+      rw (all, further_front read rest sized passed, records_short n rest h.0.short, append-nil (behind w read))
+      (chosen_all w read passed ending (wanted_reached ending w.state.records (length read) h.1))
   chosen_is read rest left_old left_new left passed (inr h) end sized =
-      ap (λ (l : List ℕ). chosen ending (further w l)) (append_assoc (concat read) rest left)
-      ∙ ap (chosen ending) (further_front read (rest ++ left) sized passed)
-      ∙ chosen_enough w read passed ending (records (record_length_of w.rules.layout) (rest ++ left)) h.2
+      rw (append_assoc (concat read) rest left, further_front read (rest ++ left) sized passed)
+      (chosen_enough w read passed ending (records (record_length_of w.rules.layout) (rest ++ left)) h.2)
 
   -- and what the ending has
   end_is : (read : List (List ℕ)) (rest : List ℕ) (left_old left_new : Option (List ℕ)) (left : List ℕ)
@@ -131,8 +100,7 @@ module _ {A K : Type 0} (grows : K → K → List A → Type 0) (grows-nil : (k 
   end_is read rest left_old left_new left (inl h) end sized =
       let n : ℕ = record_length_of w.rules.layout in
       let all : (concat read ++ rest) ++ left ≡ concat read ++ rest = ap (λ (l : List ℕ). (concat read ++ rest) ++ l) (end h.0.ended) ∙ append-nil (concat read ++ rest) in
-      ap (λ (l : List ℕ). end_pieces text ending (worked w (behind w read)) (length l))
-      (ap (rest_of n) all ∙ rest_front n some read rest sized ∙ rest_short n rest h.0.short)
+      rw (all, rest_front n some read rest sized, rest_short n rest h.0.short) refl
   end_is read rest left_old left_new left (inr h) end sized =
       end_none text ending w.state.records (length read) (worked w (behind w read)) (length (rest_of (record_length_of w.rules.layout) ((concat read ++ rest) ++ left))) h.2
       ∙ sym (end_none text ending w.state.records (length read) (worked w (behind w read)) (length rest) h.2)
@@ -143,9 +111,7 @@ module _ {A K : Type 0} (grows : K → K → List A → Type 0) (grows-nil : (k 
       → pieces text ending w ((concat read ++ rest) ++ left) ≡ pieces_after text ending w (behind w read) (length rest)
   unfolding pieces
   pieces_ended read rest left_old left_new left passed h end sized =
-      ap (λ (l : List (List ℕ)). pieces_after text ending w l (length (rest_of (record_length_of w.rules.layout) ((concat read ++ rest) ++ left))))
-      (chosen_is read rest left_old left_new left passed h end sized)
-      ∙ ap (λ (ps : List (Piece A)). record_pieces text w (behind w read) ++ ps) (end_is read rest left_old left_new left h end sized)
+      rw (chosen_is read rest left_old left_new left passed h end sized, end_is read rest left_old left_new left h end sized) refl
 
   -- the pieces of the records in front come first
   pieces_front : (read : List (List ℕ)) (more : List ℕ) → AreRecords (record_length_of w.rules.layout) read → w.state.records ≤ length read
@@ -161,9 +127,7 @@ module _ {A K : Type 0} (grows : K → K → List A → Type 0) (grows-nil : (k 
       let there : List (Piece A) = record_pieces text (worked w done) others in
       let end : List (Piece A) = end_pieces text ending (worked w (done ++ others)) rest in (
         there ++ end,
-        ap (λ (l : List (List ℕ)). pieces_after text ending w l rest) (ap (chosen ending) (further_front read more sized passed) ∙ split)
-            ∙ ap (λ (l : List (Piece A)). l ++ end) (records-append w valid text done others)
-            ∙ append_assoc here there end,
+        rw (further_front read more sized passed, split, records-append w valid text done others) (append_assoc here there end),
       )
 
   -- and then those of the record that follows them
@@ -176,10 +140,7 @@ module _ {A K : Type 0} (grows : K → K → List A → Type 0) (grows-nil : (k 
       pieces_front (read ++ one ∷ []) more (AreRecords-append (record_length_of w.rules.layout) read (one ∷ []) sized (exact, tt)) (omega (arith, passed, count))
       (more_reached ending w.state.records (length read) (length (read ++ one ∷ [])) wanted count) in (
         others,
-        ap (λ (l : List ℕ). pieces text ending w (l ++ more)) (sym (concat-one read one))
-            ∙ split
-            ∙ ap (λ (rs : List (List ℕ)). record_pieces text w rs ++ others) (behind-more w read one passed)
-            ∙ ap (λ (l : List (Piece A)). l ++ others) (records-append w valid text (behind w read) (one ∷ [])),
+        rw (← concat-one read one, split, behind-more w read one passed, records-append w valid text (behind w read) (one ∷ [])) refl,
       )
 
   -- where writing stopped among all pieces
@@ -188,9 +149,9 @@ module _ {A K : Type 0} (grows : K → K → List A → Type 0) (grows-nil : (k 
     ended_told : (P : List ℕ → Type 0) (read : List (List ℕ)) (rest : List ℕ) → HasEnded ending w first next read rest
         → ((left : List ℕ) → (IsAtEnd next → left ≡ []) → AreRecords (record_length_of w.rules.layout) read → P ((concat read ++ rest) ++ left)) → IfSome first P
     ended_told P read rest (inl h) f =
-        told_left P (concat read ++ rest) first next h.0.octets.octets (λ left end. f left end h.0.octets.sized)
+        told P (concat read ++ rest) first next h.0.octets.octets (λ left end. f left end h.0.octets.sized)
     ended_told P read rest (inr h) f =
-        told_left P (concat read ++ rest) first next (subst (λ (l : List ℕ). Consumes first next (concat read ++ l)) (sym h.1) h.0.octets)
+        told P (concat read ++ rest) first next (subst (λ (l : List ℕ). Consumes first next (concat read ++ l)) (sym h.1) h.0.octets)
         (λ left end. f left end h.0.sized)
 
     pub run_told : (count : ℕ) (kept : Option Work) → IsRun grows way text ending w first next old new count kept
@@ -210,13 +171,11 @@ module _ {A K : Type 0} (grows : K → K → List A → Type 0) (grows-nil : (k 
         → Reached ending w.state.records (length read) → Took grows old new (record_pieces text w (behind w read))
         → IfSome first (λ octets. AppendsCut grows old new (pieces text ending w octets))
     whole_cut read part has passed reached took =
-        told _ (concat read ++ part) first next has.octets (λ left.
+        told _ (concat read ++ part) first next has.octets (λ left end.
         let (others, split) = pieces_front read (part ++ left) has.sized passed reached in
-        subst (AppendsCut grows old new) (sym (ap (pieces text ending w) (append_assoc (concat read) part left) ∙ split))
-        (outs (record_pieces text w (behind w read)), reports (record_pieces text w (behind w read)), cut_front (record_pieces text w (behind w read)) others, took.whole.0, took.whole.1))
-      where
-        cut_front : (ps others : List (Piece A)) → Cut (ps ++ others) (outs ps) (reports ps)
-        cut_front ps others = cut_more ps others (outs ps) (reports ps) (cut_all ps)
+        let here : List (Piece A) = record_pieces text w (behind w read) in
+        rw (append_assoc (concat read) part left, split)
+        (outs here, reports here, cut_more here others (outs here) (reports here) (cut_all here), took.whole.0, took.whole.1))
 
     -- nothing was written
     none_cut : Took grows old new [] → IfSome first (λ octets. AppendsCut grows old new (pieces text ending w octets))
@@ -226,21 +185,25 @@ module _ {A K : Type 0} (grows : K → K → List A → Type 0) (grows-nil : (k 
     unfolding items
     none_took read few took = subst (λ (rs : List (List ℕ)). Took grows old new (record_pieces text w rs)) (behind-none w read few) took
 
+    -- some records were written, or no more than those that are done were read
+    some_cut : (read : List (List ℕ)) (part : List ℕ) → HasRead (record_length_of w.rules.layout) first next read part
+        → (w.state.records ≤ length read → Reached ending w.state.records (length read)) → Took grows old new (record_pieces text w (behind w read))
+        → IfSome first (λ octets. AppendsCut grows old new (pieces text ending w octets))
+    some_cut read part has reached took =
+        ⊎_elim (λ (few : length read < w.state.records). none_cut (none_took read (omega (arith, few)) took))
+        (λ (passed : w.state.records ≤ length read). whole_cut read part has passed (reached passed) took) (cases_lt (length read) w.state.records)
+
     read_cut : StopsAtRead grows way text ending w first next old new → IfSome first (λ octets. AppendsCut grows old new (pieces text ending w octets))
-    read_cut h = by_cases (nat_le_or_lt w.state.records (length h.read))
+    read_cut h = some_cut h.read h.part h.octets (reached h.wanted) h.took
       where
         reached : ((length h.read < w.state.records) ⊎ GoesOn ending w.state.records (length h.read)) → w.state.records ≤ length h.read → Reached ending w.state.records (length h.read)
         reached (inl few) passed = absurd (omega (arith, few, passed))
         reached (inr wanted) passed = wanted_reached ending w.state.records (length h.read) wanted
 
-        by_cases : ((w.state.records ≤ length h.read) ⊎ (length h.read < w.state.records)) → IfSome first (λ octets. AppendsCut grows old new (pieces text ending w octets))
-        by_cases (inl passed) = whole_cut h.read h.part h.octets passed (reached h.wanted passed) h.took
-        by_cases (inr few) = none_cut (none_took h.read (omega (arith, few)) h.took)
-
     -- a stop at a record, and at the end
     record_stopped : (fault : RunFault) → StopsAtRecord grows way text ending w first next old new fault → IfSome first (λ octets. Stopped grows way old new (pieces text ending w octets) fault)
     record_stopped fault h =
-        told _ (concat h.read ++ h.one) first next h.octets.octets (λ left.
+        told _ (concat h.read ++ h.one) first next h.octets.octets (λ left end.
         let (others, split) = pieces_next h.read h.one left h.octets.sized h.exact h.passed h.wanted in
         let here : List (Piece A) = record_pieces text w (behind w h.read) in
         let there : List (Piece A) = record_pieces text (worked w (behind w h.read)) (h.one ∷ []) in
@@ -261,39 +224,36 @@ module _ {A K : Type 0} (grows : K → K → List A → Type 0) (grows-nil : (k 
 
     pub run_cut : (fault : RunFault) → IsStoppedAt grows way text ending w first next old new fault → IfSome first (λ octets. AppendsCut grows old new (pieces text ending w octets))
     run_cut Read h = read_cut h
-    run_cut Write h = weaker first (λ octets s. s.cut) (stopped_at Write h)
-    run_cut Report h = weaker first (λ octets s. s.cut) (stopped_at Report h)
+    run_cut Write h = IfSome_then first (stopped_at Write h) (λ octets s. s.cut)
+    run_cut Report h = IfSome_then first (stopped_at Report h) (λ octets s. s.cut)
     run_cut ShortRecording h = none_cut h.took
-    run_cut TooMany h = by_cases (nat_le_or_lt w.state.records (length h.read))
-      where
-        by_cases : ((w.state.records ≤ length h.read) ⊎ (length h.read < w.state.records)) → IfSome first (λ octets. AppendsCut grows old new (pieces text ending w octets))
-        by_cases (inl passed) = whole_cut h.read h.one h.octets passed (wanted_reached ending w.state.records (length h.read) h.wanted) h.took
-        by_cases (inr few) = none_cut (none_took h.read (omega (arith, few)) h.took)
-    run_cut NoMemory h = weaker first (λ octets s. s.cut) (stopped_at NoMemory h)
+    run_cut TooMany h = some_cut h.read h.one h.octets (λ passed. wanted_reached ending w.state.records (length h.read) h.wanted) h.took
+    run_cut NoMemory h = IfSome_then first (stopped_at NoMemory h) (λ octets s. s.cut)
 
     pub run_memory : IsStoppedAt grows way text ending w first next old new NoMemory → IfSome first (λ octets. WantsMemory grows way old new (pieces text ending w octets))
-    run_memory h = weaker first (λ octets s. s.memory refl) (stopped_at NoMemory h)
+    run_memory h = IfSome_then first (stopped_at NoMemory h) (λ octets s. s.memory refl)
 
     -- a put was refused, of an outlet of which nothing waits for a flush
     pub run_refused : way.flush ≡ false → IsStoppedAt grows way text ending w first next old new Write → IfSome first (λ octets. RefusesPut grows old new (pieces text ending w octets))
-    run_refused kept h = weaker first (λ octets s. s.refused refl kept) (stopped_at Write h)
+    run_refused kept h = IfSome_then first (stopped_at Write h) (λ octets s. s.refused refl kept)
 
     -- the recording has more records than can be counted
     pub run_many : IsStoppedAt grows way text ending w first next old new TooMany → IfSome first (λ octets. 2 ^ 32 - 1 < record_count (record_length_of w.rules.layout) octets)
     run_many h =
         let n : ℕ = record_length_of w.rules.layout in
-        told _ (concat h.read ++ h.one) first next h.octets.octets (λ left.
+        told _ (concat h.read ++ h.one) first next h.octets.octets (λ left end.
         let longer : List (List ℕ) = h.read ++ h.one ∷ [] in
-        let all : record_count (record_length_of w.rules.layout) ((concat h.read ++ h.one) ++ left) ≡ length longer + record_count (record_length_of w.rules.layout) left =
-        ap (λ (l : List ℕ). record_count (record_length_of w.rules.layout) (l ++ left)) (sym (concat-one h.read h.one))
-        ∙ count_front n some longer left (AreRecords-append n h.read (h.one ∷ []) h.octets.sized (h.exact, tt)) in
+        let all : record_count n ((concat h.read ++ h.one) ++ left) ≡ length longer + record_count n left =
+        rw (← concat-one h.read h.one) (count_front n some longer left (AreRecords-append n h.read (h.one ∷ []) h.octets.sized (h.exact, tt))) in
         omega (arith, all, length-append h.read (h.one ∷ []), h.most))
 
     -- the recording has fewer records than are done
     pub run_short : IsStoppedAt grows way text ending w first next old new ShortRecording → IfSome first (λ octets. record_count (record_length_of w.rules.layout) octets < w.state.records)
     run_short h =
         let n : ℕ = record_length_of w.rules.layout in
-        told_all _ (concat h.read ++ h.rest) first next h.all.octets.octets h.all.ended
-        (let all = count_front n some h.read h.rest h.all.octets.sized in
+        told _ (concat h.read ++ h.rest) first next h.all.octets.octets (λ left end.
+        let nothing : left ≡ [] = end h.all.ended in
+        let whole : (concat h.read ++ h.rest) ++ left ≡ concat h.read ++ h.rest = rw nothing (append-nil (concat h.read ++ h.rest)) in
+        let all = count_front n some h.read h.rest h.all.octets.sized in
         let none = count_short n h.rest h.all.short in
-        omega (arith, all, none, h.few))
+        rw whole (omega (arith, all, none, h.few)))

@@ -48,12 +48,10 @@ stepped_valid p q octets valid are few left =
 -- a fault of writing is a fault of stepping
 pub step_stopped : {A K : Type 0} (grows : K → K → List A → Type 0) (way : Way) (records : ℕ) (old new : View K) (ps : List (Piece A)) (fault : RunFault)
     → Stopped grows way old new ps fault → StepStopped grows way records old new ps fault
-step_stopped grows way records old new ps Read s = absurd s.cause
 step_stopped grows way records old new ps Write s = s
 step_stopped grows way records old new ps Report s = s
-step_stopped grows way records old new ps ShortRecording s = absurd s.cause
-step_stopped grows way records old new ps TooMany s = absurd s.cause
 step_stopped grows way records old new ps NoMemory s = s
+step_stopped grows way records old new ps _ s = absurd s.cause
 
 -- ---- joining, for pieces
 
@@ -77,15 +75,11 @@ module _ (w : Work) (valid : IsValid w) where
   pub records-append : {A : Type 0} (text : Texts A) (a b : List (List ℕ))
       → record_pieces text w (a ++ b) ≡ record_pieces text w a ++ record_pieces text (worked w a) b
   records-append text a b =
-      ap (pieces_of text w.entries) (items-join w.rules w.state a b valid)
-      ∙ pieces-append text w.entries (items_of w a) (items_of (worked w a) b)
+      rw (items-join w.rules w.state a b valid) (pieces-append text w.entries (items_of w a) (items_of (worked w a) b))
 
   pub worked-append : (a b : List (List ℕ)) → worked w (a ++ b) ≡ worked (worked w a) b
   worked-append a b =
-      ap (λ (s : State). record { rules = w.rules; state = s; entries = noted_all w.entries (items_of w (a ++ b)) })
-      (states-join w.rules w.state a b valid)
-      ∙ ap (λ (e : Entries). record { rules = w.rules; state = after w.rules (worked w a).state b; entries = e })
-      (ap (noted_all w.entries) (items-join w.rules w.state a b valid) ∙ noted-append w.entries (items_of w a) (items_of (worked w a) b))
+      rw (states-join w.rules w.state a b valid, items-join w.rules w.state a b valid, noted-append w.entries (items_of w a) (items_of (worked w a) b)) refl
 
 -- the number of records that are done
 pub records-counted : (w : Work) (rs : List (List ℕ)) → (worked w rs).state.records ≡ w.state.records + length rs
@@ -95,24 +89,20 @@ records-counted w rs = ap (λ (n : ℕ). w.state.records + n) (length-map rs (re
 -- ---- how many records are wanted
 
 pub wanted_reached : (ending : Ending) (done count : ℕ) → GoesOn ending done count → Reached ending done count
-wanted_reached Close done count h = tt
-wanted_reached Keep done count h = tt
 wanted_reached (StopAfter n) done count h = omega (arith, h)
+wanted_reached _ done count h = tt
 
 pub more_reached : (ending : Ending) (done count more : ℕ) → GoesOn ending done count → more ≡ count + 1 → Reached ending done more
-more_reached Close done count more h e = tt
-more_reached Keep done count more h e = tt
 more_reached (StopAfter n) done count more h e = omega (arith, h, e)
+more_reached _ done count more h e = tt
 
 pub first_reached : (ending : Ending) (done : ℕ) → Reached ending done done
-first_reached Close done = tt
-first_reached Keep done = tt
 first_reached (StopAfter n) done = omega arith
+first_reached _ done = tt
 
 pub just_enough : (ending : Ending) (done count : ℕ) → Reached ending done count → Enough ending done count → Suffices ending done count
-just_enough Close done count r h = absurd h
-just_enough Keep done count r h = absurd h
 just_enough (StopAfter n) done count r h = omega (arith, r, h)
+just_enough _ done count r h = absurd h
 
 -- ---- the loop
 
@@ -159,12 +149,9 @@ module _ {A K : Type 0} (grows : K → K → List A → Type 0) (grows-nil : (k 
         wanted = inl h.few;
         took = subst (λ (rs : List (List ℕ)). Took grows v v (record_pieces text w rs)) (sym none) (nothing v);
       }
-  passing_stopped way first next v Write h = absurd h
-  passing_stopped way first next v Report h = absurd h
   passing_stopped way first next v ShortRecording h =
       record { read = h.read; rest = h.rest; all = h.all; few = h.few; took = took_none grows grows-nil grows-trans v }
-  passing_stopped way first next v TooMany h = absurd h
-  passing_stopped way first next v NoMemory h = absurd h
+  passing_stopped way first next v _ h = absurd h
 
   module _ (first left next : Option (List ℕ)) (old now new : View K) (work : Work) (octets : List ℕ)
       (taken : HasTaken grows text w first left old now work) (got : Consumes left next octets) where
@@ -214,10 +201,8 @@ module _ {A K : Type 0} (grows : K → K → List A → Type 0) (grows-nil : (k 
       pub taken_stopped : (way : Way) (fault : RunFault) → length octets ≡ record_length_of w.rules.layout
           → StepStopped grows way work.state.records now new (record_pieces text work (octets ∷ [])) fault
           → IsStoppedAt grows way text ending w first next old new fault
-      taken_stopped way Read exact h = absurd h
       taken_stopped way Write exact h = inl (at_record way Write exact h)
       taken_stopped way Report exact h = inl (at_record way Report exact h)
-      taken_stopped way ShortRecording exact h = absurd h
       taken_stopped way TooMany exact h = record {
         read = taken.read;
         one = octets;
@@ -228,6 +213,7 @@ module _ {A K : Type 0} (grows : K → K → List A → Type 0) (grows-nil : (k 
         took = subst (λ (v : View K). Took grows old v (record_pieces text w (behind w taken.read))) (sym h.1) taken.took;
       }
       taken_stopped way NoMemory exact h = inl (at_record way NoMemory exact h)
+      taken_stopped way _ exact h = absurd h
 
       -- a read failed in a record
       pub taken_read : (way : Way) → length octets < record_length_of w.rules.layout → IsStoppedAt grows way text ending w first next old now Read

@@ -33,7 +33,7 @@ module _ {A K S J L M N : Type 0} (grows : K → K → List A → Type 0) (grows
   module _ (s mid t : S) (x : Item) (xs : List Item) (one : Takes grows text way tracker_name outlet_name out_fixed report_name entries seen s x mid) where
     more_pieces : pieces_of (text (out_fixed mid)) (entries mid) xs ≡ pieces_of (text (out_fixed s)) (noted (entries s) x) xs
     more_pieces =
-        ap (λ (m : M). pieces_of (text m) (entries mid) xs) one.out ∙ ap (λ (e : Entries). pieces_of (text (out_fixed s)) e xs) one.noted_is
+        rw (one.out, one.noted_is) refl
 
     took_more : TookAll mid xs t → TookAll s (x ∷ xs) t
     took_more more = record {

@@ -86,9 +86,8 @@ old_decoding-told rules xs =
     (λ p. channels-told (four_at xs 0) 4 None (blocks_read rules (four_at xs 0) 8 0 (drop 4 xs)) (blocks-told rules (four_at xs 0) 8 0 (drop 4 xs)))
 
 any-told : (v : Version) (rules : Rules) (xs : List ℕ) → Told (state_in v rules xs)
-any-told One rules xs = old_decoding-told rules xs
-any-told Two rules xs = old_decoding-told rules xs
 any-told Three rules xs = decoding-told rules xs
+any-told _ rules xs = old_decoding-told rules xs
 
 pub never_memory : (v : Version) (rules : Rules) (xs : List ℕ) → state_in v rules xs ≡ Err fault.NoMemory → ⊥
 never_memory v rules xs e = subst (λ (r : Result Decoded StateFault). Told r) e (any-told v rules xs) refl

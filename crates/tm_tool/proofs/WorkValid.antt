@@ -18,14 +18,9 @@ use Rattle.tm_tool.specs.RecordingPieces.{Work, items_of, worked}
 -- an item whose channel is one of eight leaves the entries valid
 pub noted-valid : (entries : Entries) (x : Item) → valid.IsState entries → ((c : ℕ) → is_of c x ≡ true → c < 8) → valid.IsState (noted entries x)
 unfolding noted
-noted-valid entries (Bad seen fault) v h = v
-noted-valid entries (MasterGap seen expected found missing) v h = v
-noted-valid entries (Gap seen channel expected found missing) v h = v
-noted-valid entries (Vca seen channel) v h = v
-noted-valid entries (Dropped seen channel first place octets reason) v h = v
 noted-valid entries (Packet seen channel first place octets) v h =
     after-valid entries (sent channel octets) v (header-fits channel octets (h channel (eq-eqb channel channel refl))) (header-range octets).count
-noted-valid entries (Short seen octets) v h = v
+noted-valid entries _ v h = v
 
 -- and so do items
 pub noted_all-valid : (entries : Entries) (xs : List Item) → valid.IsState entries

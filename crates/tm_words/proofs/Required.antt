@@ -22,7 +22,7 @@ use Rattle.tm_words.specs.declared.request.UsageFault.{UsageFault}
 use Rattle.tm_words.specs.declared.request.UsageFault.TheVariants.{NoMemory}
 use Rattle.tm_words.specs.Refusals.{IsOfKind, IsOfOneKind}
 use Rattle.tm_words.specs.CommandLine.{tmx, plan_with, action_named, decimal, faults_of, matches_of, plan_of, HasNeeds, HasRequired, HasStop, IsBetween}
-use Rattle.tm_words.proofs.Filled.{Filled, IsRuled, OfRange, Range, is_sized, level-filled, given-first, given-number, range_of, read-number}
+use Rattle.tm_words.proofs.Filled.{Filled, find_all, IsRuled, OfRange, Range, is_sized, level-filled, given-first, given-number, range_of, read-number}
 
 pub tmx_simple : is_simple tmx ≡ true
 unfolding clap_on_literals
@@ -204,14 +204,6 @@ subcommands_ask = (
   ),
 )
 
-find_asking : (p : Shape → Bool) (subs : List Shape) → AllByRecursion IsAsking subs → IfSome (find p subs) IsAsking
-find_asking p [] h = tt
-find_asking p (s ∷ ss) h =
-    elim (cases_Bool (p s)) [
-      | inl here ↦ rw here h.0
-      | inr more ↦ rw more (find_asking p ss h.1)
-    ]
-
 -- ---- the matches
 
 reach : (s : Shape) (words : List Text) → IsAsking s → level_fault s [] nothing_held words false [] ≡ [] → Reaches (Some (rows_at s words))
@@ -238,7 +230,7 @@ enter : (stop : Option (Text × List Text)) → entered_fault tmx_built stop ≡
 enter None e some = absurd (false≢true some)
 enter (Some q) e some =
     let chosen : Shape → Bool = λ s. answers_to q.0 (label_of s) in
-    enter_found (find chosen tmx_built.subs) q.1 (find_asking chosen tmx_built.subs subcommands_ask) e some
+    enter_found (find chosen tmx_built.subs) q.1 (find_all IsAsking chosen tmx_built.subs subcommands_ask) e some
 
 pub reaches : (words : List Text) → faults_of words ≡ [] → Reaches (matches_of words)
 unfolding faults_of matches_of
@@ -250,11 +242,9 @@ reaches words h =
 -- ---- the plan
 
 needs_there : (action : Action) (rows : List Row) → GivenFor action rows → HasNeeds action (plan_with rows action)
-needs_there Frames rows given = tt
-needs_there Packets rows given = tt
-needs_there Extract rows given = tt
 needs_there Split rows given = given
 needs_there Fields rows given = given
+needs_there _ rows given = tt
 
 pub required_by : (words : List Text) (plan : Plan) → Reaches (matches_of words) → plan_of words ≡ Some plan → HasRequired plan
 required_by words plan (name, rows, action, is, named, settings, given, stop) e =

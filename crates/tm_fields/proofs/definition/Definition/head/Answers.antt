@@ -3,7 +3,7 @@ use Rattle.std.proofs.lemmas.List.{take_all}
 use Rattle.std.specs.List.{flat_map}
 use Rattle.tm_fields.specs.Line.{HasValues}
 use Rattle.tm_fields.specs.Rows.{lead_names, named}
-use Rattle.tm_fields.proofs.LineLemmas.{text_of}
+use Rattle.std.proofs.lemmas.Option.{same_Some}
 use Rattle.tm_fields.proofs.RowLemmas.{texts_more}
 use Rattle.tm_fields.proofs.definition.Definition.head.Goals as goal
 
@@ -25,4 +25,4 @@ returns-in-Ok c =
     let all : take c.loop-field.field-index fields ≡ fields = take_all c.loop-field.field-index fields left in
     let values : List (List ℕ) = lead_names ++ flat_map (named) fields in
     let written = rw all at c.loop-field.invariant in
-    c.in-Ok.ensures.ok ∙ text_of _ _ (c.in_ok-end.ensures values (omega (arith, length-append (lead_names) (flat_map (named) fields))) written)
+    c.in-Ok.ensures.ok ∙ same_Some _ _ (c.in_ok-end.ensures values (omega (arith, length-append (lead_names) (flat_map (named) fields))) written)

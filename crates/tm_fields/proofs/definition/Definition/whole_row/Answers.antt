@@ -4,7 +4,7 @@ use Rattle.std.specs.List.{flat_map}
 use Rattle.tm_fields.specs.Line.{HasValues}
 use Rattle.tm_fields.specs.Reading.{end_of}
 use Rattle.tm_fields.specs.Rows.{bits_needed, lead_texts, printed}
-use Rattle.tm_fields.proofs.LineLemmas.{text_of}
+use Rattle.std.proofs.lemmas.Option.{same_Some}
 use Rattle.tm_fields.proofs.RowLemmas.{fits_needed, texts_more}
 use Rattle.tm_fields.proofs.definition.Definition.whole_row.Goals as goal
 
@@ -35,4 +35,4 @@ returns-in-Ok c =
     let all : take c.loop-field.field-index fields ≡ fields = take_all c.loop-field.field-index fields left in
     let values : List (List ℕ) = lead_texts c.args.lead ++ flat_map (printed c.args.packet.now) fields in
     let written = rw all at c.loop-field.invariant in
-    c.in-Ok.ensures.ok ∙ text_of _ _ (c.in_ok-end.ensures values (omega (arith, length-append (lead_texts c.args.lead) (flat_map (printed c.args.packet.now) fields))) written)
+    c.in-Ok.ensures.ok ∙ same_Some _ _ (c.in_ok-end.ensures values (omega (arith, length-append (lead_texts c.args.lead) (flat_map (printed c.args.packet.now) fields))) written)

@@ -1,8 +1,9 @@
--- Two devices at a moment.
+-- Two devices at a moment, and what of an output no call changes.
 use Rattle.std.specs.Prelude.{ℕ, List, Option}
 use Rattle.tm_devices.specs.declared.device.Drain as drain
 use Rattle.tm_devices.specs.declared.device.Shelf as shelf
 use Rattle.tm_output.specs.declared.outlet.Outlet as outlet
+use Rattle.tm_output.specs.declared.output.Output.{Output}
 use Rattle.tm_output.specs.Outputs.{View, view}
 
 -- what is known of two drains
@@ -16,3 +17,24 @@ shelf_both h v shelf report = view (h.kept shelf) (v.written report) (h.refusals
 -- of an outlet and a drain
 abbrev pub outlet_both : {O V : Type 0} (o : outlet.Ghosts O) → drain.Ghosts V → O → V → View o.Held
 outlet_both o v outlet report = view (o.held outlet) (v.written report) (o.failures outlet) (v.failures report)
+
+-- of an output's two
+abbrev pub output_both : {O V : Type 0} (o : outlet.Ghosts O) → drain.Ghosts V → Output O V → View o.Held
+output_both o v output = outlet_both o v output.outlet.now output.report.now
+
+-- what no call of an output changes: which references it holds, and what of its outlet stays the same
+pub record Fixture (M : Type 0) : Type 0 where
+  pub tracker : ℕ
+  pub notes : ℕ
+  pub outlet : ℕ
+  pub report : ℕ
+  pub texts : M
+
+abbrev pub fixture : {O V : Type 0} (o : outlet.Ghosts O) → Output O V → Fixture o.Fixed
+fixture o output = record {
+  tracker = output.tracker.ghost_name;
+  notes = output.notes.ghost_name;
+  outlet = output.outlet.ghost_name;
+  report = output.report.ghost_name;
+  texts = o.fixed output.outlet.now;
+}

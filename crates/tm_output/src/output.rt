@@ -11,7 +11,7 @@ ghost use Rattle.tm_output.specs.Lines.{note_lines};
 ghost use Rattle.tm_output.specs.Outputs.{Written};
 ghost use Rattle.tm_output.specs.Pieces.{HasLine, line_of, noted, notes_of, piece_of, unclosed_piece, unclosed_pieces};
 ghost use Rattle.tm_output.specs.Sinking.{Refuses, Takes};
-ghost use Rattle.tm_output.specs.Seen.{outlet_both};
+ghost use Rattle.tm_output.specs.Seen.{fixture, output_both};
 
 use crate::RunFault;
 use crate::lines::{
@@ -134,13 +134,10 @@ impl<O: Outlet, V: Drain> Output<'_, O, V> {
     ) -> Result<(), RunFault>
         requires channel { channel < 8 }
         requires packet { IsOnePacket octets.now }
-        ensures same_tracker { self.new.tracker.ghost_name ≡ self.old.tracker.ghost_name }
-        ensures same_outlet { self.new.outlet.ghost_name ≡ self.old.outlet.ghost_name }
-        ensures same_out { O.fixed self.new.outlet.now ≡ O.fixed self.old.outlet.now }
-        ensures same_report { self.new.report.ghost_name ≡ self.old.report.ghost_name }
+        ensures same { fixture O.Outlet self.new ≡ fixture O.Outlet self.old }
         ensures noted { self.new.tracker.now ≡ noted self.old.tracker.now (value.Packet seen channel first place octets.now) }
-        ensures written { Written O.grows O.way (outlet_both O.Outlet V.Drain self.old.outlet.now self.old.report.now)
-            (outlet_both O.Outlet V.Drain self.new.outlet.now self.new.report.now) (piece_of (O.text (O.fixed self.old.outlet.now)) self.old.tracker.now (value.Packet seen channel first place octets.now) ∷ []) result }
+        ensures written { Written O.grows O.way (output_both O.Outlet V.Drain self.old) (output_both O.Outlet V.Drain self.new)
+            (piece_of (O.text (O.fixed self.old.outlet.now)) self.old.tracker.now (value.Packet seen channel first place octets.now) ∷ []) result }
     {
         let header = header_in(octets);
         if let Err(_) = note_packet(self.tracker, self.notes, seen, channel, header) {
@@ -168,13 +165,10 @@ impl<O: Outlet, V: Drain> Output<'_, O, V> {
     #[tactic(auto, unfolding(crate::specs::Pieces::report_of, crate::specs::Pieces::noted))]
     fn put_line(&mut self, item: Item<'_>) -> Result<(), RunFault>
         requires { HasLine (item_of item) }
-        ensures same_tracker { self.new.tracker.ghost_name ≡ self.old.tracker.ghost_name }
-        ensures same_outlet { self.new.outlet.ghost_name ≡ self.old.outlet.ghost_name }
-        ensures same_out { O.fixed self.new.outlet.now ≡ O.fixed self.old.outlet.now }
-        ensures same_report { self.new.report.ghost_name ≡ self.old.report.ghost_name }
+        ensures same { fixture O.Outlet self.new ≡ fixture O.Outlet self.old }
         ensures noted { self.new.tracker.now ≡ noted self.old.tracker.now (item_of item.entry) }
-        ensures written { Written O.grows O.way (outlet_both O.Outlet V.Drain self.old.outlet.now self.old.report.now)
-            (outlet_both O.Outlet V.Drain self.new.outlet.now self.new.report.now) (piece_of (O.text (O.fixed self.old.outlet.now)) self.old.tracker.now (item_of item.entry) ∷ []) result }
+        ensures written { Written O.grows O.way (output_both O.Outlet V.Drain self.old) (output_both O.Outlet V.Drain self.new)
+            (piece_of (O.text (O.fixed self.old.outlet.now)) self.old.tracker.now (item_of item.entry) ∷ []) result }
     {
         self.notes.clear();
         if let Err(_) = push_item(self.notes, item) {
@@ -190,13 +184,10 @@ impl<O: Outlet, V: Drain> Output<'_, O, V> {
     #[tactic(auto, using(crate::proofs::LineLemmas::some_note), unfolding(crate::specs::Pieces::unclosed_piece))]
     fn put_unclosed(&mut self, seen: u32, unclosed: Unclosed) -> Result<(), RunFault>
         requires { unclosed.key < 16384 }
-        ensures same_tracker { self.new.tracker.ghost_name ≡ self.old.tracker.ghost_name }
-        ensures same_outlet { self.new.outlet.ghost_name ≡ self.old.outlet.ghost_name }
-        ensures same_out { O.fixed self.new.outlet.now ≡ O.fixed self.old.outlet.now }
-        ensures same_report { self.new.report.ghost_name ≡ self.old.report.ghost_name }
+        ensures same { fixture O.Outlet self.new ≡ fixture O.Outlet self.old }
         ensures tracker { self.new.tracker.now ≡ self.old.tracker.now }
-        ensures written { Written O.grows O.way (outlet_both O.Outlet V.Drain self.old.outlet.now self.old.report.now)
-            (outlet_both O.Outlet V.Drain self.new.outlet.now self.new.report.now) (unclosed_piece seen unclosed ∷ []) result }
+        ensures written { Written O.grows O.way (output_both O.Outlet V.Drain self.old) (output_both O.Outlet V.Drain self.new)
+            (unclosed_piece seen unclosed ∷ []) result }
     {
         self.notes.clear();
         let channel = (unclosed.key / 2048) as u8;
@@ -212,12 +203,9 @@ impl<O: Outlet, V: Drain> Output<'_, O, V> {
 
     /// Writes the lines of the groups that are open at a closed end of so many records, by rising key.
     pub fn put_all_unclosed(&mut self, seen: u32) -> Result<(), RunFault>
-        ensures same_tracker { self.new.tracker.ghost_name ≡ self.old.tracker.ghost_name }
-        ensures same_outlet { self.new.outlet.ghost_name ≡ self.old.outlet.ghost_name }
-        ensures same_out { O.fixed self.new.outlet.now ≡ O.fixed self.old.outlet.now }
-        ensures same_report { self.new.report.ghost_name ≡ self.old.report.ghost_name }
-        ensures written { Written O.grows O.way (outlet_both O.Outlet V.Drain self.old.outlet.now self.old.report.now)
-            (outlet_both O.Outlet V.Drain self.new.outlet.now self.new.report.now) (unclosed_pieces seen (sequence.unclosed 0 self.old.tracker.now)) result }
+        ensures same { fixture O.Outlet self.new ≡ fixture O.Outlet self.old }
+        ensures written { Written O.grows O.way (output_both O.Outlet V.Drain self.old) (output_both O.Outlet V.Drain self.new)
+            (unclosed_pieces seen (sequence.unclosed 0 self.old.tracker.now)) result }
     {
         let mut at = 0;
         while let Some(unclosed) = self.tracker.next_unclosed(at) {
@@ -231,15 +219,12 @@ impl<O: Outlet, V: Drain> Output<'_, O, V> {
 
     /// Flushes both outputs.
     pub fn flush(&mut self) -> Result<(), RunFault>
-        ensures same_tracker { self.new.tracker.ghost_name ≡ self.old.tracker.ghost_name }
-        ensures same_outlet { self.new.outlet.ghost_name ≡ self.old.outlet.ghost_name }
-        ensures same_out { O.fixed self.new.outlet.now ≡ O.fixed self.old.outlet.now }
-        ensures same_report { self.new.report.ghost_name ≡ self.old.report.ghost_name }
+        ensures same { fixture O.Outlet self.new ≡ fixture O.Outlet self.old }
         ensures tracker { self.new.tracker.now ≡ self.old.tracker.now }
         ensures flushed_out { OnOk result (O.passed self.new.outlet.now) }
         ensures flushed_report { OnOk result (Keeps (V.flushed self.new.report.now) (V.written self.new.report.now)) }
-        ensures written { Written O.grows O.way (outlet_both O.Outlet V.Drain self.old.outlet.now self.old.report.now)
-            (outlet_both O.Outlet V.Drain self.new.outlet.now self.new.report.now) [] result }
+        ensures written { Written O.grows O.way (output_both O.Outlet V.Drain self.old) (output_both O.Outlet V.Drain self.new)
+            [] result }
     {
         if let Err(_) = self.outlet.flush() {
             return Err(RunFault::Write);
@@ -254,11 +239,11 @@ impl<O: Outlet, V: Drain> Output<'_, O, V> {
 impl<O: Outlet, V: Drain> Sink for Output<'_, O, V> {
     type Fault = RunFault;
 
-    ghost takes = { Takes O.grows O.text O.way (λ s. s.tracker.ghost_name) (λ s. s.outlet.ghost_name) (λ s. O.fixed s.outlet.now) (λ s. s.report.ghost_name) (λ s. s.tracker.now)
-        (λ s. outlet_both O.Outlet V.Drain s.outlet.now s.report.now) };
+    ghost takes = { Takes O.grows O.text O.way (fixture O.Outlet) (λ s. s.tracker.now)
+        (output_both O.Outlet V.Drain) };
 
-    ghost refuses = { Refuses O.grows O.text O.way (λ s. s.tracker.ghost_name) (λ s. s.outlet.ghost_name) (λ s. O.fixed s.outlet.now) (λ s. s.report.ghost_name) (λ s. s.tracker.now)
-        (λ s. outlet_both O.Outlet V.Drain s.outlet.now s.report.now) };
+    ghost refuses = { Refuses O.grows O.text O.way (fixture O.Outlet) (λ s. s.tracker.now)
+        (output_both O.Outlet V.Drain) };
 
     fn take(&mut self, item: Item<'_>) -> Result<(), RunFault> {
         match item {

@@ -1,6 +1,6 @@
 -- What is written is read again, and what is read is what was written.
-use Rattle.std.proofs.Common.{◌≡◌, ℕ, suc, ◌+◌, ◌-◌, ◌*◌, ◌/◌, ◌%◌, ◌<◌, ◌≤◌, Bool, true, false, not, ◌&&◌, Ok, Err, Result, Option, Some, None, List, [], ◌∷◌, ◌++◌, length, take, drop, refl, sym, ap, subst, ◌∙◌, arith, length-append, length-drop, append_assoc, ltb, eqb}
-use Rattle.std.specs.Prelude.{slice_index, slice_range, if◌then◌else◌, ◌≢◌, IfOk, IfErr, IsOk}
+use Rattle.std.proofs.Common.{◌≡◌, ℕ, suc, ◌+◌, ◌-◌, ◌*◌, ◌/◌, ◌%◌, ◌<◌, ◌≤◌, Bool, true, false, not, Ok, Err, Result, Option, Some, None, List, [], ◌∷◌, ◌++◌, length, take, drop, refl, sym, ap, subst, ◌∙◌, arith, length-append, length-drop, ltb}
+use Rattle.std.specs.Prelude.{slice_index, slice_range, if◌then◌else◌}
 use Rattle.std.specs.Str.{bytes_eq}
 use Rattle.std.proofs.lemmas.Bool.{and_parts, not-false, le-ltb, ltb-false, eqb-true, eq-eqb}
 use Rattle.std.proofs.lemmas.List.{append-nil, get_or-append-add, get_or-drop, take_all, take-append-drop}
@@ -224,16 +224,6 @@ pub resumed_behind : (s : Rules) (octets : List ℕ) (v : Version) (between rest
 resumed_behind s octets v between rest state read r around is there behind e = resumed_in s octets v between r around is (rw (there, ← behind) e)
 
 -- a job that is made, or want of memory
-pub made_job : (s : Rules) (octets : List ℕ) (made : JobState) (r : Result JobState CheckpointFault) → resumed s octets ≡ Ok made
-    → IfOk r (λ job. job ≡ made) → IfOk r (λ job. resumed s octets ≡ Ok job)
-made_job s octets made (Ok job) e h = e ∙ ap Ok (sym h)
-made_job s octets made (Err found) e h = tt
-
-pub wanting : (s : Rules) (octets : List ℕ) (r : Result JobState CheckpointFault) → IfErr r (λ found. found ≡ fault.NoMemory)
-    → IfErr r (λ found. found ≢ fault.NoMemory → resumed s octets ≡ Err found)
-wanting s octets (Ok job) h = tt
-wanting s octets (Err found) h = λ other. absurd (other h)
-
 -- octets that are accepted have a version
 record IsResumed (s : Rules) (octets : List ℕ) (job : JobState) : Type 0 where
   version : Version

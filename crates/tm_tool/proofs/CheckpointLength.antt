@@ -12,7 +12,7 @@ use Rattle.tm_reassembly.specs.State.{State, Last, Tail}
 use Rattle.tm_reassembly.specs.Valid.{IsState}
 use Rattle.tm_reassembly.proofs.States.{short-tails}
 use Rattle.tm_tool.specs.declared.version.Version.{Version}
-use Rattle.tm_tool.specs.declared.version.Version.TheVariants.{One, Two, Three}
+use Rattle.tm_tool.specs.declared.version.Version.TheVariants.{Three}
 use Rattle.tm_tool.specs.Checkpoints.{form_of, state_octets}
 
 -- ---- entries

@@ -2,13 +2,12 @@
 use Rattle.std.proofs.Common.{◌≡◌, inl, inr, ⊎_elim, ℕ, List, [], ◌∷◌, ◌++◌, length, refl, sym, ap, ◌∙◌, append_assoc, append-nil}
 use Rattle.tm_frame.specs.Layout.{record_length_of}
 use Rattle.tm_items.specs.Item.{Item, MasterGap}
-use Rattle.tm_reassembly.specs.State.{State}
 use Rattle.tm_reassembly.specs.OlderForms as forgotten
 use Rattle.tm_reassembly.specs.OlderForms.{IsMasterGapAtMost, LacksMasterGap}
 use Rattle.tm_reassembly.proofs.OlderForms.{items-lack, states-meet}
 use Rattle.tm_output.specs.declared.command.Command.{Command}
 use Rattle.tm_output.specs.declared.command.Ending.{Ending}
-use Rattle.tm_output.specs.declared.command.Ending.TheVariants.{Close, Keep, StopAfter}
+use Rattle.tm_output.specs.declared.command.Ending.TheVariants.{Close}
 use Rattle.tm_tool.specs.Checkpoints.{without_master}
 use Rattle.tm_output.specs.Lines.{master_gap_line}
 use Rattle.tm_tool.specs.OlderVersions.{gap_piece, IsGapLineAtMost, LacksGapLine}

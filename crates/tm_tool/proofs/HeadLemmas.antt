@@ -1,29 +1,31 @@
--- The head of the rows, where it is due.
-use Rattle.std.proofs.Common.{◌≡◌, ℕ, Bool, true, List, [], refl, sym, subst, inl, Option}
+-- What a command has before all else.
+use Rattle.std.proofs.Common.{◌≡◌, ◌≢◌, ℕ, Bool, true, false, List, [], refl, Option}
 use Rattle.std.specs.Io.KnownBytes.{Appends}
 use Rattle.std.proofs.KnownBytes.{Appends-nil, Appends-trans}
-use Rattle.tm_fields.specs.declared.field.Field.{Field}
 use Rattle.tm_fields.specs.Rows.{head_of}
+use Rattle.tm_output.specs.declared.command.Command.{Command}
+use Rattle.tm_output.specs.declared.command.Command.TheVariants.{Extract, Packets, Fields}
 use Rattle.tm_output.specs.declared.fault.RunFault.{RunFault}
-use Rattle.tm_output.specs.declared.command.Ending.{Ending}
-use Rattle.tm_tool.specs.Jobs.{rows_head}
 use Rattle.tm_output.specs.Outlets.{PutStopped}
-use Rattle.tm_output.specs.Outputs.{lines_way, view}
-use Rattle.tm_output.specs.Pieces.{Texts}
-use Rattle.tm_tool.specs.RecordingPieces.{Work}
-use Rattle.tm_tool.specs.Runs.{IsHeadedStop}
-use Rattle.tm_output.proofs.PieceLemmas.{stopped_put}
+use Rattle.tm_output.specs.Outputs.{Stopped, Took, lines_way, view}
+use Rattle.tm_output.specs.Pieces.{way_of}
+use Rattle.tm_output.proofs.PieceLemmas.{flushed, stopped_put, took_piece}
+use Rattle.tm_tool.specs.Jobs.{head_pieces, head_text}
 
-module _ (fields : List Field) (fresh : Bool) (old new report : Option (List ℕ)) (failures failures' report_failures : ℕ) where
-  -- writing stopped in it, before anything was read
-  pub head_stop : (text : Texts ℕ) (ending : Ending) (w : Work) (left : Option (List ℕ)) (fault : RunFault) → fresh ≡ true
-      → PutStopped Appends lines_way old new failures failures' (head_of fields) fault
-      → IsHeadedStop Appends lines_way text ending w (rows_head fields fresh) left left (view old report failures report_failures) (view new report failures' report_failures) fault
-  head_stop text ending w left fault due h =
-      subst (λ (b : Bool). IsHeadedStop Appends lines_way text ending w (rows_head fields b) left left (view old report failures report_failures) (view new report failures' report_failures) fault)
-      (sym due) (inl (record {
-        some = λ e. cc e;
-        unread = refl;
-        stopped = stopped_put Appends Appends-nil Appends-trans lines_way (view old report failures report_failures) (view new report failures' report_failures)
-            (record { out = head_of fields; report = [] }) fault h (Appends-nil report) refl;
-      }))
+module _ {old new report : Option (List ℕ)} {failures failures' : ℕ} (report_failures : ℕ) where
+  pub head_took : (command : Command) (fresh : Bool) → Appends old new (head_text command fresh) × (failures' ≡ failures)
+      → Took Appends (view old report failures report_failures) (view new report failures' report_failures) (head_pieces command fresh)
+  head_took (Fields definition application) true (whole, same) =
+      took_piece Appends _ _ (record { out = head_of definition.now; report = [] }) whole (Appends-nil report) (same, refl)
+  head_took (Fields definition application) false (whole, same) = flushed Appends _ _ whole (Appends-nil report) (same, refl)
+  head_took Extract fresh (whole, same) = flushed Appends _ _ whole (Appends-nil report) (same, refl)
+  head_took Packets fresh (whole, same) = flushed Appends _ _ whole (Appends-nil report) (same, refl)
+
+  pub head_stopped : (command : Command) (fresh : Bool) (fault : RunFault) → (head_pieces command fresh ≢ [])
+      × PutStopped Appends lines_way old new failures failures' (head_text command fresh) fault
+      → Stopped Appends (way_of command) (view old report failures report_failures) (view new report failures' report_failures) (head_pieces command fresh) fault
+  head_stopped (Fields definition application) true fault (some, h) =
+      stopped_put Appends Appends-nil Appends-trans lines_way _ _ (record { out = head_of definition.now; report = [] }) fault h (Appends-nil report) refl
+  head_stopped (Fields definition application) false fault (some, h) = absurd (some refl)
+  head_stopped Extract fresh fault (some, h) = absurd (some refl)
+  head_stopped Packets fresh fault (some, h) = absurd (some refl)

@@ -1,6 +1,5 @@
 pub mod Running
 pub mod Passing
-pub mod KeptLemmas
 pub mod Sinks
 pub mod RunEnds
 pub mod RunPieces

@@ -6,11 +6,9 @@ use Rattle.std.proofs.lemmas.List.{append-nil, nil_from_length}
 use Rattle.std.proofs.Math.Seq.{drop-append_seam}
 use Rattle.tm_frame.specs.declared.layout.Presence.{Presence}
 use Rattle.tm_frame.specs.declared.layout.Presence.TheVariants.{Flag, Always, Never}
-use Rattle.tm_packet.specs.declared.tracker.TrackerFault.{TrackerFault}
 use Rattle.tm_packet.specs.Spelling as sequence
 use Rattle.tm_packet.specs.Valid as valid
 use Rattle.tm_packet.proofs.SpellingLemmas as sequence_written
-use Rattle.tm_reassembly.specs.declared.fault.StateFault.{StateFault}
 use Rattle.tm_rules.specs.Channels.{mask_from, mask_of}
 use Rattle.tm_reassembly.specs.Checkpoint as reassembly
 use Rattle.tm_rules.specs.Rules.{Rules}

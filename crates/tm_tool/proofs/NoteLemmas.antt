@@ -11,7 +11,7 @@ use Rattle.tm_packet.proofs.Merging.{after-append, after_from-none, notes-append
 use Rattle.tm_reassembly.specs.Among.{Among, is_of}
 use Rattle.tm_reassembly.specs.Items.{close_channels, close_tail, closing}
 use Rattle.tm_reassembly.specs.State.{Last, State, Tail}
-use Rattle.tm_items.specs.Item.{Item, Bad, MasterGap, Gap, Vca, Dropped, Packet, Short}
+use Rattle.tm_items.specs.Item.{Item, Packet, Short}
 use Rattle.tm_output.specs.Outputs.{Piece}
 use Rattle.tm_output.specs.Pieces.{Entries, Texts, noted, noted_all, notes_of, piece_of, pieces_of, report_of, sent}
 use Rattle.tm_tool.specs.NotesInAll.{pieces_with, report_with, sent_among, sent_in}

@@ -9,7 +9,7 @@ use Rattle.tm_rules.specs.Rules.{Rules, IsLimit}
 use Rattle.tm_reassembly.specs.Valid.{IsCount, IsState}
 use Rattle.tm_reassembly.proofs.Decoding.{blocks_valid}
 use Rattle.tm_tool.specs.declared.version.Version.{Version}
-use Rattle.tm_tool.specs.declared.version.Version.TheVariants.{One, Two, Three}
+use Rattle.tm_tool.specs.declared.version.Version.TheVariants.{Three}
 use Rattle.tm_tool.specs.Checkpoints.{state_in}
 
 four_below : (xs : List ℕ) → AreOctets xs → four_at xs 0 < 2 ^ 32

@@ -1,6 +1,6 @@
 -- Runs that are stopped and resumed write what one run writes.
-use Rattle.std.proofs.Common.{◌≡◌, ◌<◌, ◌≤◌, ◌+◌, ◌-◌, ◌^◌, ℕ, Bool, false, List, [], ◌∷◌, ◌++◌, length, take, drop, refl, sym, ap, subst, ◌∙◌, append_assoc, append-nil, length-append, arith, Ok}
-use Rattle.std.specs.Prelude.{min, Result}
+use Rattle.std.proofs.Common.{◌≡◌, ◌<◌, ◌≤◌, ◌-◌, ◌^◌, ℕ, Bool, false, List, [], ◌∷◌, ◌++◌, length, take, drop, refl, sym, ap, subst, ◌∙◌, append_assoc, append-nil, length-append, arith, Ok}
+use Rattle.std.specs.Prelude.{Result}
 use Rattle.std.proofs.lemmas.List.{length-take, take-append-drop}
 use Rattle.std.proofs.Math.Seq.{drop-append_seam, take-append_seam}
 use Rattle.tm_frame.specs.Layout.{record_length_of}
@@ -8,12 +8,12 @@ use Rattle.tm_rules.specs.Rules.{Rules, IsLimit}
 use Rattle.tm_reassembly.specs.Valid.{AllOctets}
 use Rattle.tm_tool.specs.declared.fault.CheckpointFault.{CheckpointFault}
 use Rattle.tm_output.specs.declared.command.Ending.{Ending}
-use Rattle.tm_output.specs.declared.command.Ending.TheVariants.{Close, Keep, StopAfter}
+use Rattle.tm_output.specs.declared.command.Ending.TheVariants.{Close, StopAfter}
 use Rattle.tm_tool.specs.Checkpoints.{IsWork, checkpoint_of, resumed}
 use Rattle.tm_tool.specs.Jobs.{JobState, begun}
 use Rattle.tm_output.specs.Outputs.{Piece}
 use Rattle.tm_output.specs.Pieces.{Texts}
-use Rattle.tm_tool.specs.RecordingPieces.{Work, chosen, end_pieces, further, pieces, pieces_after, record_pieces, worked}
+use Rattle.tm_tool.specs.RecordingPieces.{Work, chosen, end_pieces, further, pieces, record_pieces, worked}
 use Rattle.tm_output.specs.Records.{records, rest_of}
 use Rattle.tm_tool.specs.Resuming.{Stop, KeepsJob, Follows, left_by, then_pieces, run_pieces, resumed_pieces, done_by, done_in_all, in_one}
 use Rattle.tm_tool.proofs.CheckpointLemmas.{read_again}

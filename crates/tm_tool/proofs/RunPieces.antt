@@ -1,5 +1,5 @@
 -- How a run ended, in the words of the whole recording.
-use Rattle.std.proofs.Common.{◌≡◌, ◌⊎◌, ◌<◌, ◌≤◌, ◌+◌, ◌-◌, ◌^◌, ℕ, zero, suc, false, List, [], ◌∷◌, ◌++◌, length, take, drop, refl, sym, ap, subst, ◌∙◌, append_assoc, append-nil, length-append, length-drop, take_all, arith, inl, inr, ⊎_elim, Option, None, Some, IfSome, Result, Err}
+use Rattle.std.proofs.Common.{◌≡◌, ◌⊎◌, ◌<◌, ◌≤◌, ◌+◌, ◌-◌, ◌^◌, ℕ, false, List, [], ◌∷◌, ◌++◌, length, take, refl, sym, ap, subst, ◌∙◌, append_assoc, append-nil, length-append, length-drop, take_all, arith, inl, inr, ⊎_elim, Option, None, Some, IfSome, Result, Err}
 use Rattle.std.specs.List.{concat}
 use Rattle.std.specs.Io.KnownBytes.{Consumes, IsAtEnd}
 use Rattle.std.proofs.lemmas.Bool.{cases_lt}
@@ -11,8 +11,8 @@ use Rattle.tm_reassembly.specs.Recording.{items}
 use Rattle.tm_output.specs.declared.fault.RunFault.{RunFault}
 use Rattle.tm_output.specs.declared.fault.RunFault.TheVariants.{Read, Write, Report, ShortRecording, TooMany, NoMemory}
 use Rattle.tm_output.specs.declared.command.Ending.{Ending}
-use Rattle.tm_output.specs.declared.command.Ending.TheVariants.{Close, Keep, StopAfter}
-use Rattle.tm_output.specs.Outputs.{Piece, View, Cut, AppendsCut, Took, RefusesPut, WantsMemory, Stopped, outs, reports, Way}
+use Rattle.tm_output.specs.declared.command.Ending.TheVariants.{StopAfter}
+use Rattle.tm_output.specs.Outputs.{Piece, View, AppendsCut, Took, RefusesPut, WantsMemory, Stopped, outs, reports, Way}
 use Rattle.tm_output.specs.Pieces.{Texts}
 use Rattle.tm_tool.specs.RecordingPieces.{Work, chosen, further, worked, record_pieces, end_pieces, pieces_after, pieces}
 use Rattle.tm_output.specs.Records.{AreRecords, record_count, records, rest_of}

@@ -21,7 +21,7 @@ use Rattle.tm_reassembly.proofs.States.{empty-valid, record-valid}
 use Rattle.tm_output.specs.declared.fault.RunFault.{RunFault}
 use Rattle.tm_output.specs.declared.fault.RunFault.TheVariants.{Read, Write, Report, ShortRecording, TooMany, NoMemory}
 use Rattle.tm_output.specs.declared.command.Ending.{Ending}
-use Rattle.tm_output.specs.declared.command.Ending.TheVariants.{Close, Keep, StopAfter}
+use Rattle.tm_output.specs.declared.command.Ending.TheVariants.{StopAfter}
 use Rattle.tm_output.specs.Outputs.{Piece, View, Took, Stopped, Way}
 use Rattle.tm_output.specs.Pieces.{Entries, Texts, noted, noted_all, piece_of, pieces_of}
 use Rattle.tm_tool.specs.RecordingPieces.{Work, items_of, worked, record_pieces}

@@ -8,7 +8,7 @@ use Rattle.tm_reassembly.specs.declared.fault.StateFault.TheVariants as fault
 use Rattle.tm_reassembly.specs.Checkpoint.{four_at, two_at, Read, ReadAll, ReadMaster, Decoded, is_unfinished, tail_read, block_read, blocks_read, in_front, and_then, master_read, with_channels, with_master, decoding_of, old_decoding_of}
 use Rattle.tm_rules.specs.Rules.{Rules, chooses}
 use Rattle.tm_tool.specs.declared.version.Version.{Version}
-use Rattle.tm_tool.specs.declared.version.Version.TheVariants.{One, Two, Three}
+use Rattle.tm_tool.specs.declared.version.Version.TheVariants.{Three}
 use Rattle.tm_tool.specs.Checkpoints.{state_in}
 
 abbrev Told : {A : Type 0} → Result A StateFault → Type 0

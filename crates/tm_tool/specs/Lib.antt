@@ -2,7 +2,6 @@ pub mod RecordingPieces
 pub mod Jobs
 pub mod Runs
 pub mod Stepping
-pub mod Keeping
 pub mod Checkpoints
 pub mod Resuming
 pub mod OlderVersions

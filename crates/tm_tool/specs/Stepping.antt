@@ -1,9 +1,10 @@
 -- Records between what was read and what is still to come: for private contracts.
-use Rattle.std.specs.Prelude.{⊤, ◌≡◌, ◌<◌, ◌≤◌, ◌+◌, ◌-◌, ◌^◌, ℕ, List, length, Option, Result, MatchResult}
+use Rattle.std.specs.Prelude.{⊤, ◌≡◌, ◌<◌, ◌≤◌, ◌+◌, ◌-◌, ◌^◌, ℕ, false, List, length, Option, Result, MatchResult}
 use Rattle.std.specs.List.{concat}
 use Rattle.std.specs.Io.KnownBytes.{Consumes}
 use Rattle.tm_frame.specs.Layout.{record_length_of}
 use Rattle.tm_reassembly.specs.Steps.{Progress}
+use Rattle.tm_reassembly.specs.Valid.{IsState}
 use Rattle.tm_devices.specs.Devices.{raised}
 use Rattle.tm_output.specs.declared.fault.RunFault.{RunFault}
 use Rattle.tm_output.specs.declared.fault.RunFault.TheVariants.{Read, Write, Report, ShortRecording, TooMany, NoMemory}
@@ -18,6 +19,14 @@ use Rattle.tm_tool.specs.Runs.{HasRead, HasReadAll, HasEnded, behind}
 -- how far a reassembly has got, together with the sequence counts
 abbrev pub work_of : Progress → Entries → Work
 work_of p entries = record { rules = p.rules; state = p.state; entries = entries }
+
+-- no step was refused, and the state is a valid one
+abbrev pub IsGoing : Progress → Type 0
+IsGoing p = (p.failed ≡ false) × IsState p.rules p.state
+
+-- the state is a valid one, and a record has an octet
+abbrev pub IsSound : Work → Type 0
+IsSound w = IsState w.rules w.state × (0 < record_length_of w.rules.layout)
 
 -- no more records were read than are wanted
 abbrev pub Reached : Ending → ℕ → ℕ → Type 0

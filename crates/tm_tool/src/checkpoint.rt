@@ -13,6 +13,7 @@ ghost use Rattle.tm_tool.specs.Checkpoints.{AsksMemory, IsWork, checkpoint_of, c
 ghost use Rattle.tm_tool.specs.Stepping.{work_of};
 
 use crate::version::Version;
+use crate::work::Work;
 use crate::{CheckpointFault, Job, NoMemory, Settings};
 use std::alloc::{AllocError, Global};
 use tm_frame::{Layout, Presence, error_control};
@@ -30,28 +31,14 @@ impl Job {
     /// # Errors
     ///
     /// `NoMemory` where there is no room for them.
+    #[tactic(auto, using(crate::proofs::CheckpointLemmas::bound, crate::proofs::CheckpointLemmas::most))]
     pub fn checkpoint(&self, alloc: Global) -> Result<Vec<u8>, NoMemory>
         ensures octets { IfOk result (λ octets. octets.items ≡ checkpoint_of self.now.work) }
         ensures bound { IfOk result (λ octets. length octets.items ≤ 98374 + 8 * self.now.work.rules.max_packet) }
         ensures most { IfOk result (λ octets. length octets.items ≤ 622710) }
         ensures valid { IfOk result (λ octets. IsWork self.now.work) }
     {
-        let layout = self.reassembly.layout();
-        let channels = self.reassembly.channels();
-        let max_packet = self.reassembly.max_packet();
-        let Ok(mut octets) = write_head(alloc, layout, channels, max_packet) else {
-            return Err(NoMemory);
-        };
-        let Ok(()) = self.reassembly.encode(&mut octets) else {
-            return Err(NoMemory);
-        };
-        let Ok(()) = self.tracker.encode(&mut octets) else {
-            return Err(NoMemory);
-        };
-        match push_check(&mut octets) {
-            Ok(()) => Ok(octets),
-            Err(_) => Err(NoMemory),
-        }
+        self.work.checkpoint(alloc)
     }
 
     /// The job that these octets say, which were written with the same settings, in version 3 or in one of the older versions 1 and 2. It
@@ -83,7 +70,35 @@ impl Job {
             Ok(tracker) => tracker,
             Err(fault) => return Err(fault),
         };
-        with_buffer(alloc, reassembly, tracker)
+        match Work::new(alloc, reassembly, tracker) {
+            Ok(work) => Ok(Job { work, fresh: false }),
+            Err(_) => Err(CheckpointFault::NoMemory),
+        }
+    }
+}
+
+impl Work {
+    // The work in octets, in the version that is written.
+    fn checkpoint(&self, alloc: Global) -> Result<Vec<u8>, NoMemory>
+        ensures octets { IfOk result (λ octets. octets.items ≡ checkpoint_of self.now) }
+        ensures valid { IfOk result (λ octets. IsWork self.now) }
+    {
+        let layout = self.reassembly.layout();
+        let channels = self.reassembly.channels();
+        let max_packet = self.reassembly.max_packet();
+        let Ok(mut octets) = write_head(alloc, layout, channels, max_packet) else {
+            return Err(NoMemory);
+        };
+        let Ok(()) = self.reassembly.encode(&mut octets) else {
+            return Err(NoMemory);
+        };
+        let Ok(()) = self.tracker.encode(&mut octets) else {
+            return Err(NoMemory);
+        };
+        match push_check(&mut octets) {
+            Ok(()) => Ok(octets),
+            Err(_) => Err(NoMemory),
+        }
     }
 }
 
@@ -294,27 +309,5 @@ fn read_entries(alloc: Global, octets: &[u8]) -> Result<Tracker, CheckpointFault
         }
         Err(TrackerFault::NoMemory) => Err(CheckpointFault::NoMemory),
         Err(_) => Err(CheckpointFault::State),
-    }
-}
-
-// The job with this state and these entries, which isn't fresh.
-fn with_buffer(
-    alloc: Global,
-    reassembly: Reassembly,
-    tracker: Tracker,
-) -> Result<Job, CheckpointFault>
-    requires sound { reassembly.failed ≡ false }
-    requires valid { IsState reassembly.rules reassembly.state }
-    ensures ok { IfOk result (λ job. job ≡ record { work = work_of reassembly tracker; fresh = false }) }
-    ensures refused { IfErr result (λ found. found ≡ CheckpointFault.NoMemory) }
-{
-    match vec![in alloc; 0u8; reassembly.layout().record_length()] {
-        Ok(buffer) => Ok(Job {
-            reassembly,
-            tracker,
-            buffer,
-            fresh: false,
-        }),
-        Err(_) => Err(CheckpointFault::NoMemory),
     }
 }

@@ -1,23 +1,23 @@
 //! What each command does with a recording.
 
-ghost use Rattle.std.specs.Prelude.{◌≡◌, ◌<◌, true, false, if◌then◌else◌, [], length, IfOk, IfErr, IfSome, OnOk};
+ghost use Rattle.std.specs.Prelude.{◌≡◌, ◌≢◌, ◌<◌, true, false, if◌then◌else◌, [], length, IfOk, IfErr, IfSome, OnOk};
 ghost use Rattle.std.specs.Io.KnownBytes.{Appends, Keeps};
 ghost use Rattle.tm_fields.specs.Rows.{head_of};
 ghost use Rattle.tm_frame.specs.Layout.{record_length_of};
 ghost use Rattle.tm_reassembly.specs.Valid.{IsState};
 ghost use Rattle.tm_output.specs.declared.command.Command.TheVariants.{Extract, Packets};
 ghost use Rattle.tm_output.specs.Faults.{RunCounted};
-ghost use Rattle.tm_tool.specs.Jobs.{head_pieces, rows_head};
-ghost use Rattle.tm_tool.specs.Keeping.{IsGoing, kept_work};
+ghost use Rattle.tm_tool.specs.Jobs.{head_pieces, head_text};
 ghost use Rattle.tm_output.specs.Outlets.{PutStopped};
 ghost use Rattle.tm_output.specs.Outputs.{lines_way};
 ghost use Rattle.tm_output.specs.Pieces.{way_of, rows_text, text_of};
 ghost use Rattle.tm_tool.specs.Runs.{IsHeadedRun, IsHeadedStop, IsRun, IsStoppedAt};
 ghost use Rattle.tm_output.specs.Shelves.{Shelves, shelf_text, shelf_way};
-ghost use Rattle.tm_tool.specs.Stepping.{work_of};
+ghost use Rattle.tm_tool.specs.Stepping.{IsSound};
 ghost use Rattle.tm_output.specs.Seen.{both, shelf_both};
 
 use crate::recording::{Ended, run_to_end};
+use crate::work::Work;
 use crate::{Command, Drain, Ending, RunFault, Shelf, Source};
 use std::alloc::Global;
 use tm_devices::put_all;
@@ -26,18 +26,21 @@ use tm_output::{PacketLines, PacketOctets, PacketRows, PacketShelf};
 use tm_packet::Tracker;
 use tm_reassembly::Reassembly;
 
-// Writes the head of the rows, where it is due.
-fn put_head<W: Drain>(
+/// Writes what the command has before all else, where that is due: the head of its rows.
+pub fn put_head<W: Drain>(
     alloc: Global,
-    definition: &Definition,
+    command: Command<'_>,
     fresh: bool,
     out: &mut W,
 ) -> Result<(), RunFault>
-    ensures whole { OnOk result (Appends (W.written out.old) (W.written out.new) (if fresh then head_of definition.now else [])
+    ensures whole { OnOk result (Appends (W.written out.old) (W.written out.new) (head_text command.entry fresh)
         × (W.failures out.new ≡ W.failures out.old)) }
-    ensures stopped { IfErr result (λ fault. (fresh ≡ true)
-        × PutStopped Appends lines_way (W.written out.old) (W.written out.new) (W.failures out.old) (W.failures out.new) (head_of definition.now) fault) }
+    ensures stopped { IfErr result (λ fault. (head_pieces command.entry fresh ≢ [])
+        × PutStopped Appends lines_way (W.written out.old) (W.written out.new) (W.failures out.old) (W.failures out.new) (head_text command.entry fresh) fault) }
 {
+    let Command::Fields(definition, _) = command else {
+        return Ok(());
+    };
     if !fresh {
         return Ok(());
     }
@@ -50,105 +53,35 @@ fn put_head<W: Drain>(
     }
 }
 
-// A row for each packet of an application into a drain, behind the head of the rows where it is due.
-fn run_fields<R: Source, W: Drain, V: Drain>(
-    alloc: Global,
-    definition: &Definition,
-    application: u16,
-    fresh: bool,
-    reassembly: Reassembly,
-    tracker: Tracker,
-    buffer: &mut [u8],
-    recording: &mut R,
-    out: &mut W,
-    report: &mut V,
-    ending: Ending,
-) -> Result<Ended, RunFault>
-    requires exact { length buffer.old ≡ record_length_of reassembly.rules.layout }
-    requires some { 0 < length buffer.old }
-    requires going { reassembly.failed ≡ false }
-    requires valid { IsState reassembly.rules reassembly.state }
-    ensures run { IfOk result (λ ended. IsHeadedRun Appends lines_way (rows_text definition.now application) ending (work_of reassembly tracker) (rows_head definition.now fresh)
-        (R.left recording.old) (R.left recording.new)
-        (both W.Drain V.Drain out.old report.old)
-        (both W.Drain V.Drain out.new report.new) ended.records (kept_work ended.kept)) }
-    ensures going_on { IfOk result (λ ended. IfSome ended.kept (λ k. IsGoing k.reassembly)) }
-    ensures flushed_out { OnOk result (Keeps (W.flushed out.new) (W.written out.new)) }
-    ensures flushed_report { OnOk result (Keeps (V.flushed report.new) (V.written report.new)) }
-    ensures stopped { IfErr result (IsHeadedStop Appends lines_way (rows_text definition.now application) ending (work_of reassembly tracker) (rows_head definition.now fresh)
-        (R.left recording.old) (R.left recording.new)
-        (both W.Drain V.Drain out.old report.old)
-        (both W.Drain V.Drain out.new report.new)) }
-    ensures counts { RunCounted (R.failures recording.old) (R.failures recording.new)
-        (both W.Drain V.Drain out.old report.old)
-        (both W.Drain V.Drain out.new report.new) result }
-{
-    if let Err(fault) = put_head(alloc, definition, fresh, out) {
-        return Err(fault);
-    }
-    let mut outlet = PacketRows {
-        alloc,
-        definition,
-        application,
-        out,
-    };
-    run_to_end(
-        alloc,
-        reassembly,
-        tracker,
-        buffer,
-        recording,
-        &mut outlet,
-        report,
-        ending,
-    )
-}
-
-/// What the command wants of the packets, into a drain: behind the head of its rows, where a job is fresh and the command has rows.
+/// What the command wants of the packets, into a drain.
 pub fn run_by<R: Source, W: Drain, V: Drain>(
     alloc: Global,
     command: Command<'_>,
-    fresh: bool,
-    reassembly: Reassembly,
-    tracker: Tracker,
-    buffer: &mut [u8],
+    work: Work,
     recording: &mut R,
     out: &mut W,
     report: &mut V,
     ending: Ending,
 ) -> Result<Ended, RunFault>
-    requires exact { length buffer.old ≡ record_length_of reassembly.rules.layout }
-    requires some { 0 < length buffer.old }
-    requires going { reassembly.failed ≡ false }
-    requires valid { IsState reassembly.rules reassembly.state }
-    ensures run { IfOk result (λ ended. IsHeadedRun Appends (way_of command.entry) (text_of command.entry) ending (work_of reassembly tracker) (head_pieces command.entry fresh)
+    ensures sound { IsSound work }
+    ensures run { IfOk result (λ ended. IsRun Appends (way_of command.entry) (text_of command.entry) ending work
         (R.left recording.old) (R.left recording.new)
         (both W.Drain V.Drain out.old report.old)
-        (both W.Drain V.Drain out.new report.new) ended.records (kept_work ended.kept)) }
-    ensures going_on { IfOk result (λ ended. IfSome ended.kept (λ k. IsGoing k.reassembly)) }
-    ensures flushed_out { OnOk result (Keeps (W.flushed out.new) (W.written out.new)) }
-    ensures flushed_report { OnOk result (Keeps (V.flushed report.new) (V.written report.new)) }
-    ensures stopped { IfErr result (IsHeadedStop Appends (way_of command.entry) (text_of command.entry) ending (work_of reassembly tracker) (head_pieces command.entry fresh)
+        (both W.Drain V.Drain out.new report.new) ended.records ended.kept) }
+    ensures stopped { IfErr result (IsStoppedAt Appends (way_of command.entry) (text_of command.entry) ending work
         (R.left recording.old) (R.left recording.new)
         (both W.Drain V.Drain out.old report.old)
         (both W.Drain V.Drain out.new report.new)) }
     ensures counts { RunCounted (R.failures recording.old) (R.failures recording.new)
         (both W.Drain V.Drain out.old report.old)
         (both W.Drain V.Drain out.new report.new) result }
+    ensures flushed_out { OnOk result (Keeps (W.flushed out.new) (W.written out.new)) }
+    ensures flushed_report { OnOk result (Keeps (V.flushed report.new) (V.written report.new)) }
 {
     match command {
         Command::Extract => {
             let mut outlet = PacketOctets { out };
-            run_to_end(
-                alloc,
-                reassembly,
-                tracker,
-                buffer,
-                recording,
-                &mut outlet,
-                report,
-                ending,
-            )
+            run_to_end(alloc, work, recording, &mut outlet, report, ending)
         }
         Command::Packets => {
             let mut line = String::new(alloc);
@@ -156,71 +89,43 @@ pub fn run_by<R: Source, W: Drain, V: Drain>(
                 line: &mut line,
                 out,
             };
-            run_to_end(
-                alloc,
-                reassembly,
-                tracker,
-                buffer,
-                recording,
-                &mut outlet,
-                report,
-                ending,
-            )
+            run_to_end(alloc, work, recording, &mut outlet, report, ending)
         }
-        Command::Fields(definition, application) => run_fields(
-            alloc,
-            definition,
-            application,
-            fresh,
-            reassembly,
-            tracker,
-            buffer,
-            recording,
-            out,
-            report,
-            ending,
-        ),
+        Command::Fields(definition, application) => {
+            let mut outlet = PacketRows {
+                alloc,
+                definition,
+                application,
+                out,
+            };
+            run_to_end(alloc, work, recording, &mut outlet, report, ending)
+        }
     }
 }
 
 /// The packets' octets into a shelf.
 pub fn run_split<R: Source, H: Shelf, V: Drain>(
     alloc: Global,
-    reassembly: Reassembly,
-    tracker: Tracker,
-    buffer: &mut [u8],
+    work: Work,
     recording: &mut R,
     shelf: &mut H,
     report: &mut V,
     ending: Ending,
 ) -> Result<Ended, RunFault>
-    requires exact { length buffer.old ≡ record_length_of reassembly.rules.layout }
-    requires some { 0 < length buffer.old }
-    requires going { reassembly.failed ≡ false }
-    requires valid { IsState reassembly.rules reassembly.state }
-    ensures run { IfOk result (λ ended. IsRun Shelves shelf_way shelf_text ending (work_of reassembly tracker)
+    ensures sound { IsSound work }
+    ensures run { IfOk result (λ ended. IsRun Shelves shelf_way shelf_text ending work
         (R.left recording.old) (R.left recording.new)
         (shelf_both H.Shelf V.Drain shelf.old report.old)
-        (shelf_both H.Shelf V.Drain shelf.new report.new) ended.records (kept_work ended.kept)) }
-    ensures going_on { IfOk result (λ ended. IfSome ended.kept (λ k. IsGoing k.reassembly)) }
-    ensures flushed_report { OnOk result (Keeps (V.flushed report.new) (V.written report.new)) }
-    ensures stopped { IfErr result (IsStoppedAt Shelves shelf_way shelf_text ending (work_of reassembly tracker)
+        (shelf_both H.Shelf V.Drain shelf.new report.new) ended.records ended.kept) }
+    ensures stopped { IfErr result (IsStoppedAt Shelves shelf_way shelf_text ending work
         (R.left recording.old) (R.left recording.new)
         (shelf_both H.Shelf V.Drain shelf.old report.old)
         (shelf_both H.Shelf V.Drain shelf.new report.new)) }
     ensures counts { RunCounted (R.failures recording.old) (R.failures recording.new)
         (shelf_both H.Shelf V.Drain shelf.old report.old)
         (shelf_both H.Shelf V.Drain shelf.new report.new) result }
+    ensures flushed_report { OnOk result (Keeps (V.flushed report.new) (V.written report.new)) }
 {
     let mut outlet = PacketShelf { shelf };
-    run_to_end(
-        alloc,
-        reassembly,
-        tracker,
-        buffer,
-        recording,
-        &mut outlet,
-        report,
-        ending,
-    )
+    run_to_end(alloc, work, recording, &mut outlet, report, ending)
 }

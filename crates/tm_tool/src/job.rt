@@ -7,7 +7,6 @@ ghost use Rattle.tm_reassembly.specs.Valid.{IsState};
 ghost use Rattle.tm_output.specs.Faults.{RunCounted};
 ghost use Rattle.tm_tool.specs.Jobs.{all_pieces, begun, head_pieces};
 ghost use Rattle.tm_output.specs.Outputs.{AppendsCut, RefusesPut, Took, WantsMemory};
-ghost use Rattle.tm_tool.specs.Keeping.{IsGoing, kept_work};
 ghost use Rattle.tm_tool.specs.RecordingPieces.{chosen, further, pieces, worked};
 ghost use Rattle.tm_output.specs.Pieces.{way_of, text_of};
 ghost use Rattle.tm_output.specs.Records.{record_count};
@@ -15,8 +14,9 @@ ghost use Rattle.tm_tool.specs.Runs.{IsHeadedRun, IsHeadedStop, IsRun, IsStopped
 ghost use Rattle.tm_output.specs.Shelves.{Shelves, shelf_text, shelf_way};
 ghost use Rattle.tm_output.specs.Seen.{both, shelf_both};
 
-use crate::commands::{run_by, run_split};
-use crate::recording::{Ended, Kept};
+use crate::commands::{put_head, run_by, run_split};
+use crate::recording::Ended;
+use crate::work::Work;
 use crate::{Command, Drain, Ending, NoMemory, RunFault, Settings, Shelf, Source};
 use std::alloc::Global;
 use std::marker::Model;
@@ -35,25 +35,16 @@ pub struct Done {
 /// The packets of a recording, as far as it has been read.
 #[derive(Drop)]
 pub struct Job {
-    pub(crate) reassembly: Reassembly,
-    pub(crate) tracker: Tracker,
-    pub(crate) buffer: Vec<u8>,
+    pub(crate) work: Work,
     pub(crate) fresh: bool,
 }
 
 impl Model for Job {
-    ghost use Rattle.std.specs.Prelude.{◌≡◌, ◌<◌, false, length};
-    ghost use Rattle.tm_frame.specs.Layout.{record_length_of};
-    ghost use Rattle.tm_reassembly.specs.Valid.{IsState};
     ghost use Rattle.tm_tool.specs.Jobs.{JobState};
-    ghost use Rattle.tm_tool.specs.Stepping.{work_of};
 
     ghost Value = { JobState };
 
-    ghost view = { λ j. record { work = work_of j.reassembly j.tracker; fresh = j.fresh } };
-
-    ghost invariant = { λ j. (j.reassembly.failed ≡ false) × (length j.buffer.items ≡ record_length_of j.reassembly.rules.layout) × (0 < length j.buffer.items)
-        × IsState j.reassembly.rules j.reassembly.state };
+    ghost view = { λ j. record { work = j.work; fresh = j.fresh } };
 }
 
 impl Job {
@@ -67,10 +58,9 @@ impl Job {
     pub fn new(alloc: Global, settings: &Settings) -> Result<Job, NoMemory>
         ensures { IfOk result (λ job. job ≡ begun settings.now) }
     {
-        let layout = settings.layout();
         let Ok(reassembly) = Reassembly::new(
             alloc,
-            layout,
+            settings.layout(),
             settings.channels(),
             settings.max_packet(),
         ) else {
@@ -79,13 +69,8 @@ impl Job {
         let Ok(tracker) = Tracker::new(alloc) else {
             return Err(NoMemory);
         };
-        match vec![in alloc; 0u8; layout.record_length()] {
-            Ok(buffer) => Ok(Job {
-                reassembly,
-                tracker,
-                buffer,
-                fresh: true,
-            }),
+        match Work::new(alloc, reassembly, tracker) {
+            Ok(work) => Ok(Job { work, fresh: true }),
             Err(_) => Err(NoMemory),
         }
     }
@@ -94,34 +79,21 @@ impl Job {
     pub fn records(&self) -> u32
         ensures { result ≡ self.now.work.state.records }
     {
-        self.reassembly.records()
+        self.work.records()
     }
 }
 
-// The job after a run, where it is kept, with its buffer.
-fn done_by(ended: Ended, buffer: Vec<u8>, fresh: bool) -> Done
-    requires going { IfSome ended.kept (λ k. IsGoing k.reassembly) }
-    requires exact { IfSome ended.kept (λ k. length buffer.items ≡ record_length_of k.reassembly.rules.layout) }
-    requires some { 0 < length buffer.items }
+// What was done. A job that is kept is fresh or not.
+fn done_by(ended: Ended, fresh: bool) -> Done
     ensures records { result.records ≡ ended.records }
-    ensures kept { option_map (λ j. j.work) result.kept ≡ kept_work ended.kept }
+    ensures kept { option_map (λ j. j.work) result.kept ≡ ended.kept }
     ensures fresh { IfSome result.kept (λ j. j.fresh ≡ fresh) }
 {
     let Ended { records, kept } = ended;
     match kept {
-        Some(
-            Kept {
-                reassembly,
-                tracker,
-            },
-        ) => Done {
+        Some(work) => Done {
             records,
-            kept: Some(Job {
-                reassembly,
-                tracker,
-                buffer,
-                fresh,
-            }),
+            kept: Some(Job { work, fresh }),
         },
         None => Done {
             records,
@@ -185,25 +157,12 @@ pub fn run<R: Source, W: Drain, V: Drain>(
         (both W.Drain V.Drain out.old report.old)
         (both W.Drain V.Drain out.new report.new)) }
 {
-    let Job {
-        reassembly,
-        tracker,
-        mut buffer,
-        fresh,
-    } = job;
-    match run_by(
-        alloc,
-        command,
-        fresh,
-        reassembly,
-        tracker,
-        buffer.as_mut_slice(),
-        recording,
-        out,
-        report,
-        ending,
-    ) {
-        Ok(ended) => Ok(done_by(ended, buffer, false)),
+    let Job { work, fresh } = job;
+    if let Err(fault) = put_head(alloc, command, fresh, out) {
+        return Err(fault);
+    }
+    match run_by(alloc, command, work, recording, out, report, ending) {
+        Ok(ended) => Ok(done_by(ended, false)),
         Err(fault) => Err(fault),
     }
 }
@@ -260,23 +219,9 @@ pub fn split<R: Source, H: Shelf, V: Drain>(
         (shelf_both H.Shelf V.Drain shelf.old report.old)
         (shelf_both H.Shelf V.Drain shelf.new report.new)) }
 {
-    let Job {
-        reassembly,
-        tracker,
-        mut buffer,
-        fresh,
-    } = job;
-    match run_split(
-        alloc,
-        reassembly,
-        tracker,
-        buffer.as_mut_slice(),
-        recording,
-        shelf,
-        report,
-        ending,
-    ) {
-        Ok(ended) => Ok(done_by(ended, buffer, fresh)),
+    let Job { work, fresh } = job;
+    match run_split(alloc, work, recording, shelf, report, ending) {
+        Ok(ended) => Ok(done_by(ended, fresh)),
         Err(fault) => Err(fault),
     }
 }

@@ -8,6 +8,7 @@ mod job;
 pub mod laws;
 mod recording;
 mod version;
+mod work;
 
 pub use fault::{CheckpointFault, NoMemory};
 pub use job::{Done, Job, run, split};

@@ -10,11 +10,11 @@ ghost use Rattle.tm_output.specs.Faults.{RunCounted};
 ghost use Rattle.tm_output.specs.Outputs.{SameCounts, Written};
 ghost use Rattle.tm_tool.specs.RecordingPieces.{closing_pieces, end_pieces, record_pieces, worked};
 ghost use Rattle.tm_output.specs.Pieces.{noted_all, pieces_of};
-ghost use Rattle.tm_tool.specs.Keeping.{IsGoing, kept_work};
 ghost use Rattle.tm_tool.specs.Runs.{GoesOn, IsRun, IsStoppedAt, kept_of};
-ghost use Rattle.tm_tool.specs.Stepping.{Enough, HasPassed, HasStepped, PassCounted, PassingStopped, StepWritten, work_of};
-ghost use Rattle.tm_output.specs.Seen.{outlet_both};
+ghost use Rattle.tm_tool.specs.Stepping.{Enough, HasPassed, IsGoing, IsSound, HasStepped, PassCounted, PassingStopped, StepWritten, work_of};
+ghost use Rattle.tm_output.specs.Seen.{fixture, outlet_both, output_both};
 
+use crate::work::Work;
 use crate::{Drain, Ending, RunFault, Source};
 use std::alloc::Global;
 use tm_devices::fill;
@@ -30,15 +30,11 @@ fn step_into<O: Outlet, V: Drain>(
 ) -> Result<(), RunFault>
     requires exact { length octets.now ≡ record_length_of reassembly.old.rules.layout }
     requires going { IsGoing reassembly.old }
-    ensures same_tracker { output.new.tracker.ghost_name ≡ output.old.tracker.ghost_name }
-    ensures same_outlet { output.new.outlet.ghost_name ≡ output.old.outlet.ghost_name }
-    ensures same_out { O.fixed output.new.outlet.now ≡ O.fixed output.old.outlet.now }
-    ensures same_report { output.new.report.ghost_name ≡ output.old.report.ghost_name }
+    ensures same { fixture O.Outlet output.new ≡ fixture O.Outlet output.old }
     ensures work { OnOk result (work_of reassembly.new output.new.tracker.now ≡ worked (work_of reassembly.old output.old.tracker.now) (octets.now ∷ [])) }
     ensures going_on { OnOk result (IsGoing reassembly.new) }
     ensures few { OnOk result (reassembly.old.state.records < most_records) }
-    ensures written { StepWritten O.grows O.way reassembly.old.state.records (outlet_both O.Outlet V.Drain output.old.outlet.now output.old.report.now)
-        (outlet_both O.Outlet V.Drain output.new.outlet.now output.new.report.now) (record_pieces (O.text (O.fixed output.old.outlet.now)) (work_of reassembly.old output.old.tracker.now) (octets.now ∷ [])) result }
+    ensures written { StepWritten O.grows O.way reassembly.old.state.records (output_both O.Outlet V.Drain output.old) (output_both O.Outlet V.Drain output.new) (record_pieces (O.text (O.fixed output.old.outlet.now)) (work_of reassembly.old output.old.tracker.now) (octets.now ∷ [])) result }
 {
     match reassembly.step(octets, output) {
         Ok(()) => Ok(()),
@@ -56,13 +52,9 @@ fn finish_into<O: Outlet, V: Drain>(
 ) -> Result<(), RunFault>
     requires rest { rest < record_length_of reassembly.rules.layout }
     requires going { reassembly.failed ≡ false }
-    ensures same_tracker { output.new.tracker.ghost_name ≡ output.old.tracker.ghost_name }
-    ensures same_outlet { output.new.outlet.ghost_name ≡ output.old.outlet.ghost_name }
-    ensures same_out { O.fixed output.new.outlet.now ≡ O.fixed output.old.outlet.now }
-    ensures same_report { output.new.report.ghost_name ≡ output.old.report.ghost_name }
+    ensures same { fixture O.Outlet output.new ≡ fixture O.Outlet output.old }
     ensures noted { OnOk result (output.new.tracker.now ≡ noted_all output.old.tracker.now (closing reassembly.state rest)) }
-    ensures written { Written O.grows O.way (outlet_both O.Outlet V.Drain output.old.outlet.now output.old.report.now)
-        (outlet_both O.Outlet V.Drain output.new.outlet.now output.new.report.now) (pieces_of (O.text (O.fixed output.old.outlet.now)) output.old.tracker.now (closing reassembly.state rest)) result }
+    ensures written { Written O.grows O.way (output_both O.Outlet V.Drain output.old) (output_both O.Outlet V.Drain output.new) (pieces_of (O.text (O.fixed output.old.outlet.now)) output.old.tracker.now (closing reassembly.state rest)) result }
 {
     match reassembly.finish(rest, output) {
         Ok(()) => Ok(()),
@@ -112,24 +104,17 @@ fn step_records<R: Source, O: Outlet, V: Drain>(
 ) -> Result<usize, RunFault>
     requires exact { length buffer.old ≡ record_length_of reassembly.old.rules.layout }
     requires some { 0 < length buffer.old }
-    requires going { reassembly.old.failed ≡ false }
-    requires valid { IsState reassembly.old.rules reassembly.old.state }
-    ensures same_tracker { output.new.tracker.ghost_name ≡ output.old.tracker.ghost_name }
-    ensures same_outlet { output.new.outlet.ghost_name ≡ output.old.outlet.ghost_name }
-    ensures same_out { O.fixed output.new.outlet.now ≡ O.fixed output.old.outlet.now }
-    ensures same_report { output.new.report.ghost_name ≡ output.old.report.ghost_name }
-    ensures going_on { OnOk result (IsGoing reassembly.new) }
+    requires going { IsGoing reassembly.old }
+    ensures same { fixture O.Outlet output.new ≡ fixture O.Outlet output.old }
+    ensures going_on { OnOk result (IsGoing reassembly.new × (reassembly.new.rules ≡ reassembly.old.rules)) }
     ensures short { IfOk result (λ octets. octets < record_length_of reassembly.old.rules.layout) }
     ensures stepped { IfOk result (HasStepped O.grows (O.text (O.fixed output.old.outlet.now)) ending (work_of reassembly.old output.old.tracker.now) (R.left recording.old) (R.left recording.new)
-        (outlet_both O.Outlet V.Drain output.old.outlet.now output.old.report.now)
-        (outlet_both O.Outlet V.Drain output.new.outlet.now output.new.report.now) (work_of reassembly.new output.new.tracker.now)) }
+        (output_both O.Outlet V.Drain output.old) (output_both O.Outlet V.Drain output.new) (work_of reassembly.new output.new.tracker.now)) }
     ensures stopped { IfErr result (IsStoppedAt O.grows O.way (O.text (O.fixed output.old.outlet.now)) ending (work_of reassembly.old output.old.tracker.now)
         (R.left recording.old) (R.left recording.new)
-        (outlet_both O.Outlet V.Drain output.old.outlet.now output.old.report.now)
-        (outlet_both O.Outlet V.Drain output.new.outlet.now output.new.report.now)) }
+        (output_both O.Outlet V.Drain output.old) (output_both O.Outlet V.Drain output.new)) }
     ensures counts { RunCounted (R.failures recording.old) (R.failures recording.new)
-        (outlet_both O.Outlet V.Drain output.old.outlet.now output.old.report.now)
-        (outlet_both O.Outlet V.Drain output.new.outlet.now output.new.report.now) result }
+        (output_both O.Outlet V.Drain output.old) (output_both O.Outlet V.Drain output.new) result }
 {
     let done = reassembly.records();
     if let Err(fault) = skip_records(done, buffer, recording) {
@@ -159,13 +144,9 @@ fn close<O: Outlet, V: Drain>(
 ) -> Result<(), RunFault>
     requires rest { rest < record_length_of reassembly.rules.layout }
     requires going { reassembly.failed ≡ false }
-    ensures same_tracker { output.new.tracker.ghost_name ≡ output.old.tracker.ghost_name }
-    ensures same_outlet { output.new.outlet.ghost_name ≡ output.old.outlet.ghost_name }
-    ensures same_out { O.fixed output.new.outlet.now ≡ O.fixed output.old.outlet.now }
-    ensures same_report { output.new.report.ghost_name ≡ output.old.report.ghost_name }
+    ensures same { fixture O.Outlet output.new ≡ fixture O.Outlet output.old }
     ensures written { Written O.grows O.way
-        (outlet_both O.Outlet V.Drain output.old.outlet.now output.old.report.now)
-        (outlet_both O.Outlet V.Drain output.new.outlet.now output.new.report.now) (closing_pieces (O.text (O.fixed output.old.outlet.now)) (work_of reassembly output.old.tracker.now) rest) result }
+        (output_both O.Outlet V.Drain output.old) (output_both O.Outlet V.Drain output.new) (closing_pieces (O.text (O.fixed output.old.outlet.now)) (work_of reassembly output.old.tracker.now) rest) result }
 {
     let records = reassembly.records();
     if let Err(fault) = finish_into(reassembly, rest, output) {
@@ -186,15 +167,11 @@ fn end<O: Outlet, V: Drain>(
 ) -> Result<Option<Reassembly>, RunFault>
     requires rest { rest < record_length_of reassembly.rules.layout }
     requires going { IsGoing reassembly }
-    ensures same_tracker { output.new.tracker.ghost_name ≡ output.old.tracker.ghost_name }
-    ensures same_outlet { output.new.outlet.ghost_name ≡ output.old.outlet.ghost_name }
-    ensures same_out { O.fixed output.new.outlet.now ≡ O.fixed output.old.outlet.now }
-    ensures same_report { output.new.report.ghost_name ≡ output.old.report.ghost_name }
-    ensures going_on { IfOk result (λ kept. IfSome kept IsGoing) }
+    ensures same { fixture O.Outlet output.new ≡ fixture O.Outlet output.old }
+    ensures going_on { IfOk result (λ kept. IfSome kept (λ p. IsGoing p × (p.rules ≡ reassembly.rules))) }
     ensures kept { IfOk result (λ kept. option_map (λ k. work_of k output.new.tracker.now) kept ≡ kept_of ending (work_of reassembly output.old.tracker.now)) }
     ensures written { Written O.grows O.way
-        (outlet_both O.Outlet V.Drain output.old.outlet.now output.old.report.now)
-        (outlet_both O.Outlet V.Drain output.new.outlet.now output.new.report.now) (end_pieces (O.text (O.fixed output.old.outlet.now)) ending (work_of reassembly output.old.tracker.now) rest) result }
+        (output_both O.Outlet V.Drain output.old) (output_both O.Outlet V.Drain output.new) (end_pieces (O.text (O.fixed output.old.outlet.now)) ending (work_of reassembly output.old.tracker.now) rest) result }
 {
     match ending {
         Ending::Close => match close(reassembly, rest, output) {
@@ -222,26 +199,19 @@ fn take_all<R: Source, O: Outlet, V: Drain>(
 ) -> Result<Taken, RunFault>
     requires exact { length buffer.old ≡ record_length_of reassembly.rules.layout }
     requires some { 0 < length buffer.old }
-    requires going { reassembly.failed ≡ false }
-    requires valid { IsState reassembly.rules reassembly.state }
-    ensures same_tracker { output.new.tracker.ghost_name ≡ output.old.tracker.ghost_name }
-    ensures same_outlet { output.new.outlet.ghost_name ≡ output.old.outlet.ghost_name }
-    ensures same_out { O.fixed output.new.outlet.now ≡ O.fixed output.old.outlet.now }
-    ensures same_report { output.new.report.ghost_name ≡ output.old.report.ghost_name }
+    requires going { IsGoing reassembly }
+    ensures same { fixture O.Outlet output.new ≡ fixture O.Outlet output.old }
     ensures run { IfOk result (λ taken. IsRun O.grows O.way (O.text (O.fixed output.old.outlet.now)) ending (work_of reassembly output.old.tracker.now)
         (R.left recording.old) (R.left recording.new)
-        (outlet_both O.Outlet V.Drain output.old.outlet.now output.old.report.now)
-        (outlet_both O.Outlet V.Drain output.new.outlet.now output.new.report.now) taken.records (option_map (λ k. work_of k output.new.tracker.now) taken.reassembly)) }
-    ensures going_on { IfOk result (λ taken. IfSome taken.reassembly IsGoing) }
+        (output_both O.Outlet V.Drain output.old) (output_both O.Outlet V.Drain output.new) taken.records (option_map (λ k. work_of k output.new.tracker.now) taken.reassembly)) }
+    ensures going_on { IfOk result (λ taken. IfSome taken.reassembly (λ p. IsGoing p × (p.rules ≡ reassembly.rules))) }
     ensures flushed_out { OnOk result (O.passed output.new.outlet.now) }
     ensures flushed_report { OnOk result (Keeps (V.flushed output.new.report.now) (V.written output.new.report.now)) }
     ensures stopped { IfErr result (IsStoppedAt O.grows O.way (O.text (O.fixed output.old.outlet.now)) ending (work_of reassembly output.old.tracker.now)
         (R.left recording.old) (R.left recording.new)
-        (outlet_both O.Outlet V.Drain output.old.outlet.now output.old.report.now)
-        (outlet_both O.Outlet V.Drain output.new.outlet.now output.new.report.now)) }
+        (output_both O.Outlet V.Drain output.old) (output_both O.Outlet V.Drain output.new)) }
     ensures counts { RunCounted (R.failures recording.old) (R.failures recording.new)
-        (outlet_both O.Outlet V.Drain output.old.outlet.now output.old.report.now)
-        (outlet_both O.Outlet V.Drain output.new.outlet.now output.new.report.now) result }
+        (output_both O.Outlet V.Drain output.old) (output_both O.Outlet V.Drain output.new) result }
 {
     let rest = match step_records(&mut reassembly, buffer, recording, output, ending) {
         Ok(rest) => rest,
@@ -261,11 +231,17 @@ fn take_all<R: Source, O: Outlet, V: Drain>(
     })
 }
 
-// The same, into an outlet and a report. Lines are made in this text.
+// What notes are made with: the sequence counts, and a text for the lines of an item.
+#[derive(Drop)]
+struct Noting {
+    tracker: Tracker,
+    lines: String,
+}
+
+// The same, into an outlet and a report.
 fn take_all_into<R: Source, O: Outlet, V: Drain>(
     reassembly: Reassembly,
-    tracker: &mut Tracker,
-    notes: &mut String,
+    noting: &mut Noting,
     buffer: &mut [u8],
     recording: &mut R,
     outlet: &mut O,
@@ -274,14 +250,13 @@ fn take_all_into<R: Source, O: Outlet, V: Drain>(
 ) -> Result<Taken, RunFault>
     requires exact { length buffer.old ≡ record_length_of reassembly.rules.layout }
     requires some { 0 < length buffer.old }
-    requires going { reassembly.failed ≡ false }
-    requires valid { IsState reassembly.rules reassembly.state }
-    ensures run { IfOk result (λ taken. IsRun O.grows O.way (O.text (O.fixed outlet.old)) ending (work_of reassembly tracker.old)
+    requires going { IsGoing reassembly }
+    ensures run { IfOk result (λ taken. IsRun O.grows O.way (O.text (O.fixed outlet.old)) ending (work_of reassembly noting.old.tracker)
         (R.left recording.old) (R.left recording.new)
         (outlet_both O.Outlet V.Drain outlet.old report.old)
-        (outlet_both O.Outlet V.Drain outlet.new report.new) taken.records (option_map (λ k. work_of k tracker.new) taken.reassembly)) }
-    ensures going_on { IfOk result (λ taken. IfSome taken.reassembly IsGoing) }
-    ensures stopped { IfErr result (IsStoppedAt O.grows O.way (O.text (O.fixed outlet.old)) ending (work_of reassembly tracker.old)
+        (outlet_both O.Outlet V.Drain outlet.new report.new) taken.records (option_map (λ p. work_of p noting.new.tracker) taken.reassembly)) }
+    ensures going_on { IfOk result (λ taken. IfSome taken.reassembly (λ p. IsGoing p × (p.rules ≡ reassembly.rules))) }
+    ensures stopped { IfErr result (IsStoppedAt O.grows O.way (O.text (O.fixed outlet.old)) ending (work_of reassembly noting.old.tracker)
         (R.left recording.old) (R.left recording.new)
         (outlet_both O.Outlet V.Drain outlet.old report.old)
         (outlet_both O.Outlet V.Drain outlet.new report.new)) }
@@ -292,9 +267,10 @@ fn take_all_into<R: Source, O: Outlet, V: Drain>(
     ensures flushed_out { OnOk result (O.passed outlet.new) }
     ensures flushed_report { OnOk result (Keeps (V.flushed report.new) (V.written report.new)) }
 {
+    let Noting { tracker, lines } = noting;
     let mut output = Output {
         tracker,
-        notes,
+        notes: lines,
         outlet,
         report,
     };
@@ -304,27 +280,22 @@ fn take_all_into<R: Source, O: Outlet, V: Drain>(
     }
 }
 
-/// What is kept of a run.
-#[derive(Drop)]
-pub struct Kept {
-    pub reassembly: Reassembly,
-    pub tracker: Tracker,
-}
-
 /// How a run ended.
 #[derive(Drop)]
 pub struct Ended {
     /// The number of records that are done.
     pub records: u32,
     /// What is kept, unless the recording was closed.
-    pub kept: Option<Kept>,
+    pub kept: Option<Work>,
 }
 
-// What is kept, together with the sequence counts.
-fn kept_by(taken: Taken, tracker: Tracker) -> Ended
+// What is kept, together with the sequence counts and the buffer.
+fn kept_by(taken: Taken, tracker: Tracker, buffer: Vec<u8>) -> Ended
+    requires going { IfSome taken.reassembly IsGoing }
+    requires exact { IfSome taken.reassembly (λ p. length buffer.items ≡ record_length_of p.rules.layout) }
+    requires some { 0 < length buffer.items }
     ensures records { result.records ≡ taken.records }
-    ensures kept { kept_work result.kept ≡ option_map (λ k. work_of k tracker) taken.reassembly }
-    ensures going { IfSome taken.reassembly IsGoing → IfSome result.kept (λ k. IsGoing k.reassembly) }
+    ensures kept { result.kept ≡ option_map (λ p. work_of p tracker) taken.reassembly }
 {
     let Taken {
         records,
@@ -333,9 +304,10 @@ fn kept_by(taken: Taken, tracker: Tracker) -> Ended
     match reassembly {
         Some(reassembly) => Ended {
             records,
-            kept: Some(Kept {
+            kept: Some(Work {
                 reassembly,
                 tracker,
+                buffer,
             }),
         },
         None => Ended {
@@ -345,27 +317,21 @@ fn kept_by(taken: Taken, tracker: Tracker) -> Ended
     }
 }
 
-/// Takes what the ending reads of the recording, from where the reassembly and the sequence counts have got, ends it, and flushes.
+/// Takes what the ending reads of the recording, from where the work has got, ends it, and flushes.
 pub fn run_to_end<R: Source, O: Outlet, V: Drain>(
     alloc: Global,
-    reassembly: Reassembly,
-    mut tracker: Tracker,
-    buffer: &mut [u8],
+    work: Work,
     recording: &mut R,
     outlet: &mut O,
     report: &mut V,
     ending: Ending,
 ) -> Result<Ended, RunFault>
-    requires exact { length buffer.old ≡ record_length_of reassembly.rules.layout }
-    requires some { 0 < length buffer.old }
-    requires going { reassembly.failed ≡ false }
-    requires valid { IsState reassembly.rules reassembly.state }
-    ensures run { IfOk result (λ ended. IsRun O.grows O.way (O.text (O.fixed outlet.old)) ending (work_of reassembly tracker)
+    ensures sound { IsSound work }
+    ensures run { IfOk result (λ ended. IsRun O.grows O.way (O.text (O.fixed outlet.old)) ending work
         (R.left recording.old) (R.left recording.new)
         (outlet_both O.Outlet V.Drain outlet.old report.old)
-        (outlet_both O.Outlet V.Drain outlet.new report.new) ended.records (kept_work ended.kept)) }
-    ensures going_on { IfOk result (λ ended. IfSome ended.kept (λ k. IsGoing k.reassembly)) }
-    ensures stopped { IfErr result (IsStoppedAt O.grows O.way (O.text (O.fixed outlet.old)) ending (work_of reassembly tracker)
+        (outlet_both O.Outlet V.Drain outlet.new report.new) ended.records ended.kept) }
+    ensures stopped { IfErr result (IsStoppedAt O.grows O.way (O.text (O.fixed outlet.old)) ending work
         (R.left recording.old) (R.left recording.new)
         (outlet_both O.Outlet V.Drain outlet.old report.old)
         (outlet_both O.Outlet V.Drain outlet.new report.new)) }
@@ -376,18 +342,25 @@ pub fn run_to_end<R: Source, O: Outlet, V: Drain>(
     ensures flushed_out { OnOk result (O.passed outlet.new) }
     ensures flushed_report { OnOk result (Keeps (V.flushed report.new) (V.written report.new)) }
 {
-    let mut notes = String::new(alloc);
+    let Work {
+        reassembly,
+        tracker,
+        mut buffer,
+    } = work;
+    let mut noting = Noting {
+        tracker,
+        lines: String::new(alloc),
+    };
     match take_all_into(
         reassembly,
-        &mut tracker,
-        &mut notes,
-        buffer,
+        &mut noting,
+        buffer.as_mut_slice(),
         recording,
         outlet,
         report,
         ending,
     ) {
-        Ok(taken) => Ok(kept_by(taken, tracker)),
+        Ok(taken) => Ok(kept_by(taken, noting.tracker, buffer)),
         Err(fault) => Err(fault),
     }
 }

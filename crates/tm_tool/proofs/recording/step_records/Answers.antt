@@ -1,11 +1,12 @@
 use Rattle.std.proofs.Common.{◌≡◌, ◌∷◌, [], length, take, refl, ap, subst, ◌∙◌, arith, rules, take_all, length-take-le}
 use Rattle.std.specs.Io.KnownBytes.{Consumes}
 use Rattle.tm_frame.specs.Layout.{record_length_of}
-use Rattle.tm_output.specs.Outputs.{view}
+use Rattle.tm_output.specs.Seen.{output_both}
 use Rattle.tm_tool.specs.RecordingPieces.{Work}
 use Rattle.tm_tool.specs.Runs.{GoesOn}
 use Rattle.tm_tool.specs.Stepping.{Enough, HasPassed, PassingStopped, work_of}
 use Rattle.tm_tool.proofs.Running.{records-counted, first_reached, more_reached, just_enough, passing_stopped, taken_first, taken_more, taken_stopped, taken_read, taken_all, taken_enough}
+use Rattle.tm_tool.proofs.Sinks.{same_texts}
 use Rattle.tm_tool.proofs.recording.step_records.Goals as goal
 
 pub returns-in-Err-clause-stopped : goal.returns-in-Err-clause-stopped
@@ -13,7 +14,7 @@ returns-in-Err-clause-stopped g c =
     let same = c.requires.exact in
     let stopped = subst (λ n. PassingStopped n c.args.reassembly.now.state.records (g.R.Source.left c.args.recording.now) (g.R.Source.left c.skip_records.new.recording) c.in-Err.fault) same
     (rw c.records-done.ensures at c.in-Err.ensures.stopped) in
-    passing_stopped g.O.Outlet.grows g.met.O.Outlet.grows_nil g.met.O.Outlet.grows_trans _ c.args.ending _ c.requires.valid g.O.Outlet.way _ _ _
+    passing_stopped g.O.Outlet.grows g.met.O.Outlet.grows_nil g.met.O.Outlet.grows_trans _ c.args.ending _ c.requires.going.1 g.O.Outlet.way _ _ _
     c.in-Err.fault stopped
 
 pub loop-ending-init : goal.loop-ending-init
@@ -21,18 +22,15 @@ loop-ending-init g c =
     let passed = subst (λ n. HasPassed n c.args.reassembly.now.state.records (g.R.Source.left c.args.recording.now) (g.R.Source.left c.skip_records.new.recording)) c.requires.exact
     (rw c.records-done.ensures at c.in_default.ensures.passed) in
     record {
-      named = refl;
-      outlet = refl;
-      out = refl;
-      report = refl;
+      same = refl;
       layout = refl;
-      going = (c.requires.going, c.requires.valid);
-      few = c.requires.valid.records;
+      going = c.requires.going;
+      few = c.requires.going.1.records;
       exact = omega (arith, c.requires.exact);
       reads = c.in_default.ensures.counts;
       done = c.records-done.ensures;
       reached = rw c.records-done.ensures (first_reached c.args.ending c.args.reassembly.now.state.records);
-      taken = taken_first g.O.Outlet.grows g.met.O.Outlet.grows_nil g.met.O.Outlet.grows_trans _ c.args.ending _ c.requires.valid _ _ _ passed;
+      taken = taken_first g.O.Outlet.grows g.met.O.Outlet.grows_nil g.met.O.Outlet.grows_trans _ c.args.ending _ c.requires.going.1 _ _ _ passed;
     }
 
 pub returns-then-not-wants_more-clause-stepped : goal.returns-then-not-wants_more-clause-stepped
@@ -41,7 +39,7 @@ returns-then-not-wants_more-clause-stepped g c =
     let enough : Enough c.args.ending c.args.reassembly.now.state.records c.loop-ending.reassembly.state.records =
     rw (inv.done, c.records.ensures) at (c.wants_more.ensures.enough (search rules)) in
     let reached = rw inv.done at inv.reached in
-    taken_enough g.O.Outlet.grows g.met.O.Outlet.grows_nil g.met.O.Outlet.grows_trans _ c.args.ending _ c.requires.valid _ _ _ _ _
+    taken_enough g.O.Outlet.grows g.met.O.Outlet.grows_nil g.met.O.Outlet.grows_trans _ c.args.ending _ c.requires.going.1 _ _ _ _ _
     inv.taken (just_enough c.args.ending c.args.reassembly.now.state.records c.loop-ending.reassembly.state.records reached enough)
 
 pub returns-in_default-fill-clause-stopped : goal.returns-in_default-fill-clause-stopped
@@ -50,9 +48,9 @@ returns-in_default-fill-clause-stopped g c =
     let wanted : GoesOn c.args.ending c.args.reassembly.now.state.records c.loop-ending.reassembly.state.records =
     rw (inv.done, c.records.ensures) at (c.wants_more.ensures.wanted (search rules)) in
     let (part, got, short) = c.in_default-fill.ensures.part in
-    taken_read g.O.Outlet.grows g.met.O.Outlet.grows_nil g.met.O.Outlet.grows_trans (g.O.Outlet.text (g.O.Outlet.fixed c.args.output.now.outlet.now)) c.args.ending (work_of c.args.reassembly.now c.args.output.now.tracker.now) c.requires.valid (g.R.Source.left c.args.recording.now) (g.R.Source.left c.loop-ending.recording) (g.R.Source.left c.fill.new.source) (view (g.O.Outlet.held c.args.output.now.outlet.now) (g.V.Drain.written c.args.output.now.report.now) (g.O.Outlet.failures c.args.output.now.outlet.now) (g.V.Drain.failures c.args.output.now.report.now))
-    (view (g.O.Outlet.held c.loop-ending.output.outlet.now) (g.V.Drain.written c.loop-ending.output.report.now) (g.O.Outlet.failures c.loop-ending.output.outlet.now) (g.V.Drain.failures c.loop-ending.output.report.now))
-    (view (g.O.Outlet.held c.loop-ending.output.outlet.now) (g.V.Drain.written c.loop-ending.output.report.now) (g.O.Outlet.failures c.loop-ending.output.outlet.now) (g.V.Drain.failures c.loop-ending.output.report.now)) (work_of c.loop-ending.reassembly c.loop-ending.output.tracker.now)
+    taken_read g.O.Outlet.grows g.met.O.Outlet.grows_nil g.met.O.Outlet.grows_trans (g.O.Outlet.text (g.O.Outlet.fixed c.args.output.now.outlet.now)) c.args.ending (work_of c.args.reassembly.now c.args.output.now.tracker.now) c.requires.going.1 (g.R.Source.left c.args.recording.now) (g.R.Source.left c.loop-ending.recording) (g.R.Source.left c.fill.new.source) (output_both g.O.Outlet g.V.Drain c.args.output.now)
+    (output_both g.O.Outlet g.V.Drain c.loop-ending.output)
+    (output_both g.O.Outlet g.V.Drain c.loop-ending.output) (work_of c.loop-ending.reassembly c.loop-ending.output.tracker.now)
     part inv.taken got wanted g.O.Outlet.way (omega (arith, short, inv.exact))
 
 pub returns-then-octets-buffer-clause-stepped : goal.returns-then-octets-buffer-clause-stepped
@@ -61,9 +59,9 @@ returns-then-octets-buffer-clause-stepped g c =
     let wanted : GoesOn c.args.ending c.args.reassembly.now.state.records c.loop-ending.reassembly.state.records =
     rw (inv.done, c.records.ensures) at (c.wants_more.ensures.wanted (search rules)) in
     let size : length (take c.in-Ok.octets c.fill.new.buffer) ≡ c.in-Ok.octets = length-take-le c.in-Ok.octets c.fill.new.buffer c.in-Ok.ensures.bound in
-    taken_all g.O.Outlet.grows g.met.O.Outlet.grows_nil g.met.O.Outlet.grows_trans (g.O.Outlet.text (g.O.Outlet.fixed c.args.output.now.outlet.now)) c.args.ending (work_of c.args.reassembly.now c.args.output.now.tracker.now) c.requires.valid (g.R.Source.left c.args.recording.now) (g.R.Source.left c.loop-ending.recording) (g.R.Source.left c.fill.new.source) (view (g.O.Outlet.held c.args.output.now.outlet.now) (g.V.Drain.written c.args.output.now.report.now) (g.O.Outlet.failures c.args.output.now.outlet.now) (g.V.Drain.failures c.args.output.now.report.now))
-    (view (g.O.Outlet.held c.loop-ending.output.outlet.now) (g.V.Drain.written c.loop-ending.output.report.now) (g.O.Outlet.failures c.loop-ending.output.outlet.now) (g.V.Drain.failures c.loop-ending.output.report.now))
-    (view (g.O.Outlet.held c.loop-ending.output.outlet.now) (g.V.Drain.written c.loop-ending.output.report.now) (g.O.Outlet.failures c.loop-ending.output.outlet.now) (g.V.Drain.failures c.loop-ending.output.report.now)) (work_of c.loop-ending.reassembly c.loop-ending.output.tracker.now)
+    taken_all g.O.Outlet.grows g.met.O.Outlet.grows_nil g.met.O.Outlet.grows_trans (g.O.Outlet.text (g.O.Outlet.fixed c.args.output.now.outlet.now)) c.args.ending (work_of c.args.reassembly.now c.args.output.now.tracker.now) c.requires.going.1 (g.R.Source.left c.args.recording.now) (g.R.Source.left c.loop-ending.recording) (g.R.Source.left c.fill.new.source) (output_both g.O.Outlet g.V.Drain c.args.output.now)
+    (output_both g.O.Outlet g.V.Drain c.loop-ending.output)
+    (output_both g.O.Outlet g.V.Drain c.loop-ending.output) (work_of c.loop-ending.reassembly c.loop-ending.output.tracker.now)
     (take c.in-Ok.octets c.fill.new.buffer) inv.taken c.in-Ok.ensures.octets wanted c.in-Ok.octets size (omega (arith, inv.exact)) (c.in-Ok.ensures.end (omega arith))
 
 pub returns-in-Err-step_into-clause-stopped : goal.returns-in-Err-step_into-clause-stopped
@@ -73,8 +71,8 @@ returns-in-Err-step_into-clause-stopped g c =
     rw (inv.done, c.records.ensures) at (c.wants_more.ensures.wanted (search rules)) in
     let exact : length c.fill.new.buffer ≡ record_length_of c.args.reassembly.now.rules.layout = omega (arith, inv.exact) in
     let got = subst (Consumes (g.R.Source.left c.loop-ending.recording) (g.R.Source.left c.fill.new.source)) (take_all c.in-Ok.octets c.fill.new.buffer (omega arith)) c.in-Ok.ensures.octets in
-    let stopped = rw inv.out at c.in-Err-step_into.ensures.written in
-    taken_stopped g.O.Outlet.grows g.met.O.Outlet.grows_nil g.met.O.Outlet.grows_trans _ c.args.ending _ c.requires.valid _ _ _ _ _ _ _
+    let stopped = rw (same_texts inv.same) at c.in-Err-step_into.ensures.written in
+    taken_stopped g.O.Outlet.grows g.met.O.Outlet.grows_nil g.met.O.Outlet.grows_trans _ c.args.ending _ c.requires.going.1 _ _ _ _ _ _ _
     c.fill.new.buffer inv.taken got wanted g.O.Outlet.way c.in-Err-step_into.fault exact stopped
 
 pub loop-ending-smaller : goal.loop-ending-smaller
@@ -91,12 +89,9 @@ loop-ending-preserved g c =
     let got = subst (Consumes (g.R.Source.left c.loop-ending.recording) (g.R.Source.left c.fill.new.source)) (take_all c.in-Ok.octets c.fill.new.buffer (omega arith)) c.in-Ok.ensures.octets in
     let ens = c.in_default-step_into.ensures in
     let next = ap (λ (w : Work). w.state.records) ens.work ∙ records-counted (work_of c.loop-ending.reassembly c.loop-ending.output.tracker.now) (c.fill.new.buffer ∷ []) in
-    let written = rw inv.out at ens.written in
+    let written = rw (same_texts inv.same) at ens.written in
     record {
-      named = ens.same_tracker ∙ inv.named;
-      outlet = ens.same_outlet ∙ inv.outlet;
-      out = ens.same_out ∙ inv.out;
-      report = ens.same_report ∙ inv.report;
+      same = ens.same ∙ inv.same;
       layout = ap (λ (w : Work). w.rules.layout) ens.work ∙ inv.layout;
       going = ens.going_on;
       few = omega (arith, next, ens.few);
@@ -104,6 +99,6 @@ loop-ending-preserved g c =
       reads = c.in-Ok.ensures.counts ∙ inv.reads;
       done = inv.done;
       reached = more_reached c.args.ending c.records-done.result c.loop-ending.reassembly.state.records _ wanted next;
-      taken = taken_more g.O.Outlet.grows g.met.O.Outlet.grows_nil g.met.O.Outlet.grows_trans _ c.args.ending _ c.requires.valid _ _ _ _ _ _ _
+      taken = taken_more g.O.Outlet.grows g.met.O.Outlet.grows_nil g.met.O.Outlet.grows_trans _ c.args.ending _ c.requires.going.1 _ _ _ _ _ _ _
           c.fill.new.buffer inv.taken got _ exact written ens.work;
     }

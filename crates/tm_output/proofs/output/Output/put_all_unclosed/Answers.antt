@@ -1,18 +1,16 @@
 use Rattle.std.proofs.Common.{◌++◌, ◌∷◌, [], List, drop, refl, sym, ap, subst, ◌∙◌, arith}
 use Rattle.tm_packet.specs.declared.tracker.Unclosed.{Unclosed}
 use Rattle.tm_packet.specs.Merge.{next_unclosed_of}
-use Rattle.tm_output.specs.Outputs.{Took, view}
+use Rattle.tm_output.specs.Outputs.{Took}
 use Rattle.tm_output.specs.Pieces.{Entries, unclosed_pieces}
+use Rattle.tm_output.specs.Seen.{output_both}
 use Rattle.tm_output.proofs.PieceLemmas.{took_none}
 use Rattle.tm_output.proofs.OpenGroups.{next_open, parted_first, parted_more, parted_all, unclosed_more, unclosed_stopped}
 use Rattle.tm_output.proofs.output.Output.put_all_unclosed.Goals as goal
 
 pub loop-unclosed-init : goal.loop-unclosed-init
 loop-unclosed-init g c = record {
-  named = refl;
-  outlet = refl;
-  out = refl;
-  report = refl;
+  same = refl;
   tracker = refl;
   below = omega arith;
   done = [];
@@ -33,10 +31,7 @@ loop-unclosed-preserved g c =
     let ens = c.in_default-put_unclosed.ensures in
     let is = sym (c.in-Some.ensures.value ∙ ap (λ (e : Entries). next_unclosed_of e c.loop-unclosed.at) inv.tracker) in
     record {
-      named = ens.same_tracker ∙ inv.named;
-      outlet = ens.same_outlet ∙ inv.outlet;
-      out = ens.same_out ∙ inv.out;
-      report = ens.same_report ∙ inv.report;
+      same = ens.same ∙ inv.same;
       tracker = ens.tracker ∙ inv.tracker;
       below = omega (arith, c.in-Some.ensures.below);
       done = inv.done ++ c.in-Some.unclosed ∷ [];
@@ -57,6 +52,5 @@ pub returns-clause-written : goal.returns-clause-written
 returns-clause-written g c =
     let inv = c.loop-unclosed.invariant in
     let is = sym (c.in_default.ensures.value ∙ ap (λ (e : Entries). next_unclosed_of e c.loop-unclosed.at) inv.tracker) in
-    subst (λ (us : List Unclosed). Took g.O.Outlet.grows (view (g.O.Outlet.held c.args.self.now.outlet.now) (g.V.Drain.written c.args.self.now.report.now) (g.O.Outlet.failures c.args.self.now.outlet.now) (g.V.Drain.failures c.args.self.now.report.now))
-    (view (g.O.Outlet.held c.loop-unclosed.self.outlet.now) (g.V.Drain.written c.loop-unclosed.self.report.now) (g.O.Outlet.failures c.loop-unclosed.self.outlet.now) (g.V.Drain.failures c.loop-unclosed.self.report.now)) (unclosed_pieces c.args.seen us))
+    subst (λ (us : List Unclosed). Took g.O.Outlet.grows (output_both g.O.Outlet g.V.Drain c.args.self.now) (output_both g.O.Outlet g.V.Drain c.loop-unclosed.self) (unclosed_pieces c.args.seen us))
     (parted_all c.args.self.now.tracker.now inv.done c.loop-unclosed.at inv.parted is) inv.took

@@ -3,9 +3,9 @@ use Rattle.std.proofs.lemmas.List.{take_all}
 use Rattle.tm_reassembly.specs.Steps.{Progress}
 use Rattle.tm_tool.specs.declared.version.Version.{Version}
 use Rattle.tm_tool.specs.Checkpoints.{framed, job_of}
-use Rattle.tm_tool.specs.Jobs.{JobState}
+use Rattle.tm_tool.specs.RecordingPieces.{Work}
 use Rattle.tm_tool.specs.Stepping.{work_of}
-use Rattle.tm_tool.proofs.CheckpointLemmas.{made_job, refused_around, resumed_in, resumed_behind, wanting}
+use Rattle.tm_tool.proofs.CheckpointLemmas.{refused_around, resumed_in, resumed_behind}
 use Rattle.tm_tool.proofs.job.Job.resume.Goals as goal
 
 pub returns-in-Err-clause-refused : goal.returns-in-Err-clause-refused
@@ -30,21 +30,16 @@ returns-in-Err-read_entries-clause-refused c other =
     c.in-Ok-read_state.ensures.ok all
     (c.in-Err-read_entries.ensures.refused other c.args.settings.now c.in-Ok-read_state.read.0.state)
 
-pub returns-clause-ok : goal.returns-clause-ok
-returns-clause-ok c =
+pub returns-in-Ok-new-clause-ok : goal.returns-in-Ok-new-clause-ok
+returns-in-Ok-new-clause-ok c =
     let v : Version = c.in-Ok.version in
     let around : framed c.args.settings.now c.args.octets.now ≡ Ok v = sym c.framed.ensures.value ∙ c.in-Ok.is in
     let between : List ℕ = c.inner-inner.result.now in
     let read : ℕ = c.in-Ok-read_state.read.1 in
     let rest : List ℕ = take (length between - read) (drop read between) in
     let all : rest ≡ drop read between = take_all (length between - read) (drop read between) (omega (arith, length-drop read between)) in
-    let made : JobState = record { work = work_of c.in-Ok-read_state.read.0 c.in-Ok-read_entries.tracker; fresh = false } in
-    made_job c.args.settings.now c.args.octets.now made c.with_buffer.result
-    (resumed_behind c.args.settings.now c.args.octets.now v between rest c.in-Ok-read_state.read.0.state read
+    resumed_behind c.args.settings.now c.args.octets.now v between rest c.in-Ok-read_state.read.0.state read
     (Ok (job_of c.args.settings.now c.in-Ok-read_state.read.0.state c.in-Ok-read_entries.tracker)) around c.inner-inner.ensures c.in-Ok-read_state.ensures.ok all
     (c.in-Ok-read_entries.ensures.ok c.args.settings.now c.in-Ok-read_state.read.0.state)
-    ∙ ap (λ (p : Progress). Ok (record { work = work_of p c.in-Ok-read_entries.tracker; fresh = false })) (sym c.in-Ok-read_state.ensures.same))
-    c.with_buffer.ensures.ok
-
-pub returns-clause-refused : goal.returns-clause-refused
-returns-clause-refused c = wanting c.args.settings.now c.args.octets.now c.with_buffer.result c.with_buffer.ensures.refused
+    ∙ ap (λ (p : Progress). Ok (record { work = work_of p c.in-Ok-read_entries.tracker; fresh = false })) (sym c.in-Ok-read_state.ensures.same)
+    ∙ ap (λ (w : Work). Ok (record { work = w; fresh = false })) (sym c.in-Ok-new.ensures)

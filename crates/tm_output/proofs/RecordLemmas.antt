@@ -1,10 +1,10 @@
 -- How a recording that begins with some records is cut.
-use Rattle.std.proofs.Common.{◌≡◌, ◌<◌, ◌≤◌, ℕ, suc, ◌+◌, ◌*◌, ◌/◌, ◌-◌, List, [], ◌∷◌, ◌++◌, length, take, drop, length-append, refl, sym, ap, ◌∙◌, append_assoc, arith, add-one}
-use Rattle.std.proofs.lemmas.List.{drop-drop}
+use Rattle.std.proofs.Common.{◌≡◌, ◌<◌, ◌≤◌, ℕ, zero, suc, ◌+◌, ◌*◌, ◌/◌, ◌%◌, ◌-◌, List, [], ◌∷◌, ◌++◌, length, take, drop, length-append, length-drop, length-take-le, refl, sym, ap, ◌∙◌, append_assoc, arith, add-one}
+use Rattle.std.proofs.lemmas.List.{drop-drop, take-append-drop}
 use Rattle.std.proofs.Math.Seq.{take-append_seam, drop-append_seam}
-use Rattle.std.proofs.Math.Nat.{div-eq-sub-div, div-eq_of_lt, zero-mul}
+use Rattle.std.proofs.Math.Nat.{div-eq-sub-div, div-eq_of_lt, div-mul-le_self, mod-eq-sub-div-mul, mod-lt, zero-mul}
 use Rattle.std.specs.List.{concat}
-use Rattle.tm_output.specs.Records.{AreRecords, record_count, records, rest_of}
+use Rattle.tm_output.specs.Records.{AreRecords, pieces, record_count, records, rest_of}
 
 module _ (size : ℕ) (some : 0 < size) where
   -- one record in front
@@ -64,3 +64,45 @@ module _ (size : ℕ) (rest : List ℕ) (short : length rest < size) where
   pub rest_short : rest_of size rest ≡ rest
   unfolding rest_of
   rest_short = rw (count_short, zero-mul size) refl
+
+-- ---- a recording is its records and its rest
+
+cut_whole : (size n : ℕ) (octets : List ℕ) → concat (pieces size n octets) ++ drop (n * size) octets ≡ octets
+cut_whole size zero octets = rw (zero-mul size) refl
+cut_whole size (suc n) octets =
+    let place : suc n * size ≡ size + n * size = omega arith in
+    let others : drop (suc n * size) octets ≡ drop (n * size) (drop size octets) = ap (λ (m : ℕ). drop m octets) place ∙ sym (drop-drop (n * size) size octets) in
+    append_assoc (take size octets) (concat (pieces size n (drop size octets))) (drop (suc n * size) octets)
+    ∙ ap (λ (l : List ℕ). take size octets ++ (concat (pieces size n (drop size octets)) ++ l)) others
+    ∙ ap (λ (l : List ℕ). take size octets ++ l) (cut_whole size n (drop size octets)) ∙ take-append-drop size octets
+
+cut_sized : (size n : ℕ) (octets : List ℕ) → n * size ≤ length octets → AreRecords size (pieces size n octets)
+cut_sized size zero octets fits = tt
+cut_sized size (suc n) octets fits =
+    let place : suc n * size ≡ size + n * size = omega arith in (
+      length-take-le size octets (omega (arith, fits, place)),
+      cut_sized size n (drop size octets) (omega (arith, fits, place, length-drop size octets)),
+    )
+
+cut_counted : (size n : ℕ) (octets : List ℕ) → length (pieces size n octets) ≡ n
+cut_counted size zero octets = refl
+cut_counted size (suc n) octets = omega (arith, cut_counted size n (drop size octets))
+
+module _ (size : ℕ) (some : 0 < size) (octets : List ℕ) where
+  pub records_whole : concat (records size octets) ++ rest_of size octets ≡ octets
+  unfolding records rest_of
+  records_whole = cut_whole size (record_count size octets) octets
+
+  pub records_sized : AreRecords size (records size octets)
+  unfolding records
+  records_sized = cut_sized size (record_count size octets) octets (div-mul-le_self (length octets) size)
+
+  pub records_counted : length (records size octets) ≡ record_count size octets
+  unfolding records
+  records_counted = cut_counted size (record_count size octets) octets
+
+  pub rest_small : length (rest_of size octets) < size
+  unfolding rest_of
+  rest_small =
+      let left : length octets % size ≡ length octets - record_count size octets * size = mod-eq-sub-div-mul (length octets) size in
+      omega (arith, left, mod-lt (length octets) some, length-drop (record_count size octets * size) octets)

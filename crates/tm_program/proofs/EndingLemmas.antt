@@ -5,26 +5,19 @@ use Rattle.tm_output.specs.declared.command.Ending.{Ending}
 use Rattle.tm_output.specs.Outputs.{Piece, View, Way}
 use Rattle.tm_output.specs.Pieces.{Texts}
 use Rattle.tm_tool.specs.RecordingPieces.{Work}
-use Rattle.tm_tool.specs.Runs.{HasEnded, IsHeadedRun, IsRun}
+use Rattle.tm_tool.specs.Runs.{IsEnough, Ran}
 use Rattle.tm_settings.specs.Settings.{Rules}
 use Rattle.tm_tool.specs.Jobs.{JobState, begun}
 use Rattle.tm_program.specs.Endings.{HasDone, IsDone, ending_of}
 use Rattle.tm_words.specs.declared.request.Plan.{Plan}
 
--- what was read, but for what the source tells
-untold : (ending : Ending) (w : Work) (left_old left_new : Option (List ℕ)) (read : List (List ℕ)) (rest : List ℕ) → HasEnded ending w left_old left_new read rest → HasEnded ending w None None read rest
-untold ending w left_old left_new read rest ended = ⊎_elim
-    (λ all. inl (record { octets = record { sized = all.0.octets.sized; octets = tt }; short = all.0.short; ended = tt }, all.1))
-    (λ enough. inr (record { sized = enough.0.sized; octets = tt }, enough.1, enough.2))
-    ended
+-- what was read is enough, whatever the source tells
+untold : (ending : Ending) (w : Work) (left : Option (List ℕ)) (read : List ℕ) → IsEnough ending w left read → IsEnough ending w None read
+untold ending w left read enough = (enough.0, ⊎_elim (λ all. inl (tt, all.1)) inr enough.1)
 
 module _ {A K : Type 0} (grows : K → K → List A → Type 0) (way : Way) (text : Texts A) (ending : Ending) (w : Work) (left_old left_new : Option (List ℕ)) where
-  pub run_done : (old new : View K) (records : ℕ) (kept : Option Work) → IsRun grows way text ending w left_old left_new old new records kept → IsDone ending w records kept
-  run_done old new records kept r = (r.read, r.rest, untold ending w left_old left_new r.read r.rest r.ended, r.passed, r.count_is, r.kept_is)
-
-  -- likewise, where the head of the rows was written before
-  pub headed_run_done : (old new : View K) (head : List (Piece A)) (records : ℕ) (kept : Option Work) → IsHeadedRun grows way text ending w head left_old left_new old new records kept → IsDone ending w records kept
-  headed_run_done old new head records kept r = run_done r.mid new records kept r.run
+  pub ran_done : (old new : View K) (head : List (Piece A)) (records : ℕ) (kept : Option Work) → Ran grows way text ending w head left_old left_new old new records kept → IsDone ending w records kept
+  ran_done old new head records kept r = (r.read, untold ending w left_new r.read r.enough, r.outcome.count_is, r.outcome.kept_is)
 
 -- what is done from the job that is gone on with, or else from a new one
 pub done_from : {E : Type 0} (found : Result JobState E) (p : Plan) (settings : Rules) (resumed : Option JobState) (job : JobState) (records : ℕ) (kept : Option Work)

@@ -1,8 +1,8 @@
 -- Where the run of a plan ends, and what is done then.
-use Rattle.std.specs.Prelude.{◌≡◌, ◌≤◌, ℕ, List, length, Option, Some, None}
-use Rattle.tm_tool.specs.RecordingPieces.{Work, worked}
+use Rattle.std.specs.Prelude.{◌≡◌, ◌+◌, ℕ, List, length, Option, Some, None}
+use Rattle.tm_tool.specs.RecordingPieces.{Work, chosen, further, worked}
 use Rattle.tm_tool.specs.Jobs.{JobState, begun}
-use Rattle.tm_tool.specs.Runs.{HasEnded, behind, kept_of}
+use Rattle.tm_tool.specs.Runs.{IsEnough, kept_of}
 use Rattle.tm_settings.specs.Settings.{Rules}
 use Rattle.tm_output.specs.declared.command.Ending.{Ending}
 use Rattle.tm_output.specs.declared.command.Ending.TheVariants.{Close, Keep, StopAfter}
@@ -17,11 +17,11 @@ ending_with (Some name) (Some records) = StopAfter records
 abbrev pub ending_of : Plan → Ending
 ending_of p = ending_with p.checkpoint p.stop_after
 
--- So many records are done by a run from this work, whatever its source tells: those that were done, and as many whole records
--- behind them as the ending wants, or fewer; and where the ending keeps a job it is the one after them.
+-- So many records are done by a run from this work, whatever its source tells: there are octets that the ending reads, the records that are done among
+-- them; and where the ending keeps a job it is the one after those of their records that it takes.
 abbrev pub IsDone : Ending → Work → ℕ → Option Work → Type 0
-IsDone ending w records kept = (read : List (List ℕ)) × (rest : List ℕ) × HasEnded ending w None None read rest
-    × (w.state.records ≤ length read) × (records ≡ length read) × (kept ≡ kept_of ending (worked w (behind w read)))
+IsDone ending w records kept = (read : List ℕ) × IsEnough ending w None read
+    × (records ≡ w.state.records + length (chosen ending (further w read))) × (kept ≡ kept_of ending (worked w (chosen ending (further w read))))
 
 -- the work of the job that is gone on with, or else of a new one
 abbrev pub work_from : Rules → Option JobState → Work

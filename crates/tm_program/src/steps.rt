@@ -123,7 +123,7 @@ fn ends_with<S: Read + Drop, V: Write + Drop>(
 }
 
 // Gives the packets of a recording to a drain.
-#[tactic(auto, using(crate::proofs::EndingLemmas::headed_run_done))]
+#[tactic(auto, using(crate::proofs::EndingLemmas::ran_done))]
 fn give_to<S: Source, W: Drain, V: Drain>(
     alloc: Global,
     job: Job,
@@ -185,7 +185,7 @@ fn split_end(
 }
 
 // Gives the packets of a recording to a shelf.
-#[tactic(auto, using(crate::proofs::EndingLemmas::run_done))]
+#[tactic(auto, using(crate::proofs::EndingLemmas::ran_done))]
 fn split_to<S: Source, H: Shelf, V: Drain>(
     alloc: Global,
     job: Job,

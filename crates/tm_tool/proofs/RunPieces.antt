@@ -16,11 +16,11 @@ use Rattle.tm_output.specs.Outputs.{Piece, View, AppendsCut, Took, RefusesPut, W
 use Rattle.tm_output.specs.Pieces.{Texts}
 use Rattle.tm_tool.specs.RecordingPieces.{Work, chosen, further, worked, record_pieces, end_pieces, pieces_after, pieces}
 use Rattle.tm_output.specs.Records.{AreRecords, record_count, records, rest_of}
-use Rattle.tm_tool.specs.Runs.{HasRead, HasEnded, GoesOn, Suffices, IsRun, StopsAtRead, StopsAtRecord, StopsAtEnd, IsStoppedAt, behind, kept_of}
+use Rattle.tm_tool.specs.Runs.{HasRead, HasReadAll, HasEnded, IsEnough, GoesOn, Suffices, Outcome, Ran, StopsAtRead, StopsAtRecord, StopsAtEnd, IsStoppedAt, behind, kept_of}
 use Rattle.tm_output.proofs.ListingLemmas.{AreRecords-append, concat-one}
-use Rattle.tm_output.proofs.PieceLemmas.{cut_all, cut_more, cut_none, took_stopped, stopped_more}
-use Rattle.tm_output.proofs.RecordLemmas.{records_front, rest_front, count_front, count_short, records_short, rest_short}
-use Rattle.tm_tool.specs.Stepping.{Reached}
+use Rattle.tm_output.proofs.PieceLemmas.{cut_all, cut_more, cut_none, took_took, took_stopped, stopped_more}
+use Rattle.tm_output.proofs.RecordLemmas.{records_counted, records_front, records_sized, records_whole, rest_front, rest_small, count_front, count_short, records_short, rest_short}
+use Rattle.tm_tool.specs.Stepping.{IsRun, Reached}
 use Rattle.tm_tool.proofs.Running.{IsValid, behind-more, behind-none, records-append, wanted_reached, more_reached}
 
 -- a refusal has one fault
@@ -154,17 +154,119 @@ module _ {A K : Type 0} (grows : K → K → List A → Type 0) (grows-nil : (k 
         told P (concat read ++ rest) first next (subst (λ (l : List ℕ). Consumes first next (concat read ++ l)) (sym h.1) h.0.octets)
         (λ left end. f left end h.0.sized)
 
-    pub run_told : (count : ℕ) (kept : Option Work) → IsRun grows way text ending w first next old new count kept
-        → IfSome first (λ octets. Took grows old new (pieces text ending w octets)
-        × (count ≡ w.state.records + length (chosen ending (further w octets)))
-        × (kept ≡ kept_of ending (worked w (chosen ending (further w octets)))))
-    run_told count kept h =
-        ended_told _ h.read h.rest h.ended (λ left end sized.
-        let is = chosen_is h.read h.rest first next left h.passed h.ended end sized in (
-          subst (Took grows old new) (sym (pieces_ended h.read h.rest first next left h.passed h.ended end sized)) h.took,
-          h.count_is ∙ omega (arith, ap (λ (rs : List (List ℕ)). length rs) is, size w h.read h.passed, h.passed),
-          h.kept_is ∙ ap (λ (rs : List (List ℕ)). kept_of ending (worked w rs)) (sym is),
-        ))
+    -- ---- what was read, in octets, and what was read, in records
+
+    sized_in : (read : List (List ℕ)) (rest : List ℕ) → HasEnded ending w first next read rest → AreRecords (record_length_of w.rules.layout) read
+    sized_in read rest (inl h) = h.0.octets.sized
+    sized_in read rest (inr h) = h.0.sized
+
+    octets_in : (read : List (List ℕ)) (rest : List ℕ) → HasEnded ending w first next read rest → Consumes first next (concat read ++ rest)
+    octets_in read rest (inl h) = h.0.octets.octets
+    octets_in read rest (inr h) = subst (λ (l : List ℕ). Consumes first next (concat read ++ l)) (sym h.1) h.0.octets
+
+    short_in : (read : List (List ℕ)) (rest : List ℕ) → HasEnded ending w first next read rest → length rest < record_length_of w.rules.layout
+    short_in read rest (inl h) = h.0.short
+    short_in read rest (inr h) = omega (arith, ap (λ (l : List ℕ). length l) h.1, some)
+
+    enough_in : (read : List (List ℕ)) (rest : List ℕ) → w.state.records ≤ length read → HasEnded ending w first next read rest → IsEnough ending w next (concat read ++ rest)
+    enough_in read rest passed ended =
+        let n : ℕ = record_length_of w.rules.layout in
+        let sized : AreRecords n read = sized_in read rest ended in
+        let short : length rest < n = short_in read rest ended in
+        let count : record_count n (concat read ++ rest) ≡ length read = count_front n some read rest sized ∙ omega (arith, count_short n rest short) in
+        rw count (
+          passed,
+          ⊎_elim (λ (h : HasReadAll n first next read rest × GoesOn ending w.state.records (length read)). inl (h.0.ended, h.1))
+              (λ (h : HasRead n first next read [] × (rest ≡ []) × Suffices ending w.state.records (length read)). inr (rest_front n some read rest sized ∙ rest_short n rest short ∙ h.1, h.2)) ended,
+        )
+
+    -- the pieces of the octets that were read, and the records that the ending takes of them
+    pieces_read : (read : List (List ℕ)) (rest : List ℕ) → w.state.records ≤ length read → HasEnded ending w first next read rest
+        → pieces text ending w (concat read ++ rest) ≡ pieces_after text ending w (behind w read) (length rest)
+    pieces_read read rest passed ended =
+        ap (λ (l : List ℕ). pieces text ending w l) (sym (append-nil (concat read ++ rest)))
+        ∙ pieces_ended read rest first next [] passed ended (λ end. refl) (sized_in read rest ended)
+
+    chosen_read : (read : List (List ℕ)) (rest : List ℕ) → w.state.records ≤ length read → HasEnded ending w first next read rest
+        → chosen ending (further w (concat read ++ rest)) ≡ behind w read
+    chosen_read read rest passed ended =
+        ap (λ (l : List ℕ). chosen ending (further w l)) (sym (append-nil (concat read ++ rest)))
+        ∙ chosen_is read rest first next [] passed ended (λ end. refl) (sized_in read rest ended)
+
+    -- a run in records is one in octets
+    pub ran_behind : (head : List (Piece A)) (mid : View K) (count : ℕ) (kept : Option Work) → Took grows old mid head → IsRun grows way text ending w first next mid new count kept
+        → Ran grows way text ending w head first next old new count kept
+    ran_behind head mid count kept headed h =
+        let is : chosen ending (further w (concat h.read ++ h.rest)) ≡ behind w h.read = chosen_read h.read h.rest h.passed h.ended in
+        record {
+          read = concat h.read ++ h.rest;
+          octets = octets_in h.read h.rest h.ended;
+          enough = enough_in h.read h.rest h.passed h.ended;
+          outcome = record {
+            took = took_took grows grows-nil grows-trans old mid new head (pieces text ending w (concat h.read ++ h.rest)) headed
+                (subst (Took grows mid new) (sym (pieces_read h.read h.rest h.passed h.ended)) h.took);
+            count_is = h.count_is ∙ omega (arith, ap (λ (rs : List (List ℕ)). length rs) is, size w h.read h.passed, h.passed);
+            kept_is = h.kept_is ∙ ap (λ (rs : List (List ℕ)). kept_of ending (worked w rs)) (sym is);
+          };
+        }
+
+    -- and what was read in octets was read in records
+    module _ (head : List (Piece A)) (count : ℕ) (kept : Option Work) (h : Ran grows way text ending w head first next old new count kept) where
+      abbrev its_records : List (List ℕ)
+      its_records = records (record_length_of w.rules.layout) h.read
+
+      abbrev its_rest : List ℕ
+      its_rest = rest_of (record_length_of w.rules.layout) h.read
+
+      whole : concat its_records ++ its_rest ≡ h.read
+      whole = records_whole (record_length_of w.rules.layout) some h.read
+
+      counted : length its_records ≡ record_count (record_length_of w.rules.layout) h.read
+      counted = records_counted (record_length_of w.rules.layout) some h.read
+
+      passed_by : w.state.records ≤ length its_records
+      passed_by = omega (arith, counted, h.enough.0)
+
+      its_octets : Consumes first next (concat its_records ++ its_rest)
+      its_octets = subst (Consumes first next) (sym whole) h.octets
+
+      ended_by : HasEnded ending w first next its_records its_rest
+      ended_by = ⊎_elim
+          (λ (e : IsAtEnd next × GoesOn ending w.state.records (record_count (record_length_of w.rules.layout) h.read)).
+          inl (
+            record {
+              octets = record { sized = records_sized (record_length_of w.rules.layout) some h.read; octets = its_octets };
+              short = rest_small (record_length_of w.rules.layout) some h.read;
+              ended = e.0;
+            },
+            subst (GoesOn ending w.state.records) (sym counted) e.1,
+          ))
+          (λ (e : (its_rest ≡ []) × Suffices ending w.state.records (record_count (record_length_of w.rules.layout) h.read)).
+          inr (
+            record {
+              sized = records_sized (record_length_of w.rules.layout) some h.read;
+              octets = subst (λ (l : List ℕ). Consumes first next (concat its_records ++ l)) e.0 its_octets;
+            },
+            e.0,
+            subst (Suffices ending w.state.records) (sym counted) e.1,
+          ))
+          h.enough.1
+
+      -- so it says the same of a recording that tells its octets
+      pub ran_told : IfSome first (λ octets. Outcome grows way text ending w head octets old new count kept)
+      ran_told =
+          ended_told _ its_records its_rest ended_by (λ left end sized.
+          let chosen_same : chosen ending (further w ((concat its_records ++ its_rest) ++ left)) ≡ chosen ending (further w h.read) =
+          chosen_is its_records its_rest first next left passed_by ended_by end sized ∙ sym (chosen_read its_records its_rest passed_by ended_by)
+          ∙ ap (λ (l : List ℕ). chosen ending (further w l)) whole in
+          let pieces_same : pieces text ending w ((concat its_records ++ its_rest) ++ left) ≡ pieces text ending w h.read =
+          pieces_ended its_records its_rest first next left passed_by ended_by end sized ∙ sym (pieces_read its_records its_rest passed_by ended_by)
+          ∙ ap (λ (l : List ℕ). pieces text ending w l) whole in
+          record {
+            took = subst (λ (ps : List (Piece A)). Took grows old new (head ++ ps)) (sym pieces_same) h.outcome.took;
+            count_is = h.outcome.count_is ∙ ap (λ (rs : List (List ℕ)). w.state.records + length rs) (sym chosen_same);
+            kept_is = h.outcome.kept_is ∙ ap (λ (rs : List (List ℕ)). kept_of ending (worked w rs)) (sym chosen_same);
+          })
 
     -- all of the pieces of some records were written
     whole_cut : (read : List (List ℕ)) (part : List ℕ) → HasRead (record_length_of w.rules.layout) first next read part → w.state.records ≤ length read

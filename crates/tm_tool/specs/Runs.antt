@@ -1,5 +1,5 @@
 -- What was read and written when a run ended. Of a source that doesn't tell its octets nothing is said of what was read.
-use Rattle.std.specs.Prelude.{⊤, ◌≡◌, ◌≢◌, ◌⊎◌, ◌<◌, ◌≤◌, ◌+◌, ◌-◌, ◌^◌, ℕ, List, [], ◌∷◌, ◌++◌, length, drop, Option, None, Some}
+use Rattle.std.specs.Prelude.{⊤, false, ◌≡◌, ◌≢◌, ◌⊎◌, ◌<◌, ◌≤◌, ◌+◌, ◌-◌, ◌^◌, ℕ, List, [], ◌∷◌, ◌++◌, length, drop, Option, None, Some}
 use Rattle.std.specs.List.{concat}
 use Rattle.std.specs.Io.KnownBytes.{Consumes, IsAtEnd}
 use Rattle.tm_frame.specs.Layout.{record_length_of}
@@ -7,10 +7,10 @@ use Rattle.tm_output.specs.declared.fault.RunFault.{RunFault}
 use Rattle.tm_output.specs.declared.fault.RunFault.TheVariants.{Read, Write, Report, ShortRecording, TooMany, NoMemory}
 use Rattle.tm_output.specs.declared.command.Ending.{Ending}
 use Rattle.tm_output.specs.declared.command.Ending.TheVariants.{Close, Keep, StopAfter}
-use Rattle.tm_output.specs.Outputs.{Piece, View, Took, Stopped, Way}
+use Rattle.tm_output.specs.Outputs.{AppendsCut, Piece, RefusesPut, Stopped, Took, View, WantsMemory, Way}
 use Rattle.tm_output.specs.Pieces.{Texts}
-use Rattle.tm_tool.specs.RecordingPieces.{Work, worked, record_pieces, end_pieces, pieces_after}
-use Rattle.tm_output.specs.Records.{AreRecords}
+use Rattle.tm_tool.specs.RecordingPieces.{Work, chosen, further, worked, record_pieces, end_pieces, pieces}
+use Rattle.tm_output.specs.Records.{AreRecords, record_count, rest_of}
 
 -- these records were read, and then these octets
 pub record HasRead (size : ℕ) (left_old left_new : Option (List ℕ)) (read : List (List ℕ)) (part : List ℕ) : Type 0 where
@@ -51,19 +51,16 @@ HasEnded ending w left_old left_new read rest =
     (HasReadAll (record_length_of w.rules.layout) left_old left_new read rest × GoesOn ending w.state.records (length read))
     ⊎ (HasRead (record_length_of w.rules.layout) left_old left_new read [] × (rest ≡ []) × Suffices ending w.state.records (length read))
 
+-- An ending reads the records that are done, and then either all that follows, down to the recording's end; or just as many whole records as it wants.
+abbrev pub IsEnough : Ending → Work → Option (List ℕ) → List ℕ → Type 0
+IsEnough ending w left read =
+    (w.state.records ≤ record_count (record_length_of w.rules.layout) read)
+    × ((IsAtEnd left × GoesOn ending w.state.records (record_count (record_length_of w.rules.layout) read))
+    ⊎ ((rest_of (record_length_of w.rules.layout) read ≡ []) × Suffices ending w.state.records (record_count (record_length_of w.rules.layout) read)))
+
 -- Records and what the ending has are written one after the other, from where the job has got. The recording is read from its beginning:
 -- the records that are done come first, and nothing is written of them.
 module _ {A K : Type 0} (grows : K → K → List A → Type 0) (way : Way) (text : Texts A) (ending : Ending) (w : Work) where
-  -- it was read, and all pieces were written, the ending's too
-  pub record IsRun (left_old left_new : Option (List ℕ)) (old new : View K) (count : ℕ) (kept : Option Work) : Type 0 where
-    pub read : List (List ℕ)
-    pub rest : List ℕ
-    pub passed : w.state.records ≤ length read
-    pub ended : HasEnded ending w left_old left_new read rest
-    pub count_is : count ≡ length read
-    pub kept_is : kept ≡ kept_of ending (worked w (behind w read))
-    pub took : Took grows old new (pieces_after text ending w (behind w read) (length rest))
-
   -- a read failed in a record: the pieces of every whole record before it are written
   pub record StopsAtRead (left_old left_new : Option (List ℕ)) (old new : View K) : Type 0 where
     pub read : List (List ℕ)
@@ -126,13 +123,20 @@ module _ {A K : Type 0} (grows : K → K → List A → Type 0) (way : Way) (tex
   IsStoppedAt left_old left_new old new TooMany = StopsAtTooMany left_old left_new old new
   IsStoppedAt left_old left_new old new NoMemory = StopsWriting left_old left_new old new NoMemory
 
-  -- ---- where something is written before all else
+  -- ---- a whole run, which writes this before all else
 
-  -- that was written, and then the run
-  pub record IsHeadedRun (head : List (Piece A)) (left_old left_new : Option (List ℕ)) (old new : View K) (count : ℕ) (kept : Option Work) : Type 0 where
-    pub mid : View K
-    pub headed : Took grows old mid head
-    pub run : IsRun left_old left_new mid new count kept
+  -- what a run over these octets comes to: just their pieces were written; so many records are done; and this is kept
+  pub record Outcome (head : List (Piece A)) (octets : List ℕ) (old new : View K) (count : ℕ) (kept : Option Work) : Type 0 where
+    pub took : Took grows old new (head ++ pieces text ending w octets)
+    pub count_is : count ≡ w.state.records + length (chosen ending (further w octets))
+    pub kept_is : kept ≡ kept_of ending (worked w (chosen ending (further w octets)))
+
+  -- it ran over the octets that it read, and these are what the ending reads
+  pub record Ran (head : List (Piece A)) (left_old left_new : Option (List ℕ)) (old new : View K) (count : ℕ) (kept : Option Work) : Type 0 where
+    pub read : List ℕ
+    pub octets : Consumes left_old left_new read
+    pub enough : IsEnough ending w left_new read
+    pub outcome : Outcome head read old new count kept
 
   -- writing stopped in it, and nothing was read
   pub record StopsAtHead (head : List (Piece A)) (left_old left_new : Option (List ℕ)) (old new : View K) (fault : RunFault) : Type 0 where
@@ -149,3 +153,15 @@ module _ {A K : Type 0} (grows : K → K → List A → Type 0) (way : Way) (tex
   abbrev pub IsHeadedStop : List (Piece A) → Option (List ℕ) → Option (List ℕ) → View K → View K → RunFault → Type 0
   IsHeadedStop head left_old left_new old new fault =
       StopsAtHead head left_old left_new old new fault ⊎ StopsBehindHead head left_old left_new old new fault
+
+  -- What a fault says of a recording that tells its octets: there is one place up to which its pieces were written; and each fault has its reason.
+  pub record StoppedIn (head : List (Piece A)) (old new : View K) (fault : RunFault) (octets : List ℕ) : Type 0 where
+    pub cut : AppendsCut grows old new (head ++ pieces text ending w octets)
+    -- something was to be made in memory, and nothing was written of that piece
+    pub memory : fault ≡ NoMemory → WantsMemory grows way old new (head ++ pieces text ending w octets)
+    -- some octets of that packet aren't there, and nothing of it is reported
+    pub refused : fault ≡ Write → way.flush ≡ false → RefusesPut grows old new (head ++ pieces text ending w octets)
+    -- it has more records than can be counted
+    pub too_many : fault ≡ TooMany → 2 ^ 32 - 1 < record_count (record_length_of w.rules.layout) octets
+    -- it has fewer records than are done
+    pub short : fault ≡ ShortRecording → record_count (record_length_of w.rules.layout) octets < w.state.records

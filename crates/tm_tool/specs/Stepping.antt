@@ -12,9 +12,9 @@ use Rattle.tm_output.specs.declared.command.Ending.{Ending}
 use Rattle.tm_output.specs.declared.command.Ending.TheVariants.{Close, Keep, StopAfter}
 use Rattle.tm_output.specs.Outputs.{Piece, View, Way, Took, Stopped}
 use Rattle.tm_output.specs.Pieces.{Entries, Texts}
-use Rattle.tm_tool.specs.RecordingPieces.{Work, worked, record_pieces}
+use Rattle.tm_tool.specs.RecordingPieces.{Work, worked, record_pieces, pieces_after}
 use Rattle.tm_output.specs.Records.{AreRecords}
-use Rattle.tm_tool.specs.Runs.{HasRead, HasReadAll, HasEnded, behind}
+use Rattle.tm_tool.specs.Runs.{HasRead, HasReadAll, HasEnded, behind, kept_of}
 
 -- how far a reassembly has got, together with the sequence counts
 abbrev pub work_of : Progress → Entries → Work
@@ -84,6 +84,17 @@ module _ {A K : Type 0} (grows : K → K → List A → Type 0) where
     pub left : length rest ≡ octets
     pub work : now ≡ worked w (behind w read)
     pub took : Took grows old new (record_pieces text w (behind w read))
+
+-- all that the ending reads was read, and its pieces were written, the ending's too
+pub record IsRun {A K : Type 0} (grows : K → K → List A → Type 0) (way : Way) (text : Texts A) (ending : Ending) (w : Work)
+    (left_old left_new : Option (List ℕ)) (old new : View K) (count : ℕ) (kept : Option Work) : Type 0 where
+  pub read : List (List ℕ)
+  pub rest : List ℕ
+  pub passed : w.state.records ≤ length read
+  pub ended : HasEnded ending w left_old left_new read rest
+  pub count_is : count ≡ length read
+  pub kept_is : kept ≡ kept_of ending (worked w (behind w read))
+  pub took : Took grows old new (pieces_after text ending w (behind w read) (length rest))
 
 -- the records that are done were read, and nothing else
 pub record HasPassed (size count : ℕ) (left_old left_new : Option (List ℕ)) : Type 0 where

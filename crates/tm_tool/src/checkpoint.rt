@@ -10,7 +10,6 @@ ghost use Rattle.tm_reassembly.specs.Steps.{progress_in};
 ghost use Rattle.tm_reassembly.specs.Valid.{IsState};
 ghost use Rattle.tm_tool.specs.declared.version.Version.TheVariants as version;
 ghost use Rattle.tm_tool.specs.Checkpoints.{AsksMemory, IsWork, checkpoint_of, check_holds, form_of, framed, head_octets, inner, job_of, presence_octet, resumed, says_settings, settings_octets, state_in, tells, three, with_check, with_entries, with_state};
-ghost use Rattle.tm_tool.specs.Stepping.{work_of};
 
 use crate::version::Version;
 use crate::work::Work;

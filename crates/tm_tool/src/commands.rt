@@ -1,19 +1,16 @@
 //! What each command does with a recording.
 
-ghost use Rattle.std.specs.Prelude.{◌≡◌, ◌≢◌, ◌<◌, true, false, if◌then◌else◌, [], length, IfOk, IfErr, IfSome, OnOk};
+ghost use Rattle.std.specs.Prelude.{◌≡◌, ◌≢◌, ◌<◌, [], IfOk, IfErr, OnOk};
 ghost use Rattle.std.specs.Io.KnownBytes.{Appends, Keeps};
-ghost use Rattle.tm_fields.specs.Rows.{head_of};
-ghost use Rattle.tm_frame.specs.Layout.{record_length_of};
-ghost use Rattle.tm_reassembly.specs.Valid.{IsState};
 ghost use Rattle.tm_output.specs.declared.command.Command.TheVariants.{Extract, Packets};
 ghost use Rattle.tm_output.specs.Faults.{RunCounted};
 ghost use Rattle.tm_tool.specs.Jobs.{head_pieces, head_text};
 ghost use Rattle.tm_output.specs.Outlets.{PutStopped};
 ghost use Rattle.tm_output.specs.Outputs.{lines_way};
-ghost use Rattle.tm_output.specs.Pieces.{way_of, rows_text, text_of};
-ghost use Rattle.tm_tool.specs.Runs.{IsHeadedRun, IsHeadedStop, IsRun, IsStoppedAt};
+ghost use Rattle.tm_output.specs.Pieces.{way_of, text_of};
+ghost use Rattle.tm_tool.specs.Runs.{IsStoppedAt};
 ghost use Rattle.tm_output.specs.Shelves.{Shelves, shelf_text, shelf_way};
-ghost use Rattle.tm_tool.specs.Stepping.{IsSound};
+ghost use Rattle.tm_tool.specs.Stepping.{IsRun, IsSound};
 ghost use Rattle.tm_output.specs.Seen.{both, shelf_both};
 
 use crate::recording::{Ended, run_to_end};

@@ -1,16 +1,12 @@
 //! A job: the packets of a recording, and the report of what is lost.
 
-ghost use Rattle.std.specs.Prelude.{◌≡◌, ◌+◌, ◌-◌, ◌^◌, ◌<◌, true, false, length, option_map, IfOk, IfErr, IfSome, OnOk, IsErrOf};
+ghost use Rattle.std.specs.Prelude.{[], ◌≡◌, false, option_map, IfOk, IfErr, IfSome, OnOk};
 ghost use Rattle.std.specs.Io.KnownBytes.{Appends, Keeps};
-ghost use Rattle.tm_frame.specs.Layout.{record_length_of};
-ghost use Rattle.tm_reassembly.specs.Valid.{IsState};
 ghost use Rattle.tm_output.specs.Faults.{RunCounted};
-ghost use Rattle.tm_tool.specs.Jobs.{all_pieces, begun, head_pieces};
-ghost use Rattle.tm_output.specs.Outputs.{AppendsCut, RefusesPut, Took, WantsMemory};
-ghost use Rattle.tm_tool.specs.RecordingPieces.{chosen, further, pieces, worked};
+ghost use Rattle.tm_tool.specs.Jobs.{begun, head_pieces};
 ghost use Rattle.tm_output.specs.Pieces.{way_of, text_of};
-ghost use Rattle.tm_output.specs.Records.{record_count};
-ghost use Rattle.tm_tool.specs.Runs.{IsHeadedRun, IsHeadedStop, IsRun, IsStoppedAt, kept_of};
+ghost use Rattle.tm_tool.specs.Stepping.{IsSound};
+ghost use Rattle.tm_tool.specs.Runs.{IsHeadedStop, IsStoppedAt, Ran};
 ghost use Rattle.tm_output.specs.Shelves.{Shelves, shelf_text, shelf_way};
 ghost use Rattle.tm_output.specs.Seen.{both, shelf_both};
 
@@ -122,40 +118,25 @@ pub fn run<R: Source, W: Drain, V: Drain>(
     report: &mut V,
     ending: Ending,
 ) -> Result<Done, RunFault>
-    // With Ok what the ending wants was read, and just its pieces were written, and passed on.
-    ensures all { IfOk result (λ done. IsHeadedRun Appends (way_of command.entry) (text_of command.entry) ending job.work (head_pieces command.entry job.fresh) (R.left recording.old) (R.left recording.new)
+    ensures sound { IsSound job.work }
+
+    // With Ok just the pieces of what was read were written, and passed on; and what was read is what the ending reads.
+    ensures ran { IfOk result (λ done. Ran Appends (way_of command.entry) (text_of command.entry) ending job.work (head_pieces command.entry job.fresh) (R.left recording.old) (R.left recording.new)
         (both W.Drain V.Drain out.old report.old)
         (both W.Drain V.Drain out.new report.new) done.records (option_map (λ j. j.work) done.kept)) }
-    ensures done { IfOk result (λ done. IfSome (R.left recording.old) (λ octets.
-        Took Appends (both W.Drain V.Drain out.old report.old)
-        (both W.Drain V.Drain out.new report.new) (all_pieces command.entry ending job octets)
-        × (done.records ≡ job.work.state.records + length (chosen ending (further job.work octets)))
-        × (option_map (λ j. j.work) done.kept ≡ kept_of ending (worked job.work (chosen ending (further job.work octets)))))) }
     ensures fresh { IfOk result (λ done. IfSome done.kept (λ j. j.fresh ≡ false)) }
     ensures flushed_out { OnOk result (Keeps (W.flushed out.new) (W.written out.new)) }
     ensures flushed_report { OnOk result (Keeps (V.flushed report.new) (V.written report.new)) }
+
+    // After a fault there is one place up to which pieces were written, and nothing was read past the record at a piece of which writing stopped.
+    ensures stopped { IfErr result (IsHeadedStop Appends (way_of command.entry) (text_of command.entry) ending job.work (head_pieces command.entry job.fresh) (R.left recording.old) (R.left recording.new)
+        (both W.Drain V.Drain out.old report.old)
+        (both W.Drain V.Drain out.new report.new)) }
 
     // A device is blamed only where a call of it failed.
     ensures counts { RunCounted (R.failures recording.old) (R.failures recording.new)
         (both W.Drain V.Drain out.old report.old)
         (both W.Drain V.Drain out.new report.new) result }
-
-    // After a fault there is one place up to which these pieces were written. Without memory it is a piece's end; and a text was to be made.
-    ensures cut { IfErr result (λ fault. IfSome (R.left recording.old) (λ octets.
-        AppendsCut Appends (both W.Drain V.Drain out.old report.old)
-        (both W.Drain V.Drain out.new report.new) (all_pieces command.entry ending job octets))) }
-    ensures memory { IsErrOf result RunFault.NoMemory → IfSome (R.left recording.old) (λ octets.
-        WantsMemory Appends (way_of command.entry) (both W.Drain V.Drain out.old report.old)
-        (both W.Drain V.Drain out.new report.new) (all_pieces command.entry ending job octets)) }
-    ensures too_many { IsErrOf result RunFault.TooMany → IfSome (R.left recording.old) (λ octets.
-        2 ^ 32 - 1 < record_count (record_length_of job.work.rules.layout) octets) }
-    ensures short { IsErrOf result RunFault.ShortRecording → IfSome (R.left recording.old) (λ octets.
-        record_count (record_length_of job.work.rules.layout) octets < job.work.state.records) }
-
-    // What was read by then, and written: nothing past the record at a piece of which writing stopped.
-    ensures stopped { IfErr result (IsHeadedStop Appends (way_of command.entry) (text_of command.entry) ending job.work (head_pieces command.entry job.fresh) (R.left recording.old) (R.left recording.new)
-        (both W.Drain V.Drain out.old report.old)
-        (both W.Drain V.Drain out.new report.new)) }
 {
     let Job { work, fresh } = job;
     if let Err(fault) = put_head(alloc, command, fresh, out) {
@@ -181,43 +162,24 @@ pub fn split<R: Source, H: Shelf, V: Drain>(
     report: &mut V,
     ending: Ending,
 ) -> Result<Done, RunFault>
-    // With Ok what the ending wants was read, and just its pieces were written, and passed on.
-    ensures all { IfOk result (λ done. IsRun Shelves shelf_way shelf_text ending job.work (R.left recording.old) (R.left recording.new)
+    ensures sound { IsSound job.work }
+
+    // With Ok just the pieces of what was read were written, and passed on; and what was read is what the ending reads.
+    ensures ran { IfOk result (λ done. Ran Shelves shelf_way shelf_text ending job.work [] (R.left recording.old) (R.left recording.new)
         (shelf_both H.Shelf V.Drain shelf.old report.old)
         (shelf_both H.Shelf V.Drain shelf.new report.new) done.records (option_map (λ j. j.work) done.kept)) }
-    ensures done { IfOk result (λ done. IfSome (R.left recording.old) (λ octets.
-        Took Shelves (shelf_both H.Shelf V.Drain shelf.old report.old)
-        (shelf_both H.Shelf V.Drain shelf.new report.new) (pieces shelf_text ending job.work octets)
-        × (done.records ≡ job.work.state.records + length (chosen ending (further job.work octets)))
-        × (option_map (λ j. j.work) done.kept ≡ kept_of ending (worked job.work (chosen ending (further job.work octets)))))) }
     ensures fresh { IfOk result (λ done. IfSome done.kept (λ j. j.fresh ≡ job.fresh)) }
     ensures flushed_report { OnOk result (Keeps (V.flushed report.new) (V.written report.new)) }
+
+    // After a fault there is one place up to which pieces were written, and nothing was read past the record at a piece of which writing stopped.
+    ensures stopped { IfErr result (IsStoppedAt Shelves shelf_way shelf_text ending job.work (R.left recording.old) (R.left recording.new)
+        (shelf_both H.Shelf V.Drain shelf.old report.old)
+        (shelf_both H.Shelf V.Drain shelf.new report.new)) }
 
     // A device is blamed only where a call of it failed.
     ensures counts { RunCounted (R.failures recording.old) (R.failures recording.new)
         (shelf_both H.Shelf V.Drain shelf.old report.old)
         (shelf_both H.Shelf V.Drain shelf.new report.new) result }
-
-    // After a fault there is one place up to which these pieces were written. Without memory it is a piece's end; and a text was to be made.
-    // Where a put was refused, some octets of that packet aren't there, and nothing of it is reported.
-    ensures cut { IfErr result (λ fault. IfSome (R.left recording.old) (λ octets.
-        AppendsCut Shelves (shelf_both H.Shelf V.Drain shelf.old report.old)
-        (shelf_both H.Shelf V.Drain shelf.new report.new) (pieces shelf_text ending job.work octets))) }
-    ensures memory { IsErrOf result RunFault.NoMemory → IfSome (R.left recording.old) (λ octets.
-        WantsMemory Shelves shelf_way (shelf_both H.Shelf V.Drain shelf.old report.old)
-        (shelf_both H.Shelf V.Drain shelf.new report.new) (pieces shelf_text ending job.work octets)) }
-    ensures refused { IsErrOf result RunFault.Write → IfSome (R.left recording.old) (λ octets.
-        RefusesPut Shelves (shelf_both H.Shelf V.Drain shelf.old report.old)
-        (shelf_both H.Shelf V.Drain shelf.new report.new) (pieces shelf_text ending job.work octets)) }
-    ensures too_many { IsErrOf result RunFault.TooMany → IfSome (R.left recording.old) (λ octets.
-        2 ^ 32 - 1 < record_count (record_length_of job.work.rules.layout) octets) }
-    ensures short { IsErrOf result RunFault.ShortRecording → IfSome (R.left recording.old) (λ octets.
-        record_count (record_length_of job.work.rules.layout) octets < job.work.state.records) }
-
-    // What was read by then, and written: nothing past the record at a piece of which writing stopped.
-    ensures stopped { IfErr result (IsStoppedAt Shelves shelf_way shelf_text ending job.work (R.left recording.old) (R.left recording.new)
-        (shelf_both H.Shelf V.Drain shelf.old report.old)
-        (shelf_both H.Shelf V.Drain shelf.new report.new)) }
 {
     let Job { work, fresh } = job;
     match run_split(alloc, work, recording, shelf, report, ending) {

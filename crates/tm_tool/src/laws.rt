@@ -1,6 +1,7 @@
 //! Laws of the definitions. These functions make no calls: their contracts are the laws.
 
-ghost use Rattle.std.specs.Prelude.{◌≡◌, ◌<◌, ◌≤◌, ◌+◌, ◌*◌, ◌^◌, ℕ, true, false, Ok, List, [], ◌++◌, length};
+ghost use Rattle.std.specs.Io.KnownBytes.{Appends};
+ghost use Rattle.std.specs.Prelude.{◌≡◌, ◌<◌, ◌≤◌, ◌+◌, ◌*◌, ◌^◌, ℕ, true, false, Ok, List, [], ◌++◌, length, Option, IfSome};
 ghost use Rattle.tm_bits.specs.Bits.{AreOctets};
 ghost use Rattle.tm_frame.specs.Layout.{record_length_of};
 ghost use Rattle.tm_rules.specs.Rules.{IsLimit, Rules};
@@ -15,11 +16,15 @@ ghost use Rattle.tm_tool.specs.declared.version.Version.TheVariants as version;
 ghost use Rattle.tm_tool.specs.Jobs.{JobState, begun, head_pieces};
 ghost use Rattle.tm_tool.specs.NotesInAll.{pieces_with, sent_among};
 ghost use Rattle.tm_tool.specs.OlderVersions.{LacksGapLine};
-ghost use Rattle.tm_output.specs.Pieces.{Texts, noted_all, text_of};
+ghost use Rattle.tm_output.specs.declared.fault.RunFault.{RunFault};
+ghost use Rattle.tm_output.specs.Outputs.{View};
+ghost use Rattle.tm_output.specs.Pieces.{Texts, noted_all, text_of, way_of};
 ghost use Rattle.tm_tool.specs.RecordingPieces.{Work, items_of, pieces, record_pieces, worked};
 ghost use Rattle.tm_output.specs.Records.{records};
 ghost use Rattle.tm_tool.specs.Resuming.{Follows, Stop, done_in_all, in_one, no_head, resumed_pieces, run_pieces, then_pieces};
-ghost use Rattle.tm_output.specs.Shelves.{Shelved, shelf_text};
+ghost use Rattle.tm_output.specs.Shelves.{Shelved, Shelves, shelf_text, shelf_way};
+ghost use Rattle.tm_tool.specs.Runs.{IsHeadedStop, IsStoppedAt, Outcome, Ran, StoppedIn};
+ghost use Rattle.tm_tool.specs.Stepping.{IsSound};
 
 /// Checkpoints: what is written is read again, with the same settings, as the same work, and the job isn't fresh. So it is for the older
 /// versions, as far as they can tell the settings, but that the last master channel count is lost. And octets that are read are the
@@ -40,6 +45,26 @@ pub fn checkpoints()
         spelled_in u a ++ rest ≡ spelled_in v b → (u ≡ v) × (kept_in u a ≡ kept_in v b) × (rest ≡ []) }
     ensures bound { (w : Work) → IsWork w → length (checkpoint_of w) ≤ 98374 + 8 * w.rules.max_packet }
     ensures most { (w : Work) → IsWork w → length (checkpoint_of w) ≤ 622710 }
+{}
+
+/// Recordings that tell their octets: what `run` and `split` say of the octets that were read holds of the whole recording. With `Ok` just its pieces
+/// were written, down to the ending. After a fault there is one place up to which they were written. `NoMemory` comes only where something was to
+/// be made in memory; a refused put leaves some octets of its packet out; there are more records than can be counted, or fewer than are done.
+pub fn whole_recordings()
+    ensures ran { (command : Command) (ending : Ending) (job : JobState) (left_old left_new : Option (List ℕ)) (old new : View (Option (List ℕ)))
+        (count : ℕ) (kept : Option Work) → IsSound job.work →
+        Ran Appends (way_of command) (text_of command) ending job.work (head_pieces command job.fresh) left_old left_new old new count kept →
+        IfSome left_old (λ octets. Outcome Appends (way_of command) (text_of command) ending job.work (head_pieces command job.fresh) octets old new count kept) }
+    ensures stopped { (command : Command) (ending : Ending) (job : JobState) (left_old left_new : Option (List ℕ)) (old new : View (Option (List ℕ)))
+        (fault : RunFault) → IsSound job.work →
+        IsHeadedStop Appends (way_of command) (text_of command) ending job.work (head_pieces command job.fresh) left_old left_new old new fault →
+        IfSome left_old (StoppedIn Appends (way_of command) (text_of command) ending job.work (head_pieces command job.fresh) old new fault) }
+    ensures split_ran { (ending : Ending) (w : Work) (left_old left_new : Option (List ℕ)) (old new : View (Option (ℕ → List ℕ)))
+        (count : ℕ) (kept : Option Work) → IsSound w → Ran Shelves shelf_way shelf_text ending w [] left_old left_new old new count kept →
+        IfSome left_old (λ octets. Outcome Shelves shelf_way shelf_text ending w [] octets old new count kept) }
+    ensures split_stopped { (ending : Ending) (w : Work) (left_old left_new : Option (List ℕ)) (old new : View (Option (ℕ → List ℕ)))
+        (fault : RunFault) → IsSound w → IsStoppedAt Shelves shelf_way shelf_text ending w left_old left_new old new fault →
+        IfSome left_old (StoppedIn Shelves shelf_way shelf_text ending w [] old new fault) }
 {}
 
 /// Joining: the pieces of records and more records are those of the first, and then those of the others from the work that the first leave;

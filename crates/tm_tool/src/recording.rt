@@ -1,17 +1,16 @@
 //! A recording, record by record, into the outputs.
 
-ghost use Rattle.std.specs.Prelude.{◌≡◌, ◌<◌, ◌-◌, ◌^◌, ◌∷◌, [], true, false, length, option_map, IfOk, IfErr, IfSome, OnOk};
+ghost use Rattle.std.specs.Prelude.{◌≡◌, ◌<◌, ◌-◌, ◌∷◌, [], true, false, length, option_map, IfOk, IfErr, IfSome, OnOk};
 ghost use Rattle.std.specs.Io.KnownBytes.{Keeps};
 ghost use Rattle.tm_frame.specs.Layout.{record_length_of};
 ghost use Rattle.tm_reassembly.specs.Items.{closing};
 ghost use Rattle.tm_reassembly.specs.Steps.{most_records};
-ghost use Rattle.tm_reassembly.specs.Valid.{IsState};
 ghost use Rattle.tm_output.specs.Faults.{RunCounted};
-ghost use Rattle.tm_output.specs.Outputs.{SameCounts, Written};
+ghost use Rattle.tm_output.specs.Outputs.{Written};
 ghost use Rattle.tm_tool.specs.RecordingPieces.{closing_pieces, end_pieces, record_pieces, worked};
 ghost use Rattle.tm_output.specs.Pieces.{noted_all, pieces_of};
-ghost use Rattle.tm_tool.specs.Runs.{GoesOn, IsRun, IsStoppedAt, kept_of};
-ghost use Rattle.tm_tool.specs.Stepping.{Enough, HasPassed, IsGoing, IsSound, HasStepped, PassCounted, PassingStopped, StepWritten, work_of};
+ghost use Rattle.tm_tool.specs.Runs.{GoesOn, IsStoppedAt, kept_of};
+ghost use Rattle.tm_tool.specs.Stepping.{IsRun, Enough, HasPassed, IsGoing, IsSound, HasStepped, PassCounted, PassingStopped, StepWritten, work_of};
 ghost use Rattle.tm_output.specs.Seen.{fixture, outlet_both, output_both};
 
 use crate::work::Work;

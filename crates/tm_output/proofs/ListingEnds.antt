@@ -1,7 +1,7 @@
 -- How a listing ended, in the words of the whole recording.
 use Rattle.std.proofs.Common.{◌≡◌, ◌<◌, ◌+◌, ◌-◌, ◌^◌, ◌==◌, ℕ, Bool, true, false, List, [], ◌∷◌, ◌++◌, length, refl, sym, ap, subst, ◌∙◌, append_assoc, append-nil, length-append, arith, Option, None, Some, IfSome, inl, inr}
 use Rattle.std.specs.List.{concat}
-use Rattle.std.specs.Io.KnownBytes.{Appends, Consumes, IsAtEnd, Keeps}
+use Rattle.std.specs.Io.KnownBytes.{Appends, Consumes, IsAtEnd}
 use Rattle.std.proofs.KnownBytes.{Appends-nil, Appends-kept}
 use Rattle.tm_frame.specs.declared.layout.LayoutParts.{LayoutParts}
 use Rattle.tm_frame.specs.Layout.{record_length_of}
@@ -10,7 +10,7 @@ use Rattle.tm_output.specs.declared.fault.RunFault.TheVariants.{Read, Write, Rep
 use Rattle.tm_output.specs.Cuts.{AppendsCut, AppendsWhole}
 use Rattle.tm_output.specs.Lines.{short_line}
 use Rattle.tm_output.specs.Records.{AreRecords, record_count, records, rest_of}
-use Rattle.tm_output.specs.Listing.{record_line, record_lines, rest_lines, lines_of, listing, StopsWriting, IsListed, IsStopped}
+use Rattle.tm_output.specs.Listing.{record_line, record_lines, rest_lines, lines_of, listing, StopsWriting, HasListed, IsListed, IsStopped, ListingStopped}
 use Rattle.tm_output.proofs.CutLemmas.{cut_whole, cut_within}
 use Rattle.tm_output.proofs.ListingLemmas.{AreRecords-append, concat-one, record_lines-append}
 use Rattle.tm_output.proofs.RecordLemmas.{count_front, count_short, records_front, records_short, rest_front, rest_short}
@@ -74,16 +74,23 @@ module _ (layout : LayoutParts) (some : 0 < record_length_of layout) where
       )
 
   module _ (first next old new : Option (List ℕ)) where
-    -- with all listed, the text is that of the recording
-    pub listed_text : (n : ℕ) → IsListed layout first next old new n
-        → IfSome first (λ recording. Appends old new (concat (listing layout recording)) × (n ≡ record_count (record_length_of layout) recording))
-    listed_text n h =
+    -- what was listed in records was listed in octets
+    pub listed_octets : (n : ℕ) → HasListed layout first next old new n → IsListed layout first next old new n
+    listed_octets n h =
         let (read, rest, ((sized, consumed), short, end), count, written) = h in
         let m : ℕ = record_length_of layout in
-        let number : n ≡ record_count (record_length_of layout) (concat read ++ rest) =
-        count ∙ sym (count_front m some read rest sized ∙ ap (λ (k : ℕ). length read + k) (count_short m rest short) ∙ omega arith) in
-        told_all _ (concat read ++ rest) first next consumed end
-        (subst (λ (l : List (List ℕ)). Appends old new (concat l)) (sym (listing_all read rest sized short)) written, number)
+        record {
+          read = concat read ++ rest;
+          octets = consumed;
+          ended = end;
+          written = subst (λ (l : List (List ℕ)). Appends old new (concat l)) (sym (listing_all read rest sized short)) written;
+          count_is = count ∙ sym (count_front m some read rest sized ∙ ap (λ (k : ℕ). length read + k) (count_short m rest short) ∙ omega arith);
+        }
+
+    -- these are all octets of a source that tells them
+    pub listed_text : (n : ℕ) → IsListed layout first next old new n
+        → IfSome first (λ recording. Appends old new (concat (listing layout recording)) × (n ≡ record_count (record_length_of layout) recording))
+    listed_text n h = told_all _ h.read first next h.octets h.ended (h.written, h.count_is)
 
     -- the lines of some records were written whole
     whole_front : (read : List (List ℕ)) (part : List ℕ) → AreRecords (record_length_of layout) read → Consumes first next (concat read ++ part)
@@ -169,8 +176,12 @@ module _ (layout : LayoutParts) (some : 0 < record_length_of layout) where
         ∙ count_front n some longer left (AreRecords-append n read (one ∷ []) sized (exact, tt)) in
         omega (arith, all, length-append read (one ∷ [])))
 
--- nothing was written
-pub cut_first : (layout : LayoutParts) (first old new : Option (List ℕ)) → Keeps old new → IfSome first (λ recording. AppendsCut old new (listing layout recording))
-cut_first layout None old new h = tt
-cut_first layout (Some recording) old new h =
-    ([], cut_whole (listing layout recording) [] (listing layout recording) refl, Appends-kept old old new [] (Appends-nil old) h)
+-- what a fault says of a recording that tells its octets
+pub stop_told : (layout : LayoutParts) → 0 < record_length_of layout → (first next old new : Option (List ℕ)) (fault : RunFault) → IsStopped layout first next old new fault
+    → IfSome first (ListingStopped layout old new fault)
+stop_told layout some None next old new fault h = tt
+stop_told layout some (Some octets) next old new fault h = record {
+  cut = stopped_cut layout some (Some octets) next old new fault h;
+  memory = λ e. stopped_whole layout some (Some octets) next old new (subst (IsStopped layout (Some octets) next old new) e h);
+  too_many = λ e. stopped_many layout some (Some octets) next old new (subst (IsStopped layout (Some octets) next old new) e h);
+}

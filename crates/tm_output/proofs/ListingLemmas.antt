@@ -14,7 +14,7 @@ use Rattle.tm_output.specs.Lines.{bad_line, frame_line, short_line}
 use Rattle.tm_output.specs.declared.fault.RunFault.{RunFault}
 use Rattle.tm_output.specs.declared.fault.RunFault.TheVariants.{Read, Write, Report, ShortRecording, TooMany, NoMemory}
 use Rattle.tm_output.specs.Records.{AreRecords}
-use Rattle.tm_output.specs.Listing.{reading_line, record_line, record_lines, rest_lines, lines_of, StopsIn, LineStopped, IsListed, IsStopped}
+use Rattle.tm_output.specs.Listing.{reading_line, record_line, record_lines, rest_lines, lines_of, StopsIn, LineStopped, HasListed, IsStopped}
 
 pub concat-append : (xs ys : List (List ℕ)) → concat (xs ++ ys) ≡ concat xs ++ concat ys
 concat-append [] ys = refl
@@ -123,7 +123,7 @@ module _ (layout : LayoutParts) where
 
     module _ (short : length octets < record_length_of layout) (end : IsAtEnd next) where
       -- all was read, and the line of the rest written
-      pub stands_end : Appends now new (concat (rest_lines seen (length octets))) → IsListed layout first next old new seen
+      pub stands_end : Appends now new (concat (rest_lines seen (length octets))) → HasListed layout first next old new seen
       stands_end line =
           let (read, sized, consumed, count, written) = stands in
           let text : concat (record_lines layout 0 read) ++ concat (rest_lines seen (length octets)) ≡ concat (lines_of layout read (length octets)) =

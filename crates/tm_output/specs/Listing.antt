@@ -9,8 +9,9 @@ use Rattle.tm_frame.specs.Frame.{GoodFrame}
 use Rattle.tm_frame.specs.Layout.{record_length_of}
 use Rattle.tm_output.specs.declared.fault.RunFault.{RunFault}
 use Rattle.tm_output.specs.declared.fault.RunFault.TheVariants.{Read, Write, Report, ShortRecording, TooMany, NoMemory}
+use Rattle.tm_output.specs.Cuts.{AppendsCut, AppendsWhole}
 use Rattle.tm_output.specs.Lines.{bad_line, frame_line, short_line}
-use Rattle.tm_output.specs.Records.{AreRecords, records, rest_of}
+use Rattle.tm_output.specs.Records.{AreRecords, record_count, records, rest_of}
 
 -- the line of a record, by what it reads as
 abbrev pub reading_line : ℕ → Result GoodFrame FrameFault → List ℕ
@@ -55,11 +56,13 @@ module _ (layout : LayoutParts) (left_old left_new out_old out_new : Option (Lis
   abbrev pub HasReadAll : List (List ℕ) → List ℕ → Type 0
   HasReadAll read rest = HasRead read rest × (length rest < record_length_of layout) × IsAtEnd left_new
 
-  -- all was read, and all lines written
-  abbrev pub IsListed : ℕ → Type 0
-  IsListed count =
-      (read : List (List ℕ)) × (rest : List ℕ) × HasReadAll read rest × (count ≡ length read)
-      × Appends out_old out_new (concat (lines_of layout read (length rest)))
+  -- all was read, these octets; just their lines were written; and so many are their records
+  pub record IsListed (count : ℕ) : Type 0 where
+    pub read : List ℕ
+    pub octets : Consumes left_old left_new read
+    pub ended : IsAtEnd left_new
+    pub written : Appends out_old out_new (concat (listing layout read))
+    pub count_is : count ≡ record_count (record_length_of layout) read
 
   -- after the lines of these records, writing stopped in a text: within it, or before it where there was no memory for it
   abbrev pub StopsIn : List (List ℕ) → List ℕ → RunFault → Type 0
@@ -87,3 +90,18 @@ module _ (layout : LayoutParts) (left_old left_new out_old out_new : Option (Lis
       (read : List (List ℕ)) × (one : List ℕ) × HasRead read one × (length one ≡ record_length_of layout)
       × (length read ≡ 2 ^ 32 - 1) × Appends out_old out_new (concat (record_lines layout 0 read))
   IsStopped NoMemory = StopsWriting NoMemory ⊎ (Keeps left_old left_new × Keeps out_old out_new)
+
+-- What a fault says of a recording that tells its octets: there is one place up to which its lines were written, without memory a line's end; and it has more
+-- records than can be counted.
+pub record ListingStopped (layout : LayoutParts) (out_old out_new : Option (List ℕ)) (fault : RunFault) (octets : List ℕ) : Type 0 where
+  pub cut : AppendsCut out_old out_new (listing layout octets)
+  pub memory : fault ≡ NoMemory → AppendsWhole out_old out_new (listing layout octets)
+  pub too_many : fault ≡ TooMany → 2 ^ 32 - 1 < record_count (record_length_of layout) octets
+
+-- ---- a step of the code: for a private contract
+
+-- these records were read, and a rest of them; and their lines were written
+abbrev pub HasListed : LayoutParts → Option (List ℕ) → Option (List ℕ) → Option (List ℕ) → Option (List ℕ) → ℕ → Type 0
+HasListed layout left_old left_new out_old out_new count =
+    (read : List (List ℕ)) × (rest : List ℕ) × HasReadAll layout left_old left_new out_old out_new read rest × (count ≡ length read)
+    × Appends out_old out_new (concat (lines_of layout read (length rest)))

@@ -1,13 +1,11 @@
 //! A line for each frame of a recording.
 
-ghost use Rattle.std.specs.Prelude.{◌≡◌, ◌<◌, ◌-◌, ◌^◌, ◌++◌, length, IfOk, IfErr, OnOk, IfSome, IsErrOf, string_bytes};
+ghost use Rattle.std.specs.Prelude.{◌≡◌, ◌<◌, ◌++◌, length, IfOk, IfErr, OnOk, string_bytes};
 ghost use Rattle.std.specs.List.{concat};
 ghost use Rattle.std.specs.Io.KnownBytes.{Appends, Keeps};
 ghost use Rattle.tm_frame.specs.Layout.{record_length_of};
-ghost use Rattle.tm_output.specs.Cuts.{AppendsCut, AppendsWhole};
 ghost use Rattle.tm_output.specs.Faults.{FaultsCounted, WritesCounted};
-ghost use Rattle.tm_output.specs.Listing.{IsListed, IsStopped, LineStopped, listing, record_line, rest_lines};
-ghost use Rattle.tm_output.specs.Records.{record_count};
+ghost use Rattle.tm_output.specs.Listing.{HasListed, IsListed, IsStopped, LineStopped, record_line, rest_lines};
 
 use crate::RunFault;
 use crate::lines::{push_bad, push_frame, push_short};
@@ -83,7 +81,7 @@ fn list_records<R: Source, W: Drain>(
 ) -> Result<u32, RunFault>
     requires exact { length buffer.old ≡ record_length_of layout.now }
     requires some { 0 < length buffer.old }
-    ensures listed { IfOk result (IsListed layout.now (R.left recording.old) (R.left recording.new) (W.written out.old) (W.written out.new)) }
+    ensures listed { IfOk result (HasListed layout.now (R.left recording.old) (R.left recording.new) (W.written out.old) (W.written out.new)) }
     ensures flushed { OnOk result (Keeps (W.flushed out.new) (W.written out.new)) }
     ensures stopped { IfErr result (IsStopped layout.now (R.left recording.old) (R.left recording.new) (W.written out.old) (W.written out.new)) }
     ensures counts { FaultsCounted (R.failures recording.old) (R.failures recording.new) (W.failures out.old) (W.failures out.new) result }
@@ -114,23 +112,12 @@ pub fn list_frames<R: Source, W: Drain>(
     recording: &mut R,
     out: &mut W,
 ) -> Result<u32, RunFault>
-    // With Ok all was read, and just the lines of the recording were written, and passed on.
-    ensures all { IfOk result (IsListed settings.now.layout (R.left recording.old) (R.left recording.new) (W.written out.old) (W.written out.new)) }
-    ensures listed { IfOk result (λ count. IfSome (R.left recording.old) (λ all.
-        Appends (W.written out.old) (W.written out.new) (concat (listing settings.now.layout all))
-        × (count ≡ record_count (record_length_of settings.now.layout) all))) }
+    // With Ok all was read, and just the lines of what was read were written, and passed on.
+    ensures listed { IfOk result (IsListed settings.now.layout (R.left recording.old) (R.left recording.new) (W.written out.old) (W.written out.new)) }
     ensures flushed { OnOk result (Keeps (W.flushed out.new) (W.written out.new)) }
 
-    // After a fault there is one place up to which these lines were written; without memory it is a line's end.
-    ensures cut { IfErr result (λ _. IfSome (R.left recording.old) (λ all.
-        AppendsCut (W.written out.old) (W.written out.new) (listing settings.now.layout all))) }
-    ensures memory { IsErrOf result RunFault.NoMemory → IfSome (R.left recording.old) (λ all.
-        AppendsWhole (W.written out.old) (W.written out.new) (listing settings.now.layout all)) }
-
-    // What was read by then: nothing past the record whose line was being written.
+    // After a fault there is one place up to which lines were written, and nothing was read past the record whose line was being written.
     ensures stopped { IfErr result (IsStopped settings.now.layout (R.left recording.old) (R.left recording.new) (W.written out.old) (W.written out.new)) }
-    ensures too_many { IsErrOf result RunFault.TooMany → IfSome (R.left recording.old) (λ all.
-        2 ^ 32 - 1 < record_count (record_length_of settings.now.layout) all) }
 
     // A device is blamed only where a call of it failed.
     ensures counts { FaultsCounted (R.failures recording.old) (R.failures recording.new) (W.failures out.old) (W.failures out.new) result }

@@ -70,10 +70,17 @@ impl Job {
             Err(fault) => return Err(fault),
         };
         match Work::new(alloc, reassembly, tracker) {
-            Ok(work) => Ok(Job { work, fresh: false }),
+            Ok(work) => Ok(begun_with(work)),
             Err(_) => Err(CheckpointFault::NoMemory),
         }
     }
+}
+
+// A job that goes on with this work, so that it isn't fresh.
+fn begun_with(work: Work) -> Job
+    ensures { result ≡ record { work = work; fresh = false } }
+{
+    Job { work, fresh: false }
 }
 
 impl Work {

@@ -3,6 +3,7 @@ use Rattle.std.proofs.lemmas.List.{take_all}
 use Rattle.tm_reassembly.specs.Steps.{Progress}
 use Rattle.tm_tool.specs.declared.version.Version.{Version}
 use Rattle.tm_tool.specs.Checkpoints.{framed, job_of}
+use Rattle.tm_tool.specs.Jobs.{JobState}
 use Rattle.tm_tool.specs.RecordingPieces.{Work}
 use Rattle.tm_tool.specs.Stepping.{work_of}
 use Rattle.tm_tool.proofs.CheckpointLemmas.{refused_around, resumed_in, resumed_behind}
@@ -43,3 +44,4 @@ returns-in-Ok-new-clause-ok c =
     (c.in-Ok-read_entries.ensures.ok c.args.settings.now c.in-Ok-read_state.read.0.state)
     ∙ ap (λ (p : Progress). Ok (record { work = work_of p c.in-Ok-read_entries.tracker; fresh = false })) (sym c.in-Ok-read_state.ensures.same)
     ∙ ap (λ (w : Work). Ok (record { work = w; fresh = false })) (sym c.in-Ok-new.ensures)
+    ∙ ap (λ (j : JobState). Ok j) (sym c.begun_with.ensures)

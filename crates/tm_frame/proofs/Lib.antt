@@ -1,5 +1,7 @@
 pub mod Division
 pub mod Linear
+pub mod Fold
+pub mod FoldWords
 pub mod Entries
 pub mod Tables
 pub mod HeaderLemmas

@@ -44,3 +44,12 @@ remainder_from register bits =
 -- the remainder of an octet with `behind` zero octets and 16 zero bits behind it
 unfoldable pub entry_of : ℕ → ℕ → ℕ
 entry_of behind octet = remainder_from 0 (bits_of (octet ∷ replicate behind 0))
+
+-- the bits of words of 64 bits, the most significant bit of each word first
+unfoldable pub bits_of_words : List ℕ → List Bool
+bits_of_words [] = []
+bits_of_words (w ∷ ws) = low_bits 64 w ++ bits_of_words ws
+
+-- the remainder of words and 16 zero bits
+abbrev pub words_remainder : List ℕ → ℕ
+words_remainder words = remainder_from 0 (bits_of_words words)

@@ -1,17 +1,35 @@
--- Folding: modulo the generator x^1024 is x^768 + x^320 + 1, so bits may be taken away where they are subtracted at three later places.
-use Rattle.std.proofs.Common.{◌≡◌, ℕ, ◌+◌, Bool, true, false, List, [], ◌∷◌, ◌++◌, length, refl, sym, ap, ◌∙◌, arith, length-append}
+-- Folding: bits may be taken away where they are subtracted at three later places.
+use Rattle.std.proofs.Common.{◌≡◌, ℕ, ◌+◌, ◌*◌, Bool, true, false, List, [], ◌∷◌, ◌++◌, length, refl, sym, ap, ◌∙◌, arith, length-append, append_assoc}
 use Rattle.std.specs.Prelude.{replicate, bit_xor}
-use Rattle.std.specs.Int.Bits.{xor_assoc, xor_self, xor_zero_l, xor_zero_r}
+use Rattle.std.specs.Int.Bits.{xor_assoc}
 use Rattle.std.proofs.lemmas.Nat.{xor_comm}
-use Rattle.std.proofs.lemmas.List.{length-replicate}
+use Rattle.std.proofs.lemmas.List.{length-replicate, replicate-append-replicate}
 use Rattle.tm_bits.specs.Bits.{low_bits, number}
-use Rattle.tm_frame.specs.ErrorControl.{subtract, long_division, remainder_from}
+use Rattle.tm_frame.specs.ErrorControl.{subtract, long_division}
+use Rattle.tm_frame.specs.Folding.{Folds, remainder_from, shifted}
 use Rattle.tm_frame.proofs.Division.{subtract-zeros, remainder_from-append}
-use Rattle.tm_frame.proofs.Linear.{subtract-append, zeros-subtract_n, remainder_from-subtract, remainder_from-zeros}
+use Rattle.tm_frame.proofs.Linear.{subtract-append, zeros-subtract_n, remainder_from-xor, remainder_from-zeros}
 
--- the remainder of bits with n zeros behind them
-abbrev pub shifted : ℕ → List Bool → ℕ
-shifted n xs = remainder_from 0 (xs ++ replicate n false)
+-- ---- the widths
+
+-- computed: a single 1 is divided
+pub folds_64 : Folds 64
+unfolding remainder_from number long_division subtract low_bits
+folds_64 = record { sum = refl }
+
+pub folds_32 : Folds 32
+unfolding remainder_from number long_division subtract low_bits
+folds_32 = record { sum = refl }
+
+pub folds_16 : Folds 16
+unfolding remainder_from number long_division subtract low_bits
+folds_16 = record { sum = refl }
+
+-- ---- remainders apart
+
+-- zeros in front are passed over
+pub zeros-passed : (n : ℕ) (ys : List Bool) → remainder_from 0 (replicate n false ++ ys) ≡ remainder_from 0 ys
+zeros-passed n ys = remainder_from-append 0 (replicate n false) ys ∙ ap (λ r. remainder_from r ys) (remainder_from-zeros n)
 
 -- bits in front apart from those behind
 pub remainder-apart : (xs ys : List Bool) → remainder_from 0 (xs ++ ys) ≡ bit_xor (shifted (length ys) xs) (remainder_from 0 ys)
@@ -26,110 +44,52 @@ remainder-apart xs ys =
     subtract-append xs z zeros ys (sym width_zeros)
     ∙ ap (λ l. l ++ subtract z ys) (subtract-zeros (length xs) xs)
     ∙ ap (λ l. xs ++ l) (zeros-subtract_n (length ys) ys refl) in
-    let passed : remainder_from 0 (zeros ++ ys) ≡ remainder_from 0 ys =
-    remainder_from-append 0 zeros ys ∙ ap (λ n. remainder_from n ys) (remainder_from-zeros (length xs)) in
     ap (remainder_from 0) (sym apart)
-    ∙ remainder_from-subtract (xs ++ z) (zeros ++ ys) same
-    ∙ ap (bit_xor (shifted (length ys) xs)) passed
+    ∙ remainder_from-xor 0 0 (xs ++ z) (zeros ++ ys) same
+    ∙ ap (bit_xor (shifted (length ys) xs)) (zeros-passed (length xs) ys)
 
--- zeros in front are passed over
-zeros-passed : (n : ℕ) (ys : List Bool) → remainder_from 0 (replicate n false ++ ys) ≡ remainder_from 0 ys
-zeros-passed n ys = remainder_from-append 0 (replicate n false) ys ∙ ap (λ r. remainder_from r ys) (remainder_from-zeros n)
+-- more zeros behind
+shifted-add : (m n : ℕ) (xs : List Bool) → shifted (m + n) xs ≡ remainder_from (shifted n xs) (replicate m false)
+shifted-add m n xs =
+    let turned_round : m + n ≡ n + m = omega arith in
+    let zeros : replicate (m + n) false ≡ replicate n false ++ replicate m false =
+    ap (λ k. replicate k false) turned_round ∙ sym (replicate-append-replicate n m false) in
+    ap (λ z. remainder_from 0 (xs ++ z)) zeros
+    ∙ ap (remainder_from 0) (sym (append_assoc xs (replicate n false) (replicate m false)))
+    ∙ remainder_from-append 0 (xs ++ replicate n false) (replicate m false)
 
--- shifted bits are subtracted as the bits are
-pub shifted-subtract : (n : ℕ) (xs ys : List Bool) → length xs ≡ length ys → shifted n (subtract xs ys) ≡ bit_xor (shifted n xs) (shifted n ys)
-shifted-subtract n xs ys same =
-    let z : List Bool = replicate n false in
-    let padded : subtract xs ys ++ z ≡ subtract (xs ++ z) (ys ++ z) =
-    sym (subtract-append xs z ys z same ∙ ap (λ l. subtract xs ys ++ l) (subtract-zeros n z)) in
-    ap (remainder_from 0) padded
-    ∙ remainder_from-subtract (xs ++ z) (ys ++ z) (length-append xs z ∙ omega arith ∙ sym (length-append ys z))
+-- two registers with zeros behind them
+zeros-xor : (m a b : ℕ) → remainder_from (bit_xor a b) (replicate m false) ≡ bit_xor (remainder_from a (replicate m false)) (remainder_from b (replicate m false))
+zeros-xor m a b =
+    ap (remainder_from (bit_xor a b)) (sym (subtract-zeros m (replicate m false)))
+    ∙ remainder_from-xor a b (replicate m false) (replicate m false) refl
 
 -- ---- the law, for one bit
 
-one : List Bool
-one = true ∷ []
-
--- x^1024 + x^768 + x^320 + 1, as its 1025 bits
-power : List Bool
-power = one ++ (replicate 255 false ++ (one ++ (replicate 447 false ++ (one ++ (replicate 319 false ++ one)))))
-
-power-divides : remainder_from 0 power ≡ 0
-unfolding remainder_from number long_division subtract low_bits one power
-power-divides = refl
-
--- so are its bits with m zeros behind them
-power-shifted : (m : ℕ) → shifted m power ≡ 0
-power-shifted m =
-    remainder_from-append 0 power (replicate m false)
-    ∙ ap (λ r. remainder_from r (replicate m false)) power-divides
-    ∙ remainder_from-zeros m
-
-shifted-is : (n : ℕ) (xs : List Bool) → shifted n xs ≡ remainder_from 0 (xs ++ replicate n false)
-shifted-is n xs = refl
-
--- a 1, then n zeros, then what is behind
-one_apart : (n k : ℕ) (ys : List Bool) → length ys ≡ k
-    → remainder_from 0 (one ++ (replicate n false ++ ys)) ≡ bit_xor (shifted (n + k) one) (remainder_from 0 ys)
-one_apart n k ys width =
-    let behind : length (replicate n false ++ ys) ≡ n + k =
-    length-append (replicate n false) ys ∙ omega (arith, length-replicate n false) in
-    remainder-apart one (replicate n false ++ ys)
-    ∙ ap (λ j. bit_xor (shifted j one) (remainder_from 0 (replicate n false ++ ys))) behind
-    ∙ ap (bit_xor (shifted (n + k) one)) (zeros-passed n ys)
-
-length-one_then : (n k : ℕ) (ys : List Bool) → length ys ≡ k → length (one ++ (replicate n false ++ ys)) ≡ n + k + 1
-unfolding one
-length-one_then n k ys width =
-    let behind : length (replicate n false ++ ys) ≡ n + k =
-    length-append (replicate n false) ys ∙ omega (arith, length-replicate n false) in
-    omega (arith, behind)
-
-length-one_zeros : (m : ℕ) → length (one ++ replicate m false) ≡ m + 1
-unfolding one
-length-one_zeros m = let w = length-replicate m false in omega (arith, w)
-
-xor_moved : (a b : ℕ) → bit_xor a b ≡ 0 → a ≡ b
-xor_moved a b h =
-    sym (xor_zero_r a) ∙ ap (bit_xor a) (sym (xor_self b)) ∙ sym (xor_assoc a b b) ∙ ap (λ n. bit_xor n b) h ∙ xor_zero_l b
-
-power-parts : (m : ℕ)
-    → power ++ replicate m false
-    ≡ one ++ (replicate 255 false ++ (one ++ (replicate 447 false ++ (one ++ (replicate 319 false ++ (one ++ replicate m false))))))
-unfolding one power
-power-parts m = refl
-
-one-folds : (m : ℕ) → shifted (m + 1024) one ≡ bit_xor (shifted (m + 768) one) (bit_xor (shifted (m + 320) one) (shifted m one))
-one-folds m =
-    let d : List Bool = one ++ replicate m false in
-    let c : List Bool = one ++ (replicate 319 false ++ d) in
-    let b : List Bool = one ++ (replicate 447 false ++ c) in
-    let width_d : length d ≡ m + 1 = length-one_zeros m in
-    let width_c : length c ≡ m + 321 = length-one_then 319 (m + 1) d width_d ∙ omega arith in
-    let width_b : length b ≡ m + 769 = length-one_then 447 (m + 321) c width_c ∙ omega arith in
-    let e1 : 255 + (m + 769) ≡ m + 1024 = omega arith in
-    let e2 : 447 + (m + 321) ≡ m + 768 = omega arith in
-    let e3 : 319 + (m + 1) ≡ m + 320 = omega arith in
-    let all : bit_xor (shifted (m + 1024) one) (bit_xor (shifted (m + 768) one) (bit_xor (shifted (m + 320) one) (shifted m one))) ≡ 0 =
-    sym (
-    sym (power-shifted m)
-    ∙ ap (remainder_from 0) (power-parts m)
-    ∙ one_apart 255 (m + 769) b width_b
-    ∙ ap (λ j. bit_xor (shifted j one) (remainder_from 0 b)) e1
-    ∙ ap (bit_xor (shifted (m + 1024) one)) (one_apart 447 (m + 321) c width_c)
-    ∙ ap (λ j. bit_xor (shifted (m + 1024) one) (bit_xor (shifted j one) (remainder_from 0 c))) e2
-    ∙ ap (λ r. bit_xor (shifted (m + 1024) one) (bit_xor (shifted (m + 768) one) r)) (one_apart 319 (m + 1) d width_d)
-    ∙ ap (λ j. bit_xor (shifted (m + 1024) one) (bit_xor (shifted (m + 768) one) (bit_xor (shifted j one) (remainder_from 0 d)))) e3
-    ) in
-    xor_moved _ _ all
-
--- ---- the law, for any bits
-
--- a remainder is that of three others
+-- a is the sum of three others
 abbrev Sum : ℕ → ℕ → ℕ → ℕ → Type 0
 Sum a b c d = a ≡ bit_xor b (bit_xor c d)
 
-xor_exchange : (a b c d : ℕ) → bit_xor (bit_xor a b) (bit_xor c d) ≡ bit_xor (bit_xor a c) (bit_xor b d)
+one-folds : (width m : ℕ) → Folds width
+    → Sum (shifted (m + 16 * width) (true ∷ [])) (shifted (m + 12 * width) (true ∷ [])) (shifted (m + 5 * width) (true ∷ [])) (shifted m (true ∷ []))
+one-folds width m folds =
+    let z : List Bool = replicate m false in
+    let one : List Bool = true ∷ [] in
+    let a : ℕ = shifted (12 * width) one in
+    let b : ℕ = shifted (5 * width) one in
+    let c : ℕ = shifted 0 one in
+    let none : m + 0 ≡ m = omega arith in
+    shifted-add m (16 * width) one
+    ∙ ap (λ r. remainder_from r z) folds.sum
+    ∙ zeros-xor m a (bit_xor b c)
+    ∙ ap (bit_xor (remainder_from a z)) (zeros-xor m b c)
+    ∙ ap (λ n. bit_xor n (bit_xor (remainder_from b z) (remainder_from c z))) (sym (shifted-add m (12 * width) one))
+    ∙ ap (λ n. bit_xor (shifted (m + 12 * width) one) (bit_xor n (remainder_from c z))) (sym (shifted-add m (5 * width) one))
+    ∙ ap (λ n. bit_xor (shifted (m + 12 * width) one) (bit_xor (shifted (m + 5 * width) one) n)) (sym (shifted-add m 0 one) ∙ ap (λ k. shifted k one) none)
+
+-- ---- the law, for any bits
+
+pub xor_exchange : (a b c d : ℕ) → bit_xor (bit_xor a b) (bit_xor c d) ≡ bit_xor (bit_xor a c) (bit_xor b d)
 xor_exchange a b c d =
     xor_assoc a b (bit_xor c d)
     ∙ ap (bit_xor a) (sym (xor_assoc b c d) ∙ ap (λ n. bit_xor n d) (xor_comm b c) ∙ xor_assoc c b d)
@@ -142,38 +102,41 @@ sums-join a b c d p q r s x y =
     ∙ xor_exchange b (bit_xor c d) q (bit_xor r s)
     ∙ ap (bit_xor (bit_xor b q)) (xor_exchange c d r s)
 
--- a first bit of 0 gives nothing
+-- a bit of 0 gives nothing
 shifted-false : (n : ℕ) → shifted n (false ∷ []) ≡ 0
 shifted-false n = zeros-passed 1 (replicate n false) ∙ remainder_from-zeros n
 
-shifted-nil : (n : ℕ) → shifted n [] ≡ 0
-shifted-nil n = remainder_from-zeros n
-
-bit-folds : (b : Bool) (m : ℕ)
-    → Sum (shifted (m + 1024) (b ∷ [])) (shifted (m + 768) (b ∷ [])) (shifted (m + 320) (b ∷ [])) (shifted m (b ∷ []))
-unfolding one
-bit-folds true m = one-folds m
-bit-folds false m = rw (shifted-false (m + 1024), shifted-false (m + 768), shifted-false (m + 320), shifted-false m) refl
+bit-folds : (width m : ℕ) (b : Bool) → Folds width
+    → Sum (shifted (m + 16 * width) (b ∷ [])) (shifted (m + 12 * width) (b ∷ [])) (shifted (m + 5 * width) (b ∷ [])) (shifted m (b ∷ []))
+bit-folds width m true folds = one-folds width m folds
+bit-folds width m false folds =
+    rw (shifted-false (m + 16 * width), shifted-false (m + 12 * width), shifted-false (m + 5 * width), shifted-false m) refl
 
 -- the first bit apart
-shifted-cons : (n : ℕ) (b : Bool) (xs : List Bool) → shifted n (b ∷ xs) ≡ bit_xor (shifted (length xs + n) (b ∷ [])) (shifted n xs)
+pub shifted-cons : (n : ℕ) (b : Bool) (xs : List Bool) → shifted n (b ∷ xs) ≡ bit_xor (shifted (length xs + n) (b ∷ [])) (shifted n xs)
 shifted-cons n b xs =
     remainder-apart (b ∷ []) (xs ++ replicate n false)
     ∙ ap (λ j. bit_xor (shifted j (b ∷ [])) (shifted n xs)) (length-append xs (replicate n false) ∙ ap (λ j. length xs + j) (length-replicate n false))
 
--- x^1024 is x^768 + x^320 + 1: bits with 1024 zeros and more behind them
-pub bits-fold : (m : ℕ) (xs : List Bool) → Sum (shifted (m + 1024) xs) (shifted (m + 768) xs) (shifted (m + 320) xs) (shifted m xs)
-bits-fold m [] = rw (shifted-nil (m + 1024), shifted-nil (m + 768), shifted-nil (m + 320), shifted-nil m) refl
-bits-fold m (b ∷ xs) =
-    let k : ℕ = length xs in
-    let e1 : k + m + 1024 ≡ k + (m + 1024) = omega arith in
-    let e2 : k + m + 768 ≡ k + (m + 768) = omega arith in
-    let e3 : k + m + 320 ≡ k + (m + 320) = omega arith in
-    let first : Sum (shifted (k + (m + 1024)) (b ∷ [])) (shifted (k + (m + 768)) (b ∷ [])) (shifted (k + (m + 320)) (b ∷ [])) (shifted (k + m) (b ∷ [])) =
-    rw (sym e1, sym e2, sym e3) (bit-folds b (k + m)) in
-    shifted-cons (m + 1024) b xs
-    ∙ sums-join (shifted (k + (m + 1024)) (b ∷ [])) (shifted (k + (m + 768)) (b ∷ [])) (shifted (k + (m + 320)) (b ∷ [])) (shifted (k + m) (b ∷ []))
-    (shifted (m + 1024) xs) (shifted (m + 768) xs) (shifted (m + 320) xs) (shifted m xs) first (bits-fold m xs)
-    ∙ ap (λ n. bit_xor n (bit_xor (bit_xor (shifted (k + (m + 320)) (b ∷ [])) (shifted (m + 320) xs)) (bit_xor (shifted (k + m) (b ∷ [])) (shifted m xs)))) (sym (shifted-cons (m + 768) b xs))
-    ∙ ap (λ n. bit_xor (shifted (m + 768) (b ∷ xs)) (bit_xor n (bit_xor (shifted (k + m) (b ∷ [])) (shifted m xs)))) (sym (shifted-cons (m + 320) b xs))
-    ∙ ap (λ n. bit_xor (shifted (m + 768) (b ∷ xs)) (bit_xor (shifted (m + 320) (b ∷ xs)) n)) (sym (shifted-cons m b xs))
+-- the same with a number added to the zeros behind
+cons-behind : (m k : ℕ) (b : Bool) (xs : List Bool) → shifted (m + k) (b ∷ xs) ≡ bit_xor (shifted (length xs + m + k) (b ∷ [])) (shifted (m + k) xs)
+cons-behind m k b xs =
+    let e : length xs + (m + k) ≡ length xs + m + k = omega arith in
+    shifted-cons (m + k) b xs ∙ ap (λ j. bit_xor (shifted j (b ∷ [])) (shifted (m + k) xs)) e
+
+-- bits may be taken away where they are subtracted 4, 11 and 16 times `width` bits further on
+pub bits-fold : (width m : ℕ) (xs : List Bool) → Folds width
+    → Sum (shifted (m + 16 * width) xs) (shifted (m + 12 * width) xs) (shifted (m + 5 * width) xs) (shifted m xs)
+bits-fold width m [] folds =
+    rw (remainder_from-zeros (m + 16 * width), remainder_from-zeros (m + 12 * width), remainder_from-zeros (m + 5 * width), remainder_from-zeros m) refl
+bits-fold width m (b ∷ xs) folds =
+    let bit : ℕ → ℕ = λ k. shifted (length xs + m + k) (b ∷ []) in
+    let rest : ℕ → ℕ = λ k. shifted (m + k) xs in
+    let joined : Sum (bit_xor (bit (16 * width)) (rest (16 * width))) (bit_xor (bit (12 * width)) (rest (12 * width))) (bit_xor (bit (5 * width)) (rest (5 * width))) (bit_xor (shifted (length xs + m) (b ∷ [])) (shifted m xs)) =
+    sums-join (bit (16 * width)) (bit (12 * width)) (bit (5 * width)) (shifted (length xs + m) (b ∷ [])) (rest (16 * width)) (rest (12 * width)) (rest (5 * width)) (shifted m xs)
+    (bit-folds width (length xs + m) b folds) (bits-fold width m xs folds) in
+    cons-behind m (16 * width) b xs
+    ∙ joined
+    ∙ ap (λ n. bit_xor n (bit_xor (bit_xor (bit (5 * width)) (rest (5 * width))) (bit_xor (shifted (length xs + m) (b ∷ [])) (shifted m xs)))) (sym (cons-behind m (12 * width) b xs))
+    ∙ ap (λ n. bit_xor (shifted (m + 12 * width) (b ∷ xs)) (bit_xor n (bit_xor (shifted (length xs + m) (b ∷ [])) (shifted m xs)))) (sym (cons-behind m (5 * width) b xs))
+    ∙ ap (λ n. bit_xor (shifted (m + 12 * width) (b ∷ xs)) (bit_xor (shifted (m + 5 * width) (b ∷ xs)) n)) (sym (shifted-cons m b xs))

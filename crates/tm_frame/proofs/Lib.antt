@@ -2,8 +2,7 @@ pub mod Division
 pub mod Linear
 pub mod Fold
 pub mod FoldWords
-pub mod Entries
-pub mod Tables
+pub mod Words
 pub mod HeaderLemmas
 pub mod FaultLemmas
 pub mod Examples

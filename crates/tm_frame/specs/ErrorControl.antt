@@ -35,21 +35,3 @@ invert_first n xs = map not (take n xs) ++ drop n xs
 unfoldable pub error_control_of : List ℕ → ℕ
 error_control_of octets =
     number (long_division (8 * length octets) (invert_first 16 (bits_of octets ++ replicate 16 false)))
-
--- what division leaves of the bits and 16 zero bits, where the 16 bits of `register` are first subtracted from the front
-unfoldable pub remainder_from : ℕ → List Bool → ℕ
-remainder_from register bits =
-    number (long_division (length bits) (subtract (bits ++ replicate 16 false) (low_bits 16 register)))
-
--- the remainder of an octet with `behind` zero octets and 16 zero bits behind it
-unfoldable pub entry_of : ℕ → ℕ → ℕ
-entry_of behind octet = remainder_from 0 (bits_of (octet ∷ replicate behind 0))
-
--- the bits of words of 64 bits, the most significant bit of each word first
-unfoldable pub bits_of_words : List ℕ → List Bool
-bits_of_words [] = []
-bits_of_words (w ∷ ws) = low_bits 64 w ++ bits_of_words ws
-
--- the remainder of words and 16 zero bits
-abbrev pub words_remainder : List ℕ → ℕ
-words_remainder words = remainder_from 0 (bits_of_words words)

@@ -1,10 +1,10 @@
 -- Long division, bit by bit: what is left of it is a register of 16 bits.
-use Rattle.std.proofs.Common.{◌≡◌, ℕ, zero, suc, ◌+◌, ◌*◌, ◌^◌, ◌<◌, ◌≤◌, Bool, true, false, cond, List, [], ◌∷◌, ◌++◌, length, take, drop, refl, sym, ap, ◌∙◌, subst, arith, length-append, get_or}
+use Rattle.std.proofs.Common.{◌≡◌, ℕ, zero, suc, ◌+◌, ◌*◌, ◌^◌, ◌<◌, ◌≤◌, Bool, true, false, cond, List, [], ◌∷◌, ◌++◌, length, take, drop, refl, sym, ap, ◌∙◌, arith, length-append}
 use Rattle.std.specs.Prelude.{replicate, bit_xor}
 use Rattle.std.proofs.lemmas.Nat.{xor_block}
-use Rattle.std.proofs.lemmas.List.{take_more, take_all, take-append-drop}
+use Rattle.std.proofs.lemmas.List.{take-append-drop}
 use Rattle.tm_bits.specs.Bits.{low_bits, bits_of, digit, number}
-use Rattle.tm_bits.proofs.BitLemmas.{length-low_bits, number-low_bits, number-lt, low_bits-number, length-bits_of, bits_of-append, bits_of-one}
+use Rattle.tm_bits.proofs.BitLemmas.{length-low_bits, number-low_bits, number-lt, low_bits-number, length-bits_of, bits_of-append}
 use Rattle.tm_frame.specs.ErrorControl.{differ, generator, subtract, long_division, invert_first, error_control_of}
 use Rattle.tm_frame.specs.Folding.{remainder_from}
 

@@ -1,7 +1,7 @@
 -- A word of 64 bits divided by shifts.
 use Rattle.std.proofs.Common.{◌≡◌, ℕ, zero, suc, ◌+◌, ◌*◌, ◌/◌, ◌%◌, ◌^◌, ◌<◌, ◌≤◌, Bool, true, false, List, [], ◌∷◌, ◌++◌, length, ◌==◌, inl, inr, refl, sym, ap, ◌∙◌, arith, append_assoc, append-nil}
-use Rattle.std.specs.Prelude.{◌&&◌, replicate, bit_xor}
-use Rattle.std.proofs.lemmas.Nat.{xor_shr, xor_mod, xor_block, xor_lt, shl-shr, pow_pos}
+use Rattle.std.specs.Prelude.{◌&&◌, replicate, bit_and, bit_xor}
+use Rattle.std.proofs.lemmas.Nat.{and_mask, xor_shr, xor_mod, xor_block, xor_lt, shl-shr, pow_pos}
 use Rattle.std.specs.Int.Bits.{xor_zero_l, xor_zero_r}
 use Rattle.std.proofs.lemmas.Bool.{and_parts, eqb-true, cases_lt}
 use Rattle.tm_bits.specs.Bits.{low_bits, number, digit}
@@ -28,7 +28,7 @@ first n = bit_xor n (bit_xor (bit_xor (n / 2 ^ 4) (n / 2 ^ 11)) (n / 2 ^ 16))
 
 -- the lowest 16 bits of the generator times the number
 abbrev pub multiplied : ℕ → ℕ
-multiplied n = bit_xor (bit_xor (n % 2 ^ 16) (n % 2 ^ 16 * 2 ^ 5 % 2 ^ 16)) (n % 2 ^ 16 * 2 ^ 12 % 2 ^ 16)
+multiplied n = bit_xor (bit_xor (bit_and n 65535) (bit_and n 65535 * 2 ^ 5 % 2 ^ 16)) (bit_and n 65535 * 2 ^ 12 % 2 ^ 16)
 
 abbrev pub divided : ℕ → ℕ
 divided n = multiplied (first (second (third (fourth n))))
@@ -52,8 +52,14 @@ same_linear = record { joins = λ a b. refl }
 shr_linear : (k : ℕ) → IsLinear (λ n. n / 2 ^ k)
 shr_linear k = record { joins = λ a b. xor_shr a b k }
 
-mod_linear : (k : ℕ) → IsLinear (λ n. n % 2 ^ k)
-mod_linear k = record { joins = λ a b. xor_mod a b k }
+low_linear : IsLinear (λ n. bit_and n 65535)
+low_linear = record {
+  joins = λ a b.
+      and_mask (bit_xor a b) 16
+      ∙ xor_mod a b 16
+      ∙ ap (λ n. bit_xor n (b % 2 ^ 16)) (sym (and_mask a 16))
+      ∙ ap (bit_xor (bit_and a 65535)) (sym (and_mask b 16));
+}
 
 shl_linear : (k : ℕ) → IsLinear (λ n. n * 2 ^ k % 2 ^ 16)
 shl_linear k = record {
@@ -80,13 +86,13 @@ three_linear i j k =
     sum_linear (λ n. n) (λ n. bit_xor (bit_xor (n / 2 ^ i) (n / 2 ^ j)) (n / 2 ^ k)) same_linear
     (sum_linear (λ n. bit_xor (n / 2 ^ i) (n / 2 ^ j)) (λ n. n / 2 ^ k) (sum_linear (λ n. n / 2 ^ i) (λ n. n / 2 ^ j) (shr_linear i) (shr_linear j)) (shr_linear k))
 
-moved_linear : (k : ℕ) → IsLinear (λ n. n % 2 ^ 16 * 2 ^ k % 2 ^ 16)
-moved_linear k = after_linear (λ n. n * 2 ^ k % 2 ^ 16) (λ n. n % 2 ^ 16) (shl_linear k) (mod_linear 16)
+moved_linear : (k : ℕ) → IsLinear (λ n. bit_and n 65535 * 2 ^ k % 2 ^ 16)
+moved_linear k = after_linear (λ n. n * 2 ^ k % 2 ^ 16) (λ n. bit_and n 65535) (shl_linear k) low_linear
 
 multiplied_linear : IsLinear multiplied
 multiplied_linear =
-    sum_linear (λ n. bit_xor (n % 2 ^ 16) (n % 2 ^ 16 * 2 ^ 5 % 2 ^ 16)) (λ n. n % 2 ^ 16 * 2 ^ 12 % 2 ^ 16)
-    (sum_linear (λ n. n % 2 ^ 16) (λ n. n % 2 ^ 16 * 2 ^ 5 % 2 ^ 16) (mod_linear 16) (moved_linear 5)) (moved_linear 12)
+    sum_linear (λ n. bit_xor (bit_and n 65535) (bit_and n 65535 * 2 ^ 5 % 2 ^ 16)) (λ n. bit_and n 65535 * 2 ^ 12 % 2 ^ 16)
+    (sum_linear (λ n. bit_and n 65535) (λ n. bit_and n 65535 * 2 ^ 5 % 2 ^ 16) low_linear (moved_linear 5)) (moved_linear 12)
 
 divided_linear : IsLinear divided
 divided_linear =

@@ -1,6 +1,6 @@
 -- The frame error control field (CCSDS 132.0-B-3, 4.1.6): the remainder of a long division over lists of bits.
 use Rattle.std.specs.Prelude.{ℕ, zero, suc, ◌*◌, Bool, true, false, not, cond, List, [], ◌∷◌, ◌++◌, length, map, take, drop, replicate}
-use Rattle.tm_bits.specs.Bits.{bits_of, number, low_bits}
+use Rattle.tm_bits.specs.Bits.{bits_of, number}
 
 -- x^16 + x^12 + x^5 + 1, as its 17 bits
 abbrev pub generator : List Bool

@@ -1,5 +1,5 @@
 -- Folding, by which error control is computed. No public contract speaks of it.
-use Rattle.std.specs.Prelude.{ℕ, ◌+◌, ◌*◌, Bool, true, false, List, [], ◌∷◌, ◌++◌, ◌≡◌, length, replicate, bit_xor}
+use Rattle.std.specs.Prelude.{ℕ, ◌*◌, Bool, true, false, List, [], ◌∷◌, ◌++◌, ◌≡◌, length, replicate, bit_xor}
 use Rattle.tm_bits.specs.Bits.{low_bits, number}
 use Rattle.tm_frame.specs.ErrorControl.{long_division, subtract}
 

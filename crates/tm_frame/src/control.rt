@@ -155,6 +155,7 @@ fn shift_words(words: &[u64]) -> u16
 // The register after a word. The quotient by the generator is the word times the generator's powers 8, 4, 2
 // and 1: with the generator itself these make its power 16, which is a 1 and then 63 zeros or more.
 #[inline(always)]
+#[tactic(auto, using(crate::proofs::Words::word_divided))]
 fn shift_word(register: u16, word: u64) -> u16
     ensures { result ≡ remainder_from register (low_bits 64 word) }
 {

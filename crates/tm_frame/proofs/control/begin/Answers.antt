@@ -1,4 +1,4 @@
-use Rattle.std.proofs.Common.{ℕ, List, [], ◌≡◌, ◌≤◌, ◌∷◌, ◌-◌, ◌++◌, length, drop, ap, ◌∙◌, arith, length-drop}
+use Rattle.std.proofs.Common.{ℕ, List, ◌≡◌, ◌≤◌, ◌∷◌, ◌-◌, ◌++◌, length, drop, ap, ◌∙◌, arith, length-drop}
 use Rattle.std.specs.Prelude.{replicate}
 use Rattle.std.proofs.lemmas.List.{take_all, take-replicate}
 use Rattle.tm_bits.specs.Bits.{bits_of}

@@ -5,7 +5,7 @@ use Rattle.std.specs.Int.Bits.{xor_assoc}
 use Rattle.std.proofs.lemmas.Nat.{xor_comm, shl-shr, shr-shr}
 use Rattle.std.proofs.Math.Seq.{take-add}
 use Rattle.byteorder.specs.Endian.{big_number}
-use Rattle.std.proofs.lemmas.List.{length-set, take_more, take_all, take_more_set, length-take-le, length-replicate, replicate-append-replicate}
+use Rattle.std.proofs.lemmas.List.{length-set, take_more, take_all, take_more_set, take-replicate, length-take-le, length-replicate, replicate-append-replicate}
 use Rattle.tm_bits.specs.Bits.{low_bits, bits_of, number, AreOctets}
 use Rattle.tm_bits.proofs.BitLemmas.{length-low_bits, low_bits-number, low_bits-cat, low_bits-split, length-bits_of, bits_of-append}
 use Rattle.tm_bits.proofs.PartLemmas.{octets_behind}
@@ -247,3 +247,24 @@ first_octets n octets =
     ap (remainder_from 0) (bits_of-append (replicate n 0) behind ∙ ap (λ l. l ++ bits_of behind) (zero_octets n))
     ∙ zeros-passed (8 * n) (bits_of behind)
     ∙ preset_octets octets
+
+-- the words that are held first: all but one of those that zeros, the two octets and the first octets fill
+pub begun : (held folded filled front preset back first : List ℕ) → held ≡ take 16 (drop 1 folded)
+    → words_remainder (drop (length filled - 16) folded) ≡ words_remainder filled
+    → bits_of_words filled ≡ bits_of (front ++ (preset ++ back))
+    → front ≡ take (134 - length first) (replicate 136 0) → preset ≡ 0x84 ∷ 0xCF ∷ [] → back ≡ first
+    → length filled ≡ 17 → length folded ≡ length filled
+    → words_remainder held ≡ remainder_from 65535 (bits_of first)
+begun held folded filled front preset back first is_held same spelled zeros two all seventeen as_long =
+    let n : ℕ = 134 - length first in
+    let octets : front ++ (preset ++ back) ≡ replicate n 0 ++ 0x84 ∷ 0xCF ∷ first =
+    ap (λ l. l ++ (preset ++ back)) (zeros ∙ take-replicate n 136 0 (omega arith))
+    ∙ ap (λ l. replicate n 0 ++ (l ++ back)) two
+    ∙ ap (λ l. replicate n 0 ++ 0x84 ∷ 0xCF ∷ l) all in
+    let sixteen : length (drop 1 folded) ≤ 16 = omega (arith, length-drop 1 folded, as_long, seventeen) in
+    let one : 1 ≡ length filled - 16 = omega (arith, seventeen) in
+    ap words_remainder (is_held ∙ take_all 16 (drop 1 folded) sixteen)
+    ∙ ap (λ k. words_remainder (drop k folded)) one
+    ∙ same
+    ∙ ap (remainder_from 0) (spelled ∙ ap bits_of octets)
+    ∙ first_octets n first

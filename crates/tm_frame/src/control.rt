@@ -36,6 +36,7 @@ pub fn control_holds(frame: &[u8]) -> bool
 // Words with the remainder of the first octets. Zeros in front change no remainder, and that of 0x84CF
 // is a register of ones.
 #[inline(always)]
+#[tactic(auto, using(crate::proofs::FoldWords::begun))]
 fn begin(first: &[u8]) -> [u64; 16]
     requires { length first.now < 128 }
     ensures { words_remainder result ≡ remainder_from 65535 (bits_of first.now) }
@@ -49,7 +50,7 @@ fn begin(first: &[u8]) -> [u64; 16]
     fill(&mut words, &octets);
     fold(&mut words, 64);
     let mut held = [0; 16];
-    held.copy_from_slice(&words[1..]);
+    copy(&mut held, &words[1..]);
     held
 }
 
@@ -61,10 +62,10 @@ fn take_block(held: &mut [u64; 16], block: &[u8])
 {
     let mut words = [0; 32];
     let (front, back) = words.split_at_mut(16);
-    front.copy_from_slice(held);
+    copy(front, held);
     fill(back, block);
     fold(&mut words, 64);
-    held.copy_from_slice(&words[16..]);
+    copy(held, &words[16..]);
 }
 
 // The remainder of the words: they are folded twice more, and the last four are divided.
@@ -77,6 +78,19 @@ fn finish(held: [u64; 16]) -> u16
     let (_, half) = words.split_at_mut(8);
     fold(half, 16);
     shift_words(&half[4..])
+}
+
+// The words that are given. Word by word, since `copy_from_slice` asks where slices lie, and so would keep
+// all words in memory.
+#[inline(always)]
+fn copy(words: &mut [u64], from: &[u64])
+    requires { length from.now ≡ length words.old }
+    ensures len { length words.new ≡ length words.old }
+    ensures after { words.new ≡ from.now }
+{
+    for i in 0..words.len() {
+        words[i] = from[i];
+    }
 }
 
 // The words that octets spell.

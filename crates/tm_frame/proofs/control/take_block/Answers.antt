@@ -13,16 +13,16 @@ fold-requires-clause-folds c = folds_64
 pub returns : goal.returns
 returns c =
     let held : List ℕ = c.args.held.now in
-    let front : List ℕ = c.copy_from_slice.new.self in
+    let front : List ℕ = c.copy.new.words in
     let back : List ℕ = c.fill.new.words in
     let folded : List ℕ = c.fold.new.words in
     let all : length (front ++ back) ≡ 32 =
     length-append front back
-    ∙ omega (arith, c.copy_from_slice.ensures.len, c.fill.ensures.len, c.split_at_mut-front.ensures.front_len, c.split_at_mut-front.ensures.back_len) in
+    ∙ omega (arith, c.copy.ensures.len, c.fill.ensures.len, c.split_at_mut-front.ensures.front_len, c.split_at_mut-front.ensures.back_len) in
     let half : length (drop 16 folded) ≤ 16 = omega (arith, length-drop 16 folded, c.fold.ensures.len, all) in
     let sixteen : 16 ≡ length (front ++ back) - 16 = omega (arith, all) in
-    ap words_remainder (c.copy_from_slice-2.ensures.after ∙ take_all 16 (drop 16 folded) half)
+    ap words_remainder (c.copy-2.ensures.after ∙ take_all 16 (drop 16 folded) half)
     ∙ ap (λ k. words_remainder (drop k folded)) sixteen
     ∙ c.fold.ensures.same
-    ∙ ap (remainder_from 0) (bits_of_words-append front back ∙ ap (λ l. bits_of_words l ++ bits_of_words back) c.copy_from_slice.ensures.after ∙ ap (λ l. bits_of_words held ++ l) c.fill.ensures.same)
+    ∙ ap (remainder_from 0) (bits_of_words-append front back ∙ ap (λ l. bits_of_words l ++ bits_of_words back) c.copy.ensures.after ∙ ap (λ l. bits_of_words held ++ l) c.fill.ensures.same)
     ∙ remainder_from-append 0 (bits_of_words held) (bits_of c.args.block.now)

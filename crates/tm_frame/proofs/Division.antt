@@ -1,11 +1,12 @@
 -- Long division, bit by bit: what is left of it is a register of 16 bits.
-use Rattle.std.proofs.Common.{◌≡◌, ℕ, zero, suc, ◌+◌, ◌*◌, ◌^◌, ◌<◌, ◌≤◌, Bool, true, false, cond, List, [], ◌∷◌, ◌++◌, length, take, drop, refl, sym, ap, ◌∙◌, subst, arith, length-append, get_or}
+use Rattle.std.proofs.Common.{◌≡◌, ℕ, zero, suc, ◌+◌, ◌*◌, ◌^◌, ◌<◌, ◌≤◌, Bool, true, false, cond, List, [], ◌∷◌, ◌++◌, length, take, drop, refl, sym, ap, ◌∙◌, arith, length-append}
 use Rattle.std.specs.Prelude.{replicate, bit_xor}
 use Rattle.std.proofs.lemmas.Nat.{xor_block}
-use Rattle.std.proofs.lemmas.List.{take_more, take_all, take-append-drop}
+use Rattle.std.proofs.lemmas.List.{take-append-drop}
 use Rattle.tm_bits.specs.Bits.{low_bits, bits_of, digit, number}
-use Rattle.tm_bits.proofs.BitLemmas.{length-low_bits, number-low_bits, number-lt, low_bits-number, length-bits_of, bits_of-append, bits_of-one}
-use Rattle.tm_frame.specs.ErrorControl.{differ, generator, subtract, long_division, invert_first, error_control_of, remainder_from}
+use Rattle.tm_bits.proofs.BitLemmas.{length-low_bits, number-low_bits, number-lt, low_bits-number, length-bits_of, bits_of-append}
+use Rattle.tm_frame.specs.ErrorControl.{differ, generator, subtract, long_division, invert_first, error_control_of}
+use Rattle.tm_frame.specs.Folding.{remainder_from}
 
 pub length-subtract : (xs ds : List Bool) → length (subtract xs ds) ≡ length xs
 unfolding subtract
@@ -173,25 +174,6 @@ unfolding error_control_of remainder_from low_bits
 error_control_of-remainder octets =
     let room : 16 ≤ length (bits_of octets ++ replicate 16 false) = simp length-append (omega arith) in
     rw (invert_first-subtract 16 (bits_of octets ++ replicate 16 false) room, ← length-bits_of octets) refl
-
--- one octet more
-pub octets_step : (start register : ℕ) (octets : List ℕ) (i after : ℕ) → i < length octets
-    → register ≡ remainder_from start (bits_of (take i octets))
-    → after ≡ remainder_from register (low_bits 8 (get_or octets i 0))
-    → after ≡ remainder_from start (bits_of (take (i + 1) octets))
-octets_step start register octets i after inside before moved =
-    let x : ℕ = get_or octets i 0 in
-    rw (moved, before, take_more octets i 0 inside, bits_of-append (take i octets) (x ∷ []), bits_of-one x, remainder_from-append start (bits_of (take i octets)) (low_bits 8 x)) refl
-
--- of no octets
-pub octets_none : (start : ℕ) (octets : List ℕ) → start < 2 ^ 16 → start ≡ remainder_from start (bits_of (take 0 octets))
-unfolding bits_of
-octets_none start octets fits = sym (remainder_from-nil start fits)
-
--- after the last octet
-pub octets_done : (start : ℕ) (octets : List ℕ) (register i : ℕ) → length octets ≤ i
-    → register ≡ remainder_from start (bits_of (take i octets)) → register ≡ remainder_from start (bits_of octets)
-octets_done start octets register i all held = held ∙ ap (λ xs. remainder_from start (bits_of xs)) (take_all i octets all)
 
 -- some octets, and then the others
 pub octets_apart : (register after n : ℕ) (octets : List ℕ) → after ≡ remainder_from register (bits_of (take n octets))

@@ -7,7 +7,7 @@ use Rattle.tm_bits.specs.Bits.{AreOctets, bits_of, number, part}
 use Rattle.tm_bits.proofs.PartLemmas.{octets_after, octets_behind, number-bits_of-cons, part-word, part-behind}
 
 -- the number of the first n octets is what `byteorder` reads
-number-bits_of-take : (n : ℕ) (xs : List ℕ) → AreOctets xs → n ≤ length xs → number (bits_of (take n xs)) ≡ big_from 0 n xs
+pub number-bits_of-take : (n : ℕ) (xs : List ℕ) → AreOctets xs → n ≤ length xs → number (bits_of (take n xs)) ≡ big_from 0 n xs
 unfolding bits_of number
 number-bits_of-take zero xs h room = refl
 number-bits_of-take (suc n) [] h room = absurd (omega arith)

@@ -1,7 +1,8 @@
 pub mod Division
 pub mod Linear
-pub mod Entries
-pub mod Tables
+pub mod Fold
+pub mod FoldWords
+pub mod Words
 pub mod HeaderLemmas
 pub mod FaultLemmas
 pub mod Examples

@@ -1,11 +1,14 @@
 -- Long division is linear: it can be done for two lists of bits apart.
-use Rattle.std.proofs.Common.{◌≡◌, ℕ, zero, suc, ◌+◌, ◌-◌, ◌≤◌, Bool, true, false, cond, List, [], ◌∷◌, ◌++◌, length, drop, refl, sym, ap, ◌∙◌, arith, length-append}
+use Rattle.std.proofs.Common.{◌≡◌, ℕ, zero, suc, ◌+◌, ◌-◌, ◌/◌, ◌%◌, ◌^◌, ◌≤◌, Bool, true, false, cond, List, [], ◌∷◌, ◌++◌, length, drop, refl, sym, ap, ◌∙◌, arith, length-append}
 use Rattle.std.specs.Prelude.{replicate, bit_xor}
+use Rattle.std.proofs.lemmas.Nat.{xor_mod, div-add-mod'}
+use Rattle.std.proofs.lemmas.Nat.Bits.{bit_at-zero}
 use Rattle.std.proofs.lemmas.List.{length-replicate}
 use Rattle.tm_bits.specs.Bits.{low_bits, number}
-use Rattle.tm_bits.proofs.BitLemmas.{length-low_bits}
-use Rattle.tm_frame.specs.ErrorControl.{differ, generator, subtract, long_division, remainder_from}
-use Rattle.tm_frame.proofs.Division.{feedback, length-subtract, number-subtract, subtract_assoc, subtract-zeros, zeros-subtract}
+use Rattle.tm_bits.proofs.BitLemmas.{length-low_bits, number-low_bits, low_bits-cat}
+use Rattle.tm_frame.specs.ErrorControl.{differ, generator, subtract, long_division}
+use Rattle.tm_frame.specs.Folding.{remainder_from}
+use Rattle.tm_frame.proofs.Division.{feedback, differ_assoc, bits_spelled, length-subtract, number-subtract, subtract_assoc, subtract-zeros, zeros-subtract}
 
 differ_swap : (a b d : Bool) → differ (differ a b) d ≡ differ (differ a d) b
 differ_swap false false false = refl
@@ -26,6 +29,18 @@ differ_both true false false = refl
 differ_both true false true = refl
 differ_both true true false = refl
 differ_both true true true = refl
+
+differ_comm : (a b : Bool) → differ a b ≡ differ b a
+differ_comm false false = refl
+differ_comm false true = refl
+differ_comm true false = refl
+differ_comm true true = refl
+
+differ_exchange : (a b c d : Bool) → differ (differ a b) (differ c d) ≡ differ (differ a c) (differ b d)
+differ_exchange a b c d =
+    differ_assoc a b (differ c d)
+    ∙ ap (differ a) (sym (differ_assoc b c d) ∙ ap (λ e. differ e d) (differ_comm b c) ∙ differ_assoc c b d)
+    ∙ sym (differ_assoc a c (differ b d))
 
 pub subtract-nil : (xs : List Bool) → subtract xs [] ≡ xs
 unfolding subtract
@@ -105,28 +120,75 @@ pub zeros-subtract_n : (n : ℕ) (ds : List Bool) → length ds ≡ n → subtra
 zeros-subtract_n n ds h = rw (← h) (zeros-subtract ds)
 
 -- a register of zeros takes nothing away
-low_bits-zero : low_bits 16 0 ≡ replicate 16 false
+pub low_bits-zero : (n : ℕ) → low_bits n 0 ≡ replicate n false
 unfolding low_bits
-low_bits-zero = refl
+low_bits-zero zero = refl
+low_bits-zero (suc n) = rw (bit_at-zero n, low_bits-zero n) refl
 
 pub remainder_from-zero : (bits : List Bool) → remainder_from 0 bits ≡ number (long_division (length bits) (bits ++ replicate 16 false))
 unfolding remainder_from
-remainder_from-zero bits = rw (low_bits-zero, subtract-zeros 16 (bits ++ replicate 16 false)) refl
+remainder_from-zero bits = rw (low_bits-zero 16, subtract-zeros 16 (bits ++ replicate 16 false)) refl
 
-length-divided : (bits : List Bool) → length (long_division (length bits) (bits ++ replicate 16 false)) ≡ 16
-length-divided bits =
-    length-long_division (length bits) (bits ++ replicate 16 false) ∙ omega (arith, length-append bits (replicate 16 false))
+subtract_exchange : (xs ys ps qs : List Bool) → length xs ≡ length ys → length ps ≡ length qs
+    → subtract (subtract xs ys) (subtract ps qs) ≡ subtract (subtract xs ps) (subtract ys qs)
+unfolding subtract
+subtract_exchange [] [] ps qs h k = refl
+subtract_exchange [] (y ∷ ys) ps qs h k = absurd (omega arith)
+subtract_exchange (x ∷ xs) [] ps qs h k = absurd (omega arith)
+subtract_exchange (x ∷ xs) (y ∷ ys) [] [] h k = refl
+subtract_exchange (x ∷ xs) (y ∷ ys) [] (q ∷ qs) h k = absurd (omega arith)
+subtract_exchange (x ∷ xs) (y ∷ ys) (p ∷ ps) [] h k = absurd (omega arith)
+subtract_exchange (x ∷ xs) (y ∷ ys) (p ∷ ps) (q ∷ qs) h k = rw (differ_exchange x y p q, subtract_exchange xs ys ps qs (omega arith) (omega arith)) refl
 
--- remainders of lists of bits are subtracted as the bits are
-pub remainder_from-subtract : (xs ys : List Bool) → length xs ≡ length ys
-    → remainder_from 0 (subtract xs ys) ≡ bit_xor (remainder_from 0 xs) (remainder_from 0 ys)
-remainder_from-subtract xs ys same =
+pub low_bits-mod : (k n : ℕ) → low_bits k (n % 2 ^ k) ≡ low_bits k n
+low_bits-mod k n =
+    sym (low_bits-cat k (n / 2 ^ k) k (n % 2 ^ k) (omega arith)) ∙ ap (low_bits k) (div-add-mod' n (2 ^ k))
+
+-- the bits of two numbers' `^`
+pub low_bits-xor : (k x y : ℕ) → low_bits k (bit_xor x y) ≡ subtract (low_bits k x) (low_bits k y)
+low_bits-xor k x y =
+    let p : List Bool = subtract (low_bits k x) (low_bits k y) in
+    let width : length p ≡ k = length-subtract (low_bits k x) (low_bits k y) ∙ length-low_bits k x in
+    let value : number p ≡ bit_xor x y % 2 ^ k =
+    number-subtract (low_bits k x) (low_bits k y) (length-low_bits k x ∙ sym (length-low_bits k y))
+    ∙ ap (λ n. bit_xor n (number (low_bits k y))) (number-low_bits k x)
+    ∙ ap (bit_xor (x % 2 ^ k)) (number-low_bits k y)
+    ∙ sym (xor_mod x y k) in
+    sym (low_bits-mod k (bit_xor x y)) ∙ bits_spelled k (bit_xor x y % 2 ^ k) p width (sym value)
+
+length-started : (register : ℕ) (bits : List Bool) → length (subtract (bits ++ replicate 16 false) (low_bits 16 register)) ≡ length bits + 16
+length-started register bits =
+    length-subtract (bits ++ replicate 16 false) (low_bits 16 register) ∙ length-append bits (replicate 16 false)
+
+pub remainder_from-is : (register : ℕ) (bits : List Bool)
+    → remainder_from register bits ≡ number (long_division (length bits) (subtract (bits ++ replicate 16 false) (low_bits 16 register)))
+unfolding remainder_from
+remainder_from-is register bits = refl
+
+-- a remainder is linear, in the register and in the bits
+pub remainder_from-xor : (a b : ℕ) (xs ys : List Bool) → length xs ≡ length ys
+    → remainder_from (bit_xor a b) (subtract xs ys) ≡ bit_xor (remainder_from a xs) (remainder_from b ys)
+remainder_from-xor a b xs ys same =
     let z : List Bool = replicate 16 false in
+    let n : ℕ = length xs in
+    let p : List Bool = subtract (xs ++ z) (low_bits 16 a) in
+    let q : List Bool = subtract (ys ++ z) (low_bits 16 b) in
+    let long_p : length p ≡ n + 16 = length-started a xs in
+    let long_q : length q ≡ n + 16 = length-started b ys ∙ omega (arith, same) in
+    let left_p : length (long_division n p) ≡ 16 = length-long_division n p ∙ omega (arith, long_p) in
+    let left_q : length (long_division n q) ≡ 16 = length-long_division n q ∙ omega (arith, long_q) in
     let padded : subtract xs ys ++ z ≡ subtract (xs ++ z) (ys ++ z) = rw (subtract-append xs z ys z same, subtract-zeros 16 z) refl in
-    let width : length (xs ++ z) ≡ length (ys ++ z) = length-append xs z ∙ omega arith ∙ sym (length-append ys z) in
-    rw (remainder_from-zero (subtract xs ys), remainder_from-zero xs, remainder_from-zero ys, length-subtract xs ys, padded)
-    (rw (long_division-subtract (length xs) (xs ++ z) (ys ++ z) width (omega (arith, length-append ys z)), ← same)
-    (rw (number-subtract (long_division (length xs) (xs ++ z)) (long_division (length xs) (ys ++ z)) (length-divided xs ∙ sym (rw (← same) at (length-divided ys)))) refl))
+    let grown : length (xs ++ z) ≡ length (ys ++ z) = length-append xs z ∙ omega arith ∙ sym (length-append ys z) in
+    let widths : length (low_bits 16 a) ≡ length (low_bits 16 b) = length-low_bits 16 a ∙ sym (length-low_bits 16 b) in
+    let apart : subtract (subtract xs ys ++ z) (low_bits 16 (bit_xor a b)) ≡ subtract p q =
+    rw (padded, low_bits-xor 16 a b) (subtract_exchange (xs ++ z) (ys ++ z) (low_bits 16 a) (low_bits 16 b) grown widths) in
+    remainder_from-is (bit_xor a b) (subtract xs ys)
+    ∙ ap (λ l. number (long_division (length (subtract xs ys)) l)) apart
+    ∙ ap (λ k. number (long_division k (subtract p q))) (length-subtract xs ys)
+    ∙ ap number (long_division-subtract n p q (long_p ∙ sym long_q) (omega (arith, long_q)))
+    ∙ number-subtract (long_division n p) (long_division n q) (left_p ∙ sym left_q)
+    ∙ ap (bit_xor (number (long_division n p))) (ap (λ k. number (long_division k q)) same ∙ sym (remainder_from-is b ys))
+    ∙ ap (λ k. bit_xor k (remainder_from b ys)) (sym (remainder_from-is a xs))
 
 -- what is subtracted from the front of enough bits leaves those behind
 subtract-front : (xs ys ds : List Bool) → length ds ≤ length xs → subtract (xs ++ ys) ds ≡ subtract xs ds ++ ys
@@ -135,11 +197,6 @@ subtract-front [] ys [] h = subtract-nil ys
 subtract-front [] ys (d ∷ ds) h = absurd (omega arith)
 subtract-front (x ∷ xs) ys [] h = refl
 subtract-front (x ∷ xs) ys (d ∷ ds) h = rw (subtract-front xs ys ds (omega arith)) refl
-
-pub remainder_from-is : (register : ℕ) (bits : List Bool)
-    → remainder_from register bits ≡ number (long_division (length bits) (subtract (bits ++ replicate 16 false) (low_bits 16 register)))
-unfolding remainder_from
-remainder_from-is register bits = refl
 
 -- a register meets the first 16 bits alone
 pub remainder_from-register : (register : ℕ) (bits : List Bool) → 16 ≤ length bits

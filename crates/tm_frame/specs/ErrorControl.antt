@@ -1,6 +1,6 @@
 -- The frame error control field (CCSDS 132.0-B-3, 4.1.6): the remainder of a long division over lists of bits.
 use Rattle.std.specs.Prelude.{ℕ, zero, suc, ◌*◌, Bool, true, false, not, cond, List, [], ◌∷◌, ◌++◌, length, map, take, drop, replicate}
-use Rattle.tm_bits.specs.Bits.{bits_of, number, low_bits}
+use Rattle.tm_bits.specs.Bits.{bits_of, number}
 
 -- x^16 + x^12 + x^5 + 1, as its 17 bits
 abbrev pub generator : List Bool
@@ -35,12 +35,3 @@ invert_first n xs = map not (take n xs) ++ drop n xs
 unfoldable pub error_control_of : List ℕ → ℕ
 error_control_of octets =
     number (long_division (8 * length octets) (invert_first 16 (bits_of octets ++ replicate 16 false)))
-
--- what division leaves of the bits and 16 zero bits, where the 16 bits of `register` are first subtracted from the front
-unfoldable pub remainder_from : ℕ → List Bool → ℕ
-remainder_from register bits =
-    number (long_division (length bits) (subtract (bits ++ replicate 16 false) (low_bits 16 register)))
-
--- the remainder of an octet with `behind` zero octets and 16 zero bits behind it
-unfoldable pub entry_of : ℕ → ℕ → ℕ
-entry_of behind octet = remainder_from 0 (bits_of (octet ∷ replicate behind 0))

@@ -1,4 +1,5 @@
 pub mod ErrorControl
+pub mod Folding
 pub mod Layout
 pub mod Header
 pub mod Frame

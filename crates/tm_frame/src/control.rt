@@ -1,11 +1,11 @@
-//! Error control (CCSDS 132.0-B-3, 4.1.6).
+//! Error control (CCSDS 132.0-B-3, 4.1.6), by folding.
 
-ghost use Rattle.std.specs.Prelude.{◌≡◌, ◌≤◌, length};
+ghost use Rattle.std.specs.Prelude.{◌≡◌, ◌≤◌, ◌<◌, ◌+◌, ◌-◌, ◌*◌, ◌/◌, ◌%◌, ◌∷◌, length, drop, bit_xor};
 ghost use Rattle.tm_bits.specs.Bits.{bits_of, low_bits};
-ghost use Rattle.tm_frame.specs.ErrorControl.{error_control_of, remainder_from};
+ghost use Rattle.tm_frame.specs.ErrorControl.{error_control_of};
 ghost use Rattle.tm_frame.specs.Fault.{control_holds};
+ghost use Rattle.tm_frame.specs.Folding.{Folds, bits_of_words, remainder_from, shifted, words_remainder};
 
-use crate::table::entry;
 use byteorder::{BigEndian, ByteOrder};
 
 /// The error control of octets: the remainder of their bits and 16 zero bits by
@@ -13,14 +13,15 @@ use byteorder::{BigEndian, ByteOrder};
 pub fn error_control(octets: &[u8]) -> u16
     ensures { result ≡ error_control_of octets.now }
 {
-    let mut register = 0xFFFF;
-    let mut rest = octets;
-    while rest.len() >= 16 {
-        let (front, back) = rest.split_at(16);
-        register = shift_sixteen(register, front);
-        rest = back;
+    let (first, blocks) = octets.split_at(octets.len() % 128);
+    let mut held = begin(first);
+    let mut rest = blocks;
+    while rest.len() >= 128 {
+        let (block, behind) = rest.split_at(128);
+        take_block(&mut held, block);
+        rest = behind;
     }
-    shift_octets(register, rest)
+    finish(held)
 }
 
 /// The frame's last two octets are the error control of those before.
@@ -32,46 +33,151 @@ pub fn control_holds(frame: &[u8]) -> bool
     BigEndian::read_u16(control) == error_control(before)
 }
 
-// The register after any number of octets, one after the other.
-fn shift_octets(register: u16, octets: &[u8]) -> u16
-    ensures { result ≡ remainder_from register (bits_of octets.now) }
+// Words with the remainder of the first octets. Zeros in front change no remainder, and that of 0x84CF
+// is a register of ones.
+#[inline(always)]
+#[tactic(auto, using(crate::proofs::FoldWords::begun))]
+fn begin(first: &[u8]) -> [u64; 16]
+    requires { length first.now < 128 }
+    ensures { words_remainder result ≡ remainder_from 65535 (bits_of first.now) }
 {
-    let mut register = register;
-    for octet in octets {
-        register = shift_octet(register, *octet);
+    let mut octets = [0; 136];
+    let (_, behind) = octets.split_at_mut(134 - first.len());
+    let (preset, back) = behind.split_at_mut(2);
+    preset.copy_from_slice(&[0x84, 0xCF]);
+    back.copy_from_slice(first);
+    let mut words = [0; 17];
+    fill(&mut words, &octets);
+    fold(&mut words, 64);
+    let mut held = [0; 16];
+    copy(&mut held, &words[1..]);
+    held
+}
+
+// Words with the remainder of those held and a block behind them.
+#[inline(always)]
+fn take_block(held: &mut [u64; 16], block: &[u8])
+    requires { length block.now ≡ 128 }
+    ensures { words_remainder held.new ≡ remainder_from (words_remainder held.old) (bits_of block.now) }
+{
+    let mut words = [0; 32];
+    let (front, back) = words.split_at_mut(16);
+    copy(front, held);
+    fill(back, block);
+    fold(&mut words, 64);
+    copy(held, &words[16..]);
+}
+
+// The remainder of the words: they are folded twice more, and the last four are divided.
+#[inline(always)]
+fn finish(held: [u64; 16]) -> u16
+    ensures { result ≡ words_remainder held }
+{
+    let mut words = held;
+    fold(&mut words, 32);
+    let (_, half) = words.split_at_mut(8);
+    fold(half, 16);
+    shift_words(&half[4..])
+}
+
+// The words that are given. Word by word, since `copy_from_slice` asks where slices lie, and so would keep
+// all words in memory.
+#[inline(always)]
+fn copy(words: &mut [u64], from: &[u64])
+    requires { length from.now ≡ length words.old }
+    ensures len { length words.new ≡ length words.old }
+    ensures after { words.new ≡ from.now }
+{
+    for i in 0..words.len() {
+        words[i] = from[i];
+    }
+}
+
+// The words that octets spell.
+#[inline(always)]
+fn fill(words: &mut [u64], octets: &[u8])
+    requires { length octets.now ≡ 8 * length words.old }
+    ensures len { length words.new ≡ length words.old }
+    ensures same { bits_of_words words.new ≡ bits_of octets.now }
+{
+    for i in 0..words.len() {
+        words[i] = BigEndian::read_u64(&octets[8 * i..]);
+    }
+}
+
+// All words are taken away from the front, until 16 times `width` bits are left.
+#[inline(always)]
+fn fold(words: &mut [u64], width: usize)
+    requires folds { Folds width }
+    requires wide { 16 ≤ width }
+    requires narrow { width ≤ 64 }
+    requires quarters { width % 4 ≡ 0 }
+    requires room { width / 4 ≤ length words.old }
+    ensures len { length words.new ≡ length words.old }
+    ensures same { words_remainder (drop (length words.old - width / 4) words.new) ≡ words_remainder words.old }
+{
+    for i in 0..words.len() - width / 4 {
+        let (front, behind) = words.split_at_mut(i + 1);
+        take_away(behind, width, front[i]);
+    }
+}
+
+// The word before these words is taken away: it is added where its bits stand 4, 11 and 16 times `width`
+// bits further on.
+#[inline(always)]
+#[tactic(auto, using(crate::proofs::FoldWords::word_folds))]
+fn take_away(words: &mut [u64], width: usize, word: u64)
+    requires folds { Folds width }
+    requires wide { 16 ≤ width }
+    requires narrow { width ≤ 64 }
+    requires room { 16 * width ≤ 64 * length words.old }
+    ensures len { length words.new ≡ length words.old }
+    ensures same { words_remainder words.new ≡ words_remainder (word ∷ words.old) }
+{
+    add_at(words, 4 * width - 64, word);
+    add_at(words, 11 * width - 64, word);
+    add_at(words, 16 * width - 64, word);
+}
+
+// A word is added without carries so many bits behind the front.
+#[inline(always)]
+fn add_at(words: &mut [u64], place: usize, word: u64)
+    requires { place + 64 ≤ 64 * length words.old }
+    ensures len { length words.new ≡ length words.old }
+    ensures sum { words_remainder words.new ≡ bit_xor (words_remainder words.old) (shifted (64 * length words.old - (place + 64)) (low_bits 64 word)) }
+{
+    let at = place / 64;
+    let within = place % 64;
+    words[at] ^= word >> within;
+    if within > 0 {
+        words[at + 1] ^= word << (64 - within);
+    }
+}
+
+// The register after words, from zeros.
+#[inline(always)]
+fn shift_words(words: &[u64]) -> u16
+    ensures { result ≡ words_remainder words.now }
+{
+    let mut register = 0;
+    for word in words {
+        register = shift_word(register, *word);
     }
     register
 }
 
-// The register after an octet.
-fn shift_octet(register: u16, octet: u8) -> u16
-    ensures { result ≡ remainder_from register (low_bits 8 octet) }
+// The register after a word. The quotient by the generator is the word times the generator's powers 8, 4, 2
+// and 1: with the generator itself these make its power 16, which is a 1 and then 63 zeros or more.
+#[inline(always)]
+#[tactic(auto, using(crate::proofs::Words::word_divided))]
+fn shift_word(register: u16, word: u64) -> u16
+    ensures { result ≡ remainder_from register (low_bits 64 word) }
 {
-    (register << 8) ^ entry(0, (register >> 8) as u8 ^ octet)
-}
-
-// The register after sixteen octets, of which each has its own table.
-fn shift_sixteen(register: u16, octets: &[u8]) -> u16
-    requires { length octets.now ≡ 16 }
-    ensures { result ≡ remainder_from register (bits_of octets.now) }
-{
-    let first = octets[0] ^ (register >> 8) as u8;
-    let second = octets[1] ^ (register & 0xFF) as u8;
-    let high = entry(15, first)
-        ^ entry(14, second)
-        ^ entry(13, octets[2])
-        ^ entry(12, octets[3])
-        ^ entry(11, octets[4])
-        ^ entry(10, octets[5])
-        ^ entry(9, octets[6])
-        ^ entry(8, octets[7]);
-    let low = entry(7, octets[8])
-        ^ entry(6, octets[9])
-        ^ entry(5, octets[10])
-        ^ entry(4, octets[11])
-        ^ entry(3, octets[12])
-        ^ entry(2, octets[13])
-        ^ entry(1, octets[14])
-        ^ entry(0, octets[15]);
-    high ^ low
+    let mut quotient = word ^ ((register as u64) << 48);
+    quotient ^= quotient >> 32;
+    quotient ^= (quotient >> 16) ^ (quotient >> 44);
+    quotient ^= (quotient >> 8) ^ (quotient >> 22) ^ (quotient >> 32);
+    quotient ^= (quotient >> 4) ^ (quotient >> 11) ^ (quotient >> 16);
+    let last = (quotient & 0xFFFF) as u16;
+    last ^ (last << 5) ^ (last << 12)
 }

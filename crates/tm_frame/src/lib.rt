@@ -8,7 +8,6 @@ mod fault;
 mod frame;
 mod header;
 mod layout;
-mod table;
 
 pub use control::error_control;
 pub use fault::FrameFault;

@@ -1,0 +1,270 @@
+-- Folding in words of 64 bits.
+use Rattle.std.proofs.Common.{◌≡◌, ℕ, zero, suc, ◌+◌, ◌-◌, ◌*◌, ◌^◌, ◌/◌, ◌%◌, ◌<◌, ◌≤◌, Bool, false, List, [], ◌∷◌, ◌++◌, length, take, drop, get_or, set, refl, sym, ap, ◌∙◌, arith, length-append, append_assoc, append-nil, length-drop}
+use Rattle.std.specs.Prelude.{bit_xor, replicate}
+use Rattle.std.specs.Int.Bits.{xor_assoc}
+use Rattle.std.proofs.lemmas.Nat.{xor_comm, shl-shr, shr-shr}
+use Rattle.std.proofs.Math.Seq.{take-add}
+use Rattle.byteorder.specs.Endian.{big_number}
+use Rattle.std.proofs.lemmas.List.{length-set, take_more, take_all, take_more_set, take-replicate, length-take-le, length-replicate, replicate-append-replicate}
+use Rattle.tm_bits.specs.Bits.{low_bits, bits_of, number, AreOctets}
+use Rattle.tm_bits.proofs.BitLemmas.{length-low_bits, low_bits-number, low_bits-cat, low_bits-split, length-bits_of, bits_of-append}
+use Rattle.tm_bits.proofs.PartLemmas.{octets_behind}
+use Rattle.tm_frame.specs.ErrorControl.{subtract, long_division}
+use Rattle.tm_frame.specs.Folding.{Folds, remainder_from, shifted, bits_of_words, words_remainder}
+use Rattle.tm_frame.proofs.HeaderLemmas.{number-bits_of-take}
+use Rattle.tm_frame.proofs.Division.{subtract-zeros, remainder_from-append}
+use Rattle.tm_frame.proofs.Linear.{subtract-append, low_bits-zero, low_bits-mod, low_bits-xor, remainder_from-xor}
+use Rattle.tm_frame.proofs.Fold.{remainder-apart, zeros-passed, bits-fold}
+
+-- ---- the bits of words
+
+bits_of_words-cons : (w : ℕ) (ws : List ℕ) → bits_of_words (w ∷ ws) ≡ low_bits 64 w ++ bits_of_words ws
+unfolding bits_of_words
+bits_of_words-cons w ws = refl
+
+pub bits_of_words-nil : bits_of_words [] ≡ []
+unfolding bits_of_words
+bits_of_words-nil = refl
+
+bits_of_words-one : (w : ℕ) → bits_of_words (w ∷ []) ≡ low_bits 64 w
+bits_of_words-one w = bits_of_words-cons w [] ∙ ap (λ l. low_bits 64 w ++ l) bits_of_words-nil ∙ append-nil (low_bits 64 w)
+
+pub bits_of_words-append : (xs ys : List ℕ) → bits_of_words (xs ++ ys) ≡ bits_of_words xs ++ bits_of_words ys
+unfolding bits_of_words
+bits_of_words-append [] ys = refl
+bits_of_words-append (x ∷ xs) ys =
+    ap (λ l. low_bits 64 x ++ l) (bits_of_words-append xs ys) ∙ sym (append_assoc (low_bits 64 x) (bits_of_words xs) (bits_of_words ys))
+
+length-bits_of_words : (ws : List ℕ) → length (bits_of_words ws) ≡ 64 * length ws
+unfolding bits_of_words
+length-bits_of_words [] = refl
+length-bits_of_words (w ∷ ws) = length-append (low_bits 64 w) (bits_of_words ws) ∙ omega (arith, length-low_bits 64 w, length-bits_of_words ws)
+
+-- the first word apart
+words_remainder-cons : (w n : ℕ) (ws : List ℕ) → length ws ≡ n
+    → words_remainder (w ∷ ws) ≡ bit_xor (shifted (64 * n) (low_bits 64 w)) (words_remainder ws)
+words_remainder-cons w n ws width =
+    ap (remainder_from 0) (bits_of_words-cons w ws)
+    ∙ remainder-apart (low_bits 64 w) (bits_of_words ws)
+    ∙ ap (λ k. bit_xor (shifted k (low_bits 64 w)) (words_remainder ws)) (length-bits_of_words ws ∙ ap (λ k. 64 * k) width)
+
+-- ---- a word is added
+
+shifted-xor : (n x y : ℕ) → shifted n (low_bits 64 (bit_xor x y)) ≡ bit_xor (shifted n (low_bits 64 x)) (shifted n (low_bits 64 y))
+shifted-xor n x y =
+    let a : List Bool = low_bits 64 x in
+    let b : List Bool = low_bits 64 y in
+    let z : List Bool = replicate n false in
+    let same : length a ≡ length b = length-low_bits 64 x ∙ sym (length-low_bits 64 y) in
+    let padded : subtract a b ++ z ≡ subtract (a ++ z) (b ++ z) =
+    sym (subtract-append a z b z same ∙ ap (λ l. subtract a b ++ l) (subtract-zeros n z)) in
+    ap (shifted n) (low_bits-xor 64 x y)
+    ∙ ap (remainder_from 0) padded
+    ∙ remainder_from-xor 0 0 (a ++ z) (b ++ z) (length-append a z ∙ omega (arith, same) ∙ sym (length-append b z))
+
+-- the words, with a word added without carries to the one at a place
+abbrev pub with_added : List ℕ → ℕ → ℕ → List ℕ
+with_added ws i v = set ws i (bit_xor (get_or ws i 0) v)
+
+pub words_remainder-added : (ws : List ℕ) (i n v : ℕ) → i + suc n ≡ length ws
+    → words_remainder (with_added ws i v) ≡ bit_xor (words_remainder ws) (shifted (64 * n) (low_bits 64 v))
+words_remainder-added [] i n v place = absurd (omega arith)
+words_remainder-added (w ∷ ws) zero n v place =
+    let width : length ws ≡ n = omega arith in
+    let a : ℕ = shifted (64 * n) (low_bits 64 w) in
+    let b : ℕ = shifted (64 * n) (low_bits 64 v) in
+    let r : ℕ = words_remainder ws in
+    words_remainder-cons (bit_xor w v) n ws width
+    ∙ ap (λ k. bit_xor k r) (shifted-xor (64 * n) w v)
+    ∙ xor_assoc a b r
+    ∙ ap (bit_xor a) (xor_comm b r)
+    ∙ sym (xor_assoc a r b)
+    ∙ ap (λ k. bit_xor k b) (sym (words_remainder-cons w n ws width))
+words_remainder-added (w ∷ ws) (suc i) n v place =
+    let a : ℕ = shifted (64 * length ws) (low_bits 64 w) in
+    let b : ℕ = shifted (64 * n) (low_bits 64 v) in
+    words_remainder-cons w (length ws) (with_added ws i v) (length-set ws i (bit_xor (get_or ws i 0) v))
+    ∙ ap (bit_xor a) (words_remainder-added ws i n v (omega arith))
+    ∙ sym (xor_assoc a (words_remainder ws) b)
+    ∙ ap (λ k. bit_xor k b) (sym (words_remainder-cons w (length ws) ws refl))
+
+-- a word that lies across two: its high bits in the first, the others in the second
+across : (m s j x : ℕ) → s + j ≡ 64 → x < 2 ^ 64
+    → shifted (64 * m + j) (low_bits 64 x)
+    ≡ bit_xor (shifted (64 * suc m) (low_bits 64 (x / 2 ^ s))) (shifted (64 * m) (low_bits 64 (x * 2 ^ j % 2 ^ 64)))
+across m s j x parts fits =
+    let high : List Bool = low_bits j (x / 2 ^ s) in
+    let low : List Bool = low_bits s x in
+    let z : ℕ → List Bool = λ n. replicate n false in
+    let turned_round : 64 ≡ j + s = omega (arith, parts) in
+    let back : j + 64 * m ≡ 64 * m + j = omega arith in
+    let whole : low_bits 64 x ≡ high ++ low = ap (λ n. low_bits n x) turned_round ∙ low_bits-split j s x in
+    let gone : x / 2 ^ s / 2 ^ j ≡ 0 = shr-shr x s j ∙ ap (λ n. x / 2 ^ n) parts ∙ omega (arith, fits) in
+    let first : low_bits 64 (x / 2 ^ s) ≡ z s ++ high =
+    ap (λ n. low_bits n (x / 2 ^ s)) (sym parts) ∙ low_bits-split s j (x / 2 ^ s) ∙ ap (λ n. low_bits s n ++ high) gone ∙ ap (λ l. l ++ high) (low_bits-zero s) in
+    let none : x * 2 ^ j ≡ x * 2 ^ j + 0 = omega arith in
+    let second : low_bits 64 (x * 2 ^ j % 2 ^ 64) ≡ low ++ z j =
+    low_bits-mod 64 (x * 2 ^ j)
+    ∙ ap (λ n. low_bits n (x * 2 ^ j)) (sym parts)
+    ∙ low_bits-split s j (x * 2 ^ j)
+    ∙ ap (λ n. low_bits s n ++ low_bits j (x * 2 ^ j)) (shl-shr x j)
+    ∙ ap (λ n. low ++ low_bits j n) none
+    ∙ ap (λ l. low ++ l) (low_bits-cat j x j 0 (omega arith) ∙ low_bits-zero j) in
+    let behind : length (low ++ z (64 * m + j)) ≡ 64 * suc m =
+    length-append low (z (64 * m + j)) ∙ omega (arith, length-low_bits s x, length-replicate (64 * m + j) false, parts) in
+    ap (shifted (64 * m + j)) whole
+    ∙ ap (remainder_from 0) (append_assoc high low (z (64 * m + j)))
+    ∙ remainder-apart high (low ++ z (64 * m + j))
+    ∙ ap (λ n. bit_xor (shifted n high) (remainder_from 0 (low ++ z (64 * m + j)))) behind
+    ∙ ap (λ n. bit_xor n (remainder_from 0 (low ++ z (64 * m + j))))
+    (sym (ap (shifted (64 * suc m)) first ∙ ap (remainder_from 0) (append_assoc (z s) high (z (64 * suc m))) ∙ zeros-passed s (high ++ z (64 * suc m))))
+    ∙ ap (bit_xor (shifted (64 * suc m) (low_bits 64 (x / 2 ^ s))))
+    (sym (
+    ap (shifted (64 * m)) second
+    ∙ ap (remainder_from 0) (append_assoc low (z j) (z (64 * m)) ∙ ap (λ l. low ++ l) (replicate-append-replicate j (64 * m) false ∙ ap z back))
+    ))
+
+-- a word is added at the place of one
+pub added_at : (ws : List ℕ) (place at x : ℕ) → place ≡ 64 * at → place + 64 ≤ 64 * length ws
+    → words_remainder (with_added ws at x) ≡ bit_xor (words_remainder ws) (shifted (64 * length ws - (place + 64)) (low_bits 64 x))
+added_at ws place at x is room =
+    let n : ℕ = length ws - suc at in
+    let e : 64 * n ≡ 64 * length ws - (place + 64) = omega (arith, is) in
+    words_remainder-added ws at n x (omega (arith, is)) ∙ ap (λ k. bit_xor (words_remainder ws) (shifted k (low_bits 64 x))) e
+
+-- a word is added across two
+pub added_across : (ws : List ℕ) (place at within x : ℕ) → place ≡ 64 * at + within → 0 < within → within < 64 → place + 64 ≤ 64 * length ws → x < 2 ^ 64
+    → words_remainder (with_added (with_added ws at (x / 2 ^ within)) (at + 1) (x * 2 ^ (64 - within) % 2 ^ 64))
+    ≡ bit_xor (words_remainder ws) (shifted (64 * length ws - (place + 64)) (low_bits 64 x))
+added_across ws place at within x is some inside room fits =
+    let m : ℕ = length ws - (at + 2) in
+    let first : ℕ = x / 2 ^ within in
+    let second : ℕ = x * 2 ^ (64 - within) % 2 ^ 64 in
+    let one : List ℕ = with_added ws at first in
+    let same : length one ≡ length ws = length-set ws at (bit_xor (get_or ws at 0) first) in
+    let r : ℕ = words_remainder ws in
+    let a : ℕ = shifted (64 * suc m) (low_bits 64 first) in
+    let b : ℕ = shifted (64 * m) (low_bits 64 second) in
+    let e : 64 * m + (64 - within) ≡ 64 * length ws - (place + 64) = omega (arith, is) in
+    words_remainder-added one (at + 1) m second (omega (arith, is, same))
+    ∙ ap (λ k. bit_xor k b) (words_remainder-added ws at (suc m) first (omega (arith, is)))
+    ∙ xor_assoc r a b
+    ∙ ap (bit_xor r) (sym (across m within (64 - within) x (omega arith) fits) ∙ ap (λ k. shifted k (low_bits 64 x)) e)
+
+-- ---- a word is taken away
+
+-- what stands behind a word, with the word added at the three places, has the remainder of both
+pub word_folds : (width w : ℕ) (ws : List ℕ) (first second third m n : ℕ)
+    → third ≡ bit_xor second (shifted (64 * n - (16 * width - 64 + 64)) (low_bits 64 w))
+    → second ≡ bit_xor first (shifted (64 * m - (11 * width - 64 + 64)) (low_bits 64 w))
+    → first ≡ bit_xor (words_remainder ws) (shifted (64 * length ws - (4 * width - 64 + 64)) (low_bits 64 w))
+    → n ≡ m → m ≡ length ws → Folds width → 16 ≤ width → 16 * width ≤ 64 * length ws
+    → third ≡ words_remainder (w ∷ ws)
+word_folds width w ws first second third m n is_third is_second is_first same_n same_m folds wide room =
+    let bits : List Bool = low_bits 64 w in
+    let r : ℕ = words_remainder ws in
+    let left : ℕ = 64 * length ws - 16 * width in
+    let at_first : 64 * length ws - (4 * width - 64 + 64) ≡ left + 12 * width = omega arith in
+    let at_second : 64 * m - (11 * width - 64 + 64) ≡ left + 5 * width = omega (arith, same_m) in
+    let at_third : 64 * n - (16 * width - 64 + 64) ≡ left = omega (arith, same_n, same_m) in
+    let all : left + 16 * width ≡ 64 * length ws = omega arith in
+    let a : ℕ = shifted (left + 12 * width) bits in
+    let b : ℕ = shifted (left + 5 * width) bits in
+    let c : ℕ = shifted left bits in
+    is_third
+    ∙ ap (λ k. bit_xor second (shifted k bits)) at_third
+    ∙ ap (λ k. bit_xor k c) (is_second ∙ ap (λ k. bit_xor first (shifted k bits)) at_second ∙ ap (λ k. bit_xor k b) (is_first ∙ ap (λ k. bit_xor r (shifted k bits)) at_first))
+    ∙ xor_assoc (bit_xor r a) b c
+    ∙ xor_assoc r a (bit_xor b c)
+    ∙ ap (bit_xor r) (sym (bits-fold width left bits folds))
+    ∙ xor_comm r (shifted (left + 16 * width) bits)
+    ∙ ap (λ k. bit_xor (shifted k bits) r) all
+    ∙ sym (words_remainder-cons w (length ws) ws refl)
+
+-- ---- words and octets
+
+-- the bits of a word are those of its octets
+word_read : (xs : List ℕ) → AreOctets xs → 8 ≤ length xs → low_bits 64 (big_number 8 xs) ≡ bits_of (take 8 xs)
+word_read xs octets room =
+    let p : List Bool = bits_of (take 8 xs) in
+    let width : length p ≡ 64 = length-bits_of (take 8 xs) ∙ ap (λ n. 8 * n) (length-take-le 8 xs room) in
+    ap (low_bits 64) (sym (number-bits_of-take 8 xs octets room))
+    ∙ ap (λ n. low_bits n (number p)) (sym width)
+    ∙ low_bits-number p
+
+-- one word more
+pub fill_step : (ws octets : List ℕ) (i v : ℕ) → i < length ws → 8 * i + 8 ≤ length octets → AreOctets octets
+    → v ≡ big_number 8 (drop (8 * i) octets)
+    → bits_of_words (take i ws) ≡ bits_of (take (8 * i) octets)
+    → bits_of_words (take (i + 1) (set ws i v)) ≡ bits_of (take (8 * (i + 1)) octets)
+fill_step ws octets i v inside room are read before =
+    let left : 8 ≤ length (drop (8 * i) octets) = omega (arith, length-drop (8 * i) octets) in
+    let next : 8 * (i + 1) ≡ 8 * i + 8 = omega arith in
+    ap bits_of_words (take_more_set ws i v inside)
+    ∙ bits_of_words-append (take i ws) (v ∷ [])
+    ∙ ap (λ l. l ++ bits_of_words (v ∷ [])) before
+    ∙ ap (λ l. bits_of (take (8 * i) octets) ++ l)
+    (bits_of_words-one v ∙ ap (low_bits 64) read ∙ word_read (drop (8 * i) octets) (octets_behind (8 * i) octets are) left)
+    ∙ sym (bits_of-append (take (8 * i) octets) (take 8 (drop (8 * i) octets)))
+    ∙ ap bits_of (sym (take-add (8 * i) 8 octets))
+    ∙ ap (λ n. bits_of (take n octets)) (sym next)
+
+-- the register after one word more
+pub words_step : (ws : List ℕ) (register i after : ℕ) → i < length ws → register ≡ words_remainder (take i ws)
+    → after ≡ remainder_from register (low_bits 64 (get_or ws i 0)) → after ≡ words_remainder (take (i + 1) ws)
+words_step ws register i after inside before moved =
+    let w : ℕ = get_or ws i 0 in
+    rw (moved, before, take_more ws i 0 inside, bits_of_words-append (take i ws) (w ∷ []), bits_of_words-one w, remainder_from-append 0 (bits_of_words (take i ws)) (low_bits 64 w)) refl
+
+-- and after the last
+pub words_done : (ws : List ℕ) (register i : ℕ) → length ws ≤ i → register ≡ words_remainder (take i ws) → register ≡ words_remainder ws
+words_done ws register i all held = held ∙ ap words_remainder (take_all i ws all)
+
+-- ---- the first octets
+
+preset : remainder_from (remainder_from 0 (low_bits 8 0x84)) (low_bits 8 0xCF) ≡ 65535
+unfolding remainder_from number long_division subtract low_bits
+preset = refl
+
+preset_octets : (octets : List ℕ) → remainder_from 0 (bits_of (0x84 ∷ 0xCF ∷ octets)) ≡ remainder_from 65535 (bits_of octets)
+unfolding bits_of
+preset_octets octets =
+    remainder_from-append 0 (low_bits 8 0x84) (low_bits 8 0xCF ++ bits_of octets)
+    ∙ remainder_from-append (remainder_from 0 (low_bits 8 0x84)) (low_bits 8 0xCF) (bits_of octets)
+    ∙ ap (λ r. remainder_from r (bits_of octets)) preset
+
+zero_octets : (n : ℕ) → bits_of (replicate n 0) ≡ replicate (8 * n) false
+unfolding bits_of
+zero_octets zero = refl
+zero_octets (suc n) =
+    let more : 8 + 8 * n ≡ 8 * suc n = omega arith in
+    rw (low_bits-zero 8, zero_octets n, replicate-append-replicate 8 (8 * n) false, more) refl
+
+-- zeros in front change nothing, and the two octets behind them are a register of ones
+pub first_octets : (n : ℕ) (octets : List ℕ) → remainder_from 0 (bits_of (replicate n 0 ++ 0x84 ∷ 0xCF ∷ octets)) ≡ remainder_from 65535 (bits_of octets)
+first_octets n octets =
+    let behind : List ℕ = 0x84 ∷ 0xCF ∷ octets in
+    ap (remainder_from 0) (bits_of-append (replicate n 0) behind ∙ ap (λ l. l ++ bits_of behind) (zero_octets n))
+    ∙ zeros-passed (8 * n) (bits_of behind)
+    ∙ preset_octets octets
+
+-- the words that are held first: all but one of those that zeros, the two octets and the first octets fill
+pub begun : (held folded filled front preset back first : List ℕ) → held ≡ take 16 (drop 1 folded)
+    → words_remainder (drop (length filled - 16) folded) ≡ words_remainder filled
+    → bits_of_words filled ≡ bits_of (front ++ (preset ++ back))
+    → front ≡ take (134 - length first) (replicate 136 0) → preset ≡ 0x84 ∷ 0xCF ∷ [] → back ≡ first
+    → length filled ≡ 17 → length folded ≡ length filled
+    → words_remainder held ≡ remainder_from 65535 (bits_of first)
+begun held folded filled front preset back first is_held same spelled zeros two all seventeen as_long =
+    let n : ℕ = 134 - length first in
+    let octets : front ++ (preset ++ back) ≡ replicate n 0 ++ 0x84 ∷ 0xCF ∷ first =
+    ap (λ l. l ++ (preset ++ back)) (zeros ∙ take-replicate n 136 0 (omega arith))
+    ∙ ap (λ l. replicate n 0 ++ (l ++ back)) two
+    ∙ ap (λ l. replicate n 0 ++ 0x84 ∷ 0xCF ∷ l) all in
+    let sixteen : length (drop 1 folded) ≤ 16 = omega (arith, length-drop 1 folded, as_long, seventeen) in
+    let one : 1 ≡ length filled - 16 = omega (arith, seventeen) in
+    ap words_remainder (is_held ∙ take_all 16 (drop 1 folded) sixteen)
+    ∙ ap (λ k. words_remainder (drop k folded)) one
+    ∙ same
+    ∙ ap (remainder_from 0) (spelled ∙ ap bits_of octets)
+    ∙ first_octets n first

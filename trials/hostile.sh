@@ -69,6 +69,24 @@ settings() {
     [ $# = 0 ] || printf '%s\n' "$@" >>"$name"
 }
 
+# A file of so many octets that begins with another, filled up with line ends.
+filled() {
+    { cat "$2"; head -c 1048577 /dev/zero | tr '\0' '\n'; } | head -c "$3" >"$1"
+}
+
+# A recording of the longest packet, which lies over 33 frames.
+wide_recording() {
+    settings wide.toml 5 2048 false 'secondary = "never"' 'ocf = "never"'
+    python3 - <<'END'
+packets = bytes.fromhex("0001c000ffff") + bytes(65536) + bytes.fromhex("07ffc000") + (1837).to_bytes(2, "big") + bytes(1838)
+with open("wide.rec", "wb") as file:
+    for count in range(33):
+        pointer = {0: 0, 32: 198}.get(count, 2047)
+        head = 5 << 36 | count << 16 | pointer
+        file.write(head.to_bytes(6, "big") + packets[count * 2042 : (count + 1) * 2042])
+END
+}
+
 # Names for the trials of devices, files and faults. The groups use them.
 # shellcheck disable=SC2034
 names() {

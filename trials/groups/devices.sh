@@ -14,6 +14,22 @@ plain_words() {
     esac
 }
 
+# What is wrong with what a command gave of the example, where that has to be whole.
+whole() {
+    case $1 in
+    split) diff -r expected/split split 2>&1 ;;
+    packets | extract) cmp out "expected/$1" 2>&1 ;;
+    fields) [ "$(wc -l <out)" = 504 ] || wc -l out ;;
+    esac
+}
+
+# A checkpoint that can't be written whole: the one before stays.
+checkpoint_stays() {
+    echo before >c
+    gives "$1" 1 "tmx: c: failed" "$2"
+    tell "$1: the one before is as it was, and nothing is left beside it" "$(echo before | cmp - c 2>&1; ls c.new 2>/dev/null)"
+}
+
 devices() {
     local command
     names
@@ -39,8 +55,12 @@ devices() {
     for command in "$packets" "$extract" "$fields" "$split"; do
         set -- $command
         gives "report of $2 to a full device" 1 "tmx: report failed" "$command --report /dev/full $rec"
+        # The report fits its buffer, so it fails when all packets are given.
+        tell "report of $2 to a full device: all else is whole" "$(whole "$2")"
         gives "report of $2 to a full standard error" 1 "" "$command $rec 2>/dev/full"
+        rm -f split/*
         gives "report of $2 to a closed standard error" 1 "" "$command $rec 2>&-"
+        tell "report of $2 to a closed standard error: nothing is begun" "$(ls split; ! [ -s out ] || wc -c out)"
         gives "checkpoint of $2 in a folder that is missing" 1 "tmx: missing/c: failed" "$command --report r --checkpoint missing/c $rec"
         gives "checkpoint of $2 in a folder that can't be written" 1 "tmx: /proc/c: failed" "$command --report r --checkpoint /proc/c $rec"
         gives "checkpoint of $2 that is a folder" 1 "tmx: split: failed" "$command --report r --checkpoint split $rec"
@@ -55,8 +75,13 @@ devices() {
     gives "split to files with room for 4 KiB" 1 "tmx: write failed" "trap '' XFSZ; ulimit -f 4; $split --report r $rec"
     tell "split to files with room for 4 KiB: each has a front of its packets" \
         "$(cd split && for f in *; do cmp -s -n "$(stat -c %s "$f")" "$f" "../expected/split/$f" || echo "$f"; done)"
+    rm -f split/*
+    ln -s /dev/full split/apid-0100.pkt
+    gives "split with its first file on a full device" 1 "tmx: write failed" "$split --report r $rec"
+    tell "split with its first file on a full device: the others are whole" "$(diff -r -x apid-0100.pkt expected/split split 2>&1)"
     ln -s /dev/full c.new
-    echo before >c
-    gives "a checkpoint on a full device" 1 "tmx: c: failed" "$extract --report r --checkpoint c --stop-after 20 $rec"
-    tell "the checkpoint before is as it was, and nothing is left beside it" "$(echo before | cmp - c 2>&1; ls c.new 2>/dev/null)"
+    checkpoint_stays "a checkpoint on a full device" "$extract --report r --checkpoint c --stop-after 20 $rec"
+    wide_recording
+    checkpoint_stays "a checkpoint of 40 KB with room for 8 KiB" \
+        "trap '' XFSZ; ulimit -f 8; $tmx extract --settings wide.toml --report r --checkpoint c --stop-after 20 wide.rec"
 }

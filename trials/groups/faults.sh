@@ -25,12 +25,24 @@ faults() {
     settings_faults
     definition_faults
     checkpoint_faults
+    own_files
     order_of_faults
     run_faults
     report_unbegun
+    begun_empty
     memory_faults
+    long_words
     full_shelf
+    wide_recording
     wide_row
+    wide_packet
+}
+
+# Copies of the files that are read, for trials in which they are named as files to write.
+own_files() {
+    cp "$rec" own.rec
+    cp "$s" own.toml
+    cp "$example/attitude.csv" own.csv
 }
 
 usage_faults() {
@@ -171,13 +183,18 @@ checkpoint_faults() {
 
 # Where more than one step would be refused, the first of them is.
 order_of_faults() {
-    local ends="--report missing/r missing.rec" later
+    local ends="--report missing/r missing.rec" later own="$tmx packets --settings own.toml --checkpoint own.rec"
     later="--definition missing.csv --apid 1 --resume missing.chk $ends"
+    gives "the words before the standard streams" 2 "tmx: --stop-after needs --checkpoint" "$packets --stop-after 5 $rec >&-"
+    gives "the standard streams before the settings" 1 "tmx: write failed" "$tmx packets --settings missing.toml $ends >&-"
     gives "the words before the settings" 2 "tmx: --stop-after needs --checkpoint" "$tmx packets --settings missing.toml --stop-after 5 $ends"
     gives "the settings before the definition" 1 "tmx: missing.toml: failed" "$tmx fields --settings missing.toml $later"
     gives "the definition before the checkpoint" 1 "tmx: missing.csv: failed" "$tmx fields --settings $s $later"
     gives "the checkpoint before the recording" 1 "tmx: missing.chk: failed" "$packets --resume missing.chk $ends"
     gives "the recording before the report" 1 "tmx: missing.rec: failed" "$packets $ends"
+    gives "the recording before the names" 1 "tmx: missing.rec: failed" "$packets --report c --checkpoint c missing.rec"
+    gives "the name of the checkpoint before that of the report" 1 "tmx: own.rec: failed" "$own --report own.toml own.rec"
+    gives "the names before the report" 1 "tmx: own.rec: failed" "$own --report missing/r own.rec"
     gives "the report before the run" 1 "tmx: missing/r: failed" "$packets --report missing/r split"
     gives "the run before its checkpoint" 1 "tmx: read failed" "$packets --report r --checkpoint missing/c split"
 }
@@ -195,9 +212,6 @@ run_faults() {
     cp "$rec" $' n\xc3\xa9\n'
     gives "a recording with a space and a line end in its name" 0 "" "$packets --report r \$' n\xc3\xa9\n'"
     tell "a recording with a space and a line end in its name: all of it" "$(cmp out expected/packets 2>&1)"
-    cp "$rec" own.rec
-    cp "$s" own.toml
-    cp "$example/attitude.csv" own.csv
     used="$tmx fields --settings own.toml --definition own.csv --apid 101"
     gives "the report over the recording" 1 "tmx: own.rec: failed" "$used --report own.rec own.rec"
     gives "the report over the settings" 1 "tmx: own.toml: failed" "$used --report own.toml own.rec"
@@ -226,35 +240,73 @@ report_unbegun() {
     tell "the report is as it was where a file is refused" "$(echo before | cmp - r 2>&1; ls begun 2>/dev/null)"
 }
 
-# From no memory up to enough: what a command gives must be the loader's refusal, `out of memory`, or all. What was
-# written before is a front of what belongs there.
+# The report and the files of `split` have nothing of longer files that stood there.
+begun_empty() {
+    local file
+    rm -rf split
+    cp -r expected/split split
+    for file in r split/*; do cat "$rec" >>"$file"; done
+    gives "split over longer files" 0 "" "$split --report r $rec"
+    tell "split over longer files: nothing is left of them" "$(cmp r expected/report 2>&1; diff -r expected/split split 2>&1)"
+}
+
 memory_faults() {
-    local command limit found least=0 most=0 wrong
-    for command in "frames --settings $s" "packets --settings $s --report r" "extract --settings $s --report r" \
-        "fields --settings $s --definition $example/attitude.csv --apid 101 --report r" "split --settings $s --dir split --report r"; do
-        # shellcheck disable=SC2086
-        set -- $command
-        wrong="" least=0 most=0
-        for limit in $(seq 1024 64 8192); do
-            : >r
-            { bash -c "ulimit -v $limit; exec $tmx $command $rec" >out 2>err </dev/null; } 2>/dev/null
-            found=$?
-            case $found in
-            0) ;;
-            3)
-                [ "$(cat err)" = "tmx: out of memory" ] || wrong+="$limit KiB: $(head -c 100 err); "
-                [ "$least" != 0 ] || least=$limit
-                most=$limit
-                ;;
-            126 | 127 | 137 | 139) [ "$least" = 0 ] || wrong+="$limit KiB: status $found; " ;;
-            *) wrong+="$limit KiB: status $found, $(head -c 100 err); " ;;
-            esac
-            [ $found != 0 ] || [ "$1" = fields ] || [ "$1" = split ] || cmp -s out "expected/$1" || wrong+="$limit KiB: not all; "
-        done
-        [ "$least" != 0 ] || wrong+="no limit gave out of memory; "
-        tell "$1 with little memory" "$wrong"
-        echo "note $1: out of memory from $least to $most KiB of address space"
+    filled settings.full "$s" 1048576
+    little_memory frames "frames --settings $s" expected/frames
+    little_memory "frames by settings of 1 MiB" "frames --settings settings.full" expected/frames
+    little_memory packets "packets --settings $s --report r" expected/packets
+    little_memory extract "extract --settings $s --report r" expected/extract
+    little_memory fields "fields --settings $s --definition $example/attitude.csv --apid 101 --report r" ""
+    little_memory split "split --settings $s --dir split --report r" ""
+}
+
+# From no memory up to enough: what a command gives must be the loader's refusal, `out of memory`, or all. The name of the
+# trial, the command, and the file that has all, if there is one.
+little_memory() {
+    local limit found least=0 most=0 wrong=""
+    for limit in $(seq 1024 64 8192); do
+        : >r
+        { bash -c "ulimit -v $limit; exec $tmx $2 $rec" >out 2>err </dev/null; } 2>/dev/null
+        found=$?
+        case $found in
+        0) [ -z "$3" ] || cmp -s out "$3" || wrong+="$limit KiB: not all; " ;;
+        3)
+            [ "$(cat err)" = "tmx: out of memory" ] || wrong+="$limit KiB: $(head -c 100 err); "
+            [ "$least" != 0 ] || least=$limit
+            most=$limit
+            ;;
+        126 | 127 | 137 | 139) [ "$least" = 0 ] || wrong+="$limit KiB: status $found; " ;;
+        *) wrong+="$limit KiB: status $found, $(head -c 100 err); " ;;
+        esac
     done
+    [ "$least" != 0 ] || wrong+="no limit gave out of memory; "
+    tell "$1 with little memory" "$wrong"
+    echo "note $1: out of memory from $least to $most KiB of address space"
+}
+
+# The same for names of 100,000 octets, the first of which is refused where there is enough. Under a limit bash itself could
+# not hold them.
+long_words() {
+    local said
+    if said=$(
+        python3 - "$tmx" 2>&1 <<'END'
+import resource, subprocess, sys
+names = [letter * 100000 for letter in "abcdef"]
+words = "--settings {} --dir {} --report {} --checkpoint {} --resume {} {}".format(*names).split()
+last, starved = "", []
+for limit in range(1024, 8193, 64):
+    run = subprocess.run([sys.argv[1], "split", *words], stdin=subprocess.DEVNULL, capture_output=True,
+                         preexec_fn=lambda: resource.setrlimit(resource.RLIMIT_AS, (limit * 1024, limit * 1024)))
+    last = run.returncode, run.stderr.decode()
+    if last == (3, "tmx: out of memory\n"):
+        starved.append(limit)
+    elif last != (1, f"tmx: {names[0]}: failed\n") and (starved or run.returncode not in (126, 127, -9, -11)):
+        sys.exit(f"{limit} KiB: status {run.returncode}, {run.stderr[:100]}")
+if not starved or last[0] != 1:
+    sys.exit(f"out of memory at {starved}, status {last[0]} at the end")
+print(f"out of memory from {starved[0]} to {starved[-1]} KiB of address space")
+END
+    ); then ok "long words with little memory: $said"; else no "long words with little memory: $said"; fi
 }
 
 # Packets that there is no memory to hold.
@@ -264,25 +316,26 @@ full_shelf() {
     rm many.rec
 }
 
-# A thousand fields that each are nearly all of the longest packet, which lies over 33 frames: a row of 262 MB.
+# A thousand fields that each are nearly all of the longest packet: a row of 262 MB.
 wide_row() {
     local fields="$tmx fields --settings wide.toml --definition wide.csv --apid 1 --report r wide.rec"
-    settings wide.toml 5 2048 false 'secondary = "never"' 'ocf = "never"'
-    python3 - <<'END'
-with open("wide.csv", "w") as file:
-    file.write("name,data_type,bit_length,bit_offset\n")
-    file.writelines(f"N{number},str,524288,48\n" for number in range(1000))
-packets = bytes.fromhex("0001c000ffff") + bytes(65536) + bytes.fromhex("07ffc000") + (1837).to_bytes(2, "big") + bytes(1838)
-with open("wide.rec", "wb") as file:
-    for count in range(33):
-        pointer = {0: 0, 32: 198}.get(count, 2047)
-        head = 5 << 36 | count << 16 | pointer
-        file.write(head.to_bytes(6, "big") + packets[count * 2042 : (count + 1) * 2042])
-END
+    {
+        echo name,data_type,bit_length,bit_offset
+        printf 'N%s,str,524288,48\n' $(seq 0 999)
+    } >wide.csv
     gives "a row of 262 MB with 32 MiB" 3 "tmx: out of memory" "ulimit -v 32768; $fields"
     tell "a row of 262 MB with 32 MiB: the head stands alone" "$([ "$(wc -l <out)" = 1 ] || wc out)"
     gives "a row of 262 MB" 0 "" "$fields"
     tell "a row of 262 MB: all of it" "$([ "$(tail -n 1 out | wc -c)" = $((8 + 1000 * (1 + 65536 * 4) + 1)) ] || tail -n 1 out | wc -c)"
+}
+
+# The longest packet in its file.
+wide_packet() {
+    python3 "$here/reference.py" expect wide.toml wide.rec wide
+    rm -rf split
+    mkdir split
+    gives "split of a packet of 65,542 octets" 0 "" "$tmx split --settings wide.toml --dir split --report r wide.rec"
+    tell "split of a packet of 65,542 octets: all of it" "$(diff -r wide/split split 2>&1)"
 }
 
 # A sparse recording of 2^32 records, by a checkpoint behind all of them but the last.

@@ -1,11 +1,6 @@
 # shellcheck shell=bash disable=SC2154
 # Group `files`: settings, definitions and checkpoints that are none.
 
-# A file of so many octets that begins with another, filled up with line ends.
-filled() {
-    { cat "$2"; head -c 1048577 /dev/zero | tr '\0' '\n'; } | head -c "$3" >"$1"
-}
-
 # The name of a trial, a pattern of the line on standard error, and a command line; status 2 is wanted.
 refused() {
     local found
@@ -54,6 +49,7 @@ files() {
     gives "settings: missing" 1 "tmx: no\\x0afile\\xc3\\xa9: failed" "$tmx packets --settings \$'no\nfile\xc3\xa9' $rec"
     nested_settings
     altered_checkpoints
+    two_checkpoints
 }
 
 # Settings that are as deep or as many as 1 MiB allows.
@@ -100,6 +96,9 @@ END
 altered_checkpoints() {
     local records version
     for records in 150 190; do
+        # Longer files that stand there have no part in it.
+        cp "$rec" c
+        cp "$rec" c.new
         gives "a checkpoint after $records records" 0 "" "$packets --report r --checkpoint c --stop-after $records $rec"
         python3 "$here/reference.py" keep "$s" "$rec" $records 3 >c3
         tell "a checkpoint after $records records: the known octets" "$(cmp c c3 2>&1)"
@@ -117,4 +116,13 @@ altered_checkpoints() {
 altered_checkpoint() {
     local said
     if said=$(python3 "$here/checkpoints.py" "$tmx" "$2" "$rec" "$3" 2>&1); then ok "after $1 records: $said"; else no "after $1 records: $said"; fi
+}
+
+# A job goes on from the file of --resume, whatever that of --checkpoint has.
+two_checkpoints() {
+    local records
+    for records in 100 150 190; do python3 "$here/reference.py" keep "$s" "$rec" $records 3 >after$records; done
+    cp after100 c
+    gives "from one checkpoint to another" 0 "" "$packets --report r --resume after150 --checkpoint c --stop-after 40 $rec"
+    tell "from one checkpoint to another: the known octets" "$(cmp c after190 2>&1)"
 }

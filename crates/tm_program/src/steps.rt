@@ -30,11 +30,11 @@ use tm_tool::{
 };
 use tm_words::{Action, Plan, plan};
 
-// The octets of the buffers behind the recording and before the output.
-const BUFFER: usize = 262_144;
+// The octets of the buffer behind the recording.
+const RECORDING_BUFFER: usize = 131_072;
 
-// The octets of the buffer before the report.
-const REPORT_BUFFER: usize = 65_536;
+// The octets of the buffer before an output.
+const OUTPUT_BUFFER: usize = 65_536;
 
 // The system's number of the error that a file isn't open: EBADF.
 const CLOSED: i32 = 9;
@@ -51,21 +51,17 @@ fn source<S: Read + Drop>(alloc: Global, recording: S) -> Result<Reading<BufRead
     ensures left { IfOk result (λ s. ⟦<Reading<BufReader<S>> as Source>⟧.left s ≡ S.remaining recording) }
     ensures refused { IfErr result IsNoMemory }
 {
-    match BufReader::with_capacity(alloc, BUFFER, recording) {
+    match BufReader::with_capacity(alloc, RECORDING_BUFFER, recording) {
         Ok(reader) => Ok(Reading::new(reader)),
         Err(_) => Err(no_memory()),
     }
 }
 
-// A drain into a buffer of this many octets before the writer. What is in the buffer is written when the drain is let go, too.
-fn drain<W: Write + Drop>(
-    alloc: Global,
-    octets: usize,
-    writer: W,
-) -> Result<Writing<BufWriter<W>>, ToolFault>
+// A drain into a buffer before the writer. What is in the buffer is written when the drain is let go, too.
+fn drain<W: Write + Drop>(alloc: Global, writer: W) -> Result<Writing<BufWriter<W>>, ToolFault>
     ensures { IfErr result IsNoMemory }
 {
-    match BufWriter::with_capacity(alloc, octets, writer) {
+    match BufWriter::with_capacity(alloc, OUTPUT_BUFFER, writer) {
         Ok(writer) => Ok(Writing::new(writer)),
         Err(_) => Err(no_memory()),
     }
@@ -98,7 +94,7 @@ fn list<R: Print + AllocGlobal, S: Read + Drop>(
 {
     let alloc = rt.alloc();
     let mut source = source(alloc, recording)?;
-    let mut out = drain(alloc, BUFFER, io::writer(rt))?;
+    let mut out = drain(alloc, io::writer(rt))?;
     list_to(alloc, settings, &mut source, &mut out)
 }
 
@@ -118,7 +114,7 @@ fn ends_with<S: Read + Drop, V: Write + Drop>(
     ensures { IfErr result IsNoMemory }
 {
     let source = source(alloc, recording)?;
-    let report = drain(alloc, REPORT_BUFFER, report)?;
+    let report = drain(alloc, report)?;
     Ok(Ends { source, report })
 }
 
@@ -158,7 +154,7 @@ fn give_packets<R: Print + AllocGlobal, S: Read + Drop, V: Write + Drop>(
     ensures refused { IfErr result IsRunFault }
 {
     let alloc = rt.alloc();
-    let mut out = drain(alloc, BUFFER, io::writer(rt))?;
+    let mut out = drain(alloc, io::writer(rt))?;
     let source = &mut ends.source;
     let report = &mut ends.report;
     give_to(alloc, job, command, source, &mut out, report, ending)

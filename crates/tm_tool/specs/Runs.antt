@@ -3,6 +3,7 @@ use Rattle.std.specs.Prelude.{⊤, false, ◌≡◌, ◌≢◌, ◌⊎◌, ◌<�
 use Rattle.std.specs.List.{concat}
 use Rattle.std.specs.Io.KnownBytes.{Consumes, IsAtEnd}
 use Rattle.tm_frame.specs.Layout.{record_length_of}
+use Rattle.tm_reassembly.specs.Valid.{IsState}
 use Rattle.tm_output.specs.declared.fault.RunFault.{RunFault}
 use Rattle.tm_output.specs.declared.fault.RunFault.TheVariants.{Read, Write, Report, ShortRecording, TooMany, NoMemory}
 use Rattle.tm_output.specs.declared.command.Ending.{Ending}
@@ -51,6 +52,10 @@ HasEnded ending w left_old left_new read rest =
     (HasReadAll (record_length_of w.rules.layout) left_old left_new read rest × GoesOn ending w.state.records (length read))
     ⊎ (HasRead (record_length_of w.rules.layout) left_old left_new read [] × (rest ≡ []) × Suffices ending w.state.records (length read))
 
+-- of each job: its state is a valid one, and a record has an octet
+abbrev pub IsSound : Work → Type 0
+IsSound w = IsState w.rules w.state × (0 < record_length_of w.rules.layout)
+
 -- An ending reads the records that are done, and then either all that follows, down to the recording's end; or just as many whole records as it wants.
 abbrev pub IsEnough : Ending → Work → Option (List ℕ) → List ℕ → Type 0
 IsEnough ending w left read =
@@ -61,6 +66,23 @@ IsEnough ending w left read =
 -- Records and what the ending has are written one after the other, from where the job has got. The recording is read from its beginning:
 -- the records that are done come first, and nothing is written of them.
 module _ {A K : Type 0} (grows : K → K → List A → Type 0) (way : Way) (text : Texts A) (ending : Ending) (w : Work) where
+  -- ---- with Ok, of a run that writes this head before all else
+
+  -- what a run over these octets comes to: just their pieces were written; so many records are done; and this is kept
+  pub record Outcome (head : List (Piece A)) (octets : List ℕ) (old new : View K) (count : ℕ) (kept : Option Work) : Type 0 where
+    pub took : Took grows old new (head ++ pieces text ending w octets)
+    pub count_is : count ≡ w.state.records + length (chosen ending (further w octets))
+    pub kept_is : kept ≡ kept_of ending (worked w (chosen ending (further w octets)))
+
+  -- it ran over the octets that it read, and these are what the ending reads
+  pub record Ran (head : List (Piece A)) (left_old left_new : Option (List ℕ)) (old new : View K) (count : ℕ) (kept : Option Work) : Type 0 where
+    pub read : List ℕ
+    pub octets : Consumes left_old left_new read
+    pub enough : IsEnough ending w left_new read
+    pub outcome : Outcome head read old new count kept
+
+  -- ---- after a fault
+
   -- a read failed in a record: the pieces of every whole record before it are written
   pub record StopsAtRead (left_old left_new : Option (List ℕ)) (old new : View K) : Type 0 where
     pub read : List (List ℕ)
@@ -123,22 +145,7 @@ module _ {A K : Type 0} (grows : K → K → List A → Type 0) (way : Way) (tex
   IsStoppedAt left_old left_new old new TooMany = StopsAtTooMany left_old left_new old new
   IsStoppedAt left_old left_new old new NoMemory = StopsWriting left_old left_new old new NoMemory
 
-  -- ---- a whole run, which writes this before all else
-
-  -- what a run over these octets comes to: just their pieces were written; so many records are done; and this is kept
-  pub record Outcome (head : List (Piece A)) (octets : List ℕ) (old new : View K) (count : ℕ) (kept : Option Work) : Type 0 where
-    pub took : Took grows old new (head ++ pieces text ending w octets)
-    pub count_is : count ≡ w.state.records + length (chosen ending (further w octets))
-    pub kept_is : kept ≡ kept_of ending (worked w (chosen ending (further w octets)))
-
-  -- it ran over the octets that it read, and these are what the ending reads
-  pub record Ran (head : List (Piece A)) (left_old left_new : Option (List ℕ)) (old new : View K) (count : ℕ) (kept : Option Work) : Type 0 where
-    pub read : List ℕ
-    pub octets : Consumes left_old left_new read
-    pub enough : IsEnough ending w left_new read
-    pub outcome : Outcome head read old new count kept
-
-  -- writing stopped in it, and nothing was read
+  -- writing stopped in the head, and nothing was read
   pub record StopsAtHead (head : List (Piece A)) (left_old left_new : Option (List ℕ)) (old new : View K) (fault : RunFault) : Type 0 where
     pub some : head ≢ []
     pub unread : left_new ≡ left_old

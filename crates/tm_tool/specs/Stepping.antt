@@ -24,10 +24,6 @@ work_of p entries = record { rules = p.rules; state = p.state; entries = entries
 abbrev pub IsGoing : Progress → Type 0
 IsGoing p = (p.failed ≡ false) × IsState p.rules p.state
 
--- the state is a valid one, and a record has an octet
-abbrev pub IsSound : Work → Type 0
-IsSound w = IsState w.rules w.state × (0 < record_length_of w.rules.layout)
-
 -- no more records were read than are wanted
 abbrev pub Reached : Ending → ℕ → ℕ → Type 0
 Reached Close done count = ⊤

@@ -8,9 +8,9 @@ ghost use Rattle.tm_tool.specs.Jobs.{head_pieces, head_text};
 ghost use Rattle.tm_output.specs.Outlets.{PutStopped};
 ghost use Rattle.tm_output.specs.Outputs.{lines_way};
 ghost use Rattle.tm_output.specs.Pieces.{way_of, text_of};
-ghost use Rattle.tm_tool.specs.Runs.{IsStoppedAt};
+ghost use Rattle.tm_tool.specs.Runs.{IsSound, IsStoppedAt};
 ghost use Rattle.tm_output.specs.Shelves.{Shelves, shelf_text, shelf_way};
-ghost use Rattle.tm_tool.specs.Stepping.{IsRun, IsSound};
+ghost use Rattle.tm_tool.specs.Stepping.{IsRun};
 ghost use Rattle.tm_output.specs.Seen.{both, shelf_both};
 
 use crate::recording::{Ended, run_to_end};

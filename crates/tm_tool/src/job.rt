@@ -5,8 +5,7 @@ ghost use Rattle.std.specs.Io.KnownBytes.{Appends, Keeps};
 ghost use Rattle.tm_output.specs.Faults.{RunCounted};
 ghost use Rattle.tm_tool.specs.Jobs.{begun, head_pieces};
 ghost use Rattle.tm_output.specs.Pieces.{way_of, text_of};
-ghost use Rattle.tm_tool.specs.Stepping.{IsSound};
-ghost use Rattle.tm_tool.specs.Runs.{IsHeadedStop, IsStoppedAt, Ran};
+ghost use Rattle.tm_tool.specs.Runs.{IsSound, IsHeadedStop, IsStoppedAt, Ran};
 ghost use Rattle.tm_output.specs.Shelves.{Shelves, shelf_text, shelf_way};
 ghost use Rattle.tm_output.specs.Seen.{both, shelf_both};
 

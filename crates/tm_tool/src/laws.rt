@@ -23,8 +23,7 @@ ghost use Rattle.tm_tool.specs.RecordingPieces.{Work, items_of, pieces, record_p
 ghost use Rattle.tm_output.specs.Records.{records};
 ghost use Rattle.tm_tool.specs.Resuming.{Follows, Stop, done_in_all, in_one, no_head, resumed_pieces, run_pieces, then_pieces};
 ghost use Rattle.tm_output.specs.Shelves.{Shelved, Shelves, shelf_text, shelf_way};
-ghost use Rattle.tm_tool.specs.Runs.{IsHeadedStop, IsStoppedAt, Outcome, Ran, StoppedIn};
-ghost use Rattle.tm_tool.specs.Stepping.{IsSound};
+ghost use Rattle.tm_tool.specs.Runs.{IsSound, IsHeadedStop, IsStoppedAt, Outcome, Ran, StoppedIn};
 
 /// Checkpoints: what is written is read again, with the same settings, as the same work, and the job isn't fresh. So it is for the older
 /// versions, as far as they can tell the settings, but that the last master channel count is lost. And octets that are read are the

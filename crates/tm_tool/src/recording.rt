@@ -9,8 +9,8 @@ ghost use Rattle.tm_output.specs.Faults.{RunCounted};
 ghost use Rattle.tm_output.specs.Outputs.{Written};
 ghost use Rattle.tm_tool.specs.RecordingPieces.{closing_pieces, end_pieces, record_pieces, worked};
 ghost use Rattle.tm_output.specs.Pieces.{noted_all, pieces_of};
-ghost use Rattle.tm_tool.specs.Runs.{GoesOn, IsStoppedAt, kept_of};
-ghost use Rattle.tm_tool.specs.Stepping.{IsRun, Enough, HasPassed, IsGoing, IsSound, HasStepped, PassCounted, PassingStopped, StepWritten, work_of};
+ghost use Rattle.tm_tool.specs.Runs.{IsSound, GoesOn, IsStoppedAt, kept_of};
+ghost use Rattle.tm_tool.specs.Stepping.{IsRun, Enough, HasPassed, IsGoing, HasStepped, PassCounted, PassingStopped, StepWritten, work_of};
 ghost use Rattle.tm_output.specs.Seen.{fixture, outlet_both, output_both};
 
 use crate::work::Work;

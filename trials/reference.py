@@ -394,6 +394,84 @@ def rows(packets, wanted):
             yield ",".join([start] + [in_csv(value_of(octets, *it[1:])) for it in fields])
 
 
+# The summary, from the lines of frames, of packets and of the report.
+
+REASONS = ("pointer", "gap", "vca", "end", "no-start", "version", "length")
+FAULTS = ("crc", "version", "spacecraft", "secondary-flag", "ocf-flag", "secondary-version", "layout", "pointer")
+
+
+def parts_of(lines):
+    """Each line's word, and what stands behind it by name."""
+    return [(line.split(" ")[0], dict(it.split("=") for it in line.split(" ")[1:])) for line in lines]
+
+
+def pick(lines, kind, **values):
+    return [it for found, it in lines if found == kind and all(it[key] == str(value) for key, value in values.items())]
+
+
+def total(lines, name):
+    return sum(int(it[name]) for it in lines)
+
+
+def summary_line(kind, **values):
+    return " ".join([kind] + [f"{key}={value}" for key, value in values.items()])
+
+
+def summary(settings, reader, records, rest):
+    frames, report = parts_of(reader.frames), parts_of(reader.report_of(None))
+    packets = parts_of(it[2] for it in reader.packets)
+    bad = pick(frames, "bad")
+    yield summary_line("recording", records=records, good=len(pick(frames, "frame")), bad=len(bad), rest=rest)
+    for word in FAULTS:
+        if them := [it for it in bad if it["fault"] == word]:
+            yield summary_line("fault", word=word, records=len(them))
+    gaps = pick(report, "mastergap")
+    yield summary_line("master", gaps=len(gaps), missing=total(gaps, "missing"))
+    for name in settings.channels:
+        if pick(frames, "frame", channel=name):
+            yield from channel_summary(frames, packets, report, name)
+    for name, application in sorted({(int(it["channel"]), int(it["apid"])) for _, it in packets}):
+        yield application_summary(packets, report, dict(channel=name, apid=application))
+
+
+def channel_summary(frames, packets, report, name):
+    good, gaps = pick(frames, "frame", channel=name), pick(report, "gap", channel=name)
+    whole, drops = pick(packets, "packet", channel=name), pick(report, "drop", channel=name)
+    yield summary_line(
+        "channel",
+        channel=name,
+        frames=len(good),
+        idle=len([it for it in good if it["kind"] == "idle"]),
+        vca=len([it for it in good if it["kind"] == "vca"]),
+        gaps=len(gaps),
+        missing=total(gaps, "missing"),
+        packets=len(whole),
+        octets=total(whole, "octets"),
+        dropped=len(drops),
+        lost=total(drops, "octets"),
+    )
+    for reason in REASONS:
+        if them := [it for it in drops if it["reason"] == reason]:
+            yield summary_line("loss", channel=name, reason=reason, parts=len(them), octets=total(them, "octets"))
+
+
+def application_summary(packets, report, key):
+    whole, gaps = pick(packets, "packet", **key), pick(report, "seqgap", **key)
+    return summary_line(
+        "application",
+        **key,
+        packets=len(whole),
+        octets=total(whole, "octets"),
+        first=whole[0]["record"],
+        last=whole[-1]["record"],
+        gaps=len(gaps),
+        missing=total(gaps, "missing"),
+        groups=len(pick(report, "group", **key)),
+        broken=len(pick(report, "broken", **key)),
+        strays=len(pick(report, "stray", **key)),
+    )
+
+
 # What is written.
 
 
@@ -404,13 +482,16 @@ def write_lines(name, lines):
 
 def expect(settings, recording, folder):
     with open(recording, "rb") as file:
-        reader, _ = read_recording(Settings(settings), file.read())
+        octets = file.read()
+    settings = Settings(settings)
+    reader, _ = read_recording(settings, octets)
     wanted = Counter(it[0] for it in reader.packets).most_common(1)
     wanted = wanted[0][0] if wanted else 0
     os.makedirs(f"{folder}/split", exist_ok=True)
     write_lines(f"{folder}/frames", reader.frames)
     write_lines(f"{folder}/packets", (it[2] for it in reader.packets))
     write_lines(f"{folder}/report", reader.report_of(None))
+    write_lines(f"{folder}/summary", summary(settings, reader, *divmod(len(octets), settings.record)))
     write_lines(f"{folder}/apid", [wanted])
     write_lines(f"{folder}/fields", rows(reader.packets, wanted))
     write_lines(f"{folder}/fields.report", reader.report_of(wanted))

@@ -30,6 +30,17 @@ checkpoint_stays() {
     tell "$1: the one before is as it was, and nothing is left beside it" "$(echo before | cmp - c 2>&1; ls c.new 2>/dev/null)"
 }
 
+# A disk that doesn't take a checkpoint: the call for it is one of a library of the trial's own, and fails.
+disk_fails() {
+    if ! command -v cc >/dev/null; then
+        echo "note without a C compiler no trial has a disk that doesn't take a checkpoint"
+        return
+    fi
+    printf '%s\n' '#include <errno.h>' 'int fsync(int file) { (void)file; errno = EIO; return -1; }' >sync.c
+    cc -shared -fPIC -o sync.so sync.c
+    checkpoint_stays "a checkpoint that the disk doesn't take" "LD_PRELOAD=$PWD/sync.so $packets --report r --checkpoint c $rec"
+}
+
 devices() {
     local command
     names
@@ -81,6 +92,7 @@ devices() {
     tell "split with its first file on a full device: the others are whole" "$(diff -r -x apid-0100.pkt expected/split split 2>&1)"
     ln -s /dev/full c.new
     checkpoint_stays "a checkpoint on a full device" "$extract --report r --checkpoint c --stop-after 20 $rec"
+    disk_fails
     wide_recording
     checkpoint_stays "a checkpoint of 40 KB with room for 8 KiB" \
         "trap '' XFSZ; ulimit -f 8; $tmx extract --settings wide.toml --report r --checkpoint c --stop-after 20 wide.rec"

@@ -19,6 +19,17 @@ usage() {
     if [ $found = 2 ] && [ -s err ] && ! grep -q '^tmx:' err && ! [ -s out ]; then ok "words: $1"; else no "words: $1: status $found: $(head -c 300 err)"; fi
 }
 
+# The commands and options of the help that the manual page lacks.
+manual_lacks() {
+    local command option
+    for command in $("$tmx" --help | sed -n '/^Commands:/,/^$/s/^  \([a-z]*\) .*/\1/p'); do
+        grep -qx "\.It Cm $command" "$here/../docs/tmx.1" || echo "$command"
+        for option in $("$tmx" "$command" --help | grep -oE '^ .*--[a-z-]+' | grep -oE '\-\-[a-z-]+'); do
+            grep -qE "^\.It .*Fl ${option#-}( |\$)" "$here/../docs/tmx.1" || echo "$command $option"
+        done
+    done
+}
+
 faults() {
     names
     usage_faults
@@ -48,6 +59,10 @@ own_files() {
 usage_faults() {
     gives "help" 0 "" "$tmx --help"
     gives "help of split" 0 "" "$tmx split --help"
+    gives "version" 0 "" "$tmx --version"
+    tell "version: its line" "$(grep -qxE 'tmx [0-9]+\.[0-9]+\.[0-9]+' out || cat out)"
+    tell "the manual page has each command and option" "$(manual_lacks)"
+    tell "the manual page is well formed, where there is mandoc" "$(! command -v mandoc >/dev/null || mandoc -T lint "$here/../docs/tmx.1" 2>&1)"
     usage "none" "$tmx"
     usage "an unknown command" "$tmx unpack"
     usage "no settings" "$tmx packets $rec"

@@ -1,5 +1,5 @@
 -- Octets as bits, and bits as numbers.
-use Rattle.std.specs.Prelude.{ℕ, zero, suc, ◌+◌, ◌*◌, ◌^◌, ◌<◌, Bool, true, false, ◌==◌, List, [], ◌∷◌, ◌++◌, length, slice_index, slice_range}
+use Rattle.std.specs.Prelude.{ℕ, zero, suc, ◌+◌, ◌*◌, ◌/◌, ◌%◌, ◌^◌, ◌<◌, Bool, true, false, ◌==◌, List, [], ◌∷◌, ◌++◌, length, slice_index, slice_range}
 use Rattle.std.specs.Int.{bit_at}
 
 -- every item is an octet
@@ -33,3 +33,11 @@ part octets from to = number (slice_range (bits_of octets) from to)
 -- one bit of the octets is set
 abbrev pub flag : List ℕ → ℕ → Bool
 flag octets at = part octets at (at + 1) == 1
+
+-- a number in two octets, the most significant first
+abbrev pub two_octets : ℕ → List ℕ
+two_octets n = n / 256 ∷ n % 256 ∷ []
+
+-- the number in the two octets from a place on
+abbrev pub two_at : List ℕ → ℕ → ℕ
+two_at xs i = 256 * slice_index xs i + slice_index xs (i + 1)

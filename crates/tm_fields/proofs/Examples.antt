@@ -7,7 +7,7 @@ use Rattle.hex.specs.Hex.{encode_with}
 use Rattle.std.specs.Fmt.{digits}
 use Rattle.std.specs.List.{concat}
 use Rattle.tm_bits.specs.Bits.{bits_of, low_bits, number, part}
-use Rattle.tm_fields.specs.Numbers.{number_of}
+use Rattle.tm_fields.specs.Numbers.{number_within}
 use Rattle.tm_fields.specs.Reading.{definition_of}
 use Rattle.tm_fields.specs.Rows.{head_of, row_from}
 use Rattle.tm_fields.specs.declared.lead.Lead.{Lead}
@@ -81,16 +81,16 @@ unfolding escaped fields_text is_blank digits encode_with bits_of low_bits numbe
 row = refl
 
 -- one and a half octets
-pub twelve_bits : number_of (255 ∷ 240 ∷ []) 0 12 ≡ Some 4095
+pub twelve_bits : number_within (255 ∷ 240 ∷ []) 0 12 ≡ Some 4095
 unfolding bits_of low_bits number part
 twelve_bits = refl
 
 -- the last bit would lie behind the octets
-pub past_the_end : number_of (255 ∷ 240 ∷ []) 12 5 ≡ None
+pub past_the_end : number_within (255 ∷ 240 ∷ []) 12 5 ≡ None
 past_the_end = refl
 
 -- no bits
-pub no_bits : number_of (255 ∷ 240 ∷ []) 0 0 ≡ None
+pub no_bits : number_within (255 ∷ 240 ∷ []) 0 0 ≡ None
 no_bits = refl
 
 -- 1001 rows

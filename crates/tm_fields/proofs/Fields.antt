@@ -3,7 +3,7 @@ use Rattle.std.proofs.Common.{◌≡◌, ℕ, suc, ◌+◌, ◌<◌, true, List,
 use Rattle.std.specs.List.{list_all}
 use Rattle.std.proofs.Math.Seq.{drop-cons}
 use Rattle.std.proofs.lemmas.List.Folds.{list_all-append}
-use Rattle.tm_fields.specs.Reading.{end_of, field_of, fields_from, is_sound, last_end}
+use Rattle.tm_fields.specs.Reading.{end_of, defined_field_of, fields_from, is_sound, last_end}
 use Rattle.tm_fields.specs.declared.columns.Columns.{Columns}
 use Rattle.tm_fields.specs.declared.faults.DefinitionFault.{DefinitionFault}
 use Rattle.tm_fields.specs.declared.field.Field.{Field}
@@ -13,12 +13,12 @@ next_is : {X : Type 0} (f : X → List (List ℕ)) (records : List X) (i : ℕ) 
 next_is f records i values h is = ap (map f) (drop-cons records i values h ∙ ap (λ v. v ∷ drop (suc i) records) (sym is))
 
 pub next_refused : {X : Type 0} (f : X → List (List ℕ)) (columns : Columns) (fields : List Field) (records : List X) (i : ℕ) (values : X) (e : DefinitionFault)
-    → i < length records → values ≡ get_or records i values → field_of columns fields (f values) ≡ Err e
+    → i < length records → values ≡ get_or records i values → defined_field_of columns fields (f values) ≡ Err e
     → fields_from columns fields (map f (drop i records)) ≡ Err e
 next_refused f columns fields records i values e h is err = ap (fields_from columns fields) (next_is f records i values h is) ∙ rw err refl
 
 pub next_read : {X : Type 0} (f : X → List (List ℕ)) (columns : Columns) (fields : List Field) (records : List X) (i : ℕ) (values : X) (x : Field)
-    → i < length records → values ≡ get_or records i values → field_of columns fields (f values) ≡ Ok x
+    → i < length records → values ≡ get_or records i values → defined_field_of columns fields (f values) ≡ Ok x
     → fields_from columns fields (map f (drop i records)) ≡ fields_from columns (fields ++ (x ∷ [])) (map f (drop (i + 1) records))
 next_read f columns fields records i values x h is ok =
     let next : suc i ≡ i + 1 = omega arith in

@@ -3,7 +3,7 @@ use Rattle.std.proofs.Common.{◌≡◌, ℕ, zero, suc, ◌<◌, ◌≤◌, tru
 use Rattle.std.specs.Prelude.{nat_lt}
 use Rattle.std.proofs.lemmas.Bool.{cases_lt, lt-ltb}
 use Rattle.std.proofs.lemmas.List.{take_all, take-append-le}
-use Rattle.tm_fields.specs.Columns.{Read, and_then, columns_of}
+use Rattle.tm_fields.specs.Columns.{ReadOrFault, and_then_read, columns_of}
 use Rattle.tm_fields.specs.Reading.{definition_of, fields_in, fields_under}
 use Rattle.tm_fields.specs.Table.{kept, same_lengths, table}
 use Rattle.tm_fields.specs.declared.columns.Columns.{Columns}
@@ -25,7 +25,7 @@ kept_short records h = take_all 1002 records h
 pub kept_full : (records : List (List (List ℕ))) (values : List (List ℕ)) → length records ≡ 1002 → kept (records ++ (values ∷ [])) ≡ records
 kept_full records values h = take-append-le 1002 records (values ∷ []) (omega arith) ∙ take_all 1002 records (omega arith)
 
-same_next : {A B : Type 0} (r : Read A) (f g : A → Read B) → ((x : A) → f x ≡ g x) → and_then r f ≡ and_then r g
+same_next : {A B : Type 0} (r : ReadOrFault A) (f g : A → ReadOrFault B) → ((x : A) → f x ≡ g x) → and_then_read r f ≡ and_then_read r g
 same_next (Ok x) f g h = h x
 same_next (Err e) f g h = refl
 

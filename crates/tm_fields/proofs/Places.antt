@@ -3,7 +3,7 @@ use Rattle.std.proofs.Common.{◌≡◌, ℕ, zero, suc, ◌+◌, ◌<◌, Bool,
 use Rattle.std.specs.Prelude.{if◌then◌else◌, Some}
 use Rattle.std.specs.Str.{bytes_eq}
 use Rattle.csv.specs.Records.{field_at}
-use Rattle.tm_fields.specs.Columns.{met, places, standing_of}
+use Rattle.tm_fields.specs.Columns.{met, heading_places, standing_of}
 use Rattle.tm_fields.specs.Values.{trimmed, value}
 use Rattle.tm_fields.specs.declared.columns.Standing.{Standing}
 use Rattle.tm_fields.specs.declared.columns.Standing.TheVariants.{Nowhere, Often}
@@ -31,13 +31,13 @@ field_drop (f ∷ fs) (suc i) h = field_drop fs i (omega arith)
 -- one place more
 pub standing_step : (name : List ℕ) (fs : List (List ℕ)) (found new : Standing) (i : ℕ) → i < length fs
     → new ≡ (if bytes_eq (value fs i) name then met found i else found)
-    → standing_with new (places name (i + 1) (drop (i + 1) fs)) ≡ standing_with found (places name i (drop i fs))
+    → standing_with new (heading_places name (i + 1) (drop (i + 1) fs)) ≡ standing_with found (heading_places name i (drop i fs))
 standing_step name fs found new i h e =
     let (x, at, rest) = field_drop fs i h in
     let next : suc i ≡ i + 1 = omega arith in
-    let whole : places name i (drop i fs) ≡ places name i (x ∷ drop (i + 1) fs) = ap (places name i) (rest ∙ ap (λ n. x ∷ drop n fs) next) in
+    let whole : heading_places name i (drop i fs) ≡ heading_places name i (x ∷ drop (i + 1) fs) = ap (heading_places name i) (rest ∙ ap (λ n. x ∷ drop n fs) next) in
     rw (e, at, whole) (cases (bytes_eq (trimmed x) name))
   where
-    cases : (b : Bool) → standing_with (if b then met found i else found) (places name (i + 1) (drop (i + 1) fs)) ≡ standing_with found (if b then i ∷ places name (i + 1) (drop (i + 1) fs) else places name (i + 1) (drop (i + 1) fs))
+    cases : (b : Bool) → standing_with (if b then met found i else found) (heading_places name (i + 1) (drop (i + 1) fs)) ≡ standing_with found (if b then i ∷ heading_places name (i + 1) (drop (i + 1) fs) else heading_places name (i + 1) (drop (i + 1) fs))
     cases true = refl
     cases false = refl

@@ -11,25 +11,25 @@ use Rattle.tm_fields.specs.declared.faults.DefinitionFault.{DefinitionFault}
 use Rattle.tm_fields.specs.declared.faults.DefinitionFault.TheVariants as fault
 
 -- what is read, or why the text is no definition
-abbrev pub Read : Type 0 → Type 0
-Read A = Result A DefinitionFault
+abbrev pub ReadOrFault : Type 0 → Type 0
+ReadOrFault A = Result A DefinitionFault
 
 -- what is read next, by what was read before it; the first fault decides
-abbrev pub and_then : {A B : Type 0} → Read A → (A → Read B) → Read B
-and_then (Ok x) next = next x
-and_then (Err e) next = Err e
+abbrev pub and_then_read : {A B : Type 0} → ReadOrFault A → (A → ReadOrFault B) → ReadOrFault B
+and_then_read (Ok x) next = next x
+and_then_read (Err e) next = Err e
 
 -- a column's heading
-abbrev pub word_of : Column → List ℕ
-word_of Name = codes "name"
-word_of DataType = codes "data_type"
-word_of BitLength = codes "bit_length"
-word_of BitOffset = codes "bit_offset"
+abbrev pub column_word : Column → List ℕ
+column_word Name = codes "name"
+column_word DataType = codes "data_type"
+column_word BitLength = codes "bit_length"
+column_word BitOffset = codes "bit_offset"
 
 -- the places at which a heading stands, where the first of these headings is at the place `at`
-abbrev pub places : List ℕ → ℕ → List (List ℕ) → List ℕ
-places word at [] = []
-places word at (heading ∷ more) = if bytes_eq (trimmed heading) word then at ∷ places word (at + 1) more else places word (at + 1) more
+abbrev pub heading_places : List ℕ → ℕ → List (List ℕ) → List ℕ
+heading_places word at [] = []
+heading_places word at (heading ∷ more) = if bytes_eq (trimmed heading) word then at ∷ heading_places word (at + 1) more else heading_places word (at + 1) more
 
 -- nowhere, at one place, or at more than one
 abbrev pub standing_of : List ℕ → Standing
@@ -39,7 +39,7 @@ standing_of (at ∷ next ∷ more) = Often
 
 -- where a column's heading stands
 abbrev pub standing : List ℕ → List (List ℕ) → Standing
-standing word headings = standing_of (places word 0 headings)
+standing word headings = standing_of (heading_places word 0 headings)
 
 -- for a private contract: where a heading stands that stands at one more place
 abbrev pub met : Standing → ℕ → Standing
@@ -48,22 +48,22 @@ met (At first) at = Often
 met Often at = Often
 
 -- a column that has to stand at one place
-abbrev pub only : Column → Standing → Read ℕ
+abbrev pub only : Column → Standing → ReadOrFault ℕ
 only column Nowhere = Err (fault.Column column)
 only column (At at) = Ok at
 only column Often = Err (fault.Column column)
 
 -- a column that may be left out
-abbrev pub at_most_one : Column → Standing → Read (Option ℕ)
+abbrev pub at_most_one : Column → Standing → ReadOrFault (Option ℕ)
 at_most_one column Nowhere = Ok None
 at_most_one column (At at) = Ok (Some at)
 at_most_one column Often = Err (fault.Column column)
 
 -- the places of the columns
-abbrev pub columns_of : List (List ℕ) → Read Columns
+abbrev pub columns_of : List (List ℕ) → ReadOrFault Columns
 columns_of headings =
-    and_then (only Name (standing (word_of Name) headings)) (λ name.
-    and_then (only DataType (standing (word_of DataType) headings)) (λ data_type.
-    and_then (only BitLength (standing (word_of BitLength) headings)) (λ bit_length.
-    and_then (at_most_one BitOffset (standing (word_of BitOffset) headings)) (λ bit_offset.
+    and_then_read (only Name (standing (column_word Name) headings)) (λ name.
+    and_then_read (only DataType (standing (column_word DataType) headings)) (λ data_type.
+    and_then_read (only BitLength (standing (column_word BitLength) headings)) (λ bit_length.
+    and_then_read (at_most_one BitOffset (standing (column_word BitOffset) headings)) (λ bit_offset.
     Ok (record { name = name; data_type = data_type; bit_length = bit_length; bit_offset = bit_offset })))))

@@ -4,5 +4,5 @@ pub mod Columns
 pub mod Reading
 pub mod Numbers
 pub mod Escape
-pub mod Line
 pub mod Rows
+pub mod code

@@ -8,8 +8,8 @@ abbrev pub bits_in : List ℕ → ℕ
 bits_in octets = 8 * length octets
 
 -- the number in 1 to 64 bits that lie within the octets
-abbrev pub number_of : List ℕ → ℕ → ℕ → Option ℕ
-number_of octets at count = if (count == 0) || nat_lt 64 count || nat_lt (bits_in octets) (at + count) then None else Some (part octets at (at + count))
+abbrev pub number_within : List ℕ → ℕ → ℕ → Option ℕ
+number_within octets at count = if (count == 0) || nat_lt 64 count || nat_lt (bits_in octets) (at + count) then None else Some (part octets at (at + count))
 
 -- so many octets, each of eight bits, from a bit on
 abbrev pub octets_at : List ℕ → ℕ → ℕ → List ℕ

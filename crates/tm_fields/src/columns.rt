@@ -2,7 +2,7 @@
 
 ghost use Rattle.std.specs.Prelude.{◌≡◌};
 ghost use Rattle.csv.specs.Records.{fields_of};
-ghost use Rattle.tm_fields.specs.Columns.{at_most_one, columns_of, met, only, standing, word_of};
+ghost use Rattle.tm_fields.specs.Columns.{at_most_one, columns_of, met, only, standing, column_word};
 ghost use Rattle.tm_fields.specs.Values.{value};
 
 use crate::faults::{Column, DefinitionFault};
@@ -61,7 +61,7 @@ fn find_heading(headings: &ByteRecord, word: &[u8]) -> Standing
 
 // The place of a column that has to stand at one place.
 fn find_one(headings: &ByteRecord, column: Column) -> Result<usize, DefinitionFault>
-    ensures { result ≡ only column (standing (word_of column) (fields_of headings.now)) }
+    ensures { result ≡ only column (standing (column_word column) (fields_of headings.now)) }
 {
     match find_heading(headings, column.word().as_bytes()) {
         Standing::At(at) => Ok(at),
@@ -71,7 +71,7 @@ fn find_one(headings: &ByteRecord, column: Column) -> Result<usize, DefinitionFa
 
 // The place of a column that may be left out.
 fn find_at_most_one(headings: &ByteRecord, column: Column) -> Result<Option<usize>, DefinitionFault>
-    ensures { result ≡ at_most_one column (standing (word_of column) (fields_of headings.now)) }
+    ensures { result ≡ at_most_one column (standing (column_word column) (fields_of headings.now)) }
 {
     match find_heading(headings, column.word().as_bytes()) {
         Standing::Nowhere => Ok(None),

@@ -18,11 +18,11 @@ pub enum Column {
 }
 
 impl Column {
-    ghost use Rattle.tm_fields.specs.Columns.{word_of};
+    ghost use Rattle.tm_fields.specs.Columns.{column_word};
 
     /// The column's heading.
     pub fn word(self) -> &'static str
-        ensures { result.now ≡ word_of self }
+        ensures { result.now ≡ column_word self }
     {
         match self {
             Column::Name => "name",

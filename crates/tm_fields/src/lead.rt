@@ -1,7 +1,7 @@
 //! What every head and every row begins with.
 
 ghost use Rattle.std.specs.Prelude.{◌++◌, ◌∷◌, [], ℕ, List, OnOk};
-ghost use Rattle.tm_fields.specs.Line.{HasValues};
+ghost use Rattle.tm_fields.specs.code.Line.{HasValues};
 ghost use Rattle.tm_fields.specs.Rows.{lead_names, lead_texts};
 
 use crate::line::put;

@@ -2,7 +2,7 @@
 
 ghost use Rattle.std.specs.Prelude.{◌≡◌, ◌≤◌, ◌++◌, ◌∷◌, [], ℕ, Some, List, length, OnOk};
 ghost use Rattle.csv.specs.Writing.{default_writer, row_text, text_written};
-ghost use Rattle.tm_fields.specs.Line.{HasValues};
+ghost use Rattle.tm_fields.specs.code.Line.{HasValues};
 
 use csv::{Writer, WriterBuilder};
 use std::alloc::{AllocError, Global};

@@ -2,7 +2,7 @@
 
 ghost use Rattle.std.specs.Prelude.{◌≡◌, ◌<◌, ◌≤◌, ◌+◌, ◌*◌, ◌^◌, length};
 ghost use Rattle.tm_bits.specs.Bits.{bits_of, number, part};
-ghost use Rattle.tm_fields.specs.Numbers.{bits_in, number_of};
+ghost use Rattle.tm_fields.specs.Numbers.{bits_in, number_within};
 
 // The number that at most nine octets spell.
 fn spelled(octets: &[u8]) -> u128
@@ -36,7 +36,7 @@ pub(crate) fn number_from(octets: &[u8], at: u32, count: u32) -> u64
 /// The number in so many bits from the bit `offset` on, the most significant first: bit 0 is the most significant bit of the first
 /// octet. `None` exactly where `bits` is 0 or over 64, or the last of them would lie behind the octets.
 pub fn number_at(octets: &[u8], offset: u32, bits: u32) -> Option<u64>
-    ensures { result ≡ number_of octets.now offset bits }
+    ensures { result ≡ number_within octets.now offset bits }
 {
     let end = u64::from(offset) + u64::from(bits);
     if bits == 0 || bits > 64 || end.div_ceil(8) > octets.len() as u64 {

@@ -2,7 +2,7 @@
 
 ghost use Rattle.std.specs.Prelude.{◌≡◌, ◌≢◌, ◌+◌, ◌<◌, ◌≤◌, Ok, Err, true, length, IfOk, IfErr};
 ghost use Rattle.csv.specs.Records.{fields_of};
-ghost use Rattle.tm_fields.specs.Reading.{begin_named, begin_of, field_of, greatest_end, has_length, is_refused_name, is_sound, is_taken, last_end, length_of, name_of, offset_text, type_of};
+ghost use Rattle.tm_fields.specs.Reading.{begin_named, begin_of, defined_field_of, greatest_end, has_length, is_refused_name, is_sound, is_earlier_name, last_end, length_of, field_name_of, offset_text, type_of};
 
 use crate::columns::{Columns, value_at};
 use crate::faults::DefinitionFault;
@@ -68,7 +68,7 @@ fn read_begin(row: u32, before: u32, length: u32, text: &[u8]) -> Result<u32, De
 
 // The name is that of a field of these that has a column.
 fn is_name_taken(name: &[u8], fields: &[Field]) -> bool
-    ensures { result ≡ is_taken name.now fields.now }
+    ensures { result ≡ is_earlier_name name.now fields.now }
 {
     fields.iter().any(|field| field.data_type.has_column() && is_text(field.name.as_slice(), name))
 }
@@ -88,8 +88,8 @@ fn read_name(
     name: &[u8],
     fields: &[Field],
 ) -> Result<Octets, DefinitionFault>
-    ensures ok { IfOk result (λ octets. name_of row data_type name.now fields.now ≡ Ok octets) }
-    ensures refused { IfErr result (λ f. f ≢ DefinitionFault.NoMemory → name_of row data_type name.now fields.now ≡ Err f) }
+    ensures ok { IfOk result (λ octets. field_name_of row data_type name.now fields.now ≡ Ok octets) }
+    ensures refused { IfErr result (λ f. f ≢ DefinitionFault.NoMemory → field_name_of row data_type name.now fields.now ≡ Err f) }
 {
     if refuses_name(data_type, name, fields) {
         return Err(DefinitionFault::Name { row });
@@ -110,8 +110,8 @@ pub(crate) fn read_field(
 ) -> Result<Field, DefinitionFault>
     requires few { length fields.now < 1000 }
     requires before { before ≡ last_end 48 fields.now }
-    ensures ok { IfOk result (λ f. field_of columns.now fields.now (fields_of values.now) ≡ Ok f) }
-    ensures refused { IfErr result (λ f. f ≢ DefinitionFault.NoMemory → field_of columns.now fields.now (fields_of values.now) ≡ Err f) }
+    ensures ok { IfOk result (λ f. defined_field_of columns.now fields.now (fields_of values.now) ≡ Ok f) }
+    ensures refused { IfErr result (λ f. f ≢ DefinitionFault.NoMemory → defined_field_of columns.now fields.now (fields_of values.now) ≡ Err f) }
     ensures sound { IfOk result (λ f. is_sound f ≡ true) }
 {
     let row = fields.len() as u32 + 1;

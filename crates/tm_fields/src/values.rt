@@ -1,7 +1,7 @@
 //! The texts of a packet's values.
 
 ghost use Rattle.std.specs.Prelude.{◌≡◌, ◌+◌, ◌*◌, ◌^◌, ◌<◌, ◌≤◌, ◌%◌, ◌++◌, ℕ, List, true, length, IfOk, OnOk, decimal};
-ghost use Rattle.tm_fields.specs.Line.{HasValues};
+ghost use Rattle.tm_fields.specs.code.Line.{HasValues};
 ghost use Rattle.tm_fields.specs.Numbers.{bits_in, octets_at};
 ghost use Rattle.tm_fields.specs.Reading.{end_of, greatest_end, has_length, is_sound};
 ghost use Rattle.tm_fields.specs.Rows.{named, printed, signed, typed_text};

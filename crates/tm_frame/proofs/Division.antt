@@ -6,7 +6,7 @@ use Rattle.std.proofs.lemmas.List.{take-append-drop}
 use Rattle.tm_bits.specs.Bits.{low_bits, bits_of, digit, number}
 use Rattle.tm_bits.proofs.BitLemmas.{length-low_bits, number-low_bits, number-lt, low_bits-number, length-bits_of, bits_of-append}
 use Rattle.tm_frame.specs.ErrorControl.{differ, generator, subtract, long_division, invert_first, error_control_of}
-use Rattle.tm_frame.specs.Folding.{remainder_from}
+use Rattle.tm_frame.specs.code.Folding.{remainder_from}
 
 pub length-subtract : (xs ds : List Bool) → length (subtract xs ds) ≡ length xs
 unfolding subtract

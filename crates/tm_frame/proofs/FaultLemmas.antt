@@ -5,7 +5,7 @@ use Rattle.std.specs.List.{find}
 use Rattle.std.proofs.lemmas.Bool.Decides.{nat_tests}
 use Rattle.tm_frame.specs.declared.layout.LayoutParts.{LayoutParts}
 use Rattle.tm_frame.specs.declared.fault.FrameFault.TheVariants.{Crc, Version, Spacecraft, SecondaryFlag, OcfFlag, SecondaryVersion, Layout, Pointer}
-use Rattle.tm_frame.specs.Frame.{field_length, field_start, field_end, field_of, kind_of, good_frame, IsPlaceBelow, IsSound}
+use Rattle.tm_frame.specs.Frame.{field_length, field_start, field_end, data_field_of, kind_of, good_frame, IsPlaceBelow, IsSoundFrame}
 use Rattle.tm_bits.proofs.PartLemmas.{part-lt}
 use Rattle.std.proofs.lemmas.List.{length-take-le}
 use Rattle.tm_frame.specs.Header.{synchronization_flag, pointer_of}
@@ -47,10 +47,10 @@ place_inside layout frame h =
 pub begins_before_end : (layout : LayoutParts) (frame : List ℕ) → fault_of layout frame ≡ None → field_start frame < field_end layout frame
 begins_before_end layout frame h = let some = room layout frame h in omega arith
 
-pub sound : (layout : LayoutParts) (frame : List ℕ) → 9 ≤ length frame → length frame ≤ 2048 → fault_of layout frame ≡ None → IsSound (good_frame layout frame)
+pub sound : (layout : LayoutParts) (frame : List ℕ) → 9 ≤ length frame → length frame ≤ 2048 → fault_of layout frame ≡ None → IsSoundFrame (good_frame layout frame)
 sound layout frame long most h =
     let some = room layout frame h in
-    let l : length (field_of layout frame) ≡ field_length layout frame =
+    let l : length (data_field_of layout frame) ≡ field_length layout frame =
     length-take-le (field_length layout frame) (drop (field_start frame) frame) (omega (arith, length-drop (field_start frame) frame)) in
     record {
       channel = part-lt frame 12 15 (omega arith) (omega arith);

@@ -6,7 +6,7 @@ use Rattle.std.proofs.lemmas.Nat.{xor_comm}
 use Rattle.std.proofs.lemmas.List.{length-replicate, replicate-append-replicate}
 use Rattle.tm_bits.specs.Bits.{low_bits, number}
 use Rattle.tm_frame.specs.ErrorControl.{subtract, long_division}
-use Rattle.tm_frame.specs.Folding.{Folds, remainder_from, shifted}
+use Rattle.tm_frame.specs.code.Folding.{Folds, remainder_from, shifted}
 use Rattle.tm_frame.proofs.Division.{subtract-zeros, remainder_from-append}
 use Rattle.tm_frame.proofs.Linear.{subtract-append, zeros-subtract_n, remainder_from-xor, remainder_from-zeros}
 

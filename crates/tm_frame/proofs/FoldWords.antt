@@ -10,7 +10,7 @@ use Rattle.tm_bits.specs.Bits.{low_bits, bits_of, number, AreOctets}
 use Rattle.tm_bits.proofs.BitLemmas.{length-low_bits, low_bits-number, low_bits-cat, low_bits-split, length-bits_of, bits_of-append}
 use Rattle.tm_bits.proofs.PartLemmas.{octets_behind}
 use Rattle.tm_frame.specs.ErrorControl.{subtract, long_division}
-use Rattle.tm_frame.specs.Folding.{Folds, remainder_from, shifted, bits_of_words, words_remainder}
+use Rattle.tm_frame.specs.code.Folding.{Folds, remainder_from, shifted, bits_of_words, words_remainder}
 use Rattle.tm_frame.proofs.HeaderLemmas.{number-bits_of-take}
 use Rattle.tm_frame.proofs.Division.{subtract-zeros, remainder_from-append}
 use Rattle.tm_frame.proofs.Linear.{subtract-append, low_bits-zero, low_bits-mod, low_bits-xor, remainder_from-xor}

@@ -7,7 +7,7 @@ use Rattle.std.proofs.lemmas.List.{length-replicate}
 use Rattle.tm_bits.specs.Bits.{low_bits, number}
 use Rattle.tm_bits.proofs.BitLemmas.{length-low_bits, number-low_bits, low_bits-cat}
 use Rattle.tm_frame.specs.ErrorControl.{differ, generator, subtract, long_division}
-use Rattle.tm_frame.specs.Folding.{remainder_from}
+use Rattle.tm_frame.specs.code.Folding.{remainder_from}
 use Rattle.tm_frame.proofs.Division.{feedback, differ_assoc, bits_spelled, length-subtract, number-subtract, subtract_assoc, subtract-zeros, zeros-subtract}
 
 differ_swap : (a b d : Bool) → differ (differ a b) d ≡ differ (differ a d) b

@@ -7,7 +7,7 @@ use Rattle.std.proofs.lemmas.Bool.{and_parts, eqb-true, cases_lt}
 use Rattle.tm_bits.specs.Bits.{low_bits, number, digit}
 use Rattle.tm_bits.proofs.BitLemmas.{length-low_bits, number-low_bits, number-lt, low_bits-cat, low_bits-split}
 use Rattle.tm_frame.specs.ErrorControl.{subtract, long_division}
-use Rattle.tm_frame.specs.Folding.{remainder_from, shifted}
+use Rattle.tm_frame.specs.code.Folding.{remainder_from, shifted}
 use Rattle.tm_frame.proofs.Division.{subtract-append_false}
 use Rattle.tm_frame.proofs.Linear.{low_bits-zero, low_bits-mod, low_bits-xor, remainder_from-register, remainder_from-zeros}
 use Rattle.tm_frame.proofs.Fold.{remainder-apart, xor_exchange}

@@ -7,7 +7,7 @@ use Rattle.tm_frame.specs.declared.layout.Presence.{Presence}
 use Rattle.tm_frame.specs.declared.layout.Presence.TheVariants.{Flag, Always, Never}
 use Rattle.tm_frame.specs.declared.fault.FrameFault.{FrameFault}
 use Rattle.tm_frame.specs.declared.fault.FrameFault.TheVariants.{Crc, Version, Spacecraft, SecondaryFlag, OcfFlag, SecondaryVersion, Layout, Pointer}
-use Rattle.tm_frame.specs.Header.{version_of, spacecraft_of, ocf_flag, secondary_flag, synchronization_flag, pointer_of, secondary_version_of}
+use Rattle.tm_frame.specs.Header.{frame_version_of, spacecraft_of, ocf_flag, secondary_flag, synchronization_flag, pointer_of, secondary_version_of}
 use Rattle.tm_frame.specs.ErrorControl.{error_control_of}
 use Rattle.tm_frame.specs.Frame.{GoodFrame, good_frame, frame_of, field_length}
 
@@ -32,7 +32,7 @@ is_misplaced layout frame =
 -- when each fault applies
 abbrev pub applies : LayoutParts → List ℕ → FrameFault → Bool
 applies layout frame Crc = layout.error_control && not (control_holds frame)
-applies layout frame Version = not (version_of frame == 0)
+applies layout frame Version = not (frame_version_of frame == 0)
 applies layout frame Spacecraft = not (spacecraft_of frame == layout.spacecraft)
 applies layout frame SecondaryFlag = disagrees layout.secondary (secondary_flag frame)
 applies layout frame OcfFlag = disagrees layout.ocf (ocf_flag frame)
@@ -54,6 +54,6 @@ good_unless None good = Ok good
 good_unless (Some fault) good = Err fault
 
 -- what a record reads as
-abbrev pub reading_of : LayoutParts → List ℕ → Result GoodFrame FrameFault
-reading_of layout octets =
+abbrev pub frame_reading_of : LayoutParts → List ℕ → Result GoodFrame FrameFault
+frame_reading_of layout octets =
     good_unless (fault_of layout (frame_of layout octets)) (good_frame layout (frame_of layout octets))

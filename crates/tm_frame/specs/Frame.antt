@@ -3,7 +3,7 @@ use Rattle.std.specs.Prelude.{ℕ, ◌<◌, ◌≤◌, ◌+◌, ◌-◌, Bool, �
 use Rattle.tm_frame.specs.declared.layout.LayoutParts.{LayoutParts}
 use Rattle.tm_frame.specs.declared.frame.Kind.{Kind}
 use Rattle.tm_frame.specs.declared.frame.Kind.TheVariants.{Packets, NoStart, Idle, Vca}
-use Rattle.tm_frame.specs.Header.{channel_of, ocf_flag, master_count_of, count_of, synchronization_flag, order_flag_of, segment_of, pointer_of, secondary_length_of}
+use Rattle.tm_frame.specs.Header.{channel_of, ocf_flag, master_count_of, channel_count_of, synchronization_flag, order_flag_of, segment_of, pointer_of, secondary_length_of}
 
 -- the record without its skipped octets
 abbrev pub frame_of : LayoutParts → List ℕ → List ℕ
@@ -22,8 +22,8 @@ abbrev pub field_length : LayoutParts → List ℕ → ℕ
 field_length layout frame = field_end layout frame - field_start frame
 
 -- the data field
-abbrev pub field_of : LayoutParts → List ℕ → List ℕ
-field_of layout frame = slice_range frame (field_start frame) (field_end layout frame)
+abbrev pub data_field_of : LayoutParts → List ℕ → List ℕ
+data_field_of layout frame = slice_range frame (field_start frame) (field_end layout frame)
 
 -- what the data field holds: with the synchronization flag a VCA_SDU, whatever the pointer; else by the first header
 -- pointer, in which 2047 and 2046 have a meaning of their own (4.1.2.7)
@@ -52,10 +52,10 @@ pub record GoodFrame : Type 0 where
 -- the parts of a frame in which no fault was found
 abbrev pub good_frame : LayoutParts → List ℕ → GoodFrame
 good_frame layout frame = record {
-  field = field_of layout frame;
+  field = data_field_of layout frame;
   channel = channel_of frame;
   master_count = master_count_of frame;
-  count = count_of frame;
+  count = channel_count_of frame;
   kind = kind_of frame;
   secondary_length = secondary_length_of frame;
   has_ocf = ocf_flag frame;
@@ -71,7 +71,7 @@ IsPlaceBelow n Idle = Unit {0}
 IsPlaceBelow n Vca = Unit {0}
 
 -- what holds of every good frame
-pub record IsSound (frame : GoodFrame) : Type 0 where
+pub record IsSoundFrame (frame : GoodFrame) : Type 0 where
   pub channel : frame.channel < 8
   pub segment : frame.segment < 4
   pub some : 0 < length frame.field

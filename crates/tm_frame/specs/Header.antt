@@ -4,8 +4,8 @@ use Rattle.tm_bits.specs.Bits.{part, flag}
 use Rattle.tm_frame.specs.declared.header.Header.{Header}
 
 -- the transfer frame version number (4.1.2.2)
-abbrev pub version_of : List ℕ → ℕ
-version_of frame = part frame 0 2
+abbrev pub frame_version_of : List ℕ → ℕ
+frame_version_of frame = part frame 0 2
 
 -- the spacecraft identifier (4.1.2.2)
 abbrev pub spacecraft_of : List ℕ → ℕ
@@ -24,8 +24,8 @@ abbrev pub master_count_of : List ℕ → ℕ
 master_count_of frame = part frame 16 24
 
 -- the virtual channel frame count (4.1.2.6)
-abbrev pub count_of : List ℕ → ℕ
-count_of frame = part frame 24 32
+abbrev pub channel_count_of : List ℕ → ℕ
+channel_count_of frame = part frame 24 32
 
 -- the transfer frame data field status (4.1.2.7): the secondary header flag, ..
 abbrev pub secondary_flag : List ℕ → Bool
@@ -56,14 +56,14 @@ abbrev pub secondary_length_of : List ℕ → ℕ
 secondary_length_of frame = if secondary_flag frame then part frame 50 56 + 1 else 0
 
 -- the primary header
-abbrev pub header_of : List ℕ → Header
-header_of frame = record {
-  version = version_of frame;
+abbrev pub frame_header_of : List ℕ → Header
+frame_header_of frame = record {
+  version = frame_version_of frame;
   spacecraft = spacecraft_of frame;
   channel = channel_of frame;
   ocf = ocf_flag frame;
   master_count = master_count_of frame;
-  count = count_of frame;
+  count = channel_count_of frame;
   secondary = secondary_flag frame;
   synchronization = synchronization_flag frame;
   order = order_flag_of frame;

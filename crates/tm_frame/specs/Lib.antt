@@ -1,7 +1,7 @@
 pub mod ErrorControl
-pub mod Folding
 pub mod Layout
 pub mod Header
 pub mod Frame
 pub mod Fault
 pub mod FaultWords
+pub mod code

@@ -4,7 +4,7 @@ ghost use Rattle.std.specs.Prelude.{◌≡◌, ◌≤◌, ◌<◌, ◌+◌, ◌-
 ghost use Rattle.tm_bits.specs.Bits.{bits_of, low_bits};
 ghost use Rattle.tm_frame.specs.ErrorControl.{error_control_of};
 ghost use Rattle.tm_frame.specs.Fault.{control_holds};
-ghost use Rattle.tm_frame.specs.Folding.{Folds, bits_of_words, remainder_from, shifted, words_remainder};
+ghost use Rattle.tm_frame.specs.code.Folding.{Folds, bits_of_words, remainder_from, shifted, words_remainder};
 
 use byteorder::{BigEndian, ByteOrder};
 

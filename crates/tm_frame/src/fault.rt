@@ -24,11 +24,11 @@ pub enum FrameFault {
 }
 
 impl FrameFault {
-    ghost use Rattle.tm_frame.specs.FaultWords.{word_of, number_of};
+    ghost use Rattle.tm_frame.specs.FaultWords.{fault_word, fault_number};
 
     /// The fault's word, as it is printed.
     pub fn word(self) -> &'static str
-        ensures { result.now ≡ word_of self }
+        ensures { result.now ≡ fault_word self }
     {
         match self {
             FrameFault::Crc => "crc",
@@ -44,7 +44,7 @@ impl FrameFault {
 
     /// The fault's number, from 1, in the order in which faults are looked for.
     pub fn number(self) -> u8
-        ensures { result ≡ number_of self }
+        ensures { result ≡ fault_number self }
     {
         match self {
             FrameFault::Crc => 1,

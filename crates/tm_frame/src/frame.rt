@@ -1,9 +1,9 @@
 //! A good frame.
 
 ghost use Rattle.std.specs.Prelude.{◌≡◌, ◌≤◌, ◌<◌, length};
-ghost use Rattle.tm_frame.specs.Fault.{fault_of, reading_of};
+ghost use Rattle.tm_frame.specs.Fault.{fault_of, frame_reading_of};
 ghost use Rattle.tm_frame.specs.Frame.{IsPlaceBelow, good_frame, kind_from};
-ghost use Rattle.tm_frame.specs.Header.{header_of};
+ghost use Rattle.tm_frame.specs.Header.{frame_header_of};
 ghost use Rattle.tm_frame.specs.Layout.{record_length_of};
 
 use crate::checks::fault_in;
@@ -39,7 +39,7 @@ pub struct Frame<'r> {
 }
 
 impl<'r> Model for Frame<'r> {
-    ghost use Rattle.tm_frame.specs.Frame.{GoodFrame, IsSound};
+    ghost use Rattle.tm_frame.specs.Frame.{GoodFrame, IsSoundFrame};
 
     ghost Value = { GoodFrame };
 
@@ -55,7 +55,7 @@ impl<'r> Model for Frame<'r> {
       segment = a.segment;
     } };
 
-    ghost invariant = { λ a. IsSound (record {
+    ghost invariant = { λ a. IsSoundFrame (record {
       field = a.field.now;
       channel = a.channel;
       master_count = a.master_count;
@@ -142,7 +142,7 @@ impl<'r> Frame<'r> {
 /// a bad frame is given.
 pub fn read<'r>(layout: &Layout, octets: &'r [u8]) -> Result<Frame<'r>, FrameFault>
     requires { length octets.now ≡ record_length_of layout.now }
-    ensures { result ≡ reading_of layout.now octets.now }
+    ensures { result ≡ frame_reading_of layout.now octets.now }
 {
     let parts = layout.parts();
     let start = parts.skip_before as usize;
@@ -157,7 +157,7 @@ pub fn read<'r>(layout: &Layout, octets: &'r [u8]) -> Result<Frame<'r>, FrameFau
 // The frame, in which no fault was found.
 fn good_frame<'r>(parts: &LayoutParts, frame: &'r [u8], header: &Header) -> Frame<'r>
     requires long { 9 ≤ length frame.now }
-    requires header { header.now ≡ header_of frame.now }
+    requires header { header.now ≡ frame_header_of frame.now }
     requires most { length frame.now ≤ 2048 }
     requires good { fault_of parts.now frame.now ≡ None }
     ensures { result ≡ good_frame parts.now frame.now }

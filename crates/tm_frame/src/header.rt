@@ -3,7 +3,7 @@
 ghost use Rattle.std.specs.Prelude.{◌≡◌, ◌≤◌, ◌<◌, ◌/◌, ◌%◌, ◌^◌, ◌-◌, length};
 ghost use Rattle.tm_bits.specs.Bits.{part};
 ghost use Rattle.tm_frame.specs.Frame.{field_end, field_length, field_start};
-ghost use Rattle.tm_frame.specs.Header.{header_of, secondary_length_of, secondary_version_of};
+ghost use Rattle.tm_frame.specs.Header.{frame_header_of, secondary_length_of, secondary_version_of};
 
 use crate::LayoutParts;
 use byteorder::{BigEndian, ByteOrder};
@@ -34,7 +34,7 @@ impl Header {
     /// The primary header of a frame.
     pub fn read(frame: &[u8]) -> Header
         requires { 6 ≤ length frame.now }
-        ensures { result ≡ header_of frame.now }
+        ensures { result ≡ frame_header_of frame.now }
     {
         let word = BigEndian::read_u48(frame);
         Header {
@@ -76,7 +76,7 @@ pub fn secondary_version(frame: &[u8]) -> u8
 /// The octets of the secondary header, 0 without one.
 pub fn secondary_length(frame: &[u8], header: &Header) -> u8
     requires long { 9 ≤ length frame.now }
-    requires header { header.now ≡ header_of frame.now }
+    requires header { header.now ≡ frame_header_of frame.now }
     ensures value { result ≡ secondary_length_of frame.now }
     ensures most { result ≤ 64 }
 {
@@ -99,7 +99,7 @@ fn secondary_length_code(frame: &[u8]) -> u8
 /// Where the data field begins, behind the headers.
 pub fn field_start(frame: &[u8], header: &Header) -> usize
     requires long { 9 ≤ length frame.now }
-    requires header { header.now ≡ header_of frame.now }
+    requires header { header.now ≡ frame_header_of frame.now }
     ensures { result ≡ field_start frame.now }
 {
     6 + secondary_length(frame, header) as usize
@@ -108,7 +108,7 @@ pub fn field_start(frame: &[u8], header: &Header) -> usize
 /// Where the data field ends, before the trailers.
 pub fn field_end(parts: &LayoutParts, frame: &[u8], header: &Header) -> usize
     requires long { 9 ≤ length frame.now }
-    requires header { header.now ≡ header_of frame.now }
+    requires header { header.now ≡ frame_header_of frame.now }
     ensures { result ≡ field_end parts.now frame.now }
 {
     let ocf = if header.ocf { 4 } else { 0 };
@@ -119,7 +119,7 @@ pub fn field_end(parts: &LayoutParts, frame: &[u8], header: &Header) -> usize
 /// The octets of the data field, 0 where none is left for it.
 pub fn field_length(parts: &LayoutParts, frame: &[u8], header: &Header) -> usize
     requires long { 9 ≤ length frame.now }
-    requires header { header.now ≡ header_of frame.now }
+    requires header { header.now ≡ frame_header_of frame.now }
     ensures { result ≡ field_length parts.now frame.now }
 {
     field_end(parts, frame, header).saturating_sub(field_start(frame, header))

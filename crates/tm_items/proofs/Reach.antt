@@ -2,13 +2,13 @@
 use Rattle.std.proofs.Common.{◌≡◌, ℕ, ◌+◌, ◌<◌, ◌≤◌, List, ◌++◌, length, take, ⊎_elim, sym, ap, ◌∙◌, arith, length-append, ltb}
 use Rattle.std.proofs.lemmas.List.{take-append-le}
 use Rattle.std.proofs.lemmas.Bool.{cases_lt, lt-ltb, le-ltb, cond-true, cond-false}
-use Rattle.tm_packet.specs.Header.{header_of}
+use Rattle.tm_packet.specs.Header.{packet_header_of}
 use Rattle.tm_items.specs.OnePacket.{reach}
 
 pub reach-short : (t : List ℕ) → length t < 6 → reach t ≡ 7
 reach-short t h = cond-true (ltb (length t) 6) _ _ (lt-ltb (length t) 6 h)
 
-pub reach-long : (t : List ℕ) → 6 ≤ length t → reach t ≡ (header_of (take 6 t)).data_length + 7
+pub reach-long : (t : List ℕ) → 6 ≤ length t → reach t ≡ (packet_header_of (take 6 t)).data_length + 7
 reach-long t h = cond-false (ltb (length t) 6) _ _ (le-ltb (length t) 6 h)
 
 -- with six octets there, more of them change nothing
@@ -16,7 +16,7 @@ pub reach-append : (t u : List ℕ) → 6 ≤ length t → reach (t ++ u) ≡ re
 reach-append t u h =
     let longer : 6 ≤ length (t ++ u) = omega (arith, length-append t u) in
     reach-long (t ++ u) longer
-    ∙ ap (λ (o : List ℕ). (header_of o).data_length + 7) (take-append-le 6 t u h)
+    ∙ ap (λ (o : List ℕ). (packet_header_of o).data_length + 7) (take-append-le 6 t u h)
     ∙ sym (reach-long t h)
 
 pub reach-least : (t : List ℕ) → 7 ≤ reach t

@@ -1,14 +1,14 @@
 -- Octets that are one whole packet.
 use Rattle.std.specs.Prelude.{◌≡◌, ℕ, ◌+◌, ◌==◌, nat_lt, Bool, true, List, length, take, if◌then◌else◌}
-use Rattle.tm_packet.specs.Header.{version_of, header_of}
+use Rattle.tm_packet.specs.Header.{packet_version_of, packet_header_of}
 
 -- whether octets begin with version 0, the first three bits of a packet header (CCSDS 133.0-B-2, 4.1.3.2)
 abbrev pub is_packet : List ℕ → Bool
-is_packet octets = version_of (take 1 octets) == 0
+is_packet octets = packet_version_of (take 1 octets) == 0
 
 -- how many octets the packet at the front of a text has, by its header (4.1.3.5.3); 7, the fewest, where the text has fewer than six octets
 abbrev pub reach : List ℕ → ℕ
-reach t = if nat_lt (length t) 6 then 7 else (header_of (take 6 t)).data_length + 7
+reach t = if nat_lt (length t) 6 then 7 else (packet_header_of (take 6 t)).data_length + 7
 
 -- octets are one whole packet of version 0
 pub record IsOnePacket (octets : List ℕ) : Type 0 where

@@ -1,7 +1,7 @@
 //! What is reported of records, and who takes it.
 
 ghost use Rattle.std.specs.Prelude.{◌≡◌, IfErr, OnOk};
-ghost use Rattle.tm_items.specs.Reasons.{word_of};
+ghost use Rattle.tm_items.specs.Reasons.{reason_word};
 ghost use Rattle.tm_items.specs.Item as value;
 ghost use Rattle.tm_items.specs.Sinks.{item_of, ItemFits};
 
@@ -29,7 +29,7 @@ pub enum Reason {
 impl Reason {
     /// The word that names the reason.
     pub fn word(self) -> &'static str
-        ensures { result.now ≡ word_of self }
+        ensures { result.now ≡ reason_word self }
     {
         match self {
             Reason::Pointer => "pointer",

@@ -7,7 +7,7 @@ use Rattle.std.specs.Io.KnownBytes.{Appends, Consumes, IsAtEnd, Keeps}
 use Rattle.std.proofs.KnownBytes.{Appends-nil, Appends-trans, Appends-kept, Consumes-nil, Consumes-trans}
 use Rattle.tm_frame.specs.declared.layout.LayoutParts.{LayoutParts}
 use Rattle.tm_frame.specs.declared.fault.FrameFault.{FrameFault}
-use Rattle.tm_frame.specs.Fault.{reading_of}
+use Rattle.tm_frame.specs.Fault.{frame_reading_of}
 use Rattle.tm_frame.specs.Frame.{GoodFrame}
 use Rattle.tm_frame.specs.Layout.{record_length_of}
 use Rattle.tm_output.specs.Lines.{bad_line, frame_line, short_line}
@@ -31,7 +31,7 @@ some_reading_line seen (Err fault) e = cc
 
 pub some_record_line : (layout : LayoutParts) (seen : ℕ) (octets : List ℕ) → record_line layout seen octets ≢ []
 unfolding record_line
-some_record_line layout seen octets = some_reading_line seen (reading_of layout octets)
+some_record_line layout seen octets = some_reading_line seen (frame_reading_of layout octets)
 
 some_short_line : (seen octets : ℕ) → short_line seen octets ++ [] ≢ []
 unfolding short_line

@@ -6,7 +6,7 @@ use Rattle.std.proofs.lemmas.Bool.{eqb-true}
 use Rattle.tm_bits.proofs.PartLemmas.{part-word}
 use Rattle.tm_packet.specs.declared.header.PacketFault.{PacketFault}
 use Rattle.tm_packet.specs.declared.notes.Note.{Note}
-use Rattle.tm_packet.specs.Header.{Fields, header_of, reading_of, version_of}
+use Rattle.tm_packet.specs.Header.{Fields, packet_header_of, header_reading_of, packet_version_of}
 use Rattle.tm_packet.specs.Merge as sequence
 use Rattle.tm_packet.specs.Merge.{Sent}
 use Rattle.tm_packet.proofs.HeaderLemmas.{reading_ok}
@@ -14,25 +14,25 @@ use Rattle.tm_items.specs.Item.{Item, Bad, MasterGap, Gap, Vca, Dropped, Packet,
 use Rattle.tm_items.specs.OnePacket.{IsOnePacket}
 use Rattle.tm_items.proofs.Reach.{reach-least}
 use Rattle.tm_output.specs.Lines.{note_lines}
-use Rattle.tm_output.specs.Pieces.{Entries, HasLine, line_of, notes_of, report_of}
+use Rattle.tm_output.specs.Pieces.{Entries, HasLine, item_line, notes_of, report_of}
 use Rattle.tm_output.proofs.LineLemmas.{some_note}
 
-version_front : (octets : List ℕ) → 0 < length octets → version_of (take 1 octets) ≡ version_of octets
+version_front : (octets : List ℕ) → 0 < length octets → packet_version_of (take 1 octets) ≡ packet_version_of octets
 version_front [] some = absurd (omega arith)
 version_front (x ∷ xs) some =
     part-word 1 (x ∷ []) 0 3 (omega arith) (omega arith) (omega arith) ∙ sym (part-word 1 (x ∷ xs) 0 3 (omega arith) (omega arith) (omega arith))
 
 -- a whole packet has a header
-pub packet_read : (octets : List ℕ) → IsOnePacket octets → reading_of octets ≡ Ok (header_of octets)
+pub packet_read : (octets : List ℕ) → IsOnePacket octets → header_reading_of octets ≡ Ok (packet_header_of octets)
 packet_read octets one =
     let least = reach-least octets in
     let long : 7 ≤ length octets = omega (arith, one.whole) in
-    reading_ok octets (omega arith) (sym (version_front octets (omega arith)) ∙ eqb-true (version_of (take 1 octets)) 0 one.version)
+    reading_ok octets (omega arith) (sym (version_front octets (omega arith)) ∙ eqb-true (packet_version_of (take 1 octets)) 0 one.version)
 
-pub packet_not : (octets : List ℕ) (r : Result Fields PacketFault) (fault : PacketFault) → IsOnePacket octets → r ≡ reading_of octets → r ≡ Err fault → ⊥
+pub packet_not : (octets : List ℕ) (r : Result Fields PacketFault) (fault : PacketFault) → IsOnePacket octets → r ≡ header_reading_of octets → r ≡ Err fault → ⊥
 packet_not octets r fault one is refused = err_ok (sym refused ∙ is ∙ packet_read octets one)
   where
-    err_ok : ◌≡◌ {A = Result Fields PacketFault} (Err fault) (Ok (header_of octets)) → ⊥
+    err_ok : ◌≡◌ {A = Result Fields PacketFault} (Err fault) (Ok (packet_header_of octets)) → ⊥
     err_ok p = cc
 
 -- the notes of one header
@@ -55,7 +55,7 @@ some_notes seen channel application [] i note is = absurd (none i is)
 some_notes seen channel application (n ∷ ns) i note is = some_front _ _ (some_note seen channel application n)
 
 -- the line of an item is what it gives the report
-line_alone : (entries : Entries) (x : Item) → HasLine x → line_of x ≡ report_of entries x
+line_alone : (entries : Entries) (x : Item) → HasLine x → item_line x ≡ report_of entries x
 unfolding report_of
 line_alone entries (Bad seen fault) has = refl
 line_alone entries (MasterGap seen expected found missing) has = refl
@@ -66,11 +66,11 @@ line_alone entries (Packet seen channel first place octets) has = absurd has
 line_alone entries (Short seen octets) has = refl
 
 -- and where nothing more is reported it is all
-pub line_report : (entries : Entries) (x : Item) (more : List ℕ) → HasLine x → more ≡ [] → line_of x ≡ report_of entries x ++ more
+pub line_report : (entries : Entries) (x : Item) (more : List ℕ) → HasLine x → more ≡ [] → item_line x ≡ report_of entries x ++ more
 line_report entries x more has none = line_alone entries x has ∙ sym (ap (λ (l : List ℕ). report_of entries x ++ l) none ∙ append-nil (report_of entries x))
 
 -- a line in front makes a report
-pub some_line : (entries : Entries) (x : Item) (more : List ℕ) → HasLine x → more ≡ [] → line_of x ≢ [] → report_of entries x ++ more ≢ []
+pub some_line : (entries : Entries) (x : Item) (more : List ℕ) → HasLine x → more ≡ [] → item_line x ≢ [] → report_of entries x ++ more ≢ []
 some_line entries x more has none some e = some (line_report entries x more has none ∙ e)
 
 -- and so does what is said behind notes

@@ -5,8 +5,8 @@ use Rattle.std.proofs.KnownBytes.{Appends-nil, Appends-kept, Appends-trans}
 use Rattle.tm_devices.specs.Devices.{raised, AppendsFront}
 use Rattle.tm_output.specs.declared.fault.RunFault.{RunFault}
 use Rattle.tm_output.specs.declared.fault.RunFault.TheVariants.{Read, Write, Report, ShortRecording, TooMany, NoMemory}
-use Rattle.tm_output.specs.Outlets.{PutStopped}
-use Rattle.tm_output.specs.Outputs.{Piece, View, outs, reports, Cut, SameCounts, Caused, TakesMemory, AppendsPieces, Took, StopsAtPiece, Stopped, Way}
+use Rattle.tm_output.specs.code.Outlets.{PutStopped}
+use Rattle.tm_output.specs.Outputs.{Piece, View, outs, reports, Cut, SameCounts, CausedByOutput, TakesMemory, AppendsPieces, Took, StopsAtPiece, Stopped, Way}
 
 module _ {A : Type 0} where
   pub outs-append : (ps qs : List (Piece A)) → outs (ps ++ qs) ≡ outs ps ++ outs qs
@@ -79,7 +79,7 @@ module _ {A K : Type 0} (grows : K → K → List A → Type 0) (grows-nil : (k 
     counts = (b.counts.0 ∙ a.counts.0, b.counts.1 ∙ a.counts.1);
   }
 
-  caused_after : (old mid new : View K) (fault : RunFault) → SameCounts old mid → Caused mid new fault → Caused old new fault
+  caused_after : (old mid new : View K) (fault : RunFault) → SameCounts old mid → CausedByOutput mid new fault → CausedByOutput old new fault
   caused_after old mid new Read s c = c
   caused_after old mid new Write s c = (c.0 ∙ ap raised s.0, c.1 ∙ s.1)
   caused_after old mid new Report s c = (c.0 ∙ s.0, c.1 ∙ ap raised s.1)

@@ -4,7 +4,7 @@ use Rattle.std.proofs.lemmas.List.{drop-drop, take-append-drop}
 use Rattle.std.proofs.Math.Seq.{take-append_seam, drop-append_seam}
 use Rattle.std.proofs.Math.Nat.{div-eq-sub-div, div-eq_of_lt, div-mul-le_self, mod-eq-sub-div-mul, mod-lt, zero-mul}
 use Rattle.std.specs.List.{concat}
-use Rattle.tm_output.specs.Records.{AreRecords, pieces, record_count, records, rest_of}
+use Rattle.tm_output.specs.Records.{AreRecords, first_records, record_count, records, rest_of}
 
 module _ (size : ℕ) (some : 0 < size) where
   -- one record in front
@@ -67,16 +67,16 @@ module _ (size : ℕ) (rest : List ℕ) (short : length rest < size) where
 
 -- ---- a recording is its records and its rest
 
-cut_whole : (size n : ℕ) (octets : List ℕ) → concat (pieces size n octets) ++ drop (n * size) octets ≡ octets
+cut_whole : (size n : ℕ) (octets : List ℕ) → concat (first_records size n octets) ++ drop (n * size) octets ≡ octets
 cut_whole size zero octets = rw (zero-mul size) refl
 cut_whole size (suc n) octets =
     let place : suc n * size ≡ size + n * size = omega arith in
     let others : drop (suc n * size) octets ≡ drop (n * size) (drop size octets) = ap (λ (m : ℕ). drop m octets) place ∙ sym (drop-drop (n * size) size octets) in
-    append_assoc (take size octets) (concat (pieces size n (drop size octets))) (drop (suc n * size) octets)
-    ∙ ap (λ (l : List ℕ). take size octets ++ (concat (pieces size n (drop size octets)) ++ l)) others
+    append_assoc (take size octets) (concat (first_records size n (drop size octets))) (drop (suc n * size) octets)
+    ∙ ap (λ (l : List ℕ). take size octets ++ (concat (first_records size n (drop size octets)) ++ l)) others
     ∙ ap (λ (l : List ℕ). take size octets ++ l) (cut_whole size n (drop size octets)) ∙ take-append-drop size octets
 
-cut_sized : (size n : ℕ) (octets : List ℕ) → n * size ≤ length octets → AreRecords size (pieces size n octets)
+cut_sized : (size n : ℕ) (octets : List ℕ) → n * size ≤ length octets → AreRecords size (first_records size n octets)
 cut_sized size zero octets fits = tt
 cut_sized size (suc n) octets fits =
     let place : suc n * size ≡ size + n * size = omega arith in (
@@ -84,7 +84,7 @@ cut_sized size (suc n) octets fits =
       cut_sized size n (drop size octets) (omega (arith, fits, place, length-drop size octets)),
     )
 
-cut_counted : (size n : ℕ) (octets : List ℕ) → length (pieces size n octets) ≡ n
+cut_counted : (size n : ℕ) (octets : List ℕ) → length (first_records size n octets) ≡ n
 cut_counted size zero octets = refl
 cut_counted size (suc n) octets = omega (arith, cut_counted size n (drop size octets))
 

@@ -3,10 +3,10 @@ use Rattle.std.proofs.Common.{◌≡◌, ◌≢◌, ℕ, List, [], ◌∷◌, re
 use Rattle.std.proofs.lemmas.List.{map-append}
 use Rattle.tm_devices.specs.Devices.{PutsFront, raised}
 use Rattle.tm_output.specs.declared.fault.RunFault.TheVariants.{Write}
-use Rattle.tm_output.specs.Outlets.{PutStopped}
+use Rattle.tm_output.specs.code.Outlets.{PutStopped}
 use Rattle.tm_output.specs.Outputs.{Way}
 use Rattle.tm_output.specs.Shelves.{Shelved, shelved, Shelves}
-use Rattle.tm_output.specs.ShelfLaws.{shelves_put}
+use Rattle.tm_output.specs.code.ShelfLaws.{shelves_put}
 
 no_shelved : (application : ℕ) (octets : List ℕ) → shelved application octets ≡ [] → octets ≡ []
 no_shelved application [] none = refl

@@ -4,13 +4,13 @@ use Rattle.std.specs.List.{concat}
 use Rattle.std.specs.Io.KnownBytes.{Appends}
 
 -- a text is these pieces up to one place
-abbrev pub Cut : List (List ℕ) → List ℕ → Type 0
-Cut [] text = text ≡ []
-Cut (piece ∷ pieces) text = ((rest : List ℕ) × (piece ≡ text ++ rest)) ⊎ ((after : List ℕ) × (text ≡ piece ++ after) × Cut pieces after)
+abbrev pub TextCut : List (List ℕ) → List ℕ → Type 0
+TextCut [] text = text ≡ []
+TextCut (piece ∷ pieces) text = ((rest : List ℕ) × (piece ≡ text ++ rest)) ⊎ ((after : List ℕ) × (text ≡ piece ++ after) × TextCut pieces after)
 
 -- an output that tells its octets grew by a cut of the pieces
 abbrev pub AppendsCut : Option (List ℕ) → Option (List ℕ) → List (List ℕ) → Type 0
-AppendsCut old new pieces = (text : List ℕ) × Cut pieces text × Appends old new text
+AppendsCut old new pieces = (text : List ℕ) × TextCut pieces text × Appends old new text
 
 -- it grew by some of the pieces, whole, from the first on
 abbrev pub AppendsWhole : Option (List ℕ) → Option (List ℕ) → List (List ℕ) → Type 0

@@ -5,14 +5,14 @@ use Rattle.tm_fields.specs.declared.faults.RowFault.TheVariants.{ShortPacket, No
 use Rattle.tm_fields.specs.declared.field.Field.{Field}
 use Rattle.tm_fields.specs.declared.lead.Lead.{Lead}
 use Rattle.tm_fields.specs.Rows.{row_from}
-use Rattle.tm_packet.specs.Header.{header_of}
+use Rattle.tm_packet.specs.Header.{packet_header_of}
 use Rattle.tm_items.specs.Item.{Item, Packet}
 use Rattle.tm_output.specs.Lines.{short_packet_line}
 
 -- what the row of a packet begins with
 abbrev pub lead_of : ℕ → ℕ → List ℕ → Lead
 lead_of seen channel octets =
-    record { seen = seen; channel = channel; application = (header_of octets).application; count = (header_of octets).count }
+    record { seen = seen; channel = channel; application = (packet_header_of octets).application; count = (packet_header_of octets).count }
 
 -- the row, if the packet has one
 abbrev pub row_in : Result (List ℕ) RowFault → List ℕ
@@ -28,13 +28,13 @@ short_in seen channel first place (Err NoMemory) = []
 -- the row of a packet of the application
 unfoldable pub tabled : List Field → ℕ → Item → List ℕ
 tabled fields application (Packet seen channel first place octets) =
-    if (header_of octets).application == application then row_in (row_from fields (lead_of seen channel octets) octets) else []
+    if (packet_header_of octets).application == application then row_in (row_from fields (lead_of seen channel octets) octets) else []
 tabled fields application _ = []
 
 -- the line of one that has fewer bits than the fields need
 unfoldable pub too_short : List Field → ℕ → Item → List ℕ
 too_short fields application (Packet seen channel first place octets) =
-    if (header_of octets).application == application then short_in seen channel first place (row_from fields (lead_of seen channel octets) octets) else []
+    if (packet_header_of octets).application == application then short_in seen channel first place (row_from fields (lead_of seen channel octets) octets) else []
 too_short fields application _ = []
 
 -- what stays the same of an outlet of rows: the name of its drain's reference, the fields, and the application

@@ -6,8 +6,6 @@ pub mod Listing
 pub mod Outputs
 pub mod FieldRows
 pub mod Pieces
-pub mod Sinking
-pub mod Outlets
 pub mod Shelves
-pub mod ShelfLaws
 pub mod Seen
+pub mod code

@@ -5,7 +5,7 @@ use Rattle.std.specs.List.{concat}
 use Rattle.tm_frame.specs.declared.fault.FrameFault.{FrameFault}
 use Rattle.tm_frame.specs.declared.frame.Kind.{Kind}
 use Rattle.tm_frame.specs.declared.frame.Kind.TheVariants.{Packets, NoStart, Idle, Vca}
-use Rattle.tm_frame.specs.FaultWords.{word_of}
+use Rattle.tm_frame.specs.FaultWords.{fault_word}
 use Rattle.tm_frame.specs.Frame.{GoodFrame}
 use Rattle.tm_packet.specs.declared.header.Flags.{Flags}
 use Rattle.tm_packet.specs.declared.header.Flags.TheVariants.{Continuation, First, Last, Unsegmented}
@@ -54,7 +54,7 @@ frame_line seen f =
 
 -- the line of a bad frame
 unfoldable pub bad_line : ℕ → FrameFault → List ℕ
-bad_line seen fault = concat (codes "bad record=" ∷ decimal seen ∷ codes " fault=" ∷ word_of fault ∷ codes "\n" ∷ [])
+bad_line seen fault = concat (codes "bad record=" ∷ decimal seen ∷ codes " fault=" ∷ fault_word fault ∷ codes "\n" ∷ [])
 
 -- the line of octets that are left after `seen` records
 unfoldable pub short_line : ℕ → ℕ → List ℕ
@@ -121,7 +121,7 @@ drop_line seen channel first place octets why =
     ∷ codes " from=" ∷ decimal first
     ∷ codes " at=" ∷ decimal place
     ∷ codes " octets=" ∷ decimal octets
-    ∷ codes " reason=" ∷ reason.word_of why
+    ∷ codes " reason=" ∷ reason.reason_word why
     ∷ codes "\n" ∷ [])
 
 -- the line of a packet of too few bits for its fields

@@ -4,7 +4,7 @@ use Rattle.std.specs.List.{concat}
 use Rattle.std.specs.Io.KnownBytes.{Appends, Consumes, IsAtEnd, Keeps}
 use Rattle.tm_frame.specs.declared.fault.FrameFault.{FrameFault}
 use Rattle.tm_frame.specs.declared.layout.LayoutParts.{LayoutParts}
-use Rattle.tm_frame.specs.Fault.{reading_of}
+use Rattle.tm_frame.specs.Fault.{frame_reading_of}
 use Rattle.tm_frame.specs.Frame.{GoodFrame}
 use Rattle.tm_frame.specs.Layout.{record_length_of}
 use Rattle.tm_output.specs.declared.fault.RunFault.{RunFault}
@@ -19,7 +19,7 @@ reading_line seen (Ok frame) = frame_line seen frame
 reading_line seen (Err fault) = bad_line seen fault
 
 unfoldable pub record_line : LayoutParts → ℕ → List ℕ → List ℕ
-record_line layout seen octets = reading_line seen (reading_of layout octets)
+record_line layout seen octets = reading_line seen (frame_reading_of layout octets)
 
 -- the lines of records, of which the first is record `seen`
 abbrev pub record_lines : LayoutParts → ℕ → List (List ℕ) → List (List ℕ)

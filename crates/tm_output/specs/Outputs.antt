@@ -44,13 +44,13 @@ abbrev pub SameCounts : {K : Type 0} → View K → View K → Type 0
 SameCounts old new = (new.out_failures ≡ old.out_failures) × (new.report_failures ≡ old.report_failures)
 
 -- what writing may answer: `Write` where a call of `out` failed, `Report` where one of the report did, or want of memory
-abbrev pub Caused : {K : Type 0} → View K → View K → RunFault → Type 0
-Caused old new Read = ⊥
-Caused old new Write = (new.out_failures ≡ raised old.out_failures) × (new.report_failures ≡ old.report_failures)
-Caused old new Report = (new.out_failures ≡ old.out_failures) × (new.report_failures ≡ raised old.report_failures)
-Caused old new ShortRecording = ⊥
-Caused old new TooMany = ⊥
-Caused old new NoMemory = SameCounts old new
+abbrev pub CausedByOutput : {K : Type 0} → View K → View K → RunFault → Type 0
+CausedByOutput old new Read = ⊥
+CausedByOutput old new Write = (new.out_failures ≡ raised old.out_failures) × (new.report_failures ≡ old.report_failures)
+CausedByOutput old new Report = (new.out_failures ≡ old.out_failures) × (new.report_failures ≡ raised old.report_failures)
+CausedByOutput old new ShortRecording = ⊥
+CausedByOutput old new TooMany = ⊥
+CausedByOutput old new NoMemory = SameCounts old new
 
 -- How an outlet is written: what belongs there is made in memory; and it may wait there for a flush.
 pub record Way : Type 0 where
@@ -111,7 +111,7 @@ module _ {A K : Type 0} (grows : K → K → List A → Type 0) where
 pub record Stopped {A K : Type 0} (grows : K → K → List A → Type 0) (way : Way) (old new : View K) (pieces : List (Piece A)) (fault : RunFault)
     : Type 0 where
   pub cut : AppendsCut grows old new pieces
-  pub cause : Caused old new fault
+  pub cause : CausedByOutput old new fault
   pub memory : fault ≡ NoMemory → WantsMemory grows way old new pieces
   pub refused : fault ≡ Write → way.flush ≡ false → RefusesPut grows old new pieces
 

@@ -3,9 +3,9 @@ use Rattle.std.specs.Prelude.{⊤, ℕ, ◌/◌, ◌%◌, List, [], ◌∷◌, �
 use Rattle.std.specs.List.{flat_map}
 use Rattle.tm_fields.specs.declared.field.Field.{Field}
 use Rattle.tm_packet.specs.declared.notes.Note.{Note}
-use Rattle.tm_packet.specs.declared.tracker.Last.{Last}
+use Rattle.tm_packet.specs.declared.tracker.PairEntry.{PairEntry}
 use Rattle.tm_packet.specs.declared.tracker.Unclosed.{Unclosed}
-use Rattle.tm_packet.specs.Header.{header_of}
+use Rattle.tm_packet.specs.Header.{packet_header_of}
 use Rattle.tm_packet.specs.Merge as sequence
 use Rattle.tm_packet.specs.Merge.{Sent}
 use Rattle.tm_items.specs.Item.{Item, Bad, MasterGap, Gap, Vca, Dropped, Packet, Short}
@@ -17,11 +17,11 @@ use Rattle.tm_output.specs.Outputs.{Piece, Way, lines_way, octets_way}
 
 -- for each key what is kept of the sequence counts of its channel and application
 abbrev pub Entries : Type 0
-Entries = List (Option Last)
+Entries = List (Option PairEntry)
 
 -- the packet of a channel as its sequence counts see it
 abbrev pub sent : ℕ → List ℕ → Sent
-sent channel octets = record { channel = channel; header = header_of octets }
+sent channel octets = record { channel = channel; header = packet_header_of octets }
 
 -- the entries after an item: a packet's header is noted, and nothing else
 unfoldable pub noted : Entries → Item → Entries
@@ -30,7 +30,7 @@ noted entries (MasterGap seen expected found missing) = entries
 noted entries (Gap seen channel expected found missing) = entries
 noted entries (Vca seen channel) = entries
 noted entries (Dropped seen channel first place octets reason) = entries
-noted entries (Packet seen channel first place octets) = sequence.after entries (sent channel octets ∷ [])
+noted entries (Packet seen channel first place octets) = sequence.entries_after entries (sent channel octets ∷ [])
 noted entries (Short seen octets) = entries
 
 -- the notes of a packet
@@ -38,14 +38,14 @@ unfoldable pub notes_of : Entries → Sent → List Note
 notes_of entries p = flat_map (λ ns. ns) (sequence.notes entries (p ∷ []))
 
 -- the line of an item; a packet has none
-unfoldable pub line_of : Item → List ℕ
-line_of (Bad seen fault) = bad_line seen fault
-line_of (MasterGap seen expected found missing) = master_gap_line seen expected found missing
-line_of (Gap seen channel expected found missing) = gap_line seen channel expected found missing
-line_of (Vca seen channel) = vca_line seen channel
-line_of (Dropped seen channel first place octets reason) = drop_line seen channel first place octets reason
-line_of (Packet seen channel first place octets) = []
-line_of (Short seen octets) = short_line seen octets
+unfoldable pub item_line : Item → List ℕ
+item_line (Bad seen fault) = bad_line seen fault
+item_line (MasterGap seen expected found missing) = master_gap_line seen expected found missing
+item_line (Gap seen channel expected found missing) = gap_line seen channel expected found missing
+item_line (Vca seen channel) = vca_line seen channel
+item_line (Dropped seen channel first place octets reason) = drop_line seen channel first place octets reason
+item_line (Packet seen channel first place octets) = []
+item_line (Short seen octets) = short_line seen octets
 
 -- an item that has a line
 abbrev pub HasLine : Item → Type 0
@@ -55,8 +55,8 @@ HasLine _ = ⊤
 -- what an item gives the report: its line, and a packet the lines of its notes
 unfoldable pub report_of : Entries → Item → List ℕ
 report_of entries (Packet seen channel first place octets) =
-    note_lines seen channel (header_of octets).application (notes_of entries (sent channel octets))
-report_of entries x = line_of x
+    note_lines seen channel (packet_header_of octets).application (notes_of entries (sent channel octets))
+report_of entries x = item_line x
 
 -- what is given of an item: to `out`, and to the report behind the item's line or notes
 pub record Texts (A : Type 0) : Type 0 where
@@ -64,13 +64,13 @@ pub record Texts (A : Type 0) : Type 0 where
   pub remark : Item → List ℕ
 
 -- the octets of a packet
-unfoldable pub octets_of : Item → List ℕ
-octets_of (Packet seen channel first place octets) = octets
-octets_of _ = []
+unfoldable pub packet_octets : Item → List ℕ
+packet_octets (Packet seen channel first place octets) = octets
+packet_octets _ = []
 
 -- the line of a packet
 unfoldable pub listed : Item → List ℕ
-listed (Packet seen channel first place octets) = packet_line seen channel first place (header_of octets) (length octets)
+listed (Packet seen channel first place octets) = packet_line seen channel first place (packet_header_of octets) (length octets)
 listed _ = []
 
 -- nothing more for the report
@@ -83,7 +83,7 @@ rows_text fields application = record { out = tabled fields application; remark 
 
 -- what a command gives of an item
 abbrev pub text_of : Command → Texts ℕ
-text_of Extract = record { out = octets_of; remark = no_remark }
+text_of Extract = record { out = packet_octets; remark = no_remark }
 text_of Packets = record { out = listed; remark = no_remark }
 text_of (Fields definition application) = rows_text definition.now application
 

@@ -3,15 +3,15 @@
 use Rattle.std.specs.Prelude.{◌≡◌, ⊤, ℕ, zero, suc, ◌*◌, ◌/◌, List, [], ◌∷◌, length, take, drop}
 
 -- the first so many pieces
-abbrev pub pieces : ℕ → ℕ → List ℕ → List (List ℕ)
-pieces size zero octets = []
-pieces size (suc n) octets = take size octets ∷ pieces size n (drop size octets)
+abbrev pub first_records : ℕ → ℕ → List ℕ → List (List ℕ)
+first_records size zero octets = []
+first_records size (suc n) octets = take size octets ∷ first_records size n (drop size octets)
 
 abbrev pub record_count : ℕ → List ℕ → ℕ
 record_count size recording = length recording / size
 
 unfoldable pub records : ℕ → List ℕ → List (List ℕ)
-records size recording = pieces size (record_count size recording) recording
+records size recording = first_records size (record_count size recording) recording
 
 unfoldable pub rest_of : ℕ → List ℕ → List ℕ
 rest_of size recording = drop (record_count size recording * size) recording

@@ -1,6 +1,6 @@
 -- Places for the packets of applications.
 use Rattle.std.specs.Prelude.{◌≡◌, ⊤, ℕ, false, ◌==◌, List, [], ◌∷◌, ◌++◌, map, Option, None, Some, if◌then◌else◌}
-use Rattle.tm_packet.specs.Header.{header_of}
+use Rattle.tm_packet.specs.Header.{packet_header_of}
 use Rattle.tm_items.specs.Item.{Item, Packet}
 use Rattle.tm_output.specs.Outputs.{Way}
 use Rattle.tm_output.specs.Pieces.{Texts, no_remark}
@@ -26,7 +26,7 @@ Shelves (Some held) (Some now) xs = (k : ℕ) → now k ≡ held k ++ of_applica
 
 -- what of an item belongs to the places: a packet's octets, in its application's
 unfoldable pub shelved_of : Item → List Shelved
-shelved_of (Packet seen channel first place octets) = shelved (header_of octets).application octets
+shelved_of (Packet seen channel first place octets) = shelved (packet_header_of octets).application octets
 shelved_of _ = []
 
 -- octets go as they are, and none of them waits

@@ -8,9 +8,11 @@ mod lines;
 mod listing;
 mod outlet;
 mod output;
+mod packet;
 
 pub use command::{Command, Ending};
 pub use fault::RunFault;
 pub use listing::list_frames;
 pub use outlet::{Outlet, PacketLines, PacketOctets, PacketRows, PacketShelf};
-pub use output::Output;
+pub use output::{Output, header_in};
+pub use packet::Packet;

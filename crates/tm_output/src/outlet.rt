@@ -3,18 +3,17 @@
 ghost use Rattle.std.specs.Prelude.{◌≡◌, ◌≢◌, ◌++◌, ◌==◌, [], ℕ, true, List, Option, OnOk, OnErr, IfErr, string_bytes};
 ghost use Rattle.std.specs.Io.KnownBytes.{Appends, Keeps};
 ghost use Rattle.std.proofs.KnownBytes.{Appends-nil, Appends-trans};
-ghost use Rattle.tm_packet.specs.Header.{header_of};
-ghost use Rattle.tm_items.specs.Item as value;
 ghost use Rattle.tm_items.specs.Item.{Item};
 ghost use Rattle.tm_devices.specs.Devices.{Counts};
-ghost use Rattle.tm_output.specs.Outlets.{GivesNone, PutStopped, no_text};
+ghost use Rattle.tm_output.specs.code.Packets.{HasHeader, item_with};
+ghost use Rattle.tm_output.specs.code.Outlets.{GivesNone, PutStopped, no_text};
 ghost use Rattle.tm_output.specs.Outputs.{Way, lines_way, octets_way};
 ghost use Rattle.tm_output.specs.Pieces.{HasLine, Texts, text_of};
-ghost use Rattle.tm_output.specs.ShelfLaws.{no_shelf, shelves_nil, shelves_trans};
+ghost use Rattle.tm_output.specs.code.ShelfLaws.{no_shelf, shelves_nil, shelves_trans};
 ghost use Rattle.tm_output.specs.Shelves.{Shelved, Shelves, shelf_text, shelf_way};
 
-use crate::RunFault;
 use crate::lines::{push_packet, push_short_packet};
+use crate::{Packet, RunFault};
 use std::alloc::{AllocError, Global};
 use tm_devices::{DeviceFailed, Drain, Shelf, put_all};
 use tm_fields::{Definition, Lead, RowFault};
@@ -51,37 +50,19 @@ pub trait Outlet {
     ghost passed: { Self → Type 0 };
 
     /// Writes what the report says of a packet, behind the lines of its notes.
-    fn remark(
-        &self,
-        lines: &mut String,
-        seen: u32,
-        channel: u8,
-        first: u32,
-        place: u16,
-        header: &Header,
-        octets: &[u8],
-    ) -> Result<(), AllocError>
-        requires { header.now ≡ header_of octets.now }
-        ensures line { OnOk result (string_bytes lines.new ≡ string_bytes lines.old
-            ++ (Self.text (Self.fixed self.now)).remark (value.Packet seen channel first place octets.now)) }
-        ensures memory { OnErr result ((Self.text (Self.fixed self.now)).remark (value.Packet seen channel first place octets.now) ≢ []) };
+    fn remark(&self, lines: &mut String, packet: &Packet<'_>) -> Result<(), AllocError>
+        requires { HasHeader packet.now }
+        ensures line { OnOk result (string_bytes lines.new ≡ string_bytes lines.old ++ (Self.text (Self.fixed self.now)).remark (item_with packet.now)) }
+        ensures memory { OnErr result ((Self.text (Self.fixed self.now)).remark (item_with packet.now) ≢ []) };
 
     /// Writes what of a packet belongs here.
-    fn put(
-        &mut self,
-        seen: u32,
-        channel: u8,
-        first: u32,
-        place: u16,
-        header: &Header,
-        octets: &[u8],
-    ) -> Result<(), RunFault>
-        requires { header.now ≡ header_of octets.now }
+    fn put(&mut self, packet: &Packet<'_>) -> Result<(), RunFault>
+        requires { HasHeader packet.now }
         ensures same { Self.fixed self.new ≡ Self.fixed self.old }
-        ensures whole { OnOk result (Self.grows (Self.held self.old) (Self.held self.new) ((Self.text (Self.fixed self.old)).out (value.Packet seen channel first place octets.now))
+        ensures whole { OnOk result (Self.grows (Self.held self.old) (Self.held self.new) ((Self.text (Self.fixed self.old)).out (item_with packet.now))
             × (Self.failures self.new ≡ Self.failures self.old)) }
         ensures stopped { IfErr result (PutStopped Self.grows Self.way (Self.held self.old) (Self.held self.new) (Self.failures self.old) (Self.failures self.new)
-            ((Self.text (Self.fixed self.old)).out (value.Packet seen channel first place octets.now))) };
+            ((Self.text (Self.fixed self.old)).out (item_with packet.now))) };
 
     /// Passes on all that was written.
     fn flush(&mut self) -> Result<(), DeviceFailed>
@@ -136,30 +117,13 @@ impl<W: Drain> Outlet for PacketOctets<'_, W> {
 
     ghost grows_trans = { Appends-trans };
 
-    fn remark(
-        &self,
-        _lines: &mut String,
-        _seen: u32,
-        _channel: u8,
-        _first: u32,
-        _place: u16,
-        _header: &Header,
-        _octets: &[u8],
-    ) -> Result<(), AllocError> {
+    fn remark(&self, _lines: &mut String, _packet: &Packet<'_>) -> Result<(), AllocError> {
         Ok(())
     }
 
-    #[tactic(auto, unfolding(crate::specs::Pieces::octets_of))]
-    fn put(
-        &mut self,
-        _seen: u32,
-        _channel: u8,
-        _first: u32,
-        _place: u16,
-        _header: &Header,
-        octets: &[u8],
-    ) -> Result<(), RunFault> {
-        match put_all(self.out, octets) {
+    #[tactic(auto, unfolding(crate::specs::Pieces::packet_octets))]
+    fn put(&mut self, packet: &Packet<'_>) -> Result<(), RunFault> {
+        match put_all(self.out, packet.octets) {
             Ok(()) => Ok(()),
             Err(_) => Err(RunFault::Write),
         }
@@ -206,32 +170,23 @@ impl<W: Drain> Outlet for PacketLines<'_, W> {
 
     ghost grows_trans = { Appends-trans };
 
-    fn remark(
-        &self,
-        _lines: &mut String,
-        _seen: u32,
-        _channel: u8,
-        _first: u32,
-        _place: u16,
-        _header: &Header,
-        _octets: &[u8],
-    ) -> Result<(), AllocError> {
+    fn remark(&self, _lines: &mut String, _packet: &Packet<'_>) -> Result<(), AllocError> {
         Ok(())
     }
 
     #[tactic(auto, unfolding(crate::specs::Pieces::listed))]
-    fn put(
-        &mut self,
-        seen: u32,
-        channel: u8,
-        first: u32,
-        place: u16,
-        header: &Header,
-        octets: &[u8],
-    ) -> Result<(), RunFault> {
+    fn put(&mut self, packet: &Packet<'_>) -> Result<(), RunFault> {
         self.line.clear();
+        let Packet {
+            seen,
+            channel,
+            first,
+            place,
+            header,
+            octets,
+        } = packet;
         let length = octets.len();
-        if let Err(_) = push_packet(self.line, seen, channel, first, place, header, length) {
+        if let Err(_) = push_packet(self.line, *seen, *channel, *first, *place, header, length) {
             return Err(RunFault::NoMemory);
         }
         match put_all(self.out, self.line.as_bytes()) {
@@ -280,30 +235,13 @@ impl<H: Shelf> Outlet for PacketShelf<'_, H> {
 
     ghost grows_trans = { shelves_trans };
 
-    fn remark(
-        &self,
-        _lines: &mut String,
-        _seen: u32,
-        _channel: u8,
-        _first: u32,
-        _place: u16,
-        _header: &Header,
-        _octets: &[u8],
-    ) -> Result<(), AllocError> {
+    fn remark(&self, _lines: &mut String, _packet: &Packet<'_>) -> Result<(), AllocError> {
         Ok(())
     }
 
-    #[tactic(auto, using(crate::proofs::ShelfLemmas::shelf_stopped, crate::specs::ShelfLaws::shelves_put), unfolding(crate::specs::Shelves::shelved_of))]
-    fn put(
-        &mut self,
-        _seen: u32,
-        _channel: u8,
-        _first: u32,
-        _place: u16,
-        header: &Header,
-        octets: &[u8],
-    ) -> Result<(), RunFault> {
-        if let Err(_) = self.shelf.put(header.application(), octets) {
+    #[tactic(auto, using(crate::proofs::ShelfLemmas::shelf_stopped, crate::specs::code::ShelfLaws::shelves_put), unfolding(crate::specs::Shelves::shelved_of))]
+    fn put(&mut self, packet: &Packet<'_>) -> Result<(), RunFault> {
+        if let Err(_) = self.shelf.put(packet.header.application(), packet.octets) {
             return Err(RunFault::Write);
         }
         Ok(())
@@ -334,7 +272,7 @@ impl<W> PacketRows<'_, W> {
 
 impl<W: Drain> Outlet for PacketRows<'_, W> {
     ghost use Rattle.tm_output.specs.FieldRows.{RowsBy};
-    ghost use Rattle.tm_output.specs.Outlets.{no_row};
+    ghost use Rattle.tm_output.specs.code.Outlets.{no_row};
     ghost use Rattle.tm_output.specs.Pieces.{rows_text};
 
     ghost Part = { ℕ };
@@ -364,44 +302,43 @@ impl<W: Drain> Outlet for PacketRows<'_, W> {
     ghost grows_trans = { Appends-trans };
 
     #[tactic(auto, using(crate::proofs::LineLemmas::some_short_packet), unfolding(crate::specs::FieldRows::too_short))]
-    fn remark(
-        &self,
-        lines: &mut String,
-        seen: u32,
-        channel: u8,
-        first: u32,
-        place: u16,
-        header: &Header,
-        octets: &[u8],
-    ) -> Result<(), AllocError> {
+    fn remark(&self, lines: &mut String, packet: &Packet<'_>) -> Result<(), AllocError> {
         let needed = self.definition.bits_needed();
-        if !self.is_wanted(header) || octets.len() >= needed.div_ceil(8) as usize {
+        let octets = packet.octets.len();
+        if !self.is_wanted(&packet.header) || octets >= needed.div_ceil(8) as usize {
             return Ok(());
         }
-        let found = 8 * octets.len() as u64;
-        push_short_packet(lines, seen, channel, first, place, u64::from(needed), found)
+        let found = 8 * octets as u64;
+        let Packet {
+            seen,
+            channel,
+            first,
+            place,
+            ..
+        } = packet;
+        push_short_packet(
+            lines,
+            *seen,
+            *channel,
+            *first,
+            *place,
+            u64::from(needed),
+            found,
+        )
     }
 
     #[tactic(auto, unfolding(crate::specs::FieldRows::tabled))]
-    fn put(
-        &mut self,
-        seen: u32,
-        channel: u8,
-        _first: u32,
-        _place: u16,
-        header: &Header,
-        octets: &[u8],
-    ) -> Result<(), RunFault> {
-        if !self.is_wanted(header) {
+    fn put(&mut self, packet: &Packet<'_>) -> Result<(), RunFault> {
+        if !self.is_wanted(&packet.header) {
             return Ok(());
         }
         let lead = Lead {
-            seen,
-            channel,
-            application: header.application(),
-            count: header.count(),
+            seen: packet.seen,
+            channel: packet.channel,
+            application: packet.header.application(),
+            count: packet.header.count(),
         };
-        match self.definition.row(self.alloc, lead, octets) {
+        match self.definition.row(self.alloc, lead, packet.octets) {
             Ok(row) => match put_all(self.out, row.as_slice()) {
                 Ok(()) => Ok(()),
                 Err(_) => Err(RunFault::Write),

@@ -4,20 +4,20 @@ ghost use Rattle.std.specs.Prelude.{◌≡◌, ◌≢◌, ◌<◌, ◌++◌, ◌
 ghost use Rattle.std.specs.Io.KnownBytes.{Keeps};
 ghost use Rattle.tm_packet.specs.Merge as sequence;
 ghost use Rattle.tm_items.specs.Item as value;
-ghost use Rattle.tm_packet.specs.Header.{header_of};
+ghost use Rattle.tm_packet.specs.Header.{packet_header_of};
 ghost use Rattle.tm_items.specs.Sinks.{item_of};
 ghost use Rattle.tm_items.specs.OnePacket.{IsOnePacket};
 ghost use Rattle.tm_output.specs.Lines.{note_lines};
 ghost use Rattle.tm_output.specs.Outputs.{Written};
-ghost use Rattle.tm_output.specs.Pieces.{HasLine, line_of, noted, notes_of, piece_of, unclosed_piece, unclosed_pieces};
-ghost use Rattle.tm_output.specs.Sinking.{Refuses, Takes};
+ghost use Rattle.tm_output.specs.Pieces.{HasLine, item_line, noted, notes_of, piece_of, unclosed_piece, unclosed_pieces};
+ghost use Rattle.tm_output.specs.code.Sinking.{Refuses, Takes};
 ghost use Rattle.tm_output.specs.Seen.{fixture, output_both};
 
-use crate::RunFault;
 use crate::lines::{
     push_bad, push_drop, push_gap, push_master_gap, push_note, push_short, push_vca,
 };
 use crate::outlet::Outlet;
+use crate::{Packet, RunFault};
 use std::alloc::AllocError;
 use tm_devices::{Drain, put_all};
 use tm_items::{Item, Sink};
@@ -55,10 +55,10 @@ fn push_notes(
 }
 
 // Makes the line of an item, none of a packet.
-#[tactic(auto, using(crate::proofs::LineLemmas::some_bad, crate::proofs::LineLemmas::some_master_gap, crate::proofs::LineLemmas::some_gap, crate::proofs::LineLemmas::some_vca, crate::proofs::LineLemmas::some_drop, crate::proofs::LineLemmas::some_short), unfolding(crate::specs::Pieces::line_of))]
+#[tactic(auto, using(crate::proofs::LineLemmas::some_bad, crate::proofs::LineLemmas::some_master_gap, crate::proofs::LineLemmas::some_gap, crate::proofs::LineLemmas::some_vca, crate::proofs::LineLemmas::some_drop, crate::proofs::LineLemmas::some_short), unfolding(crate::specs::Pieces::item_line))]
 fn push_item(text: &mut String, item: Item<'_>) -> Result<(), AllocError>
-    ensures line { OnOk result (string_bytes text.new ≡ string_bytes text.old ++ line_of (item_of item.entry)) }
-    ensures memory { OnErr result (line_of (item_of item.entry) ≢ []) }
+    ensures line { OnOk result (string_bytes text.new ≡ string_bytes text.old ++ item_line (item_of item.entry)) }
+    ensures memory { OnErr result (item_line (item_of item.entry) ≢ []) }
 {
     match item {
         Item::Bad { seen, fault } => push_bad(text, seen, fault),
@@ -89,11 +89,11 @@ fn push_item(text: &mut String, item: Item<'_>) -> Result<(), AllocError>
     }
 }
 
-// The header of a whole packet.
+/// The header of a whole packet.
 #[tactic(auto, using(crate::proofs::PacketLemmas::packet_read, crate::proofs::PacketLemmas::packet_not))]
-fn header_in(octets: &[u8]) -> Header
+pub fn header_in(octets: &[u8]) -> Header
     requires { IsOnePacket octets.now }
-    ensures { result ≡ header_of octets.now }
+    ensures { result ≡ packet_header_of octets.now }
 {
     match read_header(octets) {
         Ok(header) => header,
@@ -111,7 +111,7 @@ fn note_packet(
     header: Header,
 ) -> Result<(), AllocError>
     requires { channel < 8 }
-    ensures noted { tracker.new ≡ sequence.after tracker.old (record { channel = channel; header = header } ∷ []) }
+    ensures noted { tracker.new ≡ sequence.entries_after tracker.old (record { channel = channel; header = header } ∷ []) }
     ensures lines { OnOk result (string_bytes lines.new
         ≡ note_lines seen channel header.application (notes_of tracker.old (record { channel = channel; header = header }))) }
     ensures memory { OnErr result (note_lines seen channel header.application (notes_of tracker.old (record { channel = channel; header = header })) ≢ []) }
@@ -143,16 +143,18 @@ impl<O: Outlet, V: Drain> Output<'_, O, V> {
         if let Err(_) = note_packet(self.tracker, self.notes, seen, channel, header) {
             return Err(RunFault::NoMemory);
         }
-        if let Err(_) = self
-            .outlet
-            .remark(self.notes, seen, channel, first, place, &header, octets)
-        {
+        let packet = Packet {
+            seen,
+            channel,
+            first,
+            place,
+            header,
+            octets,
+        };
+        if let Err(_) = self.outlet.remark(self.notes, &packet) {
             return Err(RunFault::NoMemory);
         }
-        if let Err(fault) = self
-            .outlet
-            .put(seen, channel, first, place, &header, octets)
-        {
+        if let Err(fault) = self.outlet.put(&packet) {
             return Err(fault);
         }
         if let Err(_) = put_all(self.report, self.notes.as_bytes()) {

@@ -9,12 +9,12 @@ use Rattle.tm_bits.specs.Bits.{part, bits_of}
 use Rattle.tm_bits.proofs.BitLemmas.{number-lt}
 use Rattle.tm_packet.specs.declared.header.Flags.{Flags}
 use Rattle.tm_packet.specs.declared.header.Flags.TheVariants as flag
-use Rattle.tm_packet.specs.declared.tracker.Last.{Last}
-use Rattle.tm_packet.specs.Header.{Fields, AreInRange, header_of}
-use Rattle.tm_packet.specs.Sequence.{begun, opened, first_in, goes_on}
-use Rattle.tm_packet.specs.Single.{member_after, single_after}
-use Rattle.tm_packet.specs.Merge.{Sent, key_of, is_idle, entry_at, after}
-use Rattle.tm_packet.specs.Valid.{Fits, FirstFits, IsEntry, EntryFits, IsState}
+use Rattle.tm_packet.specs.declared.tracker.PairEntry.{PairEntry}
+use Rattle.tm_packet.specs.Header.{Fields, AreInRange, packet_header_of}
+use Rattle.tm_packet.specs.Sequence.{opened_by, opened, first_in, goes_on}
+use Rattle.tm_packet.specs.code.Single.{member_after, single_after}
+use Rattle.tm_packet.specs.Merge.{Sent, key_of, is_idle, entry_at, entries_after}
+use Rattle.tm_packet.specs.Valid.{Fits, FirstFits, IsEntry, EntryFits, AreValidEntries}
 use Rattle.tm_packet.proofs.Merging.{after-idle, after-one, after-append, after_from-none}
 
 -- ---- the numbers of a header
@@ -29,7 +29,7 @@ part_below octets from to =
     omega arith
 
 -- the header in any octets, also in too few, is in range
-pub header-range : (octets : List ℕ) → AreInRange (header_of octets)
+pub header-range : (octets : List ℕ) → AreInRange (packet_header_of octets)
 header-range octets = record {
   application = part_below octets 5 16;
   count = part_below octets 18 32;
@@ -37,21 +37,21 @@ header-range octets = record {
 }
 
 -- and so it fits on each of the eight channels
-pub header-fits : (channel : ℕ) (octets : List ℕ) → channel < 8 → Fits (record { channel = channel; header = header_of octets })
+pub header-fits : (channel : ℕ) (octets : List ℕ) → channel < 8 → Fits (record { channel = channel; header = packet_header_of octets })
 header-fits channel octets h = record { channel = h; application = (header-range octets).application }
 
 -- ---- the entry of a key
 
-begun-fits : (flags : Flags) (count : ℕ) → count < 16384 → FirstFits (begun flags count)
+begun-fits : (flags : Flags) (count : ℕ) → count < 16384 → FirstFits (opened_by flags count)
 begun-fits flag.First count h = h
 begun-fits _ count h = tt
 
-first_in-fits : (e : Option Last) → EntryFits e → FirstFits (first_in e)
+first_in-fits : (e : Option PairEntry) → EntryFits e → FirstFits (first_in e)
 first_in-fits None h = tt
 first_in-fits (Some e) h = h.first
 
 -- a header leaves counts
-pub entry-valid : (e : Option Last) (h : Fields) → EntryFits e → h.count < 16384 → IsEntry (single_after e h)
+pub entry-valid : (e : Option PairEntry) (h : Fields) → EntryFits e → h.count < 16384 → IsEntry (single_after e h)
 entry-valid e h fits small = record {
   count = small;
   first = cond_both (goes_on (member_after e h)) (first_in e) (opened (member_after e h)) FirstFits (λ p. first_in-fits e fits) (λ p. begun-fits h.flags h.count small);
@@ -67,8 +67,8 @@ not_idle channel p fits h e =
     eqb-false p.header.application 2047 h idle
 
 -- an entry with counts may be put at the key of a packet that isn't idle
-set-valid : (s : List (Option Last)) (p : Sent) (kept : Last) → IsState s → Fits p → is_idle p.header ≡ false → IsEntry kept
-    → IsState (set s (key_of p) (Some kept))
+set-valid : (s : List (Option PairEntry)) (p : Sent) (kept : PairEntry) → AreValidEntries s → Fits p → is_idle p.header ≡ false → IsEntry kept
+    → AreValidEntries (set s (key_of p) (Some kept))
 set-valid s p kept valid fits h k =
     let all = valid.places in
     let c = fits.channel in
@@ -83,15 +83,15 @@ set-valid s p kept valid fits h k =
     }
 
 -- a header leaves a valid state valid
-pub after-valid : (s : List (Option Last)) (p : Sent) → IsState s → Fits p → p.header.count < 16384 → IsState (after s (p ∷ []))
+pub after-valid : (s : List (Option PairEntry)) (p : Sent) → AreValidEntries s → Fits p → p.header.count < 16384 → AreValidEntries (entries_after s (p ∷ []))
 after-valid s p valid fits small =
-    ⊎_elim (λ h. subst IsState (sym (after-idle s p h)) valid)
+    ⊎_elim (λ h. subst AreValidEntries (sym (after-idle s p h)) valid)
     (λ h.
     let all = valid.places in
     let c = fits.channel in
     let a = fits.application in
     let inside : key_of p < length s = omega arith in
-    subst IsState (sym (after-one s p h inside))
+    subst AreValidEntries (sym (after-one s p h inside))
     (set-valid s p (single_after (entry_at s (key_of p)) p.header) valid fits h
     (entry-valid (entry_at s (key_of p)) p.header (valid.fit (key_of p)) small)))
     (cases_Bool (is_idle p.header))
@@ -102,7 +102,7 @@ AllSent [] = Unit {0}
 AllSent (p ∷ ps) = Fits p × (p.header.count < 16384) × AllSent ps
 
 -- and so do more
-pub all_after-valid : (s : List (Option Last)) (ps : List Sent) → IsState s → AllSent ps → IsState (after s ps)
-all_after-valid s [] valid h = subst IsState (sym (after_from-none 0 s)) valid
+pub all_after-valid : (s : List (Option PairEntry)) (ps : List Sent) → AreValidEntries s → AllSent ps → AreValidEntries (entries_after s ps)
+all_after-valid s [] valid h = subst AreValidEntries (sym (after_from-none 0 s)) valid
 all_after-valid s (p ∷ ps) valid h =
-    subst IsState (sym (after-append s (p ∷ []) ps)) (all_after-valid (after s (p ∷ [])) ps (after-valid s p valid h.0 h.1) h.2)
+    subst AreValidEntries (sym (after-append s (p ∷ []) ps)) (all_after-valid (entries_after s (p ∷ [])) ps (after-valid s p valid h.0 h.1) h.2)

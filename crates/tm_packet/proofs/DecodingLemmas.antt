@@ -3,12 +3,13 @@ use Rattle.std.proofs.Common.{◌≡◌, ℕ, zero, suc, ◌+◌, ◌-◌, ◌*�
 use Rattle.std.specs.Prelude.{nat_lt, replicate, if◌then◌else◌}
 use Rattle.std.proofs.lemmas.Bool.{ne_eqb, not-true, and_parts, eq-eqb, ltb-true, ltb-false}
 use Rattle.std.proofs.lemmas.List.{drop-drop}
-use Rattle.tm_packet.specs.declared.tracker.Last.{Last}
+use Rattle.tm_packet.specs.declared.tracker.PairEntry.{PairEntry}
 use Rattle.tm_packet.specs.declared.tracker.Numbers.{Numbers}
 use Rattle.tm_packet.specs.declared.tracker.TrackerFault.{TrackerFault}
 use Rattle.tm_packet.specs.declared.tracker.TrackerFault.TheVariants.{Order, Value}
 use Rattle.tm_packet.specs.Merge.{no_entries}
-use Rattle.tm_packet.specs.Spelling.{Decoded, number_at, decoding_of, decoding_with, raw_of, raws, has_values, rises, fault_after, first_of, place_of, places, state_of}
+use Rattle.tm_packet.specs.Spelling.{DecodedEntries, entries_decoding_of, decoding_with, raw_of, raws, has_values, rises, fault_after, first_count_of, entry_at_key, entries_at_keys, state_of}
+use Rattle.tm_bits.specs.Bits.{two_at}
 
 -- the entries from one on are it and those after it
 pub raws-step : (n at : ℕ) (xs : List ℕ) → at < n
@@ -62,18 +63,18 @@ valued_at n i xs h inside =
     rw (← drop-drop (6 * i) 2 xs) (valued_each n i None (drop 2 xs) h inside)
 
 -- what holds of entries that are all there and have no fault holds of what is read
-pub read_faultless : (P : Decoded → Type 0) (xs : List ℕ) (d : Decoded) → decoding_of xs ≡ Ok d
-    → (2 + 6 * number_at xs 0 ≤ length xs → fault_after None (raws (number_at xs 0) (drop 2 xs)) ≡ None
-    → P (record { entries = state_of (raws (number_at xs 0) (drop 2 xs)); octets = 2 + 6 * number_at xs 0 })) → P d
+pub read_faultless : (P : DecodedEntries → Type 0) (xs : List ℕ) (d : DecodedEntries) → entries_decoding_of xs ≡ Ok d
+    → (2 + 6 * two_at xs 0 ≤ length xs → fault_after None (raws (two_at xs 0) (drop 2 xs)) ≡ None
+    → P (record { entries = state_of (raws (two_at xs 0) (drop 2 xs)); octets = 2 + 6 * two_at xs 0 })) → P d
 read_faultless P xs d e holds =
-    by_tests (nat_lt (length xs) 2) (nat_lt (length xs) (2 + 6 * number_at xs 0)) refl (fault_after None (raws (number_at xs 0) (drop 2 xs))) refl e
+    by_tests (nat_lt (length xs) 2) (nat_lt (length xs) (2 + 6 * two_at xs 0)) refl (fault_after None (raws (two_at xs 0) (drop 2 xs))) refl e
   where
-    by_tests : (b c : Bool) → nat_lt (length xs) (2 + 6 * number_at xs 0) ≡ c → (found : Option TrackerFault) → fault_after None (raws (number_at xs 0) (drop 2 xs)) ≡ found
-        → decoding_with (if b then None else if c then None else Some (number_at xs 0)) xs ≡ Ok d → P d
+    by_tests : (b c : Bool) → nat_lt (length xs) (2 + 6 * two_at xs 0) ≡ c → (found : Option TrackerFault) → fault_after None (raws (two_at xs 0) (drop 2 xs)) ≡ found
+        → decoding_with (if b then None else if c then None else Some (two_at xs 0)) xs ≡ Ok d → P d
     by_tests true c is found none e = cc
     by_tests false true is found none e = cc
     by_tests false false is (Some fault) none e = let refused = rw none at e in cc
-    by_tests false false is None none e = let read = rw none at e in subst P (cc read) (holds (ltb-false (length xs) (2 + 6 * number_at xs 0) is) none)
+    by_tests false false is None none e = let read = rw none at e in subst P (cc read) (holds (ltb-false (length xs) (2 + 6 * two_at xs 0) is) none)
 
 -- the numbers are those of an entry
 pub record AreValues (r : Numbers) : Type 0 where
@@ -94,17 +95,17 @@ values_of r h =
       first = one.1;
     }
 
-abbrev pub last_in : Numbers → Last
-last_in r = record { count = r.count; first = first_of r.first }
+abbrev pub last_in : Numbers → PairEntry
+last_in r = record { count = r.count; first = first_count_of r.first }
 
 -- an entry says nothing of greater keys
-pub places-above : (n k : ℕ) (r : Numbers) (rs : List Numbers) → r.key < k → places n k (r ∷ rs) ≡ places n k rs
+pub places-above : (n k : ℕ) (r : Numbers) (rs : List Numbers) → r.key < k → entries_at_keys n k (r ∷ rs) ≡ entries_at_keys n k rs
 places-above zero k r rs h = refl
 places-above (suc n) k r rs h =
     rw (ne_eqb r.key k (λ (e : r.key ≡ k). omega arith), places-above n (k + 1) r rs (omega arith)) refl
 
 places-set : (n k i : ℕ) (r : Numbers) (rs : List Numbers) → r.key ≡ k + i → i < n
-    → set (places n k rs) i (Some (last_in r)) ≡ places n k (r ∷ rs)
+    → set (entries_at_keys n k rs) i (Some (last_in r)) ≡ entries_at_keys n k (r ∷ rs)
 places-set zero k i r rs e h = absurd (omega arith)
 places-set (suc n) k zero r rs e h = rw (eq-eqb r.key k (omega arith), places-above n (k + 1) r rs (omega arith)) refl
 places-set (suc n) k (suc i) r rs e h =
@@ -116,7 +117,7 @@ pub state-set : (r : Numbers) (rs : List Numbers) → r.key < 16384
 unfolding state_of
 state-set r rs h = places-set 16384 0 r.key r rs (omega arith) h
 
-places-none : (n k : ℕ) → places n k [] ≡ replicate n None
+places-none : (n k : ℕ) → entries_at_keys n k [] ≡ replicate n None
 places-none zero k = refl
 places-none (suc n) k = ap (λ l. None ∷ l) (places-none n (k + 1))
 
@@ -125,12 +126,12 @@ unfolding no_entries state_of
 state-none = sym (places-none 16384 0)
 
 -- no entries are read, and all places are empty
-pub state-begin : (s : List (Option Last)) (n : ℕ) (xs : List ℕ) → s ≡ no_entries → s ≡ state_of (raws (n - n) (drop (2 + 6 * n) xs))
+pub state-begin : (s : List (Option PairEntry)) (n : ℕ) (xs : List ℕ) → s ≡ no_entries → s ≡ state_of (raws (n - n) (drop (2 + 6 * n) xs))
 state-begin s n xs h =
     let none : n - n ≡ 0 = omega arith in rw (h, none) state-none
 
 -- the entries from one on are put where those after it are
-pub state-step : (old new : List (Option Last)) (n at : ℕ) (xs : List ℕ) (r : Numbers) → 1 ≤ at → at ≤ n
+pub state-step : (old new : List (Option PairEntry)) (n at : ℕ) (xs : List ℕ) (r : Numbers) → 1 ≤ at → at ≤ n
     → old ≡ state_of (raws (n - at) (drop (2 + 6 * at) xs)) → r ≡ raw_of (drop (2 + 6 * (at - 1)) xs) → r.key < 16384
     → new ≡ set old r.key (Some (last_in r))
     → new ≡ state_of (raws (n - (at - 1)) (drop (2 + 6 * (at - 1)) xs))

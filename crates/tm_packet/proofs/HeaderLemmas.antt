@@ -9,7 +9,7 @@ use Rattle.tm_bits.proofs.PartLemmas.{octets_behind, number-bits_of-cons, part-w
 use Rattle.tm_packet.specs.declared.header.Flags.{Flags}
 use Rattle.tm_packet.specs.declared.header.Flags.TheVariants as flag
 use Rattle.tm_packet.specs.declared.header.PacketFault.TheVariants.{Short, Version}
-use Rattle.tm_packet.specs.Header.{Fields, AreInRange, flags_of, number_of, version_of, header_of, header_bits, reading_of}
+use Rattle.tm_packet.specs.Header.{Fields, AreInRange, flags_of, flags_number, packet_version_of, packet_header_of, header_bits, header_reading_of}
 
 -- the number in two octets
 number_of_two : (x y : ℕ) → x < 256 → y < 256 → number (bits_of (x ∷ y ∷ [])) ≡ 256 * x + y
@@ -86,7 +86,7 @@ three_words x y z = rw (← word_octets x, ← word_octets y, ← word_octets z)
 -- the octets of three words are the bits of the header
 pub written : (h : Fields) (u v : List ℕ) (z : List ℕ) (identification sequence : ℕ) → AreInRange h
     → identification ≡ digit h.telecommand * 4096 + digit h.secondary * 2048 + h.application
-    → sequence ≡ number_of h.flags * 16384 + h.count → number_of h.flags < 4
+    → sequence ≡ flags_number h.flags * 16384 + h.count → flags_number h.flags < 4
     → u ≡ identification / 256 % 256 ∷ identification % 256 ∷ [] → v ≡ sequence / 256 % 256 ∷ sequence % 256 ∷ []
     → z ≡ h.data_length / 256 % 256 ∷ h.data_length % 256 ∷ []
     → bits_of (get_or u 0 0 ∷ get_or u 1 0 ∷ get_or v 0 0 ∷ get_or v 1 0 ∷ get_or z 0 0 ∷ get_or z 1 0 ∷ []) ≡ header_bits h
@@ -94,7 +94,7 @@ unfolding bits_of
 written h u v z identification sequence fits first second few eu ev ez =
     rw (eu, ev, ez)
     (three_words identification sequence h.data_length
-    ∙ rw (first, second, identification_bits h.telecommand h.secondary h.application fits.application, sequence_bits (number_of h.flags) h.count few fits.count)
+    ∙ rw (first, second, identification_bits h.telecommand h.secondary h.application fits.application, sequence_bits (flags_number h.flags) h.count few fits.count)
     (simp append_assoc))
 
 one_bit : (b : Bool) → (number (b ∷ []) == 1) ≡ b
@@ -102,19 +102,19 @@ unfolding number
 one_bit true = refl
 one_bit false = refl
 
-flags_back : (f : Flags) → flags_of (number (low_bits 2 (number_of f))) ≡ f
+flags_back : (f : Flags) → flags_of (number (low_bits 2 (flags_number f))) ≡ f
 unfolding low_bits number
 flags_back flag.Continuation = refl
 flags_back flag.First = refl
 flags_back flag.Last = refl
 flags_back flag.Unsegmented = refl
 
-pub version_back : (xs : List ℕ) (h : Fields) → bits_of xs ≡ header_bits h → version_of xs ≡ 0
+pub version_back : (xs : List ℕ) (h : Fields) → bits_of xs ≡ header_bits h → packet_version_of xs ≡ 0
 unfolding part low_bits number
 version_back xs h e = rw e refl
 
 -- the header of the written bits
-pub header_back : (xs : List ℕ) (h : Fields) → AreInRange h → bits_of xs ≡ header_bits h → header_of xs ≡ h
+pub header_back : (xs : List ℕ) (h : Fields) → AreInRange h → bits_of xs ≡ header_bits h → packet_header_of xs ≡ h
 unfolding part low_bits
 header_back xs h fits e =
     let a : h.application % 2048 ≡ h.application = let i = fits.application in omega arith in
@@ -122,8 +122,8 @@ header_back xs h fits e =
     let d : h.data_length % 65536 ≡ h.data_length = let i = fits.data_length in omega arith in
     rw (e, one_bit h.telecommand, one_bit h.secondary, number-low_bits 11 h.application, flags_back h.flags, number-low_bits 14 h.count, number-low_bits 16 h.data_length, a, n, d) refl
 
-pub reading_ok : (xs : List ℕ) → 6 ≤ length xs → version_of xs ≡ 0 → reading_of xs ≡ Ok (header_of xs)
-reading_ok xs room same = rw (le-ltb (length xs) 6 room, eq-eqb (version_of xs) 0 same) refl
+pub reading_ok : (xs : List ℕ) → 6 ≤ length xs → packet_version_of xs ≡ 0 → header_reading_of xs ≡ Ok (packet_header_of xs)
+reading_ok xs room same = rw (le-ltb (length xs) 6 room, eq-eqb (packet_version_of xs) 0 same) refl
 
-pub reading_back : (xs : List ℕ) (h : Fields) → AreInRange h → 6 ≤ length xs → bits_of xs ≡ header_bits h → reading_of xs ≡ Ok h
+pub reading_back : (xs : List ℕ) (h : Fields) → AreInRange h → 6 ≤ length xs → bits_of xs ≡ header_bits h → header_reading_of xs ≡ Ok h
 reading_back xs h fits room e = reading_ok xs room (version_back xs h e) ∙ ap Ok (header_back xs h fits e)

@@ -4,7 +4,7 @@ use Rattle.std.proofs.lemmas.List.{take-append-drop, length-take-le, take-append
 use Rattle.std.proofs.Math.Seq.{drop-append_seam}
 use Rattle.std.specs.Prelude.{slice_range}
 use Rattle.tm_bits.specs.Bits.{AreOctets, low_bits, bits_of, number, part}
-use Rattle.tm_packet.specs.Header.{Fields, flags_of, number_of, version_of, header_of, header_bits}
+use Rattle.tm_packet.specs.Header.{Fields, flags_of, flags_number, packet_version_of, packet_header_of, header_bits}
 use Rattle.tm_bits.proofs.BitLemmas.{length-low_bits, number-low_bits, number-lt, low_bits-number, length-bits_of, bits_of-append}
 use Rattle.tm_bits.proofs.PartLemmas.{octets_after}
 use Rattle.tm_packet.proofs.HeaderLemmas.{bits_spelled}
@@ -19,7 +19,7 @@ single (true ∷ []) l = refl
 single (false ∷ []) l = refl
 single (x ∷ y ∷ xs) l = absurd (omega arith)
 
-two_bits : (n : ℕ) → n < 4 → number_of (flags_of n) ≡ n
+two_bits : (n : ℕ) → n < 4 → flags_number (flags_of n) ≡ n
 two_bits zero h = refl
 two_bits (suc zero) h = refl
 two_bits (suc (suc zero)) h = refl
@@ -35,7 +35,7 @@ parts b l =
 
 -- the bits of the written header, part by part
 written_parts : (h : Fields) (v t s a f n d : List Bool) → low_bits 3 0 ≡ v → h.telecommand ∷ [] ≡ t → h.secondary ∷ [] ≡ s
-    → low_bits 11 h.application ≡ a → low_bits 2 (number_of h.flags) ≡ f → low_bits 14 h.count ≡ n → low_bits 16 h.data_length ≡ d
+    → low_bits 11 h.application ≡ a → low_bits 2 (flags_number h.flags) ≡ f → low_bits 14 h.count ≡ n → low_bits 16 h.data_length ≡ d
     → header_bits h ≡ (((v ++ (t ++ (s ++ a))) ++ f) ++ n) ++ d
 written_parts h v t s a f n d ev et es ea ef en ed =
     rw (← ev, ← et, ← es, ← ea, ← ef, ← en, ← ed) (simp append_assoc)
@@ -53,7 +53,7 @@ part_of_six octets from to room ordered inside =
     let left : length (drop from front) ≡ length front - from = length-drop from front in
     rw (whole, dropped, take-append-le (to - from) (drop from front) back (omega arith)) refl
 
-pub written_again : (octets : List ℕ) → AreOctets octets → 6 ≤ length octets → version_of octets ≡ 0 → header_bits (header_of octets) ≡ bits_of (take 6 octets)
+pub written_again : (octets : List ℕ) → AreOctets octets → 6 ≤ length octets → packet_version_of octets ≡ 0 → header_bits (packet_header_of octets) ≡ bits_of (take 6 octets)
 written_again octets are room version =
     let b : List Bool = bits_of (take 6 octets) in
     let l : length b ≡ 48 = length-bits_of (take 6 octets) ∙ ap (λ m. 8 * m) (length-take-le 6 octets room) in
@@ -69,7 +69,7 @@ written_again octets are room version =
     let few : part octets 16 18 < 4 =
     subst (λ n. n < 4) (sym (part_of_six octets 16 18 room (omega arith) (omega arith)))
     (let small = number-lt (take 2 (drop 16 b)) in let w = long 16 2 (omega arith) in subst (λ n. number (take 2 (drop 16 b)) < 2 ^ n) w small) in
-    written_parts (header_of octets) (take 3 b) (take 1 (drop 3 b)) (take 1 (drop 4 b)) (take 11 (drop 5 b)) (take 2 (drop 16 b)) (take 14 (drop 18 b)) (take 16 (drop 32 b))
+    written_parts (packet_header_of octets) (take 3 b) (take 1 (drop 3 b)) (take 1 (drop 4 b)) (take 11 (drop 5 b)) (take 2 (drop 16 b)) (take 14 (drop 18 b)) (take 16 (drop 32 b))
     (ap (low_bits 3) (sym version) ∙ bits 0 3 3 (omega arith) (omega arith) (omega arith))
     (flag_bit 3 4 (omega arith) (omega arith)) (flag_bit 4 5 (omega arith) (omega arith))
     (bits 5 16 11 (omega arith) (omega arith) (omega arith))

@@ -5,19 +5,20 @@ use Rattle.std.proofs.lemmas.Bool.{ne_eqb, cases_lt, cond_both, ltb-false, ltb-t
 use Rattle.std.proofs.lemmas.List.{length-map}
 use Rattle.tm_bits.specs.Bits.{AreOctets}
 use Rattle.tm_bits.proofs.PartLemmas.{octets_behind}
-use Rattle.tm_packet.specs.declared.tracker.Last.{Last}
+use Rattle.tm_packet.specs.declared.tracker.PairEntry.{PairEntry}
 use Rattle.tm_packet.specs.declared.tracker.Numbers.{Numbers}
 use Rattle.tm_packet.specs.declared.tracker.TrackerFault.{TrackerFault}
 use Rattle.tm_packet.specs.declared.tracker.TrackerFault.TheVariants.{Order, Value}
-use Rattle.tm_packet.specs.Spelling.{Entry, Decoded, two, number_at, first_number, first_of, entries_from, spelled, spelling, raws, has_values, rises, fault_after, place_of, places, state_of, unless, decoding_with, decoding_of}
+use Rattle.tm_packet.specs.Spelling.{KeyedEntry, DecodedEntries, first_number, first_count_of, entries_from, spelled, entries_spelling, raws, has_values, rises, fault_after, entry_at_key, entries_at_keys, state_of, unless, decoding_with, entries_decoding_of}
+use Rattle.tm_bits.specs.Bits.{two_octets, two_at}
 use Rattle.tm_packet.proofs.DecodingLemmas.{read_faultless, AreValues, values_of, all_right, last_in, places-above}
 
 -- ---- the entries that numbers are
 
-abbrev on : ℕ → Last → Entry
+abbrev on : ℕ → PairEntry → KeyedEntry
 on key last = record { key = key; last = last }
 
-abbrev entry : Numbers → Entry
+abbrev entry : Numbers → KeyedEntry
 entry r = on r.key (last_in r)
 
 -- each has the values of an entry, and their keys rise from one on
@@ -42,7 +43,7 @@ rising before (r ∷ rs) h =
     (rises_from before r.key right.1, values.key, rising (Some r.key) rs right.2)
 
 -- a key below them has no entry
-absent : (key k : ℕ) (rs : List Numbers) → Rising k rs → key < k → place_of key rs ≡ None
+absent : (key k : ℕ) (rs : List Numbers) → Rising k rs → key < k → entry_at_key key rs ≡ None
 absent key k [] h low = refl
 absent key k (r ∷ rs) h low =
     let above = h.0 in
@@ -50,16 +51,16 @@ absent key k (r ∷ rs) h low =
 
 -- what the entries say of all keys from one on has just these entries: where the first has a greater key, and where it has this key
 greater : (n k : ℕ) (r : Numbers) (rs : List Numbers) → Rising k (r ∷ rs) → k < r.key
-    → entries_from (k + 1) (places n (k + 1) (r ∷ rs)) ≡ map entry (r ∷ rs) → entries_from k (places (suc n) k (r ∷ rs)) ≡ map entry (r ∷ rs)
+    → entries_from (k + 1) (entries_at_keys n (k + 1) (r ∷ rs)) ≡ map entry (r ∷ rs) → entries_from k (entries_at_keys (suc n) k (r ∷ rs)) ≡ map entry (r ∷ rs)
 greater n k r rs h above rest =
     rw (ne_eqb r.key k (λ (e : r.key ≡ k). omega arith), absent k (r.key + 1) rs h.2 (omega arith)) rest
 
-same : (n k : ℕ) (r : Numbers) (rs : List Numbers) → r.key ≡ k → entries_from (k + 1) (places n (k + 1) rs) ≡ map entry rs
-    → entries_from k (places (suc n) k (r ∷ rs)) ≡ map entry (r ∷ rs)
+same : (n k : ℕ) (r : Numbers) (rs : List Numbers) → r.key ≡ k → entries_from (k + 1) (entries_at_keys n (k + 1) rs) ≡ map entry rs
+    → entries_from k (entries_at_keys (suc n) k (r ∷ rs)) ≡ map entry (r ∷ rs)
 same n k r rs e rest =
     rw (eq-eqb r.key k e, places-above n (k + 1) r rs (omega arith), rest, e) refl
 
-entries_back : (n k : ℕ) (rs : List Numbers) → Rising k rs → k + n ≡ 16384 → entries_from k (places n k rs) ≡ map entry rs
+entries_back : (n k : ℕ) (rs : List Numbers) → Rising k rs → k + n ≡ 16384 → entries_from k (entries_at_keys n k rs) ≡ map entry rs
 entries_back zero k [] h all = refl
 entries_back zero k (r ∷ rs) h all = let a = h.0 in let b = h.1 in absurd (omega arith)
 entries_back (suc n) k [] h all = entries_back n (k + 1) [] tt (omega arith)
@@ -79,7 +80,7 @@ high a b small = omega arith
 low : (a b : ℕ) → b < 256 → (256 * a + b) % 256 ≡ b
 low a b small = omega arith
 
-first_again : (n : ℕ) → first_number (first_of n) ≡ n
+first_again : (n : ℕ) → first_number (first_count_of n) ≡ n
 first_again n = by_test (eqb n 65535) refl
   where
     by_test : (b : Bool) → eqb n 65535 ≡ b → first_number (if b then None else Some n) ≡ n
@@ -101,26 +102,26 @@ length-raws (suc n) xs = ap suc (length-raws n (drop 6 xs))
 
 -- ---- all
 
-faultless : (xs : List ℕ) (n : ℕ) → AreOctets xs → n ≡ number_at xs 0 → 2 + 6 * n ≤ length xs → fault_after None (raws n (drop 2 xs)) ≡ None
-    → take (2 + 6 * n) xs ≡ spelling (state_of (raws n (drop 2 xs)))
+faultless : (xs : List ℕ) (n : ℕ) → AreOctets xs → n ≡ two_at xs 0 → 2 + 6 * n ≤ length xs → fault_after None (raws n (drop 2 xs)) ≡ None
+    → take (2 + 6 * n) xs ≡ entries_spelling (state_of (raws n (drop 2 xs)))
 unfolding state_of
 faultless (a ∷ b ∷ more) n h e long none =
     let m : 2 + 6 * n ≡ suc (suc (6 * n)) = omega arith in
     let xs : List ℕ = a ∷ b ∷ more in
     let rs : List Numbers = raws n more in
-    let back : entries_from 0 (places 16384 0 rs) ≡ map entry rs = entries_back 16384 0 rs (rising None rs none) (omega arith) in
+    let back : entries_from 0 (entries_at_keys 16384 0 rs) ≡ map entry rs = entries_back 16384 0 rs (rising None rs none) (omega arith) in
     let many : length (map entry rs) ≡ n = length-map rs entry ∙ length-raws n more in
     let whole : n ≡ 256 * a + b = e in
     let small : b < 256 = h.below 1 in
     let first : n / 256 ≡ a = omega arith in
     let second : n % 256 ≡ b = omega arith in
     sym
-    (ap (λ (es : List Entry). two (length es) ++ spelled es) back
+    (ap (λ (es : List KeyedEntry). two_octets (length es) ++ spelled es) back
     ∙ rw (many, first, second, spelled_from n more (octets_behind 2 xs h) (omega arith), m) refl)
 faultless xs n h e long none = absurd (omega arith)
 
-pub spelled-again : (octets : List ℕ) (d : Decoded) → AreOctets octets → decoding_of octets ≡ Ok d
-    → (d.octets ≤ length octets) × (take d.octets octets ≡ spelling d.entries)
+pub spelled-again : (octets : List ℕ) (d : DecodedEntries) → AreOctets octets → entries_decoding_of octets ≡ Ok d
+    → (d.octets ≤ length octets) × (take d.octets octets ≡ entries_spelling d.entries)
 spelled-again octets d h e =
-    read_faultless (λ (d : Decoded). (d.octets ≤ length octets) × (take d.octets octets ≡ spelling d.entries)) octets d e
-    (λ long none. (long, faultless octets (number_at octets 0) h refl long none))
+    read_faultless (λ (d : DecodedEntries). (d.octets ≤ length octets) × (take d.octets octets ≡ entries_spelling d.entries)) octets d e
+    (λ long none. (long, faultless octets (two_at octets 0) h refl long none))

@@ -4,27 +4,28 @@ use Rattle.std.specs.Prelude.{Ok, Err, nat_lt, if◌then◌else◌, Result}
 use Rattle.std.proofs.lemmas.Bool.{ne_eqb, eq-eqb, lt-ltb, le-ltb, ltb-true}
 use Rattle.std.proofs.lemmas.List.{append-nil, nil_from_length}
 use Rattle.tm_packet.specs.declared.tracker.TrackerFault.{TrackerFault}
-use Rattle.tm_packet.specs.declared.tracker.Last.{Last}
+use Rattle.tm_packet.specs.declared.tracker.PairEntry.{PairEntry}
 use Rattle.tm_packet.specs.declared.tracker.Numbers.{Numbers}
 use Rattle.tm_packet.specs.declared.tracker.TrackerFault.TheVariants.{Order, Value}
-use Rattle.tm_packet.specs.Valid.{IsState, IsEntry, EntryFits, FirstFits}
-use Rattle.tm_packet.specs.Spelling.{Entry, Decoded, count_of, decoding_with, first_number, entries_from, spelled, spelling, raws, has_values, rises, fault_after, first_of, place_of, places, state_of, unless, decoding_of, number_at}
+use Rattle.tm_packet.specs.Valid.{AreValidEntries, IsEntry, EntryFits, FirstFits}
+use Rattle.tm_packet.specs.Spelling.{KeyedEntry, DecodedEntries, entry_count_of, decoding_with, first_number, entries_from, spelled, entries_spelling, raws, has_values, rises, fault_after, first_count_of, entry_at_key, entries_at_keys, state_of, unless, entries_decoding_of}
+use Rattle.tm_bits.specs.Bits.{two_at}
 
-abbrev raw : Entry → Numbers
+abbrev raw : KeyedEntry → Numbers
 raw e = record { key = e.key; count = e.last.count; first = first_number e.last.first }
 
 joined : (n : ℕ) → 256 * (n / 256) + n % 256 ≡ n
 joined n = omega arith
 
-raws-spelled : (es : List Entry) (rest : List ℕ) → raws (length es) (spelled es ++ rest) ≡ map raw es
+raws-spelled : (es : List KeyedEntry) (rest : List ℕ) → raws (length es) (spelled es ++ rest) ≡ map raw es
 raws-spelled [] rest = refl
 raws-spelled (e ∷ es) rest = rw (joined e.key, joined e.last.count, joined (first_number e.last.first), raws-spelled es rest) refl
 
-pub length-spelled : (es : List Entry) → length (spelled es) ≡ 6 * length es
+pub length-spelled : (es : List KeyedEntry) → length (spelled es) ≡ 6 * length es
 length-spelled [] = refl
 length-spelled (e ∷ es) = let h = length-spelled es in omega arith
 
-first_back : (f : Option ℕ) → FirstFits f → first_of (first_number f) ≡ f
+first_back : (f : Option ℕ) → FirstFits f → first_count_of (first_number f) ≡ f
 first_back None h = refl
 first_back (Some n) h = rw (ne_eqb n 65535 (λ (e : n ≡ 65535). omega arith)) refl
 
@@ -33,22 +34,22 @@ first_valued None h = refl
 first_valued (Some n) h = rw (lt-ltb n 16384 h) refl
 
 -- of the places from a key on: their entries fit, there is none at an idle packet's key, and the keys are keys
-record Fit (k : ℕ) (s : List (Option Last)) : Type 0 where
+record Fit (k : ℕ) (s : List (Option PairEntry)) : Type 0 where
   entries : (i : ℕ) → EntryFits (get_or s i None)
   idle : (i : ℕ) → (k + i) % 2048 ≡ 2047 → get_or s i None ≡ None
   keys : k + length s ≤ 16384
 
-fit_rest : (k : ℕ) (l : Option Last) (s : List (Option Last)) → Fit k (l ∷ s) → Fit (k + 1) s
+fit_rest : (k : ℕ) (l : Option PairEntry) (s : List (Option PairEntry)) → Fit k (l ∷ s) → Fit (k + 1) s
 fit_rest k l s h = record {
   entries = λ i. h.entries (suc i);
   idle = λ i e. h.idle (suc i) ((let z : k + suc i ≡ k + 1 + i = omega arith in ap (λ n. n % 2048) z) ∙ e);
   keys = let keys = h.keys in omega arith;
 }
 
-none_not_some : (l : Last) → Some l ≡ None → ⊥
+none_not_some : (l : PairEntry) → Some l ≡ None → ⊥
 none_not_some l e = cc
 
-valued : (k : ℕ) (l : Last) (s : List (Option Last)) → Fit k (Some l ∷ s) → has_values (raw (record { key = k; last = l })) ≡ true
+valued : (k : ℕ) (l : PairEntry) (s : List (Option PairEntry)) → Fit k (Some l ∷ s) → has_values (raw (record { key = k; last = l })) ≡ true
 valued k l s h =
     let fits : IsEntry l = h.entries 0 in
     let keys = h.keys in
@@ -59,77 +60,77 @@ rises_next : (before : Option ℕ) (k : ℕ) → rises before k ≡ true → ris
 rises_next None k h = refl
 rises_next (Some n) k h = let less = ltb-true n k h in lt-ltb n (k + 1) (omega arith)
 
-faultless : (before : Option ℕ) (k : ℕ) (s : List (Option Last)) → rises before k ≡ true → Fit k s → fault_after before (map raw (entries_from k s)) ≡ None
+faultless : (before : Option ℕ) (k : ℕ) (s : List (Option PairEntry)) → rises before k ≡ true → Fit k s → fault_after before (map raw (entries_from k s)) ≡ None
 faultless before k [] b h = refl
 faultless before k (None ∷ s) b h = faultless before (k + 1) s (rises_next before k b) (fit_rest k None s h)
 faultless before k (Some l ∷ s) b h =
     rw (valued k l s h, b) (faultless (Some k) (k + 1) s (lt-ltb k (k + 1) (omega arith)) (fit_rest k (Some l) s h))
 
 -- no entry of a key below
-lower : (key k : ℕ) (s : List (Option Last)) → key < k → place_of key (map raw (entries_from k s)) ≡ None
+lower : (key k : ℕ) (s : List (Option PairEntry)) → key < k → entry_at_key key (map raw (entries_from k s)) ≡ None
 lower key k [] h = refl
 lower key k (None ∷ s) h = lower key (k + 1) s (omega arith)
 lower key k (Some l ∷ s) h = rw (ne_eqb k key (λ (e : k ≡ key). omega arith)) (lower key (k + 1) s (omega arith))
 
-found : (k i : ℕ) (s : List (Option Last)) → Fit k s → i < length s → place_of (k + i) (map raw (entries_from k s)) ≡ get_or s i None
+found : (k i : ℕ) (s : List (Option PairEntry)) → Fit k s → i < length s → entry_at_key (k + i) (map raw (entries_from k s)) ≡ get_or s i None
 found k i [] h inside = absurd (omega arith)
 found k zero (None ∷ s) h inside = lower (k + 0) (k + 1) s (omega arith)
 found k zero (Some l ∷ s) h inside =
     let fits : IsEntry l = h.entries 0 in
     rw (eq-eqb k (k + 0) (omega arith), first_back l.first fits.first) refl
 found k (suc i) (None ∷ s) h inside =
-    let z : k + suc i ≡ k + 1 + i = omega arith in ap (λ n. place_of n (map raw (entries_from (k + 1) s))) z ∙ found (k + 1) i s (fit_rest k None s h) (omega arith)
+    let z : k + suc i ≡ k + 1 + i = omega arith in ap (λ n. entry_at_key n (map raw (entries_from (k + 1) s))) z ∙ found (k + 1) i s (fit_rest k None s h) (omega arith)
 found k (suc i) (Some l ∷ s) h inside =
     let z : k + suc i ≡ k + 1 + i = omega arith in
-    rw (ne_eqb k (k + suc i) (λ (e : k ≡ k + suc i). omega arith)) (ap (λ n. place_of n (map raw (entries_from (k + 1) s))) z ∙ found (k + 1) i s (fit_rest k (Some l) s h) (omega arith))
+    rw (ne_eqb k (k + suc i) (λ (e : k ≡ k + suc i). omega arith)) (ap (λ n. entry_at_key n (map raw (entries_from (k + 1) s))) z ∙ found (k + 1) i s (fit_rest k (Some l) s h) (omega arith))
 
-filled : (n k : ℕ) (s : List (Option Last)) (rs : List Numbers) → length s ≡ n → ((i : ℕ) → i < length s → place_of (k + i) rs ≡ get_or s i None) → places n k rs ≡ s
+filled : (n k : ℕ) (s : List (Option PairEntry)) (rs : List Numbers) → length s ≡ n → ((i : ℕ) → i < length s → entry_at_key (k + i) rs ≡ get_or s i None) → entries_at_keys n k rs ≡ s
 filled zero k [] rs l h = refl
 filled zero k (x ∷ s) rs l h = absurd (omega arith)
 filled (suc n) k [] rs l h = absurd (omega arith)
 filled (suc n) k (x ∷ s) rs l h =
     let zeroth : k + 0 ≡ k = omega arith in
-    let here : place_of k rs ≡ x = rw zeroth at (h 0 (omega arith)) in
+    let here : entry_at_key k rs ≡ x = rw zeroth at (h 0 (omega arith)) in
     rw (here, filled n (k + 1) s rs (omega arith) (λ i inside. let z : k + 1 + i ≡ k + suc i = omega arith in rw z (h (suc i) (omega arith)))) refl
 
-fit_all : (s : List (Option Last)) → IsState s → Fit 0 s
+fit_all : (s : List (Option PairEntry)) → AreValidEntries s → Fit 0 s
 fit_all s valid = record {
   entries = λ i. valid.fit i;
   idle = λ i e. ap (λ n. get_or s n None) (let z : i ≡ 2048 * ((0 + i) / 2048) + 2047 = omega arith in z) ∙ valid.idle ((0 + i) / 2048);
   keys = let all = valid.places in omega arith;
 }
 
-state_back : (s : List (Option Last)) → IsState s → state_of (map raw (entries_from 0 s)) ≡ s
+state_back : (s : List (Option PairEntry)) → AreValidEntries s → state_of (map raw (entries_from 0 s)) ≡ s
 unfolding state_of
 state_back s valid = filled 16384 0 s (map raw (entries_from 0 s)) valid.places (λ i inside. found 0 i s (fit_all s valid) inside)
 
-abbrev decoded : List (Option Last) → ℕ → Decoded
+abbrev decoded : List (Option PairEntry) → ℕ → DecodedEntries
 decoded entries octets = record { entries = entries; octets = octets }
 
-decode_with : (xs : List ℕ) (n : ℕ) (rs : List Numbers) (s : List (Option Last)) → number_at xs 0 ≡ n → 2 + 6 * n ≤ length xs
-    → raws n (drop 2 xs) ≡ rs → fault_after None rs ≡ None → state_of rs ≡ s → decoding_of xs ≡ Ok (decoded s (2 + 6 * n))
+decode_with : (xs : List ℕ) (n : ℕ) (rs : List Numbers) (s : List (Option PairEntry)) → two_at xs 0 ≡ n → 2 + 6 * n ≤ length xs
+    → raws n (drop 2 xs) ≡ rs → fault_after None rs ≡ None → state_of rs ≡ s → entries_decoding_of xs ≡ Ok (decoded s (2 + 6 * n))
 decode_with xs n rs s e room read ok back =
     rw (le-ltb (length xs) 2 (omega arith), e, le-ltb (length xs) (2 + 6 * n) room, read, ok, back) refl
 
-pub decoding-spelling : (s : List (Option Last)) (rest : List ℕ) → IsState s
-    → decoding_of (spelling s ++ rest) ≡ Ok (record { entries = s; octets = length (spelling s) })
+pub decoding-spelling : (s : List (Option PairEntry)) (rest : List ℕ) → AreValidEntries s
+    → entries_decoding_of (entries_spelling s ++ rest) ≡ Ok (record { entries = s; octets = length (entries_spelling s) })
 decoding-spelling s rest valid =
-    let es : List Entry = entries_from 0 s in
+    let es : List KeyedEntry = entries_from 0 s in
     let n : ℕ = length es in
-    let number : number_at (spelling s ++ rest) 0 ≡ n = joined n in
-    let long : length (spelling s ++ rest) ≡ 2 + 6 * n + length rest = length-append (spelling s) rest ∙ omega (arith, length-spelled es) in
-    let all : 2 + 6 * n ≡ length (spelling s) = omega (arith, length-spelled es) in
-    decode_with (spelling s ++ rest) n (map raw es) s number (omega arith) (raws-spelled es rest) (faultless None 0 s refl (fit_all s valid)) (state_back s valid)
+    let number : two_at (entries_spelling s ++ rest) 0 ≡ n = joined n in
+    let long : length (entries_spelling s ++ rest) ≡ 2 + 6 * n + length rest = length-append (entries_spelling s) rest ∙ omega (arith, length-spelled es) in
+    let all : 2 + 6 * n ≡ length (entries_spelling s) = omega (arith, length-spelled es) in
+    decode_with (entries_spelling s ++ rest) n (map raw es) s number (omega arith) (raws-spelled es rest) (faultless None 0 s refl (fit_all s valid)) (state_back s valid)
     ∙ ap (λ m. Ok (decoded s m)) all
 
-abbrev good : Decoded → Result Decoded TrackerFault
+abbrev good : DecodedEntries → Result DecodedEntries TrackerFault
 good d = Ok d
 
 -- no spelling is a proper prefix of another
-pub no_prefix : (s t : List (Option Last)) (rest : List ℕ) → IsState s → IsState t → spelling s ++ rest ≡ spelling t → (s ≡ t) × (rest ≡ [])
+pub no_prefix : (s t : List (Option PairEntry)) (rest : List ℕ) → AreValidEntries s → AreValidEntries t → entries_spelling s ++ rest ≡ entries_spelling t → (s ≡ t) × (rest ≡ [])
 no_prefix s t rest vs vt e =
-    let same : good (decoded s (length (spelling s))) ≡ good (decoded t (length (spelling t))) =
-    sym (decoding-spelling s rest vs) ∙ ap decoding_of (e ∙ sym (append-nil (spelling t))) ∙ decoding-spelling t [] vt in
-    let held : decoded s (length (spelling s)) ≡ decoded t (length (spelling t)) = cc in
-    let sum : length (spelling s) + length rest ≡ length (spelling t) = sym (length-append (spelling s) rest) ∙ ap length e in
-    (ap (λ (d : Decoded). d.entries) held, nil_from_length rest (omega (arith, ap (λ (d : Decoded). d.octets) held)))
+    let same : good (decoded s (length (entries_spelling s))) ≡ good (decoded t (length (entries_spelling t))) =
+    sym (decoding-spelling s rest vs) ∙ ap entries_decoding_of (e ∙ sym (append-nil (entries_spelling t))) ∙ decoding-spelling t [] vt in
+    let held : decoded s (length (entries_spelling s)) ≡ decoded t (length (entries_spelling t)) = cc in
+    let sum : length (entries_spelling s) + length rest ≡ length (entries_spelling t) = sym (length-append (entries_spelling s) rest) ∙ ap length e in
+    (ap (λ (d : DecodedEntries). d.entries) held, nil_from_length rest (omega (arith, ap (λ (d : DecodedEntries). d.octets) held)))

@@ -2,16 +2,16 @@
 use Rattle.std.proofs.Common.{◌≡◌, ℕ, ◌+◌, ◌-◌, ◌*◌, ◌<◌, zero, suc, Option, None, List, [], ◌∷◌, ◌++◌, length, get_or, take, refl, sym, ap, ◌∙◌, arith, subst}
 use Rattle.std.proofs.Math.ListN.{replicate}
 use Rattle.std.proofs.lemmas.List.{length-replicate}
-use Rattle.tm_packet.specs.declared.tracker.Last.{Last}
+use Rattle.tm_packet.specs.declared.tracker.PairEntry.{PairEntry}
 use Rattle.tm_packet.specs.Merge.{entry_at, no_entries}
-use Rattle.tm_packet.specs.Valid.{IsState, EntryFits}
+use Rattle.tm_packet.specs.Valid.{AreValidEntries, EntryFits}
 
 pub get_or-any : {A : Type 0} (xs : List A) (i : ℕ) (d e : A) → i < length xs → get_or xs i d ≡ get_or xs i e
 get_or-any [] i d e h = absurd (omega arith)
 get_or-any (x ∷ xs) zero d e h = refl
 get_or-any (x ∷ xs) (suc i) d e h = get_or-any xs i d e (omega arith)
 
-get_or-none : (n i : ℕ) → get_or (replicate {A = Option Last} n None) i None ≡ None
+get_or-none : (n i : ℕ) → get_or (replicate {A = Option PairEntry} n None) i None ≡ None
 get_or-none zero i = refl
 get_or-none (suc n) zero = refl
 get_or-none (suc n) (suc i) = get_or-none n i
@@ -20,16 +20,16 @@ none_at : (key : ℕ) → entry_at no_entries key ≡ None
 unfolding no_entries
 none_at key = get_or-none 16384 key
 
-none_fits : (e : Option Last) → e ≡ None → EntryFits e
+none_fits : (e : Option PairEntry) → e ≡ None → EntryFits e
 none_fits e h = subst EntryFits (sym h) tt
 
 length-no_entries : length no_entries ≡ 16384
 unfolding no_entries
-length-no_entries = length-replicate {A = Option Last} 16384 None
+length-no_entries = length-replicate {A = Option PairEntry} 16384 None
 
-pub valid-none : IsState no_entries
+pub valid-none : AreValidEntries no_entries
 valid-none = record { places = length-no_entries; fit = λ key. none_fits (entry_at no_entries key) (none_at key); idle = λ channel. none_at (2048 * channel + 2047) }
 
-pub filled : (xs : List (Option Last)) (n : ℕ) → xs ≡ [] → n ≡ 0 → take 16384 xs ++ replicate (16384 - n) None ≡ no_entries
+pub filled : (xs : List (Option PairEntry)) (n : ℕ) → xs ≡ [] → n ≡ 0 → take 16384 xs ++ replicate (16384 - n) None ≡ no_entries
 unfolding no_entries
 filled xs n e h = rw (e, h) refl

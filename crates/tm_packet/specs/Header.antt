@@ -29,19 +29,19 @@ flags_of (suc (suc zero)) = Last
 flags_of (suc (suc (suc n))) = Unsegmented
 
 -- the two bits of the flags, as a number
-abbrev pub number_of : Flags → ℕ
-number_of Continuation = 0
-number_of First = 1
-number_of Last = 2
-number_of Unsegmented = 3
+abbrev pub flags_number : Flags → ℕ
+flags_number Continuation = 0
+flags_number First = 1
+flags_number Last = 2
+flags_number Unsegmented = 3
 
 -- the packet version number, the first three bits
-abbrev pub version_of : List ℕ → ℕ
-version_of octets = part octets 0 3
+abbrev pub packet_version_of : List ℕ → ℕ
+packet_version_of octets = part octets 0 3
 
 -- the header in the first six octets
-abbrev pub header_of : List ℕ → Fields
-header_of octets = record {
+abbrev pub packet_header_of : List ℕ → Fields
+packet_header_of octets = record {
   telecommand = flag octets 3;
   secondary = flag octets 4;
   application = part octets 5 16;
@@ -53,12 +53,12 @@ header_of octets = record {
 -- the 48 bits of a header
 abbrev pub header_bits : Fields → List Bool
 header_bits h =
-    low_bits 3 0 ++ h.telecommand ∷ h.secondary ∷ low_bits 11 h.application ++ low_bits 2 (number_of h.flags) ++ low_bits 14 h.count ++ low_bits 16 h.data_length
+    low_bits 3 0 ++ h.telecommand ∷ h.secondary ∷ low_bits 11 h.application ++ low_bits 2 (flags_number h.flags) ++ low_bits 14 h.count ++ low_bits 16 h.data_length
 
 -- reading a header: what is wrong first, or the header
-abbrev pub reading_of : List ℕ → Result Fields PacketFault
-reading_of octets =
-    if nat_lt (length octets) 6 then Err Short else if version_of octets == 0 then Ok (header_of octets) else Err Version
+abbrev pub header_reading_of : List ℕ → Result Fields PacketFault
+header_reading_of octets =
+    if nat_lt (length octets) 6 then Err Short else if packet_version_of octets == 0 then Ok (packet_header_of octets) else Err Version
 
 -- a header of these parts, if they are in range
 abbrev pub made_of : Fields → Option Fields

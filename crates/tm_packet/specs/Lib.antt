@@ -1,6 +1,6 @@
 pub mod Header
 pub mod Sequence
-pub mod Single
 pub mod Merge
 pub mod Valid
 pub mod Spelling
+pub mod code

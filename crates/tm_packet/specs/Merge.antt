@@ -3,7 +3,7 @@ use Rattle.std.specs.Prelude.{ℕ, ◌+◌, ◌*◌, Bool, not, ◌==◌, ◌&&�
 use Rattle.tm_packet.specs.declared.notes.Note.{Note}
 use Rattle.tm_packet.specs.declared.notes.Note.TheVariants.{Broken}
 use Rattle.tm_packet.specs.declared.notes.Why.TheVariants as why
-use Rattle.tm_packet.specs.declared.tracker.Last.{Last}
+use Rattle.tm_packet.specs.declared.tracker.PairEntry.{PairEntry}
 use Rattle.tm_packet.specs.declared.tracker.Unclosed.{Unclosed}
 use Rattle.tm_packet.specs.Header.{Fields}
 use Rattle.tm_packet.specs.Sequence.{pair_notes, pair_after}
@@ -31,35 +31,35 @@ pair key [] = []
 pair key (p ∷ ps) = (if belongs key p then p.header ∷ [] else []) ++ pair key ps
 
 -- the entry of a key
-abbrev pub entry_at : List (Option Last) → ℕ → Option Last
+abbrev pub entry_at : List (Option PairEntry) → ℕ → Option PairEntry
 entry_at entries key = slice_index_or entries key None
 
 -- The notes of a header are those at its place among the headers of its pair.
-abbrev pub notes_at : List (Option Last) → List Sent → Sent → List Sent → List Note
+abbrev pub notes_at : List (Option PairEntry) → List Sent → Sent → List Sent → List Note
 notes_at entries before p ahead =
     if is_idle p.header then []
     else slice_index_or (pair_notes (entry_at entries (key_of p)) (pair (key_of p) (before ++ p ∷ ahead))) (length (pair (key_of p) before)) []
 
 -- the notes of the headers ahead, a list for each, where others came before
-abbrev pub notes_behind : List (Option Last) → List Sent → List Sent → List (List Note)
+abbrev pub notes_behind : List (Option PairEntry) → List Sent → List Sent → List (List Note)
 notes_behind entries before [] = []
 notes_behind entries before (p ∷ ps) = notes_at entries before p ps ∷ notes_behind entries (before ++ p ∷ []) ps
 
 -- the notes of headers, a list for each, from the entries of all keys
-abbrev pub notes : List (Option Last) → List Sent → List (List Note)
+abbrev pub notes : List (Option PairEntry) → List Sent → List (List Note)
 notes entries ps = notes_behind entries [] ps
 
 -- the entries from this key on after headers
-abbrev pub after_from : ℕ → List (Option Last) → List Sent → List (Option Last)
+abbrev pub after_from : ℕ → List (Option PairEntry) → List Sent → List (Option PairEntry)
 after_from key [] ps = []
 after_from key (e ∷ es) ps = pair_after e (pair key ps) ∷ after_from (key + 1) es ps
 
 -- the entries of all keys after headers
-abbrev pub after : List (Option Last) → List Sent → List (Option Last)
-after entries ps = after_from 0 entries ps
+abbrev pub entries_after : List (Option PairEntry) → List Sent → List (Option PairEntry)
+entries_after entries ps = after_from 0 entries ps
 
 -- no entries
-unfoldable pub no_entries : List (Option Last)
+unfoldable pub no_entries : List (Option PairEntry)
 no_entries = replicate 16384 None
 
 -- the open group of a key, with its last count and, if there is a group, its first
@@ -68,15 +68,15 @@ unclosed_with key count None = []
 unclosed_with key count (Some first) = record { key = key; note = Broken first count why.Close } ∷ []
 
 -- the open group of a key, if its entry has one
-abbrev pub unclosed_at : ℕ → Option Last → List Unclosed
+abbrev pub unclosed_at : ℕ → Option PairEntry → List Unclosed
 unclosed_at key None = []
 unclosed_at key (Some e) = unclosed_with key e.count e.first
 
 -- the open groups of keys from a number on, by rising key
-abbrev pub unclosed : ℕ → List (Option Last) → List Unclosed
+abbrev pub unclosed : ℕ → List (Option PairEntry) → List Unclosed
 unclosed key [] = []
 unclosed key (e ∷ es) = unclosed_at key e ++ unclosed (key + 1) es
 
 -- the first of them
-abbrev pub next_unclosed_of : List (Option Last) → ℕ → Option Unclosed
+abbrev pub next_unclosed_of : List (Option PairEntry) → ℕ → Option Unclosed
 next_unclosed_of entries at = slice_get (unclosed at (drop at entries)) 0

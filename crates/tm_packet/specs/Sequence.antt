@@ -5,26 +5,26 @@ use Rattle.tm_packet.specs.declared.header.Flags.TheVariants as flag
 use Rattle.tm_packet.specs.declared.notes.Note.{Note}
 use Rattle.tm_packet.specs.declared.notes.Note.TheVariants.{Gap, Broken, Whole, Stray}
 use Rattle.tm_packet.specs.declared.notes.Why.TheVariants as why
-use Rattle.tm_packet.specs.declared.tracker.Last.{Last}
+use Rattle.tm_packet.specs.declared.tracker.PairEntry.{PairEntry}
 use Rattle.tm_packet.specs.Header.{Fields}
 
 -- A member of a pair's list: its count and flags, and the count that it should have, after the one before it; the first of all
 -- has none.
-pub record Member : Type 0 where
+pub record PairMember : Type 0 where
   pub count : ℕ
   pub flags : Flags
   pub expected : Option ℕ
 
 -- the count after this one
-abbrev pub next_count : ℕ → ℕ
-next_count count = (count + 1) % 16384
+abbrev pub next_packet_count : ℕ → ℕ
+next_packet_count count = (count + 1) % 16384
 
 -- the headers of a pair as members, after one with this count
-abbrev pub members_after : Option ℕ → List Fields → List Member
+abbrev pub members_after : Option ℕ → List Fields → List PairMember
 members_after before [] = []
 members_after None (h ∷ hs) = record { count = h.count; flags = h.flags; expected = None } ∷ members_after (Some h.count) hs
 members_after (Some before) (h ∷ hs) =
-    record { count = h.count; flags = h.flags; expected = Some (next_count before) } ∷ members_after (Some h.count) hs
+    record { count = h.count; flags = h.flags; expected = Some (next_packet_count before) } ∷ members_after (Some h.count) hs
 
 -- a count other than the expected one, if one is expected
 abbrev pub differs : Option ℕ → ℕ → Bool
@@ -32,8 +32,8 @@ differs None count = false
 differs (Some expected) count = not (count == expected)
 
 -- a member whose count is not the expected one
-abbrev pub has_gap : Member → Bool
-has_gap m = differs m.expected m.count
+abbrev pub has_packet_gap : PairMember → Bool
+has_packet_gap m = differs m.expected m.count
 
 -- flags of a continuation
 abbrev pub is_continuation : Flags → Bool
@@ -43,27 +43,27 @@ is_continuation flag.Last = false
 is_continuation flag.Unsegmented = false
 
 -- a continuation without a gap goes on with what stands before it
-abbrev pub goes_on : Member → Bool
-goes_on m = is_continuation m.flags && not (has_gap m)
+abbrev pub goes_on : PairMember → Bool
+goes_on m = is_continuation m.flags && not (has_packet_gap m)
 
 -- the longest stretch of continuations without a gap that the list begins with
-abbrev pub stretch : List Member → List Member
+abbrev pub stretch : List PairMember → List PairMember
 stretch [] = []
 stretch (m ∷ ms) = if goes_on m then m ∷ stretch ms else []
 
--- A piece of the list: a member that doesn't go on with the one before, and the longest stretch after it.
-pub record Piece : Type 0 where
-  pub head : Member
-  pub rest : List Member
+-- A stretch of the list: a member that doesn't go on with the one before, and all members after it that do.
+pub record Stretch : Type 0 where
+  pub head : PairMember
+  pub rest : List PairMember
 
-abbrev pub pieces : List Member → List Piece
-pieces [] = []
-pieces (m ∷ ms) = (if goes_on m then [] else record { head = m; rest = stretch ms } ∷ []) ++ pieces ms
+abbrev pub stretches : List PairMember → List Stretch
+stretches [] = []
+stretches (m ∷ ms) = (if goes_on m then [] else record { head = m; rest = stretch ms } ∷ []) ++ stretches ms
 
 -- the last count of a stretch, after a member with this count
-abbrev pub last_count : ℕ → List Member → ℕ
-last_count count [] = count
-last_count count (m ∷ ms) = last_count m.count ms
+abbrev pub last_packet_count : ℕ → List PairMember → ℕ
+last_packet_count count [] = count
+last_packet_count count (m ∷ ms) = last_packet_count m.count ms
 
 -- a group's first and last count
 pub record Group : Type 0 where
@@ -71,24 +71,24 @@ pub record Group : Type 0 where
   pub last : ℕ
 
 -- the first count of the group that a member with these flags begins
-abbrev pub begun : Flags → ℕ → Option ℕ
-begun flag.Continuation count = None
-begun flag.First count = Some count
-begun flag.Last count = None
-begun flag.Unsegmented count = None
+abbrev pub opened_by : Flags → ℕ → Option ℕ
+opened_by flag.Continuation count = None
+opened_by flag.First count = Some count
+opened_by flag.Last count = None
+opened_by flag.Unsegmented count = None
 
 -- the first count of the group that a member begins
-abbrev pub opened : Member → Option ℕ
-opened m = begun m.flags m.count
+abbrev pub opened : PairMember → Option ℕ
+opened m = opened_by m.flags m.count
 
 -- the group of a first count, if there is one, with its last count
 abbrev pub group_with : Option ℕ → ℕ → Option Group
 group_with None last = None
 group_with (Some first) last = Some (record { first = first; last = last })
 
--- a piece is a group where its head has flags first
-abbrev pub group_of : Piece → Option Group
-group_of p = group_with (opened p.head) (last_count p.head.count p.rest)
+-- a stretch is a group where its head has flags first
+abbrev pub group_of : Stretch → Option Group
+group_of p = group_with (opened p.head) (last_packet_count p.head.count p.rest)
 
 -- the note of a gap, if there is one
 abbrev pub gap_notes : Option ℕ → ℕ → List Note
@@ -96,12 +96,12 @@ gap_notes None found = []
 gap_notes (Some expected) found =
     if found == expected then [] else Gap expected found ((found + 16384 - expected) % 16384) ∷ []
 
--- a member of these flags and count without a gap stands where a group ends
-abbrev pub broken_by : Group → Flags → ℕ → List Note
-broken_by g flag.Continuation count = []
-broken_by g flag.First count = Broken g.first g.last why.First ∷ []
-broken_by g flag.Last count = Whole g.first count ∷ []
-broken_by g flag.Unsegmented count = Broken g.first g.last why.Unsegmented ∷ []
+-- what ends a group: a member of these flags and count, without a gap
+abbrev pub ended_by : Group → Flags → ℕ → List Note
+ended_by g flag.Continuation count = []
+ended_by g flag.First count = Broken g.first g.last why.First ∷ []
+ended_by g flag.Last count = Whole g.first count ∷ []
+ended_by g flag.Unsegmented count = Broken g.first g.last why.Unsegmented ∷ []
 
 -- a member of these flags is in no group
 abbrev pub stray : Flags → ℕ → List Note
@@ -110,61 +110,61 @@ stray flag.First count = []
 stray flag.Last count = Stray count flag.Last ∷ []
 stray flag.Unsegmented count = []
 
--- What comes after a group decides it: the head of the next piece. Behind no group a continuation or last is a stray; so it is
+-- What comes after a group decides it: the head of the next stretch. Behind no group a continuation or last is a stray; so it is
 -- behind a gap.
-abbrev pub decided : Option Group → Member → List Note
+abbrev pub decided : Option Group → PairMember → List Note
 decided None m = stray m.flags m.count
-decided (Some g) m = if has_gap m then Broken g.first g.last why.Gap ∷ stray m.flags m.count else broken_by g m.flags m.count
+decided (Some g) m = if has_packet_gap m then Broken g.first g.last why.Gap ∷ stray m.flags m.count else ended_by g m.flags m.count
 
--- the notes of a piece's head, behind a piece that is this group or none
-abbrev pub head_notes : Option Group → Member → List Note
+-- the notes of a stretch's head, behind a stretch that is this group or none
+abbrev pub head_notes : Option Group → PairMember → List Note
 head_notes before m = gap_notes m.expected m.count ++ decided before m
 
--- the notes of the others of a piece: where it is no group they are strays
-abbrev pub rest_notes : Option ℕ → Member → List Note
+-- the notes of the others of a stretch: where it is no group they are strays
+abbrev pub rest_notes : Option ℕ → PairMember → List Note
 rest_notes None m = stray m.flags m.count
 rest_notes (Some first) m = []
 
--- the notes of the pieces' members, behind a piece that is this group or none
-abbrev pub notes_of_pieces : Option Group → List Piece → List (List Note)
-notes_of_pieces before [] = []
-notes_of_pieces before (p ∷ ps) =
-    (head_notes before p.head ∷ map (rest_notes (opened p.head)) p.rest) ++ notes_of_pieces (group_of p) ps
+-- the notes of the stretches' members, behind a stretch that is this group or none
+abbrev pub notes_of_stretches : Option Group → List Stretch → List (List Note)
+notes_of_stretches before [] = []
+notes_of_stretches before (p ∷ ps) =
+    (head_notes before p.head ∷ map (rest_notes (opened p.head)) p.rest) ++ notes_of_stretches (group_of p) ps
 
 -- what a state has of a pair: nothing, or the last count, and the first count of the open group if there is one
-abbrev pub count_in : Option Last → Option ℕ
-count_in None = None
-count_in (Some e) = Some e.count
+abbrev pub packet_count_in : Option PairEntry → Option ℕ
+packet_count_in None = None
+packet_count_in (Some e) = Some e.count
 
 -- the first count of the entry's open group
-abbrev pub first_in : Option Last → Option ℕ
+abbrev pub first_in : Option PairEntry → Option ℕ
 first_in None = None
 first_in (Some e) = e.first
 
 -- the group of a state's entry, with the stretch after it
-abbrev pub group_in : Option Last → List Member → Option Group
+abbrev pub group_in : Option PairEntry → List PairMember → Option Group
 group_in None ms = None
-group_in (Some e) ms = group_with e.first (last_count e.count ms)
+group_in (Some e) ms = group_with e.first (last_packet_count e.count ms)
 
--- The notes of a pair's members, a list for each: the state's entry stands in front, as the head of a first piece.
-abbrev pub notes_of_members : Option Last → List Member → List (List Note)
+-- The notes of a pair's members, a list for each: the state's entry stands in front, as the head of a first stretch.
+abbrev pub notes_of_members : Option PairEntry → List PairMember → List (List Note)
 notes_of_members entry ms =
-    map (rest_notes (first_in entry)) (stretch ms) ++ notes_of_pieces (group_in entry (stretch ms)) (pieces ms)
+    map (rest_notes (first_in entry)) (stretch ms) ++ notes_of_stretches (group_in entry (stretch ms)) (stretches ms)
 
 -- the notes of a pair's headers, a list for each, after an entry or none
-abbrev pub pair_notes : Option Last → List Fields → List (List Note)
-pair_notes entry hs = notes_of_members entry (members_after (count_in entry) hs)
+abbrev pub pair_notes : Option PairEntry → List Fields → List (List Note)
+pair_notes entry hs = notes_of_members entry (members_after (packet_count_in entry) hs)
 
--- the first count of the group that is open where the list of pieces ends, after a piece with this one or none
-abbrev pub open_at_end : Option ℕ → List Piece → Option ℕ
+-- the first count of the group that is open where the list of stretches ends, after a stretch with this one or none
+abbrev pub open_at_end : Option ℕ → List Stretch → Option ℕ
 open_at_end first [] = first
 open_at_end first (p ∷ ps) = open_at_end (opened p.head) ps
 
 -- what is kept of a pair after its headers: the last one's count, and the group that is open where the list ends
-abbrev pub kept_after : Option Last → ℕ → List Member → Last
-kept_after entry count ms = record { count = last_count count ms; first = open_at_end (first_in entry) (pieces ms) }
+abbrev pub kept_after : Option PairEntry → ℕ → List PairMember → PairEntry
+kept_after entry count ms = record { count = last_packet_count count ms; first = open_at_end (first_in entry) (stretches ms) }
 
 -- what is kept of a pair after its headers, which is what was kept before where there are none
-abbrev pub pair_after : Option Last → List Fields → Option Last
+abbrev pub pair_after : Option PairEntry → List Fields → Option PairEntry
 pair_after entry [] = entry
-pair_after entry (h ∷ hs) = Some (kept_after entry h.count (members_after (count_in entry) (h ∷ hs)))
+pair_after entry (h ∷ hs) = Some (kept_after entry h.count (members_after (packet_count_in entry) (h ∷ hs)))

@@ -2,7 +2,7 @@
 
 ghost use Rattle.std.specs.Prelude.{◌≡◌, ◌+◌, ◌-◌, ◌*◌, ◌/◌, ◌%◌, ◌^◌, ◌<◌, ◌≤◌, [], ◌∷◌, length, slice_index, Ok};
 ghost use Rattle.tm_bits.specs.Bits.{bits_of, part};
-ghost use Rattle.tm_packet.specs.Header.{version_of, reading_of, header_bits};
+ghost use Rattle.tm_packet.specs.Header.{packet_version_of, header_reading_of, header_bits};
 
 use std::marker::Model;
 
@@ -20,7 +20,7 @@ pub enum Flags {
 }
 
 impl Flags {
-    ghost use Rattle.tm_packet.specs.Header.{flags_of, number_of};
+    ghost use Rattle.tm_packet.specs.Header.{flags_of, flags_number};
 
     // The flags of these two bits.
     fn of(bits: u16) -> Flags
@@ -37,7 +37,7 @@ impl Flags {
 
     // The two bits of the flags.
     fn number(self) -> u16
-        ensures value { result ≡ number_of self }
+        ensures value { result ≡ flags_number self }
         ensures below { result < 4 }
     {
         match self {
@@ -205,7 +205,7 @@ impl Header {
 /// The version of the packet that begins with this octet: its first three bits.
 #[tactic(auto, using(crate::proofs::HeaderLemmas::version_front))]
 pub fn packet_version(first: u8) -> u8
-    ensures value { result ≡ version_of (first ∷ []) }
+    ensures value { result ≡ packet_version_of (first ∷ []) }
     ensures below { result < 8 }
 {
     first >> 5
@@ -217,7 +217,7 @@ pub fn packet_version(first: u8) -> u8
 ///
 /// `Short` where there are fewer than six octets; else `Version` where the version is not 0.
 pub fn read_header(octets: &[u8]) -> Result<Header, PacketFault>
-    ensures { result ≡ reading_of octets.now }
+    ensures { result ≡ header_reading_of octets.now }
 {
     if octets.len() < 6 {
         return Err(PacketFault::Short);
@@ -238,7 +238,7 @@ pub fn read_header(octets: &[u8]) -> Result<Header, PacketFault>
 /// Writes a header as six octets.
 pub fn write_header(header: Header) -> [u8; 6]
     ensures bits { bits_of result ≡ header_bits header }
-    ensures read_back { reading_of result ≡ Ok header }
+    ensures read_back { header_reading_of result ≡ Ok header }
 {
     let identification = u16::from(header.telecommand) * 0x1000
         + u16::from(header.secondary) * 0x800

@@ -2,14 +2,14 @@
 
 ghost use Rattle.std.specs.Prelude.{◌≡◌, ◌+◌, ◌%◌, ◌<◌, ◌==◌, not, Option, Some, None, List, [], ◌∷◌, ◌++◌, length, if◌then◌else◌};
 ghost use Rattle.tm_packet.specs.Sequence.{stray};
-ghost use Rattle.tm_packet.specs.Single.{single_notes, single_after, notes_without_gap, notes_behind_gap, first_kept};
+ghost use Rattle.tm_packet.specs.code.Single.{single_notes, single_after, notes_without_gap, notes_behind_gap, first_kept};
 ghost use Rattle.tm_packet.specs.Valid.{EntryFits, IsEntry};
 
-use crate::tracker::Last;
+use crate::tracker::PairEntry;
 use crate::{Flags, Header, Note, Notes, Why};
 
 /// What is kept of a pair after one more header.
-pub fn kept_after(entry: Option<Last>, header: &Header) -> Last
+pub fn kept_after(entry: Option<PairEntry>, header: &Header) -> PairEntry
     requires { EntryFits entry }
     ensures { result ≡ single_after entry header.now }
 {
@@ -20,11 +20,11 @@ pub fn kept_after(entry: Option<Last>, header: &Header) -> Last
         Flags::Last => None,
         Flags::Unsegmented => None,
     };
-    Last { count, first }
+    PairEntry { count, first }
 }
 
 // The first count of the group that a continuation goes on with.
-fn first_kept(entry: Option<Last>, count: u16) -> Option<u16>
+fn first_kept(entry: Option<PairEntry>, count: u16) -> Option<u16>
     requires { EntryFits entry }
     ensures { result ≡ first_kept entry count }
 {
@@ -41,7 +41,7 @@ fn first_kept(entry: Option<Last>, count: u16) -> Option<u16>
 }
 
 /// The notes of one more header.
-pub fn notes_after(entry: Option<Last>, header: &Header) -> Notes
+pub fn notes_after(entry: Option<PairEntry>, header: &Header) -> Notes
     requires { EntryFits entry }
     ensures { result ≡ single_notes entry header.now }
 {
@@ -79,7 +79,7 @@ fn strays(flags: Flags, count: u16) -> Notes
     alone
 }
 
-fn notes_without_gap(last: &Last, flags: Flags, count: u16) -> Notes
+fn notes_without_gap(last: &PairEntry, flags: Flags, count: u16) -> Notes
     ensures { result ≡ notes_without_gap last.now flags count }
 {
     let Some(first) = last.first else {
@@ -103,7 +103,7 @@ fn notes_without_gap(last: &Last, flags: Flags, count: u16) -> Notes
     notes
 }
 
-fn notes_behind_gap(last: &Last, expected: u16, flags: Flags, count: u16) -> Notes
+fn notes_behind_gap(last: &PairEntry, expected: u16, flags: Flags, count: u16) -> Notes
     requires expected { expected < 16384 }
     requires count { count < 16384 }
     ensures { result ≡ notes_behind_gap last.now expected flags count }

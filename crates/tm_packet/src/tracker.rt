@@ -13,7 +13,7 @@ pub struct NoMemory;
 
 /// What is kept of a channel and application: the last count, and the first count of the group that is open, if there is one.
 #[derive(Clone, Copy, Debug, PartialEq, Eq)]
-pub struct Last {
+pub struct PairEntry {
     pub count: u16,
     pub first: Option<u16>,
 }
@@ -52,27 +52,27 @@ const PLACES: usize = 16384;
 /// What is kept of each channel and application, at `2048 * channel + application`.
 #[derive(Drop)]
 pub struct Tracker {
-    entries: Vec<Option<Last>>,
+    entries: Vec<Option<PairEntry>>,
 }
 
 impl Model for Tracker {
     ghost use Rattle.std.specs.Prelude.{List, Option};
-    ghost use Rattle.tm_packet.specs.declared.tracker.Last.{Last};
+    ghost use Rattle.tm_packet.specs.declared.tracker.PairEntry.{PairEntry};
 
-    ghost Value = { List (Option Last) };
+    ghost Value = { List (Option PairEntry) };
 
-    ghost use Rattle.tm_packet.specs.Valid.{IsState};
+    ghost use Rattle.tm_packet.specs.Valid.{AreValidEntries};
 
     ghost view = { λ t. t.entries.items };
 
-    ghost invariant = { λ t. IsState t.entries.items };
+    ghost invariant = { λ t. AreValidEntries t.entries.items };
 }
 
 impl Tracker {
     ghost use Rattle.tm_packet.specs.Merge.{no_entries};
     ghost use Rattle.tm_packet.specs.Merge as sequence;
-    ghost use Rattle.tm_packet.specs.Valid.{IsState};
-    ghost use Rattle.tm_packet.specs.Spelling.{spelling, spelled, entries_from, decoding_of, fault_after, raws, state_of, has_values, first_of};
+    ghost use Rattle.tm_packet.specs.Valid.{AreValidEntries};
+    ghost use Rattle.tm_packet.specs.Spelling.{entries_spelling, spelled, entries_from, entries_decoding_of, fault_after, raws, state_of, has_values, first_count_of};
     ghost use Rattle.tm_packet.specs.declared.tracker.TrackerFault.TheVariants as fault;
 
     /// A tracker that has taken no header. All 16,384 places are reserved at once.
@@ -104,7 +104,7 @@ impl Tracker {
     pub fn take(&mut self, channel: u8, header: Header) -> Notes
         requires { channel < 8 }
         ensures notes { sequence.notes self.old (record { channel = channel; header = header } ∷ []) ≡ result ∷ [] }
-        ensures left { self.new ≡ sequence.after self.old (record { channel = channel; header = header } ∷ []) }
+        ensures left { self.new ≡ sequence.entries_after self.old (record { channel = channel; header = header } ∷ []) }
     {
         if header.is_idle() {
             return Notes::none();
@@ -122,7 +122,7 @@ impl Tracker {
     {
         for key in usize::from(at)..PLACES {
             if let Some(
-                Last {
+                PairEntry {
                     count,
                     first: Some(first),
                 },
@@ -149,10 +149,10 @@ impl Tracker {
     ///
     /// `NoMemory` where the vector's capacity is too small for it and can't be made larger; the octets are then as they were.
     pub fn encode(&self, out: &mut Vec<u8>) -> Result<(), NoMemory>
-        ensures appended { OnOk result (out.new.items ≡ out.old.items ++ spelling self.now) }
+        ensures appended { OnOk result (out.new.items ≡ out.old.items ++ entries_spelling self.now) }
         ensures unchanged { OnErr result (out.new.items ≡ out.old.items) }
-        ensures full { OnErr result (vec_capacity out.old < vec_len out.old + length (spelling self.now)) }
-        ensures valid { IsState self.now }
+        ensures full { OnErr result (vec_capacity out.old < vec_len out.old + length (entries_spelling self.now)) }
+        ensures valid { AreValidEntries self.now }
     {
         let count = self.count();
         match out.try_reserve(2 + 6 * count) {
@@ -171,8 +171,8 @@ impl Tracker {
     /// `Short` where octets are wanting; else, at the first entry that is wrong, `Value` or `Order`; else `NoMemory` where all 16,384
     /// places can't be had.
     pub fn decode(alloc: Global, octets: &[u8]) -> Result<(Tracker, usize), TrackerFault>
-        ensures ok { IfOk result (λ read. decoding_of octets.now ≡ Ok (record { entries = read.0; octets = read.1 })) }
-        ensures refused { IfErr result (λ found. (decoding_of octets.now ≡ Err found) ⊎ ((found ≡ fault.NoMemory) × IsOk (decoding_of octets.now))) }
+        ensures ok { IfOk result (λ read. entries_decoding_of octets.now ≡ Ok (record { entries = read.0; octets = read.1 })) }
+        ensures refused { IfErr result (λ found. (entries_decoding_of octets.now ≡ Err found) ⊎ ((found ≡ fault.NoMemory) × IsOk (entries_decoding_of octets.now))) }
     {
         let Some(count) = entry_count(octets) else {
             return Err(TrackerFault::Short);
@@ -204,14 +204,14 @@ impl Tracker {
         requires { has_values numbers.now ≡ true }
         ensures { self.new ≡ slice_set self.old numbers.now.key (Some (record {
           count = numbers.now.count;
-          first = first_of numbers.now.first;
+          first = first_count_of numbers.now.first;
         })) }
     {
         let first = match numbers.first {
             0xFFFF => None,
             first => Some(first),
         };
-        self.entries[usize::from(numbers.key)] = Some(Last {
+        self.entries[usize::from(numbers.key)] = Some(PairEntry {
             count: numbers.count,
             first,
         });
@@ -221,7 +221,7 @@ impl Tracker {
     fn count(&self) -> usize
         ensures value { result ≡ length (entries_from 0 self.now) }
         ensures most { result ≤ 16384 }
-        ensures valid { IsState self.now }
+        ensures valid { AreValidEntries self.now }
     {
         let mut count = 0;
         for key in 0..PLACES {
@@ -245,10 +245,11 @@ impl Tracker {
     }
 }
 
-ghost use Rattle.tm_packet.specs.Spelling.{two, entry_octets, count_of, fault_after, raws, raw_of, number_at, has_values, rises};
+ghost use Rattle.tm_packet.specs.Spelling.{entry_octets, entry_count_of, fault_after, raws, raw_of, has_values, rises};
+ghost use Rattle.tm_bits.specs.Bits.{two_octets, two_at};
 
 // Appends an entry, for which there is room.
-fn push_entry(out: &mut Vec<u8>, key: u16, last: &Last)
+fn push_entry(out: &mut Vec<u8>, key: u16, last: &PairEntry)
     requires { vec_len out.old + 6 ≤ vec_capacity out.old }
     ensures items { out.new.items ≡ out.old.items ++ entry_octets (record { key = key; last = last.now }) }
     ensures len { vec_len out.new ≡ vec_len out.old + 6 }
@@ -265,7 +266,7 @@ fn push_entry(out: &mut Vec<u8>, key: u16, last: &Last)
 // Appends a number in two octets, for which there is room.
 fn push_number(out: &mut Vec<u8>, number: u16)
     requires { vec_len out.old + 2 ≤ vec_capacity out.old }
-    ensures items { out.new.items ≡ out.old.items ++ two number }
+    ensures items { out.new.items ≡ out.old.items ++ two_octets number }
     ensures len { vec_len out.new ≡ vec_len out.old + 2 }
     ensures room { vec_capacity out.old ≤ vec_capacity out.new }
 {
@@ -277,12 +278,12 @@ fn push_number(out: &mut Vec<u8>, number: u16)
 
 // The number of entries that the octets begin with, where they are all there.
 fn entry_count(octets: &[u8]) -> Option<usize>
-    ensures { result ≡ count_of octets.now }
+    ensures { result ≡ entry_count_of octets.now }
 {
     if octets.len() < 2 {
         return None;
     }
-    let count = usize::from(number_at(octets, 0));
+    let count = usize::from(two_at(octets, 0));
     if octets.len() < 2 + 6 * count {
         return None;
     }
@@ -334,16 +335,16 @@ fn numbers_at(octets: &[u8], at: usize) -> Numbers
     ensures { result ≡ raw_of (drop at octets.now) }
 {
     Numbers {
-        key: number_at(octets, at),
-        count: number_at(octets, at + 2),
-        first: number_at(octets, at + 4),
+        key: two_at(octets, at),
+        count: two_at(octets, at + 2),
+        first: two_at(octets, at + 4),
     }
 }
 
 // The number in the two octets at a place.
-fn number_at(octets: &[u8], at: usize) -> u16
+fn two_at(octets: &[u8], at: usize) -> u16
     requires { at + 2 ≤ length octets.now }
-    ensures { result ≡ number_at octets.now at }
+    ensures { result ≡ two_at octets.now at }
 {
     u16::from_be_bytes([octets[at], octets[at + 1]])
 }

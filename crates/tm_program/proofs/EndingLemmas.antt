@@ -7,8 +7,8 @@ use Rattle.tm_output.specs.Pieces.{Texts}
 use Rattle.tm_tool.specs.RecordingPieces.{Work}
 use Rattle.tm_tool.specs.Runs.{IsEnough, Ran}
 use Rattle.tm_settings.specs.Settings.{Rules}
-use Rattle.tm_tool.specs.Jobs.{JobState, begun}
-use Rattle.tm_program.specs.Endings.{HasDone, IsDone, ending_of}
+use Rattle.tm_tool.specs.Jobs.{JobState, new_job}
+use Rattle.tm_program.specs.code.Endings.{HasDone, IsDone, ending_of}
 use Rattle.tm_words.specs.declared.request.Plan.{Plan}
 
 -- what was read is enough, whatever the source tells
@@ -21,10 +21,10 @@ module _ {A K : Type 0} (grows : K → K → List A → Type 0) (way : Way) (tex
 
 -- what is done from the job that is gone on with, or else from a new one
 pub done_from : {E : Type 0} (found : Result JobState E) (p : Plan) (settings : Rules) (resumed : Option JobState) (job : JobState) (records : ℕ) (kept : Option Work)
-    → MatchOption resumed (IfOk found (λ j. j ≡ begun settings)) (λ j. found ≡ Ok j) → found ≡ Ok job → IsDone (ending_of p) job.work records kept
+    → MatchOption resumed (IfOk found (λ j. j ≡ new_job settings)) (λ j. found ≡ Ok j) → found ≡ Ok job → IsDone (ending_of p) job.work records kept
     → HasDone p settings resumed records kept
 done_from {E} found p settings None job records kept from is d =
-    let new : job ≡ begun settings = subst (λ (r : Result JobState E). IfOk r (λ j. j ≡ begun settings)) is from in
+    let new : job ≡ new_job settings = subst (λ (r : Result JobState E). IfOk r (λ j. j ≡ new_job settings)) is from in
     subst (λ (j : JobState). IsDone (ending_of p) j.work records kept) new d
 done_from found p settings (Some old) job records kept from is d =
     let same : job ≡ old = cc in

@@ -1,7 +1,10 @@
 -- Faults of files and of runs, as faults that may come of a plan.
-use Rattle.std.proofs.Common.{ℕ, ◌≡◌, ◌⊎◌, List, Option, None, Some, inl, inr, refl, subst, sym}
-use Rattle.tm_program.specs.Files.{IsFaultOf, IsFileFault}
-use Rattle.tm_program.specs.Program.{HasFault, HasReadFault, IsAsked, IsNamed, IsNoMemory, IsOfDefinition, IsOfOutputs, IsOfResumed, IsOfSettings, IsOfStreams, IsReadWhole, IsRunFault, MayCome, MayEnd}
+use Rattle.std.proofs.Common.{ℕ, ◌≡◌, ◌⊎◌, ◌∙◌, List, Option, None, Some, ap, inl, inr, option_map, refl, subst, sym}
+use Rattle.std.proofs.lemmas.Option.{same_Some}
+use Rattle.tm_shelf.specs.Names.{file_in}
+use Rattle.tm_program.specs.Clashes.{first_clash}
+use Rattle.tm_program.specs.code.Files.{IsFaultOf, IsFileFault}
+use Rattle.tm_program.specs.Program.{HasFault, HasFolderFault, HasReadFault, IsAsked, IsFolderFault, IsInFolder, IsNamed, IsNoMemory, IsOfDefinition, IsOfErrors, IsOfFolder, IsOfOutputs, IsOfPut, IsOfResumed, IsOfSettings, IsOfStreams, IsReadWhole, IsRunFault, MayCome, MayEnd}
 use Rattle.tm_output.specs.declared.fault.RunFault.TheVariants.{NoMemory, Read, Report, ShortRecording, TooMany, Write}
 use Rattle.tm_program.specs.declared.fault.ToolFault.{ToolFault}
 use Rattle.tm_program.specs.declared.fault.ToolFault.TheVariants as tool
@@ -15,6 +18,7 @@ file_comes p name (tool.Definition f) named h = absurd h
 file_comes p name (tool.Checkpoint f) named h = absurd h
 file_comes p name (tool.File given) named h = subst (λ n. IsNamed p n) (sym h) named
 file_comes p name (tool.TooLong given) named h = absurd h
+file_comes p name tool.Errors named h = absurd h
 file_comes p name (tool.Run f) named h = tt
 
 -- a file that the plan has read whole can't be
@@ -25,6 +29,7 @@ whole_comes p name (tool.Definition f) named h = absurd h
 whole_comes p name (tool.Checkpoint f) named h = absurd h
 whole_comes p name (tool.File given) named h = inl (subst (λ n. IsReadWhole p n) (sym h) named)
 whole_comes p name (tool.TooLong given) named h = subst (λ n. IsReadWhole p n) (sym h) named
+whole_comes p name tool.Errors named h = absurd h
 whole_comes p name (tool.Run f) named h = tt
 
 -- a file that the plan may have can't be opened, made or written
@@ -44,6 +49,7 @@ settings_come p (tool.Definition f) h = read_comes p p.settings (tool.Definition
 settings_come p (tool.Checkpoint f) h = read_comes p p.settings (tool.Checkpoint f) (λ name is. inl is) h
 settings_come p (tool.File given) h = read_comes p p.settings (tool.File given) (λ name is. inl is) h
 settings_come p (tool.TooLong given) h = read_comes p p.settings (tool.TooLong given) (λ name is. inl is) h
+settings_come p tool.Errors h = read_comes p p.settings tool.Errors (λ name is. inl is) h
 settings_come p (tool.Run f) h = tt
 
 pub definition_comes : (p : Plan) (fault : ToolFault) → IsOfDefinition p fault → MayCome p fault
@@ -53,6 +59,7 @@ definition_comes p (tool.Settings f) h = tt
 definition_comes p (tool.Checkpoint f) h = read_comes p p.definition (tool.Checkpoint f) (λ name is. inr (inl is)) h
 definition_comes p (tool.File given) h = read_comes p p.definition (tool.File given) (λ name is. inr (inl is)) h
 definition_comes p (tool.TooLong given) h = read_comes p p.definition (tool.TooLong given) (λ name is. inr (inl is)) h
+definition_comes p tool.Errors h = read_comes p p.definition tool.Errors (λ name is. inr (inl is)) h
 definition_comes p (tool.Run f) h = tt
 
 pub resumed_comes : (p : Plan) (fault : ToolFault) → IsOfResumed p fault → MayCome p fault
@@ -62,6 +69,7 @@ resumed_comes p (tool.Settings f) h = tt
 resumed_comes p (tool.Definition f) h = read_comes p p.resume (tool.Definition f) (λ name is. inr (inr is)) h
 resumed_comes p (tool.File given) h = read_comes p p.resume (tool.File given) (λ name is. inr (inr is)) h
 resumed_comes p (tool.TooLong given) h = read_comes p p.resume (tool.TooLong given) (λ name is. inr (inr is)) h
+resumed_comes p tool.Errors h = read_comes p p.resume tool.Errors (λ name is. inr (inr is)) h
 resumed_comes p (tool.Run f) h = tt
 
 -- a run ends in a fault
@@ -72,6 +80,7 @@ run_comes p (tool.Definition f) h = absurd h
 run_comes p (tool.Checkpoint f) h = absurd h
 run_comes p (tool.File given) h = absurd h
 run_comes p (tool.TooLong given) h = absurd h
+run_comes p tool.Errors h = absurd h
 run_comes p (tool.Run f) h = tt
 
 -- a standard stream is closed
@@ -82,18 +91,120 @@ streams_come p (tool.Definition f) h = absurd h
 streams_come p (tool.Checkpoint f) h = absurd h
 streams_come p (tool.File given) h = absurd h
 streams_come p (tool.TooLong given) h = absurd h
+streams_come p tool.Errors h = absurd h
 streams_come p (tool.Run f) h = tt
+
+-- the folder of a plan can't be written, or an application's file in it is another file of the run
+folder_comes : (p : Plan) (dir : List ℕ) (fault : ToolFault) → p.dir ≡ Some dir → IsFolderFault dir fault → MayCome p fault
+folder_comes p dir (tool.Usage f) is h = absurd h
+folder_comes p dir (tool.Settings f) is h = absurd h
+folder_comes p dir (tool.Definition f) is h = absurd h
+folder_comes p dir (tool.Checkpoint f) is h = absurd h
+folder_comes p dir (tool.File given) is h = inr (inr (inr (inr (subst (λ (o : Option (List ℕ)). IsOfFolder o given) (sym is) h))))
+folder_comes p dir (tool.TooLong given) is h = absurd h
+folder_comes p dir tool.Errors is h = absurd h
+folder_comes p dir (tool.Run f) is h = tt
+
+folder_of_comes : (p : Plan) (o : Option (List ℕ)) (fault : ToolFault) → p.dir ≡ o → HasFolderFault o fault → MayCome p fault
+folder_of_comes p None fault is h = absurd h
+folder_of_comes p (Some dir) fault is h = folder_comes p dir fault is h
+
+-- standard error, which takes the report, is a file that is read
+errors_come : (p : Plan) (fault : ToolFault) → IsOfErrors p fault → MayCome p fault
+errors_come p (tool.Usage f) h = absurd h
+errors_come p (tool.Settings f) h = absurd h
+errors_come p (tool.Definition f) h = absurd h
+errors_come p (tool.Checkpoint f) h = absurd h
+errors_come p (tool.File given) h = absurd h
+errors_come p (tool.TooLong given) h = absurd h
+errors_come p tool.Errors h = h
+errors_come p (tool.Run f) h = absurd h
 
 pub outputs_come : (p : Plan) (fault : ToolFault) → IsOfOutputs p fault → MayCome p fault
 outputs_come p fault (inl h) = run_comes p fault h
 outputs_come p fault (inr (inl h)) = file_of_comes p p.report fault (λ name is. inr (inr (inl is))) h
 outputs_come p fault (inr (inr (inl h))) = file_of_comes p p.checkpoint fault (λ name is. inr (inr (inr (inl is)))) h
-outputs_come p fault (inr (inr (inr h))) = file_of_comes p p.dir fault (λ name is. inr (inr (inr (inr is)))) h
+outputs_come p fault (inr (inr (inr (inl h)))) = errors_come p fault h
+outputs_come p fault (inr (inr (inr (inr h)))) = folder_of_comes p p.dir fault refl h
 
--- the names of the checkpoint and of the report are checked
-pub names_come : (p : Plan) (fault : ToolFault) → HasFault p.report fault ⊎ HasFault p.checkpoint fault → IsOfOutputs p fault
+-- the names of the checkpoint and of the report are checked, and the standard streams
+pub names_come : (p : Plan) (fault : ToolFault) → HasFault p.report fault ⊎ HasFault p.checkpoint fault ⊎ IsRunFault fault ⊎ IsOfErrors p fault → IsOfOutputs p fault
 names_come p fault (inl h) = inr (inl h)
-names_come p fault (inr h) = inr (inr (inl h))
+names_come p fault (inr (inl h)) = inr (inr (inl h))
+names_come p fault (inr (inr (inl h))) = inl h
+names_come p fault (inr (inr (inr h))) = inr (inr (inr (inl h)))
+
+-- a run and its folder may end it
+pub run_ends : (p : Plan) (fault : ToolFault) → IsRunFault fault ⊎ HasFolderFault p.dir fault → IsOfOutputs p fault
+run_ends p fault (inl h) = inl h
+run_ends p fault (inr h) = inr (inr (inr (inr h)))
+
+-- the fault of a folder is one of what splitting writes
+folder_fault : (dir : List ℕ) (fault : ToolFault) → IsFileFault dir fault → IsFolderFault dir fault
+folder_fault dir (tool.Usage f) h = absurd h
+folder_fault dir (tool.Settings f) h = absurd h
+folder_fault dir (tool.Definition f) h = absurd h
+folder_fault dir (tool.Checkpoint f) h = absurd h
+folder_fault dir (tool.File given) h = inl h
+folder_fault dir (tool.TooLong given) h = absurd h
+folder_fault dir tool.Errors h = absurd h
+folder_fault dir (tool.Run Read) h = absurd h
+folder_fault dir (tool.Run Write) h = absurd h
+folder_fault dir (tool.Run Report) h = absurd h
+folder_fault dir (tool.Run ShortRecording) h = absurd h
+folder_fault dir (tool.Run TooMany) h = absurd h
+folder_fault dir (tool.Run NoMemory) h = tt
+
+pub folder_there : (o : Option (List ℕ)) (fault : ToolFault) → HasFault o fault → HasFolderFault o fault
+folder_there None fault h = absurd h
+folder_there (Some dir) fault h = folder_fault dir fault h
+
+pub split_there : (o : Option (List ℕ)) (dir : List ℕ) (fault : ToolFault) → o ≡ Some dir → IsRunFault fault ⊎ IsFolderFault dir fault → IsRunFault fault ⊎ HasFolderFault o fault
+split_there o dir fault is (inl h) = inl h
+split_there o dir fault is (inr h) = inr (subst (λ (found : Option (List ℕ)). HasFolderFault found fault) (sym is) h)
+
+-- the file of a put that was refused is one of the folder
+in_folder : (dir : List ℕ) (taken : Option ℕ) (name : List ℕ) → option_map (file_in dir) taken ≡ Some name → IsInFolder dir name
+in_folder dir None name is = cc
+in_folder dir (Some application) name is = (application, sym (same_Some _ _ is))
+
+pub put_there : (dir : List ℕ) (taken : Option ℕ) (found : Option (List ℕ)) (fault : ToolFault) → found ≡ option_map (file_in dir) taken → IsOfPut found fault → IsRunFault fault ⊎ IsFolderFault dir fault
+put_there dir taken found (tool.Usage f) is h = absurd h
+put_there dir taken found (tool.Settings f) is h = absurd h
+put_there dir taken found (tool.Definition f) is h = absurd h
+put_there dir taken found (tool.Checkpoint f) is h = absurd h
+put_there dir taken found (tool.File given) is h = inr (inr (in_folder dir taken given (sym is ∙ h)))
+put_there dir taken found (tool.TooLong given) is h = absurd h
+put_there dir taken found tool.Errors is h = absurd h
+put_there dir taken found (tool.Run f) is h = inl tt
+
+-- the fault of a file is that of its name, unless memory is wanting
+pub fault_exactly : (name : List ℕ) (fault : ToolFault) → IsFileFault name fault → IsNoMemory fault ⊎ (Some (tool.File name) ≡ Some fault)
+fault_exactly name (tool.Usage f) h = absurd h
+fault_exactly name (tool.Settings f) h = absurd h
+fault_exactly name (tool.Definition f) h = absurd h
+fault_exactly name (tool.Checkpoint f) h = absurd h
+fault_exactly name (tool.File given) h = inr (ap (λ (n : List ℕ). Some (tool.File n)) (sym h))
+fault_exactly name (tool.TooLong given) h = absurd h
+fault_exactly name tool.Errors h = absurd h
+fault_exactly name (tool.Run Read) h = absurd h
+fault_exactly name (tool.Run Write) h = absurd h
+fault_exactly name (tool.Run Report) h = absurd h
+fault_exactly name (tool.Run ShortRecording) h = absurd h
+fault_exactly name (tool.Run TooMany) h = absurd h
+fault_exactly name (tool.Run NoMemory) h = inl tt
+
+-- the first of two faults
+pub first_none : (one next : Option ToolFault) → one ≡ None → next ≡ None → first_clash one next ≡ None
+first_none one next is rest = rw is rest
+
+pub first_then : (one next : Option ToolFault) (fault : ToolFault) → one ≡ None → IsNoMemory fault ⊎ (next ≡ Some fault) → IsNoMemory fault ⊎ (first_clash one next ≡ Some fault)
+first_then one next fault is (inl h) = inl h
+first_then one next fault is (inr h) = inr (rw is h)
+
+pub first_here : (one next : Option ToolFault) (fault : ToolFault) → IsNoMemory fault ⊎ (one ≡ Some fault) → IsNoMemory fault ⊎ (first_clash one next ≡ Some fault)
+first_here one next fault (inl h) = inl h
+first_here one next fault (inr h) = inr (rw h refl)
 
 -- want of memory is a fault of a run, and may come of each file
 pub starved_run : (fault : ToolFault) → IsNoMemory fault → IsRunFault fault
@@ -103,6 +214,7 @@ starved_run (tool.Definition f) h = absurd h
 starved_run (tool.Checkpoint f) h = absurd h
 starved_run (tool.File given) h = absurd h
 starved_run (tool.TooLong given) h = absurd h
+starved_run tool.Errors h = absurd h
 starved_run (tool.Run f) h = tt
 
 pub starved_file : (name : List ℕ) (fault : ToolFault) → IsNoMemory fault → IsFileFault name fault
@@ -112,6 +224,7 @@ starved_file name (tool.Definition f) h = absurd h
 starved_file name (tool.Checkpoint f) h = absurd h
 starved_file name (tool.File given) h = absurd h
 starved_file name (tool.TooLong given) h = absurd h
+starved_file name tool.Errors h = absurd h
 starved_file name (tool.Run Read) h = absurd h
 starved_file name (tool.Run Write) h = absurd h
 starved_file name (tool.Run Report) h = absurd h
@@ -134,4 +247,5 @@ plan_ends words p (tool.Definition f) asked h = (p, asked, h)
 plan_ends words p (tool.Checkpoint f) asked h = (p, asked, h)
 plan_ends words p (tool.File given) asked h = (p, asked, h)
 plan_ends words p (tool.TooLong given) asked h = (p, asked, h)
+plan_ends words p tool.Errors asked h = (p, asked, h)
 plan_ends words p (tool.Run f) asked h = (p, asked, h)

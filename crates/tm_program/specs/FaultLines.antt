@@ -1,12 +1,12 @@
 -- The lines of faults, and the statuses with which they end the program.
-use Rattle.std.specs.Prelude.{◌++◌, ℕ, List, codes}
+use Rattle.std.specs.Prelude.{◌++◌, ℕ, List, [], codes}
 use Rattle.std.specs.Fmt.{decimal}
-use Rattle.tm_fields.specs.Columns.{word_of}
+use Rattle.tm_fields.specs.Columns.{column_word}
 use Rattle.tm_fields.specs.Escape.{escaped}
 use Rattle.tm_fields.specs.declared.faults.Column.{Column}
 use Rattle.tm_fields.specs.declared.faults.DefinitionFault.{DefinitionFault}
 use Rattle.tm_fields.specs.declared.faults.DefinitionFault.TheVariants as definition
-use Rattle.tm_settings.specs.Keys.{name_of}
+use Rattle.tm_settings.specs.Keys.{key_name}
 use Rattle.tm_settings.specs.declared.key.Key.{Key}
 use Rattle.tm_tool.specs.declared.fault.CheckpointFault.{CheckpointFault}
 use Rattle.tm_tool.specs.declared.fault.CheckpointFault.TheVariants as checkpoint
@@ -33,7 +33,7 @@ usage_text (usage.Help text) = text
 usage_text usage.NoMemory = out_of_memory
 
 abbrev pub key_line : List ℕ → Key → List ℕ
-key_line what key = codes "tmx: settings: " ++ (what ++ (codes " " ++ (name_of key ++ codes "\n")))
+key_line what key = codes "tmx: settings: " ++ (what ++ (codes " " ++ (key_name key ++ codes "\n")))
 
 abbrev pub settings_text : SettingsFault → List ℕ
 settings_text settings.Toml = codes "tmx: settings: toml\n"
@@ -44,7 +44,7 @@ settings_text (settings.Range key) = key_line (codes "range") key
 settings_text settings.NoMemory = out_of_memory
 
 abbrev pub column_line : Column → List ℕ
-column_line column = codes "tmx: definition: column " ++ (word_of column ++ codes "\n")
+column_line column = codes "tmx: definition: column " ++ (column_word column ++ codes "\n")
 
 abbrev pub row_line : List ℕ → ℕ → List ℕ
 row_line what row = codes "tmx: definition: " ++ (what ++ (codes " row " ++ (decimal row ++ codes "\n")))
@@ -78,15 +78,16 @@ run_text run.ShortRecording = codes "tmx: recording is shorter than the checkpoi
 run_text run.TooMany = codes "tmx: too many records\n"
 run_text run.NoMemory = out_of_memory
 
--- the line of a fault
-abbrev pub line_of : ToolFault → List ℕ
-line_of (tool.Usage fault) = usage_text fault
-line_of (tool.Settings fault) = settings_text fault
-line_of (tool.Definition fault) = definition_text fault
-line_of (tool.Checkpoint fault) = checkpoint_text fault
-line_of (tool.File name) = escaped_line (codes "tmx: ") name (codes ": failed\n")
-line_of (tool.TooLong name) = escaped_line (codes "tmx: ") name (codes ": too long\n")
-line_of (tool.Run fault) = run_text fault
+-- the line of a fault; none where standard error must not be written
+abbrev pub fault_line_of : ToolFault → List ℕ
+fault_line_of (tool.Usage fault) = usage_text fault
+fault_line_of (tool.Settings fault) = settings_text fault
+fault_line_of (tool.Definition fault) = definition_text fault
+fault_line_of (tool.Checkpoint fault) = checkpoint_text fault
+fault_line_of (tool.File name) = escaped_line (codes "tmx: ") name (codes ": failed\n")
+fault_line_of (tool.TooLong name) = escaped_line (codes "tmx: ") name (codes ": too long\n")
+fault_line_of tool.Errors = []
+fault_line_of (tool.Run fault) = run_text fault
 
 -- the status of a fault
 abbrev pub status_of : ToolFault → ℕ
@@ -102,6 +103,7 @@ status_of (tool.Checkpoint checkpoint.NoMemory) = 3
 status_of (tool.Checkpoint _) = 2
 status_of (tool.File name) = 1
 status_of (tool.TooLong name) = 2
+status_of tool.Errors = 1
 status_of (tool.Run run.Read) = 1
 status_of (tool.Run run.Write) = 1
 status_of (tool.Run run.Report) = 1

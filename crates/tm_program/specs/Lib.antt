@@ -1,6 +1,4 @@
-pub mod Decisions
-pub mod Endings
+pub mod Clashes
 pub mod FaultLines
-pub mod Files
 pub mod Program
-pub mod Reports
+pub mod code

@@ -6,7 +6,9 @@ use Rattle.tm_tool.specs.Jobs.{JobState}
 use Rattle.tm_settings.specs.Settings.{Rules}
 use Rattle.tm_output.specs.declared.fault.RunFault.TheVariants.{NoMemory, Report, Write}
 use Rattle.tm_words.specs.CommandLine.{HasRequired, faults_of, is_taken, lacks_checkpoint, plan_of}
-use Rattle.tm_program.specs.Files.{IsFaultOf, IsFileFault}
+use Rattle.tm_program.specs.code.Decisions.{writes_errors}
+use Rattle.tm_program.specs.code.Files.{IsFaultOf, IsFileFault}
+use Rattle.tm_shelf.specs.Names.{file_in}
 use Rattle.tm_program.specs.declared.fault.ToolFault.{ToolFault}
 use Rattle.tm_program.specs.declared.fault.ToolFault.TheVariants as tool
 use Rattle.tm_words.specs.declared.request.Action.TheVariants.{Frames, Split}
@@ -20,9 +22,18 @@ use Rattle.tm_words.specs.declared.request.UsageFault.TheVariants as usage
 abbrev pub IsReadWhole : Plan → List ℕ → Type 0
 IsReadWhole p name = (p.settings ≡ Some name) ⊎ (p.definition ≡ Some name) ⊎ (p.resume ≡ Some name)
 
--- the plan names a file or a folder of this name
+-- an application's file in this folder has this name
+abbrev pub IsInFolder : List ℕ → List ℕ → Type 0
+IsInFolder dir name = (application : ℕ) × (name ≡ file_in dir application)
+
+-- the folder has this name, or an application's file in it
+abbrev pub IsOfFolder : Option (List ℕ) → List ℕ → Type 0
+IsOfFolder None name = ⊥
+IsOfFolder (Some dir) name = (name ≡ dir) ⊎ IsInFolder dir name
+
+-- the plan names a file or a folder of this name, or the folder of an application's file of this name
 abbrev pub IsNamed : Plan → List ℕ → Type 0
-IsNamed p name = IsReadWhole p name ⊎ (p.recording ≡ Some name) ⊎ (p.report ≡ Some name) ⊎ (p.checkpoint ≡ Some name) ⊎ (p.dir ≡ Some name)
+IsNamed p name = IsReadWhole p name ⊎ (p.recording ≡ Some name) ⊎ (p.report ≡ Some name) ⊎ (p.checkpoint ≡ Some name) ⊎ IsOfFolder p.dir name
 
 -- there is such a file, and it has this name
 abbrev pub has_name : List ℕ → Option (List ℕ) → Bool
@@ -49,10 +60,6 @@ is_in_the_way p name = is_read p name || is_read p (beside name) || has_name (be
 abbrev pub AreClear : Plan → Type 0
 AreClear p = IfSome p.checkpoint (λ name. is_in_the_way p name ≡ false) × IfSome p.report (λ name. (is_read p name ≡ false) × (is_checkpoint p name ≡ false))
 
--- likewise; a list of frames has neither
-abbrev pub IsClear : Plan → Type 0
-IsClear p = (p.action ≡ Frames) ⊎ AreClear p
-
 -- ---- what comes of a plan
 
 -- a fault that may come of a plan: it names a file of the plan, and something that the plan has a file for
@@ -63,12 +70,29 @@ MayCome p (tool.Definition fault) = IsSome p.definition
 MayCome p (tool.Checkpoint fault) = IsSome p.resume
 MayCome p (tool.File name) = IsNamed p name
 MayCome p (tool.TooLong name) = IsReadWhole p name
+MayCome p tool.Errors = writes_errors p.action p.report ≡ true
 MayCome p (tool.Run fault) = ⊤
 
 -- there is such a file, and it can't be opened, made or written
 abbrev pub HasFault : Option (List ℕ) → ToolFault → Type 0
 HasFault None fault = ⊥
 HasFault (Some name) fault = IsFileFault name fault
+
+-- the folder of this name can't be written, an application's file in it is another file of the run, or memory is wanting
+abbrev pub IsFolderFault : List ℕ → ToolFault → Type 0
+IsFolderFault dir (tool.File given) = (given ≡ dir) ⊎ IsInFolder dir given
+IsFolderFault dir (tool.Run NoMemory) = ⊤
+IsFolderFault dir _ = ⊥
+
+-- there is such a folder
+abbrev pub HasFolderFault : Option (List ℕ) → ToolFault → Type 0
+HasFolderFault None fault = ⊥
+HasFolderFault (Some dir) fault = IsFolderFault dir fault
+
+-- standard error, which takes the report, is a file that is read
+abbrev pub IsOfErrors : Plan → ToolFault → Type 0
+IsOfErrors p tool.Errors = writes_errors p.action p.report ≡ true
+IsOfErrors p _ = ⊥
 
 -- there is such a file, and it can't be read whole
 abbrev pub HasReadFault : Option (List ℕ) → ToolFault → Type 0
@@ -100,15 +124,20 @@ abbrev pub IsRunFault : ToolFault → Type 0
 IsRunFault (tool.Run fault) = ⊤
 IsRunFault _ = ⊥
 
+-- likewise, or the file of this name is another file of the run
+abbrev pub IsOfPut : Option (List ℕ) → ToolFault → Type 0
+IsOfPut taken (tool.File name) = taken ≡ Some name
+IsOfPut taken fault = IsRunFault fault
+
 -- a standard stream is closed to which the plan writes: standard output, or standard error where that takes the report
 abbrev pub IsOfStreams : Plan → ToolFault → Type 0
 IsOfStreams p (tool.Run Write) = p.action ≢ Split
 IsOfStreams p (tool.Run Report) = (p.action ≢ Frames) × (p.report ≡ None)
 IsOfStreams p _ = ⊥
 
--- the run ended before its end, or a file or the folder that it writes can't be opened, made or written
+-- the run ended before its end, a file or the folder that it writes can't be opened, made or written, or one of these or a stream is another file of the run
 abbrev pub IsOfOutputs : Plan → ToolFault → Type 0
-IsOfOutputs p fault = IsRunFault fault ⊎ HasFault p.report fault ⊎ HasFault p.checkpoint fault ⊎ HasFault p.dir fault
+IsOfOutputs p fault = IsRunFault fault ⊎ HasFault p.report fault ⊎ HasFault p.checkpoint fault ⊎ IsOfErrors p fault ⊎ HasFolderFault p.dir fault
 
 -- a job that a checkpoint of these settings says
 abbrev pub IsResumed : Rules → JobState → Type 0

@@ -32,10 +32,12 @@ pub enum ToolFault {
     Definition(DefinitionFault),
     /// The checkpoint's file is no checkpoint of a job with the settings.
     Checkpoint(CheckpointFault),
-    /// The file of this name can't be opened, made, read or written.
+    /// The file of this name can't be opened, made, read or written; or it is to be written, and is another file of the run.
     File(Octets),
     /// The file of this name is over 1,048,576 octets.
     TooLong(Octets),
+    /// Standard error, which is to take the report, is a file that is read. So no line is printed there.
+    Errors,
     /// The run ended before its end. Want of memory that no other fault holds is here, too.
     Run(RunFault),
 }

@@ -1,7 +1,7 @@
 //! Files that are opened by their names, and files that are read whole.
 
 ghost use Rattle.std.specs.Prelude.{◌≡◌, ◌<◌, ◌≤◌, length, vec_len, IfOk, IfErr, IfSome, MatchOption};
-ghost use Rattle.tm_program.specs.Files.{IsFaultOf, IsFileFault, most_octets};
+ghost use Rattle.tm_program.specs.code.Files.{IsFaultOf, IsFileFault, most_octets};
 
 use crate::fault::ToolFault;
 use std::alloc::Global;

@@ -2,8 +2,8 @@
 
 ghost use Rattle.std.specs.Prelude.{◌≡◌, ◌⊎◌, None, Ok, Some, IfErr, IfOk, IfSome, MatchOption, is_some};
 ghost use Rattle.tm_tool.specs.Checkpoints.{checkpoint_of};
-ghost use Rattle.tm_tool.specs.Jobs.{JobState, begun};
-ghost use Rattle.tm_program.specs.Endings.{ending_of};
+ghost use Rattle.tm_tool.specs.Jobs.{JobState, new_job};
+ghost use Rattle.tm_program.specs.code.Endings.{ending_of};
 ghost use Rattle.tm_program.specs.Program.{HasFault, IsNoMemory, IsOfResumed, IsResumed};
 
 use crate::fault::ToolFault;
@@ -50,7 +50,7 @@ pub fn job_by<R: AllocGlobal>(
     resumed: Option<Job>,
     settings: &Settings,
 ) -> Result<Job, ToolFault>
-    ensures job { MatchOption resumed (IfOk result (λ job. job ≡ begun settings.now)) (λ job. result ≡ Ok job) }
+    ensures job { MatchOption resumed (IfOk result (λ job. job ≡ new_job settings.now)) (λ job. result ≡ Ok job) }
     ensures refused { IfErr result IsNoMemory }
 {
     match resumed {

@@ -7,6 +7,7 @@ mod files;
 mod kept;
 mod lines;
 mod names;
+mod places;
 mod report;
 mod steps;
 

@@ -1,7 +1,7 @@
 //! The line and the status of a fault.
 
 ghost use Rattle.std.specs.Prelude.{◌≡◌, IfOk};
-ghost use Rattle.tm_program.specs.FaultLines.{checkpoint_text, column_line, definition_text, escaped_line, key_line, line_of, row_line, run_text, settings_text, status_of, usage_text};
+ghost use Rattle.tm_program.specs.FaultLines.{checkpoint_text, column_line, definition_text, escaped_line, key_line, fault_line_of, row_line, run_text, settings_text, status_of, usage_text};
 
 use crate::fault::{NoMemory, ToolFault};
 use std::alloc::Global;
@@ -116,9 +116,9 @@ fn run_line(fault: RunFault) -> &'static str
     }
 }
 
-/// The line of a fault, as it is printed. A usage fault's is the text that it carries.
+/// The line of a fault, as it is printed. A usage fault's is the text that it carries; where standard error must not be written there is none.
 pub fn fault_line(alloc: Global, fault: &ToolFault) -> Result<Vec<u8>, NoMemory>
-    ensures { IfOk result (λ v. v.items ≡ line_of fault.now) }
+    ensures { IfOk result (λ v. v.items ≡ fault_line_of fault.now) }
 {
     match fault {
         ToolFault::Usage(fault) => usage_line(alloc, fault),
@@ -127,6 +127,7 @@ pub fn fault_line(alloc: Global, fault: &ToolFault) -> Result<Vec<u8>, NoMemory>
         ToolFault::Checkpoint(fault) => copied(alloc, checkpoint_line(*fault)),
         ToolFault::File(name) => line_around(alloc, "tmx: ", name.as_slice(), ": failed\n"),
         ToolFault::TooLong(name) => line_around(alloc, "tmx: ", name.as_slice(), ": too long\n"),
+        ToolFault::Errors => Ok(Vec::new(alloc)),
         ToolFault::Run(fault) => copied(alloc, run_line(*fault)),
     }
 }
@@ -144,6 +145,7 @@ pub fn status(fault: &ToolFault) -> u8
         | ToolFault::Checkpoint(CheckpointFault::NoMemory)
         | ToolFault::Run(RunFault::NoMemory) => 3,
         ToolFault::File(_)
+        | ToolFault::Errors
         | ToolFault::Run(RunFault::Read | RunFault::Write | RunFault::Report | RunFault::TooMany) =>
             1,
         ToolFault::Usage(UsageFault::Usage(_) | UsageFault::StopAfter)

@@ -1,11 +1,14 @@
-//! Which files of a plan are in each other's way by their names.
+//! Which files of a plan are in each other's way, by their names and by what these stand for.
 
-ghost use Rattle.std.specs.Prelude.{◌≡◌, ◌⊎◌, false, IfErr, IfOk, IfSome, OnOk};
-ghost use Rattle.tm_program.specs.Program.{AreClear, HasFault, IsNoMemory, beside, has_name, is_checkpoint, is_in_the_way, is_read};
+ghost use Rattle.std.specs.Prelude.{◌≡◌, ◌⊎◌, None, Some, false, IfErr, IfOk, IfSome, OnOk};
+ghost use Rattle.tm_program.specs.Clashes.{checkpoint_clash, clash_of, report_clash, stream_clash};
+ghost use Rattle.tm_program.specs.Program.{AreClear, HasFault, IsNoMemory, IsOfErrors, IsRunFault, beside, has_name, is_checkpoint, is_in_the_way, is_read};
 
+use crate::decisions::{Stream, stream_fault, writes_errors, writes_output};
 use crate::fault::ToolFault;
 use crate::files::file_fault;
 use std::alloc::Global;
+use tm_places::Places;
 use tm_tool::{Octets, RunFault};
 use tm_words::Plan;
 
@@ -39,8 +42,8 @@ fn is_checkpoint(plan: &Plan, name: &Octets) -> bool
     has_name(&plan.checkpoint, name) || has_name(&plan.resume, name)
 }
 
-// The name of the file in which a checkpoint is written before it takes its name.
-fn beside(alloc: Global, name: &Octets) -> Result<Octets, ToolFault>
+/// The name of the file in which a checkpoint is written before it takes its name.
+pub fn beside(alloc: Global, name: &Octets) -> Result<Octets, ToolFault>
     ensures name { IfOk result (λ found. found ≡ beside name.now) }
     ensures refused { IfErr result IsNoMemory }
 {
@@ -65,40 +68,69 @@ fn is_in_the_way(plan: &Plan, name: &Octets, new_name: &Octets) -> bool
 }
 
 // The checkpoint must not take the place of a file that is read or of the report, nor the file beside it.
-#[tactic(auto, using(crate::proofs::ProgramLemmas::starved_there))]
-fn check_checkpoint(alloc: Global, plan: &Plan) -> Result<(), ToolFault>
+#[tactic(auto, using(crate::proofs::ProgramLemmas::starved_there, crate::proofs::ProgramLemmas::fault_exactly))]
+fn check_checkpoint(alloc: Global, plan: &Plan, places: &Places) -> Result<(), ToolFault>
     ensures ok { OnOk result (IfSome plan.now.checkpoint (λ name. is_in_the_way plan.now name ≡ false)) }
     ensures refused { IfErr result (HasFault plan.now.checkpoint) }
+    ensures clear { OnOk result (checkpoint_clash plan.now places.now plan.now.checkpoint ≡ None) }
+    ensures clash { IfErr result (λ fault. IsNoMemory fault ⊎ (checkpoint_clash plan.now places.now plan.now.checkpoint ≡ Some fault)) }
 {
     let Some(name) = &plan.checkpoint else {
         return Ok(());
     };
     let new_name = beside(alloc, name)?;
-    if is_in_the_way(plan, name, &new_name) {
+    if is_in_the_way(plan, name, &new_name)
+        || places.checkpoint_clashes()
+        || places.beside_clashes()
+    {
         return Err(file_fault(alloc, name));
     }
     Ok(())
 }
 
 // The report must not take the place of a file that is read or has a checkpoint.
-fn check_report(alloc: Global, plan: &Plan) -> Result<(), ToolFault>
+#[tactic(auto, using(crate::proofs::ProgramLemmas::fault_exactly))]
+fn check_report(alloc: Global, plan: &Plan, places: &Places) -> Result<(), ToolFault>
     ensures ok { OnOk result (IfSome plan.now.report (λ name. (is_read plan.now name ≡ false) × (is_checkpoint plan.now name ≡ false))) }
     ensures refused { IfErr result (HasFault plan.now.report) }
+    ensures clear { OnOk result (report_clash plan.now places.now plan.now.report ≡ None) }
+    ensures clash { IfErr result (λ fault. IsNoMemory fault ⊎ (report_clash plan.now places.now plan.now.report ≡ Some fault)) }
 {
-    match &plan.report {
-        Some(name) if is_read(plan, name) || is_checkpoint(plan, name) => {
-            Err(file_fault(alloc, name))
-        }
-        _ => Ok(()),
+    let Some(name) = &plan.report else {
+        return Ok(());
+    };
+    if is_read(plan, name) || is_checkpoint(plan, name) || places.report_clashes() {
+        return Err(file_fault(alloc, name));
     }
+    Ok(())
 }
 
-/// What the run writes must not take the place of what is read, nor of one another: first the checkpoint, then the report.
-pub fn check_names(alloc: Global, plan: &Plan) -> Result<Checked, ToolFault>
-    ensures ok { OnOk result (AreClear plan.now) }
-    ensures refused { IfErr result (λ fault. HasFault plan.now.report fault ⊎ HasFault plan.now.checkpoint fault) }
+// The standard streams to which the plan writes must not be files that are read.
+fn check_stream_files(plan: &Plan, places: &Places) -> Result<(), ToolFault>
+    ensures refused { IfErr result (λ fault. IsRunFault fault ⊎ IsOfErrors plan.now fault) }
+    ensures clear { OnOk result (stream_clash plan.now places.now ≡ None) }
+    ensures clash { IfErr result (λ fault. stream_clash plan.now places.now ≡ Some fault) }
 {
-    check_checkpoint(alloc, plan)?;
-    check_report(alloc, plan)?;
+    if writes_output(plan) && places.output_clashes() {
+        return Err(stream_fault(Stream::Output));
+    }
+    if writes_errors(plan) && places.errors_clashes() {
+        return Err(ToolFault::Errors);
+    }
+    Ok(())
+}
+
+/// What the run writes must not take the place of what is read, nor of one another: first the checkpoint, then the report, then the standard streams.
+/// Two names are one file where they are the same, and where they stand for the same places.
+#[tactic(auto, using(crate::proofs::ProgramLemmas::first_none, crate::proofs::ProgramLemmas::first_then, crate::proofs::ProgramLemmas::first_here))]
+pub fn check_names(alloc: Global, plan: &Plan, places: &Places) -> Result<Checked, ToolFault>
+    ensures ok { OnOk result (AreClear plan.now) }
+    ensures refused { IfErr result (λ fault. HasFault plan.now.report fault ⊎ HasFault plan.now.checkpoint fault ⊎ IsRunFault fault ⊎ IsOfErrors plan.now fault) }
+    ensures clear { OnOk result (clash_of plan.now places.now ≡ None) }
+    ensures clash { IfErr result (λ fault. IsNoMemory fault ⊎ (clash_of plan.now places.now ≡ Some fault)) }
+{
+    check_checkpoint(alloc, plan, places)?;
+    check_report(alloc, plan, places)?;
+    check_stream_files(plan, places)?;
     Ok(Checked(()))
 }

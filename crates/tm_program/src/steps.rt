@@ -3,12 +3,13 @@
 ghost use Rattle.std.specs.Prelude.{◌≡◌, ◌≢◌, ◌⊎◌, [], None, Ok, Some, IfErr, IfOk, IfSome, IsSome, MatchOption, OnOk, is_some, map, option_map, string_bytes};
 ghost use Rattle.tm_output.specs.Faults.{RunCounted};
 ghost use Rattle.tm_output.specs.Seen.{both, shelf_both};
+ghost use Rattle.tm_shelf.specs.Names.{file_in};
 ghost use Rattle.tm_shelf.specs.Shelves.{HoldsNone};
-ghost use Rattle.tm_program.specs.Decisions.{IsBlamed, IsBlamedOf, split_end_of, stream_fault_of};
-ghost use Rattle.tm_program.specs.Endings.{HasDone, IsDone, ending_of};
-ghost use Rattle.tm_program.specs.Files.{IsFileFault};
-ghost use Rattle.tm_program.specs.Reports.{is_file};
-ghost use Rattle.tm_program.specs.Program.{HasFault, IsAsked, IsClear, IsNoMemory, IsOfDefinition, IsOfOutputs, IsOfResumed, IsOfSettings, IsOfStreams, IsResumed, IsRunFault, MayCome, MayEnd};
+ghost use Rattle.tm_program.specs.code.Decisions.{IsBlamed, IsBlamedOf, put_fault_of, split_end_of, stream_fault_of};
+ghost use Rattle.tm_program.specs.code.Endings.{HasDone, IsDone, ending_of};
+ghost use Rattle.tm_program.specs.code.Files.{IsFileFault};
+ghost use Rattle.tm_program.specs.code.Reports.{is_file};
+ghost use Rattle.tm_program.specs.Program.{AreClear, HasFault, HasFolderFault, IsAsked, IsFolderFault, IsNoMemory, IsOfDefinition, IsOfOutputs, IsOfPut, IsOfResumed, IsOfSettings, IsOfStreams, IsResumed, IsRunFault, MayCome, MayEnd};
 
 use crate::decisions::{
     Destination, Opening, Recording, Stream, destination_by, opening_by, recording_by,
@@ -18,12 +19,14 @@ use crate::fault::ToolFault;
 use crate::files::{append, create, file_fault, open, read_file};
 use crate::kept::{ending_by, job_by, keep, resumed_by};
 use crate::names::{Checked, check_names};
+use crate::places::places_by;
 use crate::report::Report;
 use std::alloc::Global;
 use std::io::{self, BufReader, BufWriter, Read, Write};
 use std::rt::Files;
 use tm_fields::Definition;
-use tm_shelf::{FileShelf, ShelfFault};
+use tm_places::Places;
+use tm_shelf::{FileShelf, ShelfFault, name_in};
 use tm_tool::{
     Command, Done, Drain, Ending, Job, Octets, Reading, RunFault, Settings, Shelf, Source, Writing,
     list_frames, run as run_job, split,
@@ -160,22 +163,48 @@ fn give_packets<R: Print + AllocGlobal, S: Read + Drop, V: Write + Drop>(
     give_to(alloc, job, command, source, &mut out, report, ending)
 }
 
+// The name of the file of this application, which is another file of the run, where there is one.
+fn taken_file(alloc: Global, dir: &str, taken: Option<usize>) -> Result<Option<Octets>, ToolFault>
+    ensures name { IfOk result (λ found. found ≡ option_map (file_in dir.now) taken) }
+    ensures refused { IfErr result IsNoMemory }
+{
+    let Some(application) = taken else {
+        return Ok(None);
+    };
+    match name_in(alloc, dir, application) {
+        Ok(name) => Ok(Some(Octets::new(name.into_bytes()))),
+        Err(_) => Err(no_memory()),
+    }
+}
+
+// The fault of a put that the shelf refused.
+fn put_fault(is_starved: bool, taken: Option<Octets>) -> ToolFault
+    ensures { result ≡ put_fault_of is_starved taken }
+{
+    match taken {
+        _ if is_starved => ToolFault::Run(RunFault::NoMemory),
+        Some(name) => ToolFault::File(name),
+        None => ToolFault::Run(RunFault::Write),
+    }
+}
+
 // What splitting ends with, once what the shelf holds is written.
 fn split_end(
     done: Result<Done, RunFault>,
     written: Result<(), ShelfFault>,
     is_starved: bool,
+    taken: Option<Octets>,
 ) -> Result<Done, ToolFault>
     ensures done { IfOk result (λ d. done ≡ Ok d) }
     ensures written { OnOk result (written ≡ Ok tt) }
-    ensures refused { IfErr result IsRunFault }
-    ensures end { result ≡ split_end_of done written is_starved }
+    ensures refused { IfErr result (IsOfPut taken) }
+    ensures end { result ≡ split_end_of done written is_starved taken }
 {
     match (done, written) {
         (Ok(done), Ok(())) => Ok(done),
         (Ok(_), Err(ShelfFault::NoMemory)) => Err(no_memory()),
-        (Ok(_), Err(ShelfFault::NotWritten)) => Err(ToolFault::Run(RunFault::Write)),
-        (Err(RunFault::Write), _) if is_starved => Err(no_memory()),
+        (Ok(_), Err(_)) => Err(ToolFault::Run(RunFault::Write)),
+        (Err(RunFault::Write), _) => Err(put_fault(is_starved, taken)),
         (Err(fault), _) => Err(ToolFault::Run(fault)),
     }
 }
@@ -199,6 +228,7 @@ fn split_to<S: Source, H: Shelf, V: Drain>(
 }
 
 // Gives the packets of a recording to a file for each application.
+#[tactic(auto, using(crate::proofs::ProgramLemmas::starved_run, crate::proofs::ProgramLemmas::put_there))]
 fn split_packets<R: Files + AllocGlobal, S: Read + Drop, V: Write + Drop>(
     rt: &R,
     job: Job,
@@ -208,29 +238,32 @@ fn split_packets<R: Files + AllocGlobal, S: Read + Drop, V: Write + Drop>(
 ) -> Result<Done, ToolFault>
     ensures done { IfOk result (λ done. IsDone ending job.work done.records (option_map (λ kept. kept.work) done.kept)) }
     ensures written { OnOk result (HoldsNone shelf.new.held) }
-    ensures refused { IfErr result IsRunFault }
+    ensures refused { IfErr result (λ fault. IsRunFault fault ⊎ IsFolderFault shelf.old.folder fault) }
 {
     let alloc = rt.alloc();
+    let dir = shelf.dir();
     let source = &mut ends.source;
     let done = split_to(alloc, job, source, shelf, &mut ends.report, ending);
     let written = shelf.write_held();
-    split_end(done, written, shelf.is_starved())
+    let taken = taken_file(alloc, dir, shelf.taken())?;
+    split_end(done, written, shelf.is_starved(), taken)
 }
 
-// The files for the applications in this folder. An empty name is none: it would stand for the root.
+// The files for the applications in this folder, none of them one of the run's other files. An empty name is none: it would stand for the root.
 fn shelf_in<'a, R: Files + AllocGlobal>(
     rt: &'a R,
     dir: &'a Octets,
     goes_on: bool,
+    places: &'a Places,
 ) -> Result<FileShelf<'a, R>, ToolFault>
-    ensures folder { IfOk result (λ s. (s.folder ≡ dir.now) × (s.goes_on ≡ goes_on) × (dir.now ≢ [])) }
+    ensures folder { IfOk result (λ s. (s.folder ≡ dir.now) × (s.goes_on ≡ goes_on) × (s.places ≡ places.now) × (dir.now ≢ [])) }
     ensures refused { IfErr result (IsFileFault dir.now) }
 {
     let path = match std::str::from_utf8(dir.as_slice()) {
         Ok(path) if !path.is_empty() => path,
         _ => return Err(file_fault(rt.alloc(), dir)),
     };
-    match FileShelf::new(rt, path, goes_on) {
+    match FileShelf::new(rt, path, goes_on, places) {
         Ok(shelf) => Ok(shelf),
         Err(_) => Err(ToolFault::Run(RunFault::NoMemory)),
     }
@@ -241,13 +274,14 @@ fn shelf_in<'a, R: Files + AllocGlobal>(
 fn shelf_by<'a, R: Files + AllocGlobal>(
     rt: &'a R,
     plan: &'a Plan,
+    places: &'a Places,
 ) -> Result<Option<FileShelf<'a, R>>, ToolFault>
     ensures found { IfOk result (λ found. MatchOption found (plan.now.action ≡ Action.Split → plan.now.dir ≡ None)
-        (λ s. (plan.now.action ≡ Action.Split) × (plan.now.dir ≡ Some s.folder) × (s.goes_on ≡ is_some plan.now.resume))) }
+        (λ s. (plan.now.action ≡ Action.Split) × (plan.now.dir ≡ Some s.folder) × (s.goes_on ≡ is_some plan.now.resume) × (s.places ≡ places.now))) }
     ensures refused { IfErr result (HasFault plan.now.dir) }
 {
     match destination_by(plan) {
-        Destination::Folder { dir, goes_on } => Ok(Some(shelf_in(rt, dir, goes_on)?)),
+        Destination::Folder { dir, goes_on } => { Ok(Some(shelf_in(rt, dir, goes_on, places)?)) }
         Destination::Output => Ok(None),
     }
 }
@@ -343,6 +377,7 @@ fn inputs_by<R: Files + AllocGlobal>(rt: &R, plan: &Plan) -> Result<Inputs, Tool
 }
 
 // Goes on with the job over the recording, to where the plan wants the packets.
+#[tactic(auto, using(crate::proofs::ProgramLemmas::starved_run, crate::proofs::ProgramLemmas::folder_there, crate::proofs::ProgramLemmas::split_there))]
 fn go_on<R: Files + Print + AllocGlobal, S: Read + Drop, V: Write + Drop>(
     rt: &R,
     plan: &Plan,
@@ -350,28 +385,30 @@ fn go_on<R: Files + Print + AllocGlobal, S: Read + Drop, V: Write + Drop>(
     job: Job,
     recording: S,
     report: V,
+    places: &Places,
 ) -> Result<Done, ToolFault>
     ensures done { IfOk result (λ done. IsDone (ending_of plan.now) job.work done.records (option_map (λ kept. kept.work) done.kept)) }
-    ensures refused { IfErr result (λ fault. IsRunFault fault ⊎ HasFault plan.now.dir fault) }
+    ensures refused { IfErr result (λ fault. IsRunFault fault ⊎ HasFolderFault plan.now.dir fault) }
 {
     let ending = ending_by(plan);
     let ends = ends_with(rt.alloc(), recording, report)?;
-    match shelf_by(rt, plan)? {
+    match shelf_by(rt, plan, places)? {
         Some(mut shelf) => split_packets(rt, job, &mut shelf, ends, ending),
         None => give_packets(rt, job, command_by(plan, definition), ends, ending),
     }
 }
 
-// Does what the plan asks for with the recording, and answers what was done, but for a list of frames.
-#[tactic(auto, using(crate::proofs::ProgramLemmas::starved_run, crate::proofs::ProgramLemmas::names_come, crate::proofs::EndingLemmas::done_from))]
+// Does what the plan asks for with the recording, once the names of its files were checked, and answers what was done, but for a list of frames. Names are
+// looked up anew once the report is made: before, it may have been none.
+#[tactic(auto, using(crate::proofs::ProgramLemmas::starved_run, crate::proofs::ProgramLemmas::run_ends, crate::proofs::EndingLemmas::done_from))]
 fn run_on<R: Files + Print + AllocGlobal, S: Read + Drop, E: Write + Drop>(
     rt: &R,
     plan: &Plan,
     inputs: Inputs,
     recording: S,
     errors: E,
+    checked: Checked,
 ) -> Result<Option<Done>, ToolFault>
-    ensures ok { OnOk result (IsClear plan.now) }
     ensures done { IfOk result (λ found. MatchOption found (plan.now.action ≡ Action.Frames)
         (λ done. HasDone plan.now inputs.settings inputs.resumed done.records (option_map (λ kept. kept.work) done.kept))) }
     ensures refused { IfErr result (IsOfOutputs plan.now) }
@@ -385,12 +422,39 @@ fn run_on<R: Files + Print + AllocGlobal, S: Read + Drop, E: Write + Drop>(
         definition,
         resumed,
     } = inputs;
-    let checked = check_names(rt.alloc(), plan)?;
     let report = report_by(rt, plan, checked, errors)?;
+    let places = places_by(rt, plan)?;
     let job = job_by(rt, resumed, &settings)?;
-    let done = go_on(rt, plan, definition.as_ref(), job, recording, report)?;
+    let done = go_on(
+        rt,
+        plan,
+        definition.as_ref(),
+        job,
+        recording,
+        report,
+        &places,
+    )?;
     keep(rt, plan, &done)?;
     Ok(Some(done))
+}
+
+// Checks the names of the plan's files, and does what the plan asks for with the recording.
+#[tactic(auto, using(crate::proofs::ProgramLemmas::starved_run, crate::proofs::ProgramLemmas::names_come))]
+fn check_and_run<R: Files + Print + AllocGlobal, S: Read + Drop, E: Write + Drop>(
+    rt: &R,
+    plan: &Plan,
+    inputs: Inputs,
+    recording: S,
+    errors: E,
+) -> Result<Option<Done>, ToolFault>
+    ensures ok { OnOk result (AreClear plan.now) }
+    ensures done { IfOk result (λ found. MatchOption found (plan.now.action ≡ Action.Frames)
+        (λ done. HasDone plan.now inputs.settings inputs.resumed done.records (option_map (λ kept. kept.work) done.kept))) }
+    ensures refused { IfErr result (IsOfOutputs plan.now) }
+{
+    let places = places_by(rt, plan)?;
+    let checked = check_names(rt.alloc(), plan, &places)?;
+    run_on(rt, plan, inputs, recording, errors, checked)
 }
 
 // The plan of the words.
@@ -443,14 +507,14 @@ fn run_plan<R: Files + Input + Print + AllocGlobal, E: Write + Drop>(
     mut errors: E,
 ) -> Result<(), ToolFault>
     requires { IsSome plan.now.settings }
-    ensures ok { OnOk result (IsClear plan.now) }
+    ensures ok { OnOk result (AreClear plan.now) }
     ensures refused { IfErr result (MayCome plan.now) }
 {
     check_streams(rt, plan, &mut errors)?;
     let inputs = inputs_by(rt, plan)?;
     let done = match recording_by(plan) {
-        Recording::File(name) => run_on(rt, plan, inputs, open(rt, name)?, errors),
-        Recording::Input => run_on(rt, plan, inputs, rt.reader(), errors),
+        Recording::File(name) => check_and_run(rt, plan, inputs, open(rt, name)?, errors),
+        Recording::Input => check_and_run(rt, plan, inputs, rt.reader(), errors),
     };
     match done {
         Ok(_) => Ok(()),
@@ -469,7 +533,7 @@ pub fn run<R: Files + Input + Print + AllocGlobal, E: Write + Drop>(
     words: Vec<String>,
     errors: E,
 ) -> Result<(), ToolFault>
-    ensures ok { OnOk result ((p : Plan) × IsAsked (map string_bytes words.items) p × IsClear p) }
+    ensures ok { OnOk result ((p : Plan) × IsAsked (map string_bytes words.items) p × AreClear p) }
     ensures refused { IfErr result (MayEnd (map string_bytes words.items)) }
 {
     let plan = plan_by(rt.alloc(), words)?;

@@ -56,6 +56,7 @@ fn lines_and_statuses(rt: HostRuntime) -> Result<(), Fail> {
             "tmx: a\\x5cb \\xc3\\xa9\\x0a: failed\n",
             1,
         ),
+        (ToolFault::Errors, "", 1),
         (
             ToolFault::TooLong(named(alloc, "s.toml")?),
             "tmx: s.toml: too long\n",

@@ -4,11 +4,11 @@ use Rattle.std.specs.Prelude.{slice_set, IsOk}
 use Rattle.std.proofs.lemmas.List.{append-nil, drop-drop, take_all}
 use Rattle.tm_rules.specs.Rules.{Rules, chooses}
 use Rattle.tm_reassembly.specs.declared.fault.StateFault.{StateFault}
-use Rattle.tm_reassembly.specs.Checkpoint.{Read, ReadAll, block_read, blocks_read, in_front, and_then}
+use Rattle.tm_reassembly.specs.Checkpoint.{ReadBlock, ReadBlocks, block_read, blocks_read, in_front, and_then_blocks}
 use Rattle.tm_reassembly.specs.State.{Last}
 
 -- some blocks in front
-abbrev in_fronts : List (Option Last) → ℕ → Result ReadAll StateFault → Result ReadAll StateFault
+abbrev in_fronts : List (Option Last) → ℕ → Result ReadBlocks StateFault → Result ReadBlocks StateFault
 in_fronts done at (Ok rest) = Ok (record { kept = done ++ rest.kept; octets = at + rest.octets })
 in_fronts done at (Err found) = Err found
 
@@ -17,7 +17,7 @@ pub record ReadsTo (rules : Rules) (records : ℕ) (xs : List ℕ) (c at : ℕ) 
   pub so_far : blocks_read rules records 8 0 xs ≡ in_fronts done at (blocks_read rules records (8 - c) c (drop at xs))
   pub inside : at ≤ length xs
 
-all_of : (x : Result ReadAll StateFault) → x ≡ in_fronts [] 0 x
+all_of : (x : Result ReadBlocks StateFault) → x ≡ in_fronts [] 0 x
 all_of (Ok rest) = let zeroth : 0 + rest.octets ≡ rest.octets = omega arith in rw zeroth refl
 all_of (Err found) = refl
 
@@ -27,11 +27,11 @@ module _ (rules : Rules) (records : ℕ) (xs : List ℕ) where
 
   one_block : (n c at : ℕ) → 8 - c ≡ suc n
       → blocks_read rules records (8 - c) c (drop at xs)
-      ≡ and_then (block_read rules.max_packet rules.layout (chooses rules c) records (drop at xs)) (λ used. blocks_read rules records n (c + 1) (drop used (drop at xs)))
+      ≡ and_then_blocks (block_read rules.max_packet rules.layout (chooses rules c) records (drop at xs)) (λ used. blocks_read rules records n (c + 1) (drop used (drop at xs)))
   unfolding blocks_read
   one_block n c at e = ap (λ (k : ℕ). blocks_read rules records k c (drop at xs)) e
 
-  joined : (done : List (Option Last)) (at : ℕ) (one : Read) (x : Result ReadAll StateFault)
+  joined : (done : List (Option Last)) (at : ℕ) (one : ReadBlock) (x : Result ReadBlocks StateFault)
       → in_fronts done at (in_front one x) ≡ in_fronts (done ++ one.kept ∷ []) (at + one.octets) x
   joined done at one (Ok rest) =
       let sum : at + (one.octets + rest.octets) ≡ (at + one.octets) + rest.octets = omega arith in rw (append_assoc done (one.kept ∷ []) rest.kept, sum) refl
@@ -49,7 +49,7 @@ module _ (rules : Rules) (records : ℕ) (xs : List ℕ) where
       record {
         so_far =
             r.so_far
-            ∙ ap (in_fronts done at) (one_block n c at left ∙ ap (λ (b : Result Read StateFault). and_then b (λ used. blocks_read rules records n (c + 1) (drop used (drop at xs)))) e)
+            ∙ ap (in_fronts done at) (one_block n c at left ∙ ap (λ (b : Result ReadBlock StateFault). and_then_blocks b (λ used. blocks_read rules records n (c + 1) (drop used (drop at xs)))) e)
             ∙ joined done at (record { kept = kept; octets = used }) (blocks_read rules records n (c + 1) (drop used (drop at xs)))
             ∙ ap (λ (l : List ℕ). in_fronts (done ++ kept ∷ []) (at + used) (blocks_read rules records n (c + 1) l)) (drop-drop used at xs)
             ∙ ap (λ (k : ℕ). in_fronts (done ++ kept ∷ []) (at + used) (blocks_read rules records k (c + 1) (drop (at + used) xs))) (sym rest);
@@ -62,7 +62,7 @@ module _ (rules : Rules) (records : ℕ) (xs : List ℕ) where
       let n : ℕ = 7 - c in
       let left : 8 - c ≡ suc n = omega arith in
       r.so_far
-      ∙ ap (in_fronts done at) (one_block n c at left ∙ ap (λ (b : Result Read StateFault). and_then b (λ used. blocks_read rules records n (c + 1) (drop used (drop at xs)))) e)
+      ∙ ap (in_fronts done at) (one_block n c at left ∙ ap (λ (b : Result ReadBlock StateFault). and_then_blocks b (λ used. blocks_read rules records n (c + 1) (drop used (drop at xs)))) e)
 
   pub reads_all : (c at : ℕ) (done : List (Option Last)) → ReadsTo rules records xs c at done → 8 ≤ c
       → blocks_read rules records 8 0 xs ≡ Ok (record { kept = done; octets = at })
@@ -77,12 +77,12 @@ pub record ReadsSome (rules : Rules) (records : ℕ) (xs : List ℕ) (c at : ℕ
   pub done : List (Option Last)
   pub reads : ReadsTo rules records xs c at done
 
-is_ok : (x : Result ReadAll StateFault) (all : ReadAll) → x ≡ Ok all → IsOk x
+is_ok : (x : Result ReadBlocks StateFault) (all : ReadBlocks) → x ≡ Ok all → IsOk x
 is_ok (Ok rest) all e = refl
 is_ok (Err found) all e = absurd (cc)
 
 -- the octets from a place on, as the code takes them, and whether a channel is chosen, as it asks
-as_asked : (rules : Rules) (records : ℕ) (xs : List ℕ) (c at : ℕ) (b : Bool) (x : Result Read StateFault) → at ≤ length xs
+as_asked : (rules : Rules) (records : ℕ) (xs : List ℕ) (c at : ℕ) (b : Bool) (x : Result ReadBlock StateFault) → at ≤ length xs
     → b ≡ chooses rules c → block_read rules.max_packet rules.layout b records (take (length xs - at) (drop at xs)) ≡ x → block_read rules.max_packet rules.layout (chooses rules c) records (drop at xs) ≡ x
 as_asked rules records xs c at b x inside same e =
     ap (λ (a : Bool). block_read rules.max_packet rules.layout a records (drop at xs)) (sym same)

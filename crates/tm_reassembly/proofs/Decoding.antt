@@ -10,24 +10,25 @@ use Rattle.tm_bits.proofs.PartLemmas.{octets_behind}
 use Rattle.tm_frame.specs.declared.layout.LayoutParts.{LayoutParts}
 use Rattle.tm_reassembly.specs.declared.fault.StateFault.{StateFault}
 use Rattle.tm_reassembly.specs.declared.fault.StateFault.TheVariants as fault
-use Rattle.tm_reassembly.specs.Checkpoint.{Read, ReadAll, two_at, four_at, is_unfinished, tail_read, flagged, block_read, blocks_read, in_front, and_then, master_read, with_channels, with_master, decoding_of, old_decoding_of}
+use Rattle.tm_reassembly.specs.Checkpoint.{ReadBlock, ReadBlocks, four_at, is_unfinished, tail_read, flagged, block_read, blocks_read, in_front, and_then_blocks, master_read, with_channels, with_master, state_decoding_of, old_decoding_of}
+use Rattle.tm_bits.specs.Bits.{two_at}
 use Rattle.tm_reassembly.specs.Parts.{begins_packet}
 use Rattle.tm_items.specs.OnePacket.{reach}
 use Rattle.tm_rules.specs.Rules.{Rules, IsLimit, chooses}
 use Rattle.tm_reassembly.specs.State.{Last}
-use Rattle.tm_reassembly.specs.Valid.{IsCount, IsState}
+use Rattle.tm_reassembly.specs.Valid.{IsCount, IsValidState}
 use Rattle.tm_reassembly.proofs.Chained.{IsTail}
 use Rattle.tm_reassembly.proofs.Fits.{octets_front}
 use Rattle.tm_reassembly.proofs.States.{Keeps, state-from}
 
 -- ---- what is answered
 
-pub decoding_short : (rules : Rules) (xs : List ℕ) → length xs < 4 → decoding_of rules xs ≡ Err fault.Short
-unfolding decoding_of
+pub decoding_short : (rules : Rules) (xs : List ℕ) → length xs < 4 → state_decoding_of rules xs ≡ Err fault.Short
+unfolding state_decoding_of
 decoding_short rules xs h = cond-true (ltb (length xs) 4) _ _ (lt-ltb (length xs) 4 h)
 
-long : (rules : Rules) (xs : List ℕ) → 4 ≤ length xs → decoding_of rules xs ≡ with_master rules (four_at xs 0) (drop 4 xs) (master_read (drop 4 xs))
-unfolding decoding_of
+long : (rules : Rules) (xs : List ℕ) → 4 ≤ length xs → state_decoding_of rules xs ≡ with_master rules (four_at xs 0) (drop 4 xs) (master_read (drop 4 xs))
+unfolding state_decoding_of
 long rules xs h = cond-false (ltb (length xs) 4) _ _ (le-ltb (length xs) 4 h)
 
 pub old_decoding_short : (rules : Rules) (xs : List ℕ) → length xs < 4 → old_decoding_of rules xs ≡ Err fault.Short
@@ -39,13 +40,13 @@ behind : (n : ℕ) (xs : List ℕ) → n ≤ length xs → take (length xs - n) 
 behind n xs h = take_all (length xs - n) (drop n xs) (omega (arith, length-drop n xs))
 
 pub decoding_master : (rules : Rules) (xs : List ℕ) (found : StateFault) → 4 ≤ length xs
-    → master_read (take (length xs - 4) (drop 4 xs)) ≡ Err found → decoding_of rules xs ≡ Err found
+    → master_read (take (length xs - 4) (drop 4 xs)) ≡ Err found → state_decoding_of rules xs ≡ Err found
 decoding_master rules xs found h e =
     long rules xs h ∙ ap (with_master rules (four_at xs 0) (drop 4 xs)) (ap master_read (sym (behind 4 xs h)) ∙ e)
 
 pub decoding_blocks : (rules : Rules) (xs : List ℕ) (records used : ℕ) (master : Option ℕ) → 4 ≤ length xs → records ≡ four_at xs 0
     → master_read (take (length xs - 4) (drop 4 xs)) ≡ Ok (record { count = master; octets = used })
-    → decoding_of rules xs ≡ with_channels records master (4 + used) (blocks_read rules records 8 0 (drop (4 + used) xs))
+    → state_decoding_of rules xs ≡ with_channels records master (4 + used) (blocks_read rules records 8 0 (drop (4 + used) xs))
 decoding_blocks rules xs records used master h same e =
     let n : used + 4 ≡ 4 + used = omega arith in
     long rules xs h
@@ -64,7 +65,7 @@ old_decoding_blocks rules xs records h same =
 -- the same of the octets behind the master channel count, as the code takes them
 pub decoding_behind : (rules : Rules) (xs : List ℕ) (records used : ℕ) (master : Option ℕ) → 4 ≤ length xs → records ≡ four_at xs 0
     → master_read (take (length xs - 4) (drop 4 xs)) ≡ Ok (record { count = master; octets = used }) → 4 + used ≤ length xs
-    → with_channels records master (4 + used) (blocks_read rules records 8 0 (take (length xs - (4 + used)) (drop (4 + used) xs))) ≡ decoding_of rules xs
+    → with_channels records master (4 + used) (blocks_read rules records 8 0 (take (length xs - (4 + used)) (drop (4 + used) xs))) ≡ state_decoding_of rules xs
 decoding_behind rules xs records used master h same e inside =
     ap (λ (l : List ℕ). with_channels records master (4 + used) (blocks_read rules records 8 0 l)) (behind (4 + used) xs inside)
     ∙ sym (decoding_blocks rules xs records used master h same e)
@@ -75,7 +76,7 @@ abbrev Kept : ℕ → LayoutParts → ℕ → Bool → Option Last → Type 0
 Kept limit layout records chosen None = Unit {0}
 Kept limit layout records chosen (Some last) = (chosen ≡ true) × Keeps limit layout records last
 
-abbrev Sound : ℕ → LayoutParts → ℕ → Bool → Result Read StateFault → Type 0
+abbrev Sound : ℕ → LayoutParts → ℕ → Bool → Result ReadBlock StateFault → Type 0
 Sound limit layout records chosen (Ok one) = Kept limit layout records chosen one.kept
 Sound limit layout records chosen (Err found) = Unit {0}
 
@@ -133,7 +134,7 @@ record SoundAll (rules : Rules) (records : ℕ) (n c : ℕ) (kept : List (Option
   many : length kept ≡ n
   each : (i : ℕ) (x : Option Last) → slice_get kept i ≡ Some x → Kept rules.max_packet rules.layout records (chooses rules (c + i)) x
 
-abbrev AllSound : Rules → ℕ → ℕ → ℕ → Result ReadAll StateFault → Type 0
+abbrev AllSound : Rules → ℕ → ℕ → ℕ → Result ReadBlocks StateFault → Type 0
 AllSound rules records n c (Ok all) = SoundAll rules records n c all.kept
 AllSound rules records n c (Err found) = Unit {0}
 
@@ -145,7 +146,7 @@ blocks-sound rules records (suc n) c xs octets =
     step (block_read rules.max_packet rules.layout (chooses rules c) records xs) (block-sound rules.max_packet rules.layout records (chooses rules c) xs octets)
     (λ used. blocks_read rules records n (c + 1) (drop used xs)) (λ used. blocks-sound rules records n (c + 1) (drop used xs) (octets_behind used xs octets))
   where
-    joined : (one : Read) → Kept rules.max_packet rules.layout records (chooses rules c) one.kept → (x : Result ReadAll StateFault) → AllSound rules records n (c + 1) x
+    joined : (one : ReadBlock) → Kept rules.max_packet rules.layout records (chooses rules c) one.kept → (x : Result ReadBlocks StateFault) → AllSound rules records n (c + 1) x
         → AllSound rules records (suc n) c (in_front one x)
     joined one h (Err found) k = tt
     joined one h (Ok rest) k = record { many = ap suc k.many; each = λ i x e. at i x e }
@@ -159,15 +160,15 @@ blocks-sound rules records (suc n) c xs octets =
             let z : (c + 1) + i ≡ c + suc i = omega arith in
             subst (λ (k : ℕ). Kept rules.max_packet rules.layout records (chooses rules k) x) z (k.each i x e)
 
-    step : (b : Result Read StateFault) → Sound rules.max_packet rules.layout records (chooses rules c) b → (others : ℕ → Result ReadAll StateFault)
-        → ((used : ℕ) → AllSound rules records n (c + 1) (others used)) → AllSound rules records (suc n) c (and_then b others)
+    step : (b : Result ReadBlock StateFault) → Sound rules.max_packet rules.layout records (chooses rules c) b → (others : ℕ → Result ReadBlocks StateFault)
+        → ((used : ℕ) → AllSound rules records n (c + 1) (others used)) → AllSound rules records (suc n) c (and_then_blocks b others)
     step (Err found) h others k = tt
     step (Ok one) h others k = joined one h (others one.octets) (k one.octets)
 
 -- the state that blocks spell
 pub blocks_valid : (rules : Rules) (records used : ℕ) (kept : List (Option Last)) (xs : List ℕ) → AreOctets xs → records < 2 ^ 32
     → blocks_read rules records 8 0 xs ≡ Ok (record { kept = kept; octets = used })
-    → IsLimit rules.max_packet → (master : Option ℕ) → IsCount master → IsState rules (record { records = records; master = master; channels = kept })
+    → IsLimit rules.max_packet → (master : Option ℕ) → IsCount master → IsValidState rules (record { records = records; master = master; channels = kept })
 blocks_valid rules records used kept xs octets small e range master octet =
     let all : SoundAll rules records 8 0 kept = subst (AllSound rules records 8 0) e (blocks-sound rules records 8 0 xs octets) in
     state-from rules (record { records = records; master = master; channels = kept }) range small octet all.many

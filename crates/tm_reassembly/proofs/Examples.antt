@@ -9,7 +9,7 @@ use Rattle.tm_frame.specs.ErrorControl.{error_control_of, long_division, subtrac
 use Rattle.tm_frame.specs.Fault.{fault_of}
 use Rattle.tm_items.specs.declared.items.Reason.TheVariants as why
 use Rattle.tm_reassembly.specs.declared.fault.StateFault.TheVariants as fault
-use Rattle.tm_reassembly.specs.Checkpoint.{spelling, decoding_of, old_decoding_of, blocks_read, block_read, master_read}
+use Rattle.tm_reassembly.specs.Checkpoint.{state_spelling, state_decoding_of, old_decoding_of, blocks_read, block_read, master_read}
 use Rattle.tm_rules.specs.Channels.{channels_of, all_channels, mask_of}
 use Rattle.tm_rules.specs.Rules.{Rules}
 use Rattle.tm_items.specs.Item.{Item, Bad, MasterGap, Gap, Vca, Dropped, Packet, Short}
@@ -287,25 +287,25 @@ octets_after_three : List ℕ
 octets_after_three =
     0 ∷ 0 ∷ 0 ∷ 3 ∷ 1 ∷ 2 ∷ 2 ∷ 0 ∷ 0 ∷ 0 ∷ 0 ∷ 0 ∷ 0 ∷ 0 ∷ 0 ∷ 0 ∷ 0 ∷ 18 ∷ (cut 0 18 (packet 26 0) ++ 1 ∷ 1 ∷ 0 ∷ 0 ∷ 0 ∷ 0 ∷ 0 ∷ 0 ∷ [])
 
-spelled_after_three : spelling (after (base all_channels 65542) empty (take 3 records_of_two_channels)) ≡ octets_after_three
+spelled_after_three : state_spelling (after (base all_channels 65542) empty (take 3 records_of_two_channels)) ≡ octets_after_three
 unfolding items after base layout channel_1 fifty_fives packet cut fault_of part number bits_of low_bits records_of_two_channels items_of_two_channels octets_after_three
 spelled_after_three = refl
 
-too_short : decoding_of (base all_channels 65542) (0 ∷ 0 ∷ 0 ∷ []) ≡ Err fault.Short
-unfolding base layout channel_1 decoding_of blocks_read block_read master_read part number bits_of low_bits
+too_short : state_decoding_of (base all_channels 65542) (0 ∷ 0 ∷ 0 ∷ []) ≡ Err fault.Short
+unfolding base layout channel_1 state_decoding_of blocks_read block_read master_read part number bits_of low_bits
 too_short = refl
 
-flag_3 : decoding_of (base all_channels 65542) (0 ∷ 0 ∷ 0 ∷ 0 ∷ 0 ∷ 3 ∷ []) ≡ Err fault.Flag
-unfolding base layout channel_1 decoding_of blocks_read block_read master_read part number bits_of low_bits
+flag_3 : state_decoding_of (base all_channels 65542) (0 ∷ 0 ∷ 0 ∷ 0 ∷ 0 ∷ 3 ∷ []) ≡ Err fault.Flag
+unfolding base layout channel_1 state_decoding_of blocks_read block_read master_read part number bits_of low_bits
 flag_3 = refl
 
 -- a tail whose version is not 0, and one that begins in a record that is not done
-version_7 : decoding_of (base all_channels 65542) (0 ∷ 0 ∷ 0 ∷ 1 ∷ 0 ∷ 2 ∷ 0 ∷ 0 ∷ 0 ∷ 0 ∷ 0 ∷ 0 ∷ 0 ∷ 0 ∷ 0 ∷ 0 ∷ 1 ∷ 0xE0 ∷ 0 ∷ 0 ∷ 0 ∷ 0 ∷ 0 ∷ 0 ∷ 0 ∷ []) ≡ Err fault.Tail
-unfolding base layout channel_1 decoding_of blocks_read block_read master_read part number bits_of low_bits
+version_7 : state_decoding_of (base all_channels 65542) (0 ∷ 0 ∷ 0 ∷ 1 ∷ 0 ∷ 2 ∷ 0 ∷ 0 ∷ 0 ∷ 0 ∷ 0 ∷ 0 ∷ 0 ∷ 0 ∷ 0 ∷ 0 ∷ 1 ∷ 0xE0 ∷ 0 ∷ 0 ∷ 0 ∷ 0 ∷ 0 ∷ 0 ∷ 0 ∷ []) ≡ Err fault.Tail
+unfolding base layout channel_1 state_decoding_of blocks_read block_read master_read part number bits_of low_bits
 version_7 = refl
 
-begins_later : decoding_of (base all_channels 65542) (0 ∷ 0 ∷ 0 ∷ 1 ∷ 0 ∷ 2 ∷ 0 ∷ 0 ∷ 0 ∷ 0 ∷ 1 ∷ 0 ∷ 0 ∷ 0 ∷ 0 ∷ 0 ∷ 1 ∷ 0xE0 ∷ 0 ∷ 0 ∷ 0 ∷ 0 ∷ 0 ∷ 0 ∷ 0 ∷ []) ≡ Err fault.Place
-unfolding base layout channel_1 decoding_of blocks_read block_read master_read part number bits_of low_bits
+begins_later : state_decoding_of (base all_channels 65542) (0 ∷ 0 ∷ 0 ∷ 1 ∷ 0 ∷ 2 ∷ 0 ∷ 0 ∷ 0 ∷ 0 ∷ 1 ∷ 0 ∷ 0 ∷ 0 ∷ 0 ∷ 0 ∷ 1 ∷ 0xE0 ∷ 0 ∷ 0 ∷ 0 ∷ 0 ∷ 0 ∷ 0 ∷ 0 ∷ []) ≡ Err fault.Place
+unfolding base layout channel_1 state_decoding_of blocks_read block_read master_read part number bits_of low_bits
 begins_later = refl
 
 -- in the form of versions 1 and 2
@@ -313,10 +313,10 @@ old_flag_3 : old_decoding_of (base all_channels 65542) (0 ∷ 0 ∷ 0 ∷ 0 ∷ 
 unfolding base layout channel_1 old_decoding_of blocks_read block_read part number bits_of low_bits
 old_flag_3 = refl
 
-master_flag_2 : decoding_of (base all_channels 65542) (0 ∷ 0 ∷ 0 ∷ 0 ∷ 2 ∷ []) ≡ Err fault.Flag
-unfolding base layout channel_1 decoding_of blocks_read block_read master_read part number bits_of low_bits
+master_flag_2 : state_decoding_of (base all_channels 65542) (0 ∷ 0 ∷ 0 ∷ 0 ∷ 2 ∷ []) ≡ Err fault.Flag
+unfolding base layout channel_1 state_decoding_of blocks_read block_read master_read part number bits_of low_bits
 master_flag_2 = refl
 
-no_master_count : decoding_of (base all_channels 65542) (0 ∷ 0 ∷ 0 ∷ 0 ∷ 1 ∷ []) ≡ Err fault.Short
-unfolding base layout channel_1 decoding_of blocks_read block_read master_read part number bits_of low_bits
+no_master_count : state_decoding_of (base all_channels 65542) (0 ∷ 0 ∷ 0 ∷ 0 ∷ 1 ∷ []) ≡ Err fault.Short
+unfolding base layout channel_1 state_decoding_of blocks_read block_read master_read part number bits_of low_bits
 no_master_count = refl

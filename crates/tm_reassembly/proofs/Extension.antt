@@ -5,8 +5,8 @@ use Rattle.std.proofs.lemmas.List.{append-nil}
 use Rattle.std.proofs.lemmas.Bool.{cases_lt, lt-leb, le-leb, and_right}
 use Rattle.tm_reassembly.specs.State.{State, Last, Tail}
 use Rattle.tm_reassembly.specs.Readings.{Reading}
-use Rattle.tm_reassembly.specs.Chain.{Member, Run, Runs, stem_of, stem_with, chain, frames, member_of, has_gap, runs, runs_after, with_member, cut_before}
-use Rattle.tm_reassembly.specs.Valid.{AllFit, PlaceFits, PlacesFit}
+use Rattle.tm_reassembly.specs.Chain.{ChainMember, Run, Runs, stem_of, stem_with, chain, frames, member_of, has_frame_gap, runs, runs_after, with_member, cut_before}
+use Rattle.tm_reassembly.specs.Valid.{AllReadingsFit, PlaceFits, PlacesFit}
 use Rattle.tm_reassembly.specs.Verdict.{Verdict, verdict, completed_at_once, Grow, GrowFrom, is_whole}
 use Rattle.tm_reassembly.specs.Parts.{text, far_end, begins_packet}
 use Rattle.tm_items.specs.OnePacket.{reach}
@@ -17,47 +17,47 @@ use Rattle.tm_reassembly.proofs.Joining.{FitFrom}
 use Rattle.tm_reassembly.proofs.Records.{frames-fit}
 
 -- one more member in front
-grow-member : (m : Member) (r : Run) (rs : List Run) (q : Run) (qs : List Run) → GrowFrom r rs (q ∷ qs)
+grow-member : (m : ChainMember) (r : Run) (rs : List Run) (q : Run) (qs : List Run) → GrowFrom r rs (q ∷ qs)
     → GrowFrom (record { members = m ∷ r.members; end = r.end }) rs (record { members = m ∷ q.members; end = q.end } ∷ qs)
-grow-member m r [] q qs h = (h.0, ap (λ (ms : List Member). m ∷ ms) h.1, h.2)
+grow-member m r [] q qs h = (h.0, ap (λ (ms : List ChainMember). m ∷ ms) h.1, h.2)
 grow-member m r (next ∷ rs) q qs h = (ap (λ (z : Run). record { members = m ∷ z.members; end = z.end }) h.0, h.1)
 
 abbrev GrowRuns : Runs → Runs → Type 0
 GrowRuns a b = GrowFrom a.current a.others (b.current ∷ b.others)
 
-grow-with : (vca : Bool) (m : Member) (a b : Runs) → GrowRuns a b → GrowRuns (with_member vca m a) (with_member vca m b)
+grow-with : (vca : Bool) (m : ChainMember) (a b : Runs) → GrowRuns a b → GrowRuns (with_member vca m a) (with_member vca m b)
 grow-with true m a b h = (refl, h)
 grow-with false m a b h = grow-member m a.current a.others b.current b.others h
 
-grow-before : (gap : Bool) (m : Member) (a b : Runs) → GrowRuns a b → GrowRuns (cut_before gap m a) (cut_before gap m b)
+grow-before : (gap : Bool) (m : ChainMember) (a b : Runs) → GrowRuns a b → GrowRuns (cut_before gap m a) (cut_before gap m b)
 grow-before true m a b h = (refl, h)
 grow-before false m a b h = h
 
-grow-after : (before : Option ℕ) (ms more : List Member) → GrowRuns (runs_after before ms) (runs_after before (ms ++ more))
+grow-after : (before : Option ℕ) (ms more : List ChainMember) → GrowRuns (runs_after before ms) (runs_after before (ms ++ more))
 grow-after before [] more = ((runs_after before more).current.members, refl, refl)
 grow-after before (m ∷ ms) more =
-    grow-before (has_gap before m) m _ _ (grow-with m.is_vca m _ _ (grow-after (Some m.count) ms more))
+    grow-before (has_frame_gap before m) m _ _ (grow-with m.is_vca m _ _ (grow-after (Some m.count) ms more))
 
 frames-append : (c k : ℕ) (rs qs : List Reading) → frames c k (rs ++ qs) ≡ frames c k rs ++ frames c (k + length rs) qs
 frames-append c k [] qs = ap (λ (n : ℕ). frames c n qs) (omega arith)
 frames-append c k (r ∷ rs) qs =
-    ap (λ (ms : List Member). member_of c k r ++ ms)
+    ap (λ (ms : List ChainMember). member_of c k r ++ ms)
     (frames-append c (k + 1) rs qs ∙ ap (λ (n : ℕ). frames c (k + 1) rs ++ frames c n qs) (omega arith))
     ∙ sym (append_assoc (member_of c k r) (frames c (k + 1) rs) (frames c (k + length (r ∷ rs)) qs))
 
 chain-append : (s : State) (c : ℕ) (rs qs : List Reading) → chain s c (rs ++ qs) ≡ chain s c rs ++ frames c (s.records + length rs) qs
 chain-append s c rs qs =
-    ap (λ (ms : List Member). stem_of (slice_get s.channels c) ++ ms) (frames-append c s.records rs qs)
+    ap (λ (ms : List ChainMember). stem_of (slice_get s.channels c) ++ ms) (frames-append c s.records rs qs)
     ∙ sym (append_assoc (stem_of (slice_get s.channels c)) (frames c s.records rs) _)
 
 pub runs-grow : (s : State) (c : ℕ) (rs qs : List Reading) → Grow (runs (chain s c rs)) (runs (chain s c (rs ++ qs)))
 runs-grow s c rs qs =
-    subst (λ (ms : List Member). Grow (runs (chain s c rs)) (runs ms)) (sym (chain-append s c rs qs))
+    subst (λ (ms : List ChainMember). Grow (runs (chain s c rs)) (runs ms)) (sym (chain-append s c rs qs))
     (grow-after None (chain s c rs) (frames c (s.records + length rs) qs))
 
 -- the run at a place among the runs, and what it becomes
 abbrev Become : Run → List Run → ℕ → Type 0
-Become r qs i = (q : Run) × (more : List Member) × (slice_get qs i ≡ Some q) × (q.members ≡ r.members ++ more)
+Become r qs i = (q : Run) × (more : List ChainMember) × (slice_get qs i ≡ Some q) × (q.members ≡ r.members ++ more)
 
 grown-at : (first : Run) (rs qs : List Run) (i : ℕ) (r : Run) → GrowFrom first rs qs → slice_get (first ∷ rs) i ≡ Some r → Become r qs i
 grown-at first [] [] i r h e = absurd h
@@ -68,15 +68,15 @@ grown-at first (next ∷ rs) (q ∷ qs) zero r h e = (q, [], refl, (let same : q
 grown-at first (next ∷ rs) (q ∷ qs) (suc i) r h e = grown-at next rs qs i r h.1 e
 
 -- the places of a run's frames lie in their fields
-PlacesFit-append : (a b : List Member) → PlacesFit a → PlacesFit b → PlacesFit (a ++ b)
+PlacesFit-append : (a b : List ChainMember) → PlacesFit a → PlacesFit b → PlacesFit (a ++ b)
 PlacesFit-append [] b h k = k
 PlacesFit-append (m ∷ a) b h k = (h.0, PlacesFit-append a b h.1 k)
 
-pub PlacesFit-split : (a b : List Member) → PlacesFit (a ++ b) → PlacesFit a × PlacesFit b
+pub PlacesFit-split : (a b : List ChainMember) → PlacesFit (a ++ b) → PlacesFit a × PlacesFit b
 PlacesFit-split [] b h = (tt, h)
 PlacesFit-split (m ∷ a) b h = let rest = PlacesFit-split a b h.1 in ((h.0, rest.0), rest.1)
 
-fit-frames : (k : ℕ) (ms : List Member) → FitFrom k ms → PlacesFit ms
+fit-frames : (k : ℕ) (ms : List ChainMember) → FitFrom k ms → PlacesFit ms
 fit-frames k [] h = tt
 fit-frames k (m ∷ ms) h = (h.0.1, fit-frames k ms h.1)
 
@@ -89,7 +89,7 @@ fit-stem (Some (Some last)) = with_tail last.tail
     with_tail None = (tt, tt)
     with_tail (Some t) = (omega arith, tt)
 
-pub chain-fit : (s : State) (c : ℕ) (rs : List Reading) → AllFit rs → PlacesFit (chain s c rs)
+pub chain-fit : (s : State) (c : ℕ) (rs : List Reading) → AllReadingsFit rs → PlacesFit (chain s c rs)
 chain-fit s c rs fits =
     PlacesFit-append (stem_of (slice_get s.channels c)) (frames c s.records rs) (fit-stem (slice_get s.channels c))
     (fit-frames s.records (frames c s.records rs) (frames-fit c s.records rs fits))
@@ -101,25 +101,25 @@ RunsFit (r ∷ rs) = PlacesFit r.members × RunsFit rs
 abbrev Fit : Runs → Type 0
 Fit rs = PlacesFit rs.current.members × RunsFit rs.others
 
-fit-with : (vca : Bool) (m : Member) (rs : Runs) → PlaceFits m.place (length m.field) → Fit rs → Fit (with_member vca m rs)
+fit-with : (vca : Bool) (m : ChainMember) (rs : Runs) → PlaceFits m.place (length m.field) → Fit rs → Fit (with_member vca m rs)
 fit-with true m rs h k = (tt, k)
 fit-with false m rs h k = ((h, k.0), k.1)
 
-fit-before : (gap : Bool) (m : Member) (rs : Runs) → Fit rs → Fit (cut_before gap m rs)
+fit-before : (gap : Bool) (m : ChainMember) (rs : Runs) → Fit rs → Fit (cut_before gap m rs)
 fit-before true m rs k = (tt, k)
 fit-before false m rs k = k
 
-runs-fit : (before : Option ℕ) (ms : List Member) → PlacesFit ms → Fit (runs_after before ms)
+runs-fit : (before : Option ℕ) (ms : List ChainMember) → PlacesFit ms → Fit (runs_after before ms)
 runs-fit before [] h = (tt, tt)
 runs-fit before (m ∷ ms) h =
-    fit-before (has_gap before m) m _ (fit-with m.is_vca m _ h.0 (runs-fit (Some m.count) ms h.1))
+    fit-before (has_frame_gap before m) m _ (fit-with m.is_vca m _ h.0 (runs-fit (Some m.count) ms h.1))
 
 fit-at : (rs : List Run) (i : ℕ) (r : Run) → RunsFit rs → slice_get rs i ≡ Some r → PlacesFit r.members
 fit-at [] i r h e = absurd (cc)
 fit-at (x ∷ rs) zero r h e = let same : x ≡ r = cc in subst (λ (z : Run). PlacesFit z.members) same h.0
 fit-at (x ∷ rs) (suc i) r h e = fit-at rs i r h.1 e
 
-pub run-places : (s : State) (c : ℕ) (rs : List Reading) → AllFit rs → (i : ℕ) (r : Run) → slice_get (runs (chain s c rs)) i ≡ Some r
+pub run-places : (s : State) (c : ℕ) (rs : List Reading) → AllReadingsFit rs → (i : ℕ) (r : Run) → slice_get (runs (chain s c rs)) i ≡ Some r
     → PlacesFit r.members
 run-places s c rs fits i r at =
     let all = runs-fit None (chain s c rs) (chain-fit s c rs fits) in fit-at (runs (chain s c rs)) i r (all.0, all.1) at
@@ -128,14 +128,14 @@ verdict_by : {a b c d e f l m : Bool} → a ≡ d → b ≡ e → l ≡ m → c 
     → ◌≡◌ {A = Verdict} (record { opened = a; agreed = b; long = l; completed = c }) (record { opened = d; agreed = e; long = m; completed = f })
 verdict_by p q l r = rw (p, q, l, r)
 
-move_more : (before between later more : List Member) (f m : Member)
+move_more : (before between later more : List ChainMember) (f m : ChainMember)
     → (before ++ f ∷ (between ++ m ∷ later)) ++ more ≡ before ++ f ∷ (between ++ m ∷ (later ++ more))
 move_more before between later more f m =
     append_assoc before (f ∷ (between ++ m ∷ later)) more
-    ∙ ap (λ (ms : List Member). before ++ f ∷ ms) (append_assoc between (m ∷ later) more)
+    ∙ ap (λ (ms : List ChainMember). before ++ f ∷ ms) (append_assoc between (m ∷ later) more)
 
 module _ (limit : ℕ) where
-  verdict-now : (start : List ℕ) (between : List Member) (m : Member) (later : List Member) → PlacesFit between → PlaceFits m.place (length m.field)
+  verdict-now : (start : List ℕ) (between : List ChainMember) (m : ChainMember) (later : List ChainMember) → PlacesFit between → PlaceFits m.place (length m.field)
       → verdict limit start between m later ≡ verdict limit start between m []
   verdict-now start between m later h k =
       verdict_by
@@ -144,13 +144,13 @@ module _ (limit : ℕ) where
       (long-settled limit start between m later)
       (whole-settled limit start between m later)
 
-  pub verdict-settled : (start : List ℕ) (between : List Member) (m : Member) (later more : List Member) → PlacesFit between → PlaceFits m.place (length m.field)
+  pub verdict-settled : (start : List ℕ) (between : List ChainMember) (m : ChainMember) (later more : List ChainMember) → PlacesFit between → PlaceFits m.place (length m.field)
       → verdict limit start between m (later ++ more) ≡ verdict limit start between m later
   verdict-settled start between m later more h k =
       verdict-now start between m (later ++ more) h k ∙ sym (verdict-now start between m later h k)
 
   -- a packet that ends in its own frame
-  pub at-once-settled : (start : List ℕ) (later : List Member)
+  pub at-once-settled : (start : List ℕ) (later : List ChainMember)
       → completed_at_once limit start later ≡ (begins_packet limit start && leb (reach start) (length start))
   at-once-settled start later =
       ⊎_elim
@@ -174,10 +174,10 @@ module _ (limit : ℕ) where
           rw (e, breaker-settled limit (reach start) (length start) later whole, enough, here) (both (begins_packet limit start))
 
 -- over records
-pub verdicts-stay : (s : State) (c : ℕ) (rs qs : List Reading) → AllFit rs
+pub verdicts-stay : (s : State) (c : ℕ) (rs qs : List Reading) → AllReadingsFit rs
     → (i : ℕ) (r : Run) → slice_get (runs (chain s c rs)) i ≡ Some r
-    → (before between later : List Member) (f m : Member) → r.members ≡ before ++ f ∷ (between ++ m ∷ later)
-    → (q : Run) × (more : List Member) × (slice_get (runs (chain s c (rs ++ qs))) i ≡ Some q)
+    → (before between later : List ChainMember) (f m : ChainMember) → r.members ≡ before ++ f ∷ (between ++ m ∷ later)
+    → (q : Run) × (more : List ChainMember) × (slice_get (runs (chain s c (rs ++ qs))) i ≡ Some q)
     × (q.members ≡ before ++ f ∷ (between ++ m ∷ (later ++ more)))
     × ((limit : ℕ) (start : List ℕ) → verdict limit start between m (later ++ more) ≡ verdict limit start between m later)
 verdicts-stay s c rs qs fits i r at before between later f m split =
@@ -190,6 +190,6 @@ verdicts-stay s c rs qs fits i r at before between later f m split =
       grown.0,
       grown.1,
       grown.2,
-      grown.3 ∙ ap (λ (ms : List Member). ms ++ grown.1) split ∙ move_more before between later grown.1 f m,
+      grown.3 ∙ ap (λ (ms : List ChainMember). ms ++ grown.1) split ∙ move_more before between later grown.1 f m,
       λ limit start. verdict-settled limit start between m later grown.1 apart.0 apart.1.0,
     )

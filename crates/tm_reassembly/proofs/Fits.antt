@@ -10,14 +10,14 @@ use Rattle.tm_frame.specs.declared.layout.LayoutParts.{LayoutParts}
 use Rattle.tm_frame.specs.declared.frame.Kind.TheVariants as got
 use Rattle.tm_frame.specs.declared.frame.Kind.{Kind}
 use Rattle.tm_frame.specs.declared.fault.FrameFault.{FrameFault}
-use Rattle.tm_frame.specs.Fault.{fault_of, reading_of, good_unless}
+use Rattle.tm_frame.specs.Fault.{fault_of, frame_reading_of, good_unless}
 use Rattle.tm_frame.specs.Frame.{GoodFrame, IsPlaceBelow, good_frame, frame_of}
 use Rattle.tm_frame.specs.Frame as frame
 use Rattle.tm_frame.proofs.FaultLemmas.{place_inside}
 use Rattle.tm_reassembly.specs.Readings.{Reading}
-use Rattle.tm_reassembly.specs.Chain.{place_of, counted_field}
+use Rattle.tm_reassembly.specs.Chain.{start_place_of, counted_field}
 use Rattle.tm_reassembly.specs.Recording.{readings}
-use Rattle.tm_reassembly.specs.Valid.{PlaceFits, IsFit, AllFit}
+use Rattle.tm_reassembly.specs.Valid.{PlaceFits, IsFit, AllReadingsFit}
 
 -- parts of octets are octets
 octets_cons : (x : ℕ) (xs : List ℕ) → x < 256 → AreOctets xs → AreOctets (x ∷ xs)
@@ -46,11 +46,11 @@ part-below octets from to =
     omega arith
 
 -- a frame's data field
-field-length : (layout : LayoutParts) (octets : List ℕ) → length (frame.field_of layout octets) ≡ frame.field_length layout octets
+field-length : (layout : LayoutParts) (octets : List ℕ) → length (frame.data_field_of layout octets) ≡ frame.field_length layout octets
 field-length layout octets =
     length-take-le (frame.field_length layout octets) (drop (frame.field_start octets) octets) (omega (arith, length-drop (frame.field_start octets) octets))
 
-place_fits : (kind : Kind) (field : List ℕ) → IsPlaceBelow (length field) kind → PlaceFits (place_of kind) (length (counted_field kind field))
+place_fits : (kind : Kind) (field : List ℕ) → IsPlaceBelow (length field) kind → PlaceFits (start_place_of kind) (length (counted_field kind field))
 place_fits (got.Packets place) field h = omega arith
 place_fits kind field h = tt
 
@@ -58,11 +58,11 @@ place_fits kind field h = tt
 good-fit : (layout : LayoutParts) (octets : List ℕ) → fault_of layout octets ≡ None → IsFit (Ok (good_frame layout octets))
 good-fit layout octets none = (
   part-below octets 12 15,
-  place_fits (frame.kind_of octets) (frame.field_of layout octets)
+  place_fits (frame.kind_of octets) (frame.data_field_of layout octets)
       (subst (λ (n : ℕ). IsPlaceBelow n (frame.kind_of octets)) (sym (field-length layout octets)) (place_inside layout octets none)),
 )
 
-pub reading-fit : (layout : LayoutParts) (octets : List ℕ) → IsFit (reading_of layout octets)
+pub reading-fit : (layout : LayoutParts) (octets : List ℕ) → IsFit (frame_reading_of layout octets)
 reading-fit layout octets = by_fault (fault_of layout (frame_of layout octets)) refl
   where
     by_fault : (found : Option FrameFault) → fault_of layout (frame_of layout octets) ≡ found
@@ -70,12 +70,12 @@ reading-fit layout octets = by_fault (fault_of layout (frame_of layout octets)) 
     by_fault None e = good-fit layout (frame_of layout octets) e
     by_fault (Some fault) e = tt
 
-pub readings-fit : (layout : LayoutParts) (records : List (List ℕ)) → AllFit (readings layout records)
+pub readings-fit : (layout : LayoutParts) (records : List (List ℕ)) → AllReadingsFit (readings layout records)
 readings-fit layout [] = tt
 readings-fit layout (octets ∷ more) = (reading-fit layout octets, readings-fit layout more)
 
 pub readings-append : (layout : LayoutParts) (a b : List (List ℕ)) → readings layout (a ++ b) ≡ readings layout a ++ readings layout b
-readings-append layout a b = map-append (reading_of layout) a b
+readings-append layout a b = map-append (frame_reading_of layout) a b
 
 -- a good frame of octets
 pub record IsGood (layout : LayoutParts) (f : GoodFrame) : Type 0 where
@@ -99,7 +99,7 @@ good layout octets h long none = record {
   most = λ some. let l = field-length layout octets in omega arith;
 }
 
-pub reading-good : (layout : LayoutParts) (octets : List ℕ) → AreOctets octets → IsRead layout (reading_of layout octets)
+pub reading-good : (layout : LayoutParts) (octets : List ℕ) → AreOctets octets → IsRead layout (frame_reading_of layout octets)
 reading-good layout octets h = by_fault (fault_of layout (frame_of layout octets)) refl
   where
     long : length (frame_of layout octets) ≤ layout.frame_length

@@ -5,11 +5,11 @@ use Rattle.std.proofs.lemmas.Bool.{cases_Bool, cases_lt, lt-ltb, le-ltb, cond-tr
 use Rattle.tm_bits.specs.Bits.{part, bits_of, number}
 use Rattle.tm_bits.proofs.PartLemmas.{part-word}
 use Rattle.tm_packet.specs.declared.header.PacketFault.{PacketFault}
-use Rattle.tm_packet.specs.Header.{Fields, version_of, header_of, reading_of}
+use Rattle.tm_packet.specs.Header.{Fields, packet_version_of, packet_header_of, header_reading_of}
 use Rattle.tm_items.specs.OnePacket.{is_packet, reach}
 use Rattle.tm_items.proofs.Reach.{reach-short, reach-long}
 
-pub version_first : (octets : List ℕ) → 0 < length octets → version_of (take 1 octets) ≡ version_of (get_or octets 0 0 ∷ [])
+pub version_first : (octets : List ℕ) → 0 < length octets → packet_version_of (take 1 octets) ≡ packet_version_of (get_or octets 0 0 ∷ [])
 version_first [] h = absurd (omega arith)
 version_first (x ∷ xs) h = refl
 
@@ -22,7 +22,7 @@ part-front n octets from to room ordered inside =
     ∙ sym (part-word n octets from to room ordered inside)
 
 -- what reading a header says of the length
-reading-ok : (octets : List ℕ) (h : Fields) → reading_of octets ≡ Ok h → (6 ≤ length octets) × (h ≡ header_of octets)
+reading-ok : (octets : List ℕ) (h : Fields) → header_reading_of octets ≡ Ok h → (6 ≤ length octets) × (h ≡ packet_header_of octets)
 reading-ok octets h e =
     ⊎_elim
     (λ short. absurd (err_ok (sym (cond-true (ltb (length octets) 6) _ _ (lt-ltb (length octets) 6 short)) ∙ e)))
@@ -30,10 +30,10 @@ reading-ok octets h e =
     ⊎_elim
     (λ v. (
       long,
-      sym (same (sym (cond-false (ltb (length octets) 6) _ _ (le-ltb (length octets) 6 long) ∙ cond-true (eqb (version_of octets) 0) _ _ v) ∙ e)),
+      sym (same (sym (cond-false (ltb (length octets) 6) _ _ (le-ltb (length octets) 6 long) ∙ cond-true (eqb (packet_version_of octets) 0) _ _ v) ∙ e)),
     ))
-    (λ v. absurd (err_ok (sym (cond-false (ltb (length octets) 6) _ _ (le-ltb (length octets) 6 long) ∙ cond-false (eqb (version_of octets) 0) _ _ v) ∙ e)))
-    (cases_Bool (eqb (version_of octets) 0)))
+    (λ v. absurd (err_ok (sym (cond-false (ltb (length octets) 6) _ _ (le-ltb (length octets) 6 long) ∙ cond-false (eqb (packet_version_of octets) 0) _ _ v) ∙ e)))
+    (cases_Bool (eqb (packet_version_of octets) 0)))
     (cases_lt (length octets) 6)
   where
     err_ok : {fault : PacketFault} → ◌≡◌ {A = Result Fields PacketFault} (Err fault) (Ok h) → ⊥
@@ -42,19 +42,19 @@ reading-ok octets h e =
     same : {g : Fields} → ◌≡◌ {A = Result Fields PacketFault} (Ok g) (Ok h) → g ≡ h
     same p = cc
 
-reading-err : (octets : List ℕ) (fault : PacketFault) → version_of octets ≡ 0 → reading_of octets ≡ Err fault → length octets < 6
+reading-err : (octets : List ℕ) (fault : PacketFault) → packet_version_of octets ≡ 0 → header_reading_of octets ≡ Err fault → length octets < 6
 reading-err octets fault zero e =
     ⊎_elim (λ short. short)
     (λ long.
     absurd
-    (ok_err (sym (cond-false (ltb (length octets) 6) _ _ (le-ltb (length octets) 6 long) ∙ cond-true (eqb (version_of octets) 0) _ _ (eq-eqb (version_of octets) 0 zero)) ∙ e)))
+    (ok_err (sym (cond-false (ltb (length octets) 6) _ _ (le-ltb (length octets) 6 long) ∙ cond-true (eqb (packet_version_of octets) 0) _ _ (eq-eqb (packet_version_of octets) 0 zero)) ∙ e)))
     (cases_lt (length octets) 6)
   where
     ok_err : {h : Fields} → ◌≡◌ {A = Result Fields PacketFault} (Ok h) (Err fault) → ⊥
     ok_err p = cc
 
 -- the length by the header that is read
-pub reach_read : (octets : List ℕ) (h : Fields) → reading_of octets ≡ Ok h → h.data_length + 7 ≡ reach octets
+pub reach_read : (octets : List ℕ) (h : Fields) → header_reading_of octets ≡ Ok h → h.data_length + 7 ≡ reach octets
 reach_read octets h e =
     let r = reading-ok octets h e in
     ap (λ (g : Fields). g.data_length + 7) r.1
@@ -62,11 +62,11 @@ reach_read octets h e =
     ∙ sym (reach-long octets r.0)
 
 -- and where none can be read
-pub reach_unread : (octets : List ℕ) (fault : PacketFault) → is_packet octets ≡ true → reading_of octets ≡ Err fault → 7 ≡ reach octets
+pub reach_unread : (octets : List ℕ) (fault : PacketFault) → is_packet octets ≡ true → header_reading_of octets ≡ Err fault → 7 ≡ reach octets
 reach_unread octets fault p e = ⊎_elim (λ short. sym (reach-short octets short)) (λ long. absurd (no long)) (cases_lt (length octets) 6)
   where
     no : 6 ≤ length octets → ⊥
     no long =
-        let zero : version_of octets ≡ 0 = sym (part-front 1 octets 0 3 (omega arith) (omega arith) (omega arith)) ∙ eqb-true (version_of (take 1 octets)) 0 p in
+        let zero : packet_version_of octets ≡ 0 = sym (part-front 1 octets 0 3 (omega arith) (omega arith) (omega arith)) ∙ eqb-true (packet_version_of (take 1 octets)) 0 p in
         let short = reading-err octets fault zero e in
         omega arith

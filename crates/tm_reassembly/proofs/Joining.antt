@@ -9,9 +9,9 @@ use Rattle.std.proofs.lemmas.List.Elements.{filter-append}
 use Rattle.tm_reassembly.specs.State.{Last, Tail}
 use Rattle.tm_items.specs.Item.{Item, seen_of, Vca, Dropped, Packet}
 pub use Rattle.tm_reassembly.specs.Tiles.{tail_of}
-use Rattle.tm_reassembly.specs.Chain.{Member, has_gap, stem_of, stem_with, Unended}
+use Rattle.tm_reassembly.specs.Chain.{ChainMember, has_frame_gap, stem_of, stem_with, Unended}
 use Rattle.tm_reassembly.specs.Parts.{Part, Fate, Given, Lost, Held}
-use Rattle.tm_reassembly.specs.Field.{chain_parts_at, chain_tail_at}
+use Rattle.tm_reassembly.specs.code.Field.{chain_parts_at, chain_tail_at}
 use Rattle.tm_reassembly.specs.Items.{part_item, seen_at, gap_item, gaps, gap_at, vca_at, channel_items, part_items}
 use Rattle.tm_reassembly.proofs.Step.{PlaceFits}
 use Rattle.tm_reassembly.proofs.Chained.{IsOpenTail, chained, chained_step, chained_end, chain_parts-stem, chain_parts-fresh, left_parts}
@@ -24,17 +24,17 @@ before_of (Some None) = None
 before_of (Some (Some last)) = Some last.count
 
 -- what holds of each gap and of each VCA frame, by what holds of their members
-pub gap-each : (Q : Item → Type 0) (gap : ℕ → Member → Item) (before : Option ℕ) (m : Member) → ((expected : ℕ) → Q (gap expected m)) → Each Q (gap_at gap before m)
+pub gap-each : (Q : Item → Type 0) (gap : ℕ → ChainMember → Item) (before : Option ℕ) (m : ChainMember) → ((expected : ℕ) → Q (gap expected m)) → Each Q (gap_at gap before m)
 gap-each Q gap None m h = tt
-gap-each Q gap (Some before) m h = Each-cond Q (has_gap (Some before) m) _ (λ e. (h _, tt))
+gap-each Q gap (Some before) m h = Each-cond Q (has_frame_gap (Some before) m) _ (λ e. (h _, tt))
 
-pub gaps-each : (P : Member → Type 0) (Q : Item → Type 0) (gap : ℕ → Member → Item) → ((m : Member) (expected : ℕ) → P m → Q (gap expected m))
-    → (before : Option ℕ) (ms : List Member) → Each P ms → Each Q (gaps gap before ms)
+pub gaps-each : (P : ChainMember → Type 0) (Q : Item → Type 0) (gap : ℕ → ChainMember → Item) → ((m : ChainMember) (expected : ℕ) → P m → Q (gap expected m))
+    → (before : Option ℕ) (ms : List ChainMember) → Each P ms → Each Q (gaps gap before ms)
 gaps-each P Q gap f before [] h = tt
 gaps-each P Q gap f before (m ∷ ms) h =
     Each-append Q (gap_at gap before m) (gaps gap (Some m.count) ms) (gap-each Q gap before m (λ expected. f m expected h.0)) (gaps-each P Q gap f (Some m.count) ms h.1)
 
-pub vcas-each : (P : Member → Type 0) (Q : Item → Type 0) (channel : ℕ) → ((m : Member) → P m → Q (Vca m.number channel)) → (ms : List Member) → Each P ms
+pub vcas-each : (P : ChainMember → Type 0) (Q : Item → Type 0) (channel : ℕ) → ((m : ChainMember) → P m → Q (Vca m.number channel)) → (ms : List ChainMember) → Each P ms
     → Each Q (flat_map (vca_at channel) ms)
 vcas-each P Q channel f ms h = Each-flat_map P Q (vca_at channel) ms (λ m p. Each-cond Q m.is_vca _ (λ e. (f m p, tt))) h
 
@@ -51,11 +51,11 @@ part_items-each Q limit channel n given lost ps h =
     one p Held e = absurd e
 
 -- members that fit, and whose numbers P holds of
-abbrev pub AllNumbered : (ℕ → Type 0) → List Member → Type 0
+abbrev pub AllNumbered : (ℕ → Type 0) → List ChainMember → Type 0
 AllNumbered P ms = Each (λ m. P m.number × PlaceFits m.place (length m.field)) ms
 
 -- numbered from k on
-abbrev pub FitFrom : ℕ → List Member → Type 0
+abbrev pub FitFrom : ℕ → List ChainMember → Type 0
 FitFrom k ms = AllNumbered (λ n. k ≤ n) ms
 
 pub left_items : (channel : ℕ) (tail : Option Tail) → part_items channel (left_parts tail Unended) ≡ []
@@ -107,10 +107,10 @@ none_other k n xs ne h = seen_at-none n xs (Each-weaken (λ x. seen_of x ≡ k) 
 
 module _ (limit : ℕ) where
   -- the items of a channel after such a state
-  abbrev pub items_after : ℕ → Option ℕ → Option Tail → List Member → List Item
+  abbrev pub items_after : ℕ → Option ℕ → Option Tail → List ChainMember → List Item
   items_after channel before tail fs = gaps (gap_item channel) before fs ++ flat_map (vca_at channel) fs ++ part_items channel (chained limit before tail fs)
 
-  pub channel_items-is : (channel : ℕ) (x : Option (Option Last)) (fs : List Member)
+  pub channel_items-is : (channel : ℕ) (x : Option (Option Last)) (fs : List ChainMember)
       → channel_items limit channel (stem_of x ++ fs) ≡ items_after channel (before_of x) (tail_of x) fs
   channel_items-is channel None fs = ap (λ (ps : List Part). gaps (gap_item channel) None fs ++ flat_map (vca_at channel) fs ++ part_items channel ps) (chain_parts-fresh limit fs)
   channel_items-is channel (Some None) fs = ap (λ (ps : List Part). gaps (gap_item channel) None fs ++ flat_map (vca_at channel) fs ++ part_items channel ps) (chain_parts-fresh limit fs)
@@ -122,52 +122,52 @@ module _ (limit : ℕ) where
       with_tail (Some t) = ap (λ (ps : List Part). gaps (gap_item channel) (Some last.count) fs ++ flat_map (vca_at channel) fs ++ part_items channel ps) (chain_parts-stem limit last.count (Some t) fs)
 
   -- one member
-  abbrev pub member_items : ℕ → Option ℕ → Option Tail → Member → List Item
+  abbrev pub member_items : ℕ → Option ℕ → Option Tail → ChainMember → List Item
   member_items channel before tail m =
-      gap_at (gap_item channel) before m ++ vca_at channel m ++ part_items channel (chain_parts_at limit (has_gap before m) m.is_vca tail m)
+      gap_at (gap_item channel) before m ++ vca_at channel m ++ part_items channel (chain_parts_at limit (has_frame_gap before m) m.is_vca tail m)
 
-  pub part_items-step : (channel : ℕ) (before : Option ℕ) (tail : Option Tail) (f : Member) (fs : List Member) → IsOpenTail limit tail → PlaceFits f.place (length f.field)
+  pub part_items-step : (channel : ℕ) (before : Option ℕ) (tail : Option Tail) (f : ChainMember) (fs : List ChainMember) → IsOpenTail limit tail → PlaceFits f.place (length f.field)
       → part_items channel (chained limit before tail (f ∷ fs))
-      ≡ part_items channel (chain_parts_at limit (has_gap before f) f.is_vca tail f)
-      ++ part_items channel (chained limit (Some f.count) (chain_tail_at limit (has_gap before f) f.is_vca tail f) fs)
+      ≡ part_items channel (chain_parts_at limit (has_frame_gap before f) f.is_vca tail f)
+      ++ part_items channel (chained limit (Some f.count) (chain_tail_at limit (has_frame_gap before f) f.is_vca tail f) fs)
   part_items-step channel before tail f fs h k =
-      ap (part_items channel) (chained_step limit before tail f fs h k) ∙ flat_map-append (λ p. part_item channel p p.fate) (chain_parts_at limit (has_gap before f) f.is_vca tail f) (chained limit (Some f.count) (chain_tail_at limit (has_gap before f) f.is_vca tail f) fs)
+      ap (part_items channel) (chained_step limit before tail f fs h k) ∙ flat_map-append (λ p. part_item channel p p.fate) (chain_parts_at limit (has_frame_gap before f) f.is_vca tail f) (chained limit (Some f.count) (chain_tail_at limit (has_frame_gap before f) f.is_vca tail f) fs)
 
   -- what members give is seen at their own numbers
   module _ (P : ℕ → Type 0) (channel : ℕ) where
-    gaps-seen : (before : Option ℕ) (fs : List Member) → AllNumbered P fs → AllSeen P (gaps (gap_item channel) before fs)
+    gaps-seen : (before : Option ℕ) (fs : List ChainMember) → AllNumbered P fs → AllSeen P (gaps (gap_item channel) before fs)
     gaps-seen before fs h =
         gaps-each (λ m. P m.number × PlaceFits m.place (length m.field)) (λ x. P (seen_of x)) (gap_item channel) (λ m expected p. p.0) before fs h
 
-    vcas-seen : (fs : List Member) → AllNumbered P fs → AllSeen P (flat_map (vca_at channel) fs)
+    vcas-seen : (fs : List ChainMember) → AllNumbered P fs → AllSeen P (flat_map (vca_at channel) fs)
     vcas-seen fs h = vcas-each (λ m. P m.number × PlaceFits m.place (length m.field)) (λ x. P (seen_of x)) channel (λ m p. p.0) fs h
 
-    parts-seen : (before : Option ℕ) (tail : Option Tail) (fs : List Member) → IsOpenTail limit tail → AllNumbered P fs
+    parts-seen : (before : Option ℕ) (tail : Option Tail) (fs : List ChainMember) → IsOpenTail limit tail → AllNumbered P fs
         → AllSeen P (part_items channel (chained limit before tail fs))
     parts-seen before tail [] o h = subst (AllSeen P) (sym (ap (part_items channel) (chained_end limit before tail o) ∙ left_items channel tail)) tt
     parts-seen before tail (f ∷ fs) o h =
         subst (AllSeen P) (sym (part_items-step channel before tail f fs o h.0.1))
         (Each-append (λ x. P (seen_of x)) _ _
-        (part_items-each (λ x. P (seen_of x)) limit channel f.number (λ p most. h.0.0) (λ p reason. h.0.0) _ (chain_parts_at-at limit (has_gap before f) f.is_vca tail f))
-        (parts-seen (Some f.count) (chain_tail_at limit (has_gap before f) f.is_vca tail f) fs (chain_tail_at-open limit (has_gap before f) f.is_vca tail f o) h.1))
+        (part_items-each (λ x. P (seen_of x)) limit channel f.number (λ p most. h.0.0) (λ p reason. h.0.0) _ (chain_parts_at-at limit (has_frame_gap before f) f.is_vca tail f))
+        (parts-seen (Some f.count) (chain_tail_at limit (has_frame_gap before f) f.is_vca tail f) fs (chain_tail_at-open limit (has_frame_gap before f) f.is_vca tail f o) h.1))
 
-    pub items-seen : (before : Option ℕ) (tail : Option Tail) (fs : List Member) → IsOpenTail limit tail → AllNumbered P fs
+    pub items-seen : (before : Option ℕ) (tail : Option Tail) (fs : List ChainMember) → IsOpenTail limit tail → AllNumbered P fs
         → AllSeen P (items_after channel before tail fs)
     items-seen before tail fs o h =
         Each-append (λ x. P (seen_of x)) (gaps (gap_item channel) before fs ++ flat_map (vca_at channel) fs) (part_items channel (chained limit before tail fs))
         (Each-append (λ x. P (seen_of x)) (gaps (gap_item channel) before fs) (flat_map (vca_at channel) fs) (gaps-seen before fs h) (vcas-seen fs h))
         (parts-seen before tail fs o h)
 
-  module _ (channel : ℕ) (before : Option ℕ) (tail : Option Tail) (f : Member) (fs : List Member) (unwhole : IsOpenTail limit tail) (fits : PlaceFits f.place (length f.field)) where
+  module _ (channel : ℕ) (before : Option ℕ) (tail : Option Tail) (f : ChainMember) (fs : List ChainMember) (unwhole : IsOpenTail limit tail) (fits : PlaceFits f.place (length f.field)) where
     own_gap : AllSeen (λ s. s ≡ f.number) (gap_at (gap_item channel) before f)
     own_gap = gap-each (λ x. seen_of x ≡ f.number) (gap_item channel) before f (λ expected. refl)
 
     own_vca : AllSeen (λ s. s ≡ f.number) (vca_at channel f)
     own_vca = Each-cond (λ x. seen_of x ≡ f.number) f.is_vca _ (λ e. (refl, tt))
 
-    own_parts : AllSeen (λ s. s ≡ f.number) (part_items channel (chain_parts_at limit (has_gap before f) f.is_vca tail f))
+    own_parts : AllSeen (λ s. s ≡ f.number) (part_items channel (chain_parts_at limit (has_frame_gap before f) f.is_vca tail f))
     own_parts =
-        part_items-each (λ x. seen_of x ≡ f.number) limit channel f.number (λ p most. refl) (λ p reason. refl) _ (chain_parts_at-at limit (has_gap before f) f.is_vca tail f)
+        part_items-each (λ x. seen_of x ≡ f.number) limit channel f.number (λ p most. refl) (λ p reason. refl) _ (chain_parts_at-at limit (has_frame_gap before f) f.is_vca tail f)
 
     -- at its own record a member gives its items, whatever comes later
     pub items-here : FitFrom (suc f.number) fs → seen_at f.number (items_after channel before tail (f ∷ fs)) ≡ member_items channel before tail f
@@ -181,12 +181,12 @@ module _ (limit : ℕ) where
         (none_before (suc f.number) f.number _ (omega arith) (vcas-seen (λ s. suc f.number ≤ s) channel fs h))
         (seen_at-all f.number _ own_parts)
         (none_before (suc f.number) f.number _ (omega arith)
-        (parts-seen (λ s. suc f.number ≤ s) channel (Some f.count) _ fs (chain_tail_at-open limit (has_gap before f) f.is_vca tail f unwhole) h))
+        (parts-seen (λ s. suc f.number ≤ s) channel (Some f.count) _ fs (chain_tail_at-open limit (has_frame_gap before f) f.is_vca tail f unwhole) h))
 
     -- at another record it is as if the member were done, and had left its count and its tail
     pub items-there : (n : ℕ) → (f.number ≡ n → ⊥)
         → seen_at n (items_after channel before tail (f ∷ fs))
-        ≡ seen_at n (items_after channel (Some f.count) (chain_tail_at limit (has_gap before f) f.is_vca tail f) fs)
+        ≡ seen_at n (items_after channel (Some f.count) (chain_tail_at limit (has_frame_gap before f) f.is_vca tail f) fs)
     items-there n ne =
         ap (λ (ps : List Item). seen_at n ((gap_at (gap_item channel) before f ++ gaps (gap_item channel) (Some f.count) fs) ++ (vca_at channel f ++ flat_map (vca_at channel) fs) ++ ps))
         (part_items-step channel before tail f fs unwhole fits)

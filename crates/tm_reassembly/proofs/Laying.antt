@@ -6,19 +6,19 @@ use Rattle.std.proofs.lemmas.Bool.{leb-true, eqb-true, cases_lt, cases_Bool, con
 use Rattle.tm_items.specs.declared.items.Reason.TheVariants as why
 use Rattle.tm_items.specs.declared.items.Reason.{Reason}
 use Rattle.tm_reassembly.specs.State.{Tail}
-use Rattle.tm_reassembly.specs.Chain.{Member}
+use Rattle.tm_reassembly.specs.Chain.{ChainMember}
 use Rattle.tm_reassembly.proofs.Long.{agrees-place}
 use Rattle.tm_reassembly.specs.Parts.{Part, agrees, agrees_at, begins_packet, reason_at, lead_part, front_of}
 use Rattle.tm_items.specs.OnePacket.{reach}
-use Rattle.tm_reassembly.specs.Field.{stop_of, field_parts, unfinished, parts_in, left_in, tail_at, frame_parts, frame_tail, tail_parts, tail_left, step_parts, step_tail, ended_parts, chain_parts_at, chain_tail_at}
-use Rattle.tm_reassembly.specs.Tiles.{Spot, field_spots, octets_at, BeginsAt, IsHeld}
+use Rattle.tm_reassembly.specs.code.Field.{end_place_of, field_parts, unfinished, parts_in, left_in, tail_at, frame_parts, frame_tail, tail_parts, tail_left, step_parts, step_tail, ended_parts, chain_parts_at, chain_tail_at}
+use Rattle.tm_reassembly.specs.Tiles.{Spot, field_spots, spot_octets, BeginsAt, IsHeld}
 use Rattle.tm_items.proofs.Reach.{reach-least}
 use Rattle.tm_reassembly.proofs.Split.{whole_part, unread_part, field_parts-whole, field_parts-version, field_parts-unfinished, unfinished-whole, unfinished-version, unfinished-last}
 use Rattle.tm_reassembly.proofs.Chained.{IsOpenTail}
 
 abbrev pub Piece : List Spot → ℕ → ℕ → List ℕ → List Spot → Type 0
 Piece spots first place octets rest =
-    (these : List Spot) × (spots ≡ these ++ rest) × (octets_at these ≡ octets) × BeginsAt first place these
+    (these : List Spot) × (spots ≡ these ++ rest) × (spot_octets these ≡ octets) × BeginsAt first place these
 
 abbrev pub Lay : List Spot → List Part → List Spot → Type 0
 Lay spots [] rest = spots ≡ rest
@@ -44,7 +44,7 @@ laid_by : (spots : List Spot) (ps qs : List Part) (t u : Option Tail) → ps ≡
 laid_by spots ps qs t u e f h =
     subst (λ (z : List Part). Laid spots z t) (sym e) (subst (λ (z : Option Tail). Laid spots qs z) (sym f) h)
 
-octets-field : (number place : ℕ) (o : List ℕ) → octets_at (field_spots number place o) ≡ o
+octets-field : (number place : ℕ) (o : List ℕ) → spot_octets (field_spots number place o) ≡ o
 octets-field number place [] = refl
 octets-field number place (x ∷ xs) = ap (λ (t : List ℕ). x ∷ t) (octets-field number (place + 1) xs)
 
@@ -73,10 +73,10 @@ begins-more : (first place : ℕ) (a b : List Spot) → BeginsAt first place a �
 begins-more first place [] b h = absurd h
 begins-more first place (x ∷ a) b h = h
 
-abbrev pub spots_of : Member → List Spot
+abbrev pub spots_of : ChainMember → List Spot
 spots_of m = field_spots m.number m.base m.field
 
-lead_lays : (m : Member) (reason : Reason) (o : List ℕ) → Lay (field_spots m.number m.base o) (lead_part m reason o) []
+lead_lays : (m : ChainMember) (reason : Reason) (o : List ℕ) → Lay (field_spots m.number m.base o) (lead_part m reason o) []
 lead_lays m reason [] = refl
 lead_lays m reason (x ∷ xs) =
     ([], (field_spots m.number m.base (x ∷ xs), sym (append-nil (field_spots m.number m.base (x ∷ xs))), octets-field m.number m.base (x ∷ xs), (refl, refl)), refl)
@@ -122,7 +122,7 @@ module _ (limit : ℕ) where
           (
             take (reach (x ∷ xs)) (field_spots number place (x ∷ xs)),
             sym (take_next (reach (x ∷ xs)) _ (field_spots number (place + 1) xs) some),
-            ap octets_at (take-field (reach (x ∷ xs)) number place (x ∷ xs)) ∙ octets-field number place (take (reach (x ∷ xs)) (x ∷ xs)),
+            ap spot_octets (take-field (reach (x ∷ xs)) number place (x ∷ xs)) ∙ octets-field number place (take (reach (x ∷ xs)) (x ∷ xs)),
             begins-take (reach (x ∷ xs)) number (stop - suc (length xs)) _ (field_spots number (place + 1) xs) some (refl, back),
           ),
           rest.1,
@@ -141,22 +141,22 @@ module _ (limit : ℕ) where
   field_lays number place stop skip o h = ([], refl, refl)
 
   -- a frame past its front
-  front_lays : (m : Member)
+  front_lays : (m : ChainMember)
       → (middle : List Spot) × (spots_of m ≡ field_spots m.number m.base (front_of m.place m.field) ++ middle) × Laid middle (frame_parts limit m) (frame_tail limit m)
   front_lays m =
       elim m.place as (λ v.
       (middle : List Spot) × (field_spots m.number m.base m.field ≡ field_spots m.number m.base (front_of v m.field) ++ middle)
-      × Laid middle (parts_in limit m.number (stop_of m) v m.field) (tail_at m.number (stop_of m) (left_in limit v m.field))) [
+      × Laid middle (parts_in limit m.number (end_place_of m) v m.field) (tail_at m.number (end_place_of m) (left_in limit v m.field))) [
         | None ↦ ([], sym (append-nil (field_spots m.number m.base m.field)), ([], refl, refl))
         | Some place ↦ (
           drop place (field_spots m.number m.base m.field),
           sym (take-append-drop place (field_spots m.number m.base m.field))
               ∙ ap (λ (s : List Spot). s ++ drop place (field_spots m.number m.base m.field)) (take-field place m.number m.base m.field),
-          field_lays m.number m.base (stop_of m) place m.field refl,
+          field_lays m.number m.base (end_place_of m) place m.field refl,
         )
       ]
 
-  frame_lays : (m : Member) (reason : Reason)
+  frame_lays : (m : ChainMember) (reason : Reason)
       → Laid (spots_of m) (lead_part m reason (front_of m.place m.field) ++ frame_parts limit m) (frame_tail limit m)
   frame_lays m reason =
       let f = front_lays m in (
@@ -169,7 +169,7 @@ module _ (limit : ℕ) where
       )
 
   -- a tail and a frame
-  tail_lays : (t : Tail) (m : Member) (h : List Spot) → IsHeld (Some t) h
+  tail_lays : (t : Tail) (m : ChainMember) (h : List Spot) → IsHeld (Some t) h
       → Laid (h ++ spots_of m) (tail_parts limit t m (reach (t.octets ++ m.field))) (tail_left limit t m (reach (t.octets ++ m.field)))
   tail_lays t m h held =
       let d : ℕ = reach (t.octets ++ m.field) in
@@ -215,16 +215,16 @@ module _ (limit : ℕ) where
       (f.0, (spots_of m, (h, refl, held.0, held.1), f.1), f.2))
       (cases_Bool (agrees limit d a m))
     where
-      both_octets : (a b : List Spot) (u v : List ℕ) → octets_at a ≡ u → octets_at b ≡ v → octets_at (a ++ b) ≡ u ++ v
+      both_octets : (a b : List Spot) (u v : List ℕ) → spot_octets a ≡ u → spot_octets b ≡ v → spot_octets (a ++ b) ≡ u ++ v
       both_octets a b u v e f = map-append (λ x. x.octet) a b ∙ rw (e, f)
 
-  step_lays : (tail : Option Tail) (m : Member) (h : List Spot) → IsOpenTail limit tail → IsHeld tail h
+  step_lays : (tail : Option Tail) (m : ChainMember) (h : List Spot) → IsOpenTail limit tail → IsHeld tail h
       → Laid (h ++ spots_of m) (step_parts limit tail m) (step_tail limit tail m)
   step_lays None m h unwhole held =
       subst (λ (s : List Spot). Laid (s ++ spots_of m) (step_parts limit None m) (step_tail limit None m)) (sym held) (frame_lays m why.NoStart)
   step_lays (Some t) m h unwhole held = tail_lays t m h held
 
-  pub chain_lays : (gap vca : Bool) (tail : Option Tail) (m : Member) (h : List Spot) → IsOpenTail limit tail → IsHeld tail h
+  pub chain_lays : (gap vca : Bool) (tail : Option Tail) (m : ChainMember) (h : List Spot) → IsOpenTail limit tail → IsHeld tail h
       → Laid (h ++ plain_spots vca (spots_of m)) (chain_parts_at limit gap vca tail m) (chain_tail_at limit gap vca tail m)
   chain_lays true true tail m h unwhole held = cut_lays tail why.Gap m.number h held
   chain_lays false true tail m h unwhole held = cut_lays tail why.Vca m.number h held

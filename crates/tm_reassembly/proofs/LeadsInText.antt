@@ -3,7 +3,7 @@ use Rattle.std.proofs.Common.{◌≡◌, ℕ, ◌+◌, ◌≤◌, true, ◌&&◌
 use Rattle.std.specs.List.{flat_map}
 use Rattle.std.proofs.lemmas.Bool.{cases_Bool, cond-true, cond-false}
 use Rattle.tm_items.specs.declared.items.Reason.TheVariants as why
-use Rattle.tm_reassembly.specs.Chain.{Member}
+use Rattle.tm_reassembly.specs.Chain.{ChainMember}
 use Rattle.tm_reassembly.specs.Parts.{Start, Claim, text, far_end, begins_packet, agrees, agrees_at, reason_at, open_after, starts_of, claim, claims, lead, lead_part, front_of}
 use Rattle.tm_reassembly.specs.Absolute.{reach_at, IsLong, AgreesAt, Agrees, IsOpen, IsOpenAt, Iff, IsStart, IsIn, LiesAfter}
 use Rattle.tm_reassembly.proofs.OneOpen.{one-open}
@@ -37,24 +37,24 @@ only-one c (x ∷ a) b cs e one =
     absurd (omega arith)
 
 -- the text, split at the frame of a start
-text-at : (before later earlier between : List Member) (f m : Member) → before ≡ earlier ++ f ∷ between
+text-at : (before later earlier between : List ChainMember) (f m : ChainMember) → before ≡ earlier ++ f ∷ between
     → text (before ++ m ∷ later) ≡ text (earlier ++ f ∷ (between ++ m ∷ later))
 text-at before later earlier between f m e =
-    ap (λ (ms : List Member). text (ms ++ m ∷ later)) e ∙ ap text (append_assoc earlier (f ∷ between) (m ∷ later))
+    ap (λ (ms : List ChainMember). text (ms ++ m ∷ later)) e ∙ ap text (append_assoc earlier (f ∷ between) (m ∷ later))
 
 module _ (limit : ℕ) where
-  none-claimed : (before ahead : List Member)
-      → ((earlier between : List Member) (f : Member) (s : Start) → before ≡ earlier ++ f ∷ between → IsIn s (starts_of limit f) → claim limit between ahead s ≡ [])
+  none-claimed : (before ahead : List ChainMember)
+      → ((earlier between : List ChainMember) (f : ChainMember) (s : Start) → before ≡ earlier ++ f ∷ between → IsIn s (starts_of limit f) → claim limit between ahead s ≡ [])
       → claims limit before ahead ≡ []
   none-claimed [] ahead h = refl
   none-claimed (f ∷ before) ahead h =
       rw (
         no-claims (claim limit before ahead) (starts_of limit f) (λ s i. h [] before f s refl i),
-        none-claimed before ahead (λ earlier between g s e i. h (f ∷ earlier) between g s (ap (λ (ms : List Member). f ∷ ms) e) i),
+        none-claimed before ahead (λ earlier between g s e i. h (f ∷ earlier) between g s (ap (λ (ms : List ChainMember). f ∷ ms) e) i),
       )
       refl
 
-  has-claim : (earlier between ahead : List Member) (f : Member) (s : Start) (c : Claim) → IsIn s (starts_of limit f) → claim limit between ahead s ≡ c ∷ []
+  has-claim : (earlier between ahead : List ChainMember) (f : ChainMember) (s : Start) (c : Claim) → IsIn s (starts_of limit f) → claim limit between ahead s ≡ c ∷ []
       → Has c (claims limit (earlier ++ f ∷ between) ahead)
   has-claim [] between ahead f s c i e =
       let one = has-start (claim limit between ahead) c s (starts_of limit f) i e in (
@@ -71,11 +71,11 @@ module _ (limit : ℕ) where
       )
 
   -- no start is open
-  pub lead-no_start : (before later : List Member) (m : Member) → ((q : ℕ) → IsOpenAt limit (text (before ++ m ∷ later)) before q → ⊥)
+  pub lead-no_start : (before later : List ChainMember) (m : ChainMember) → ((q : ℕ) → IsOpenAt limit (text (before ++ m ∷ later)) before q → ⊥)
       → lead limit (claims limit before (m ∷ later)) m ≡ lead_part m why.NoStart (front_of m.place m.field)
   lead-no_start before later m h = ap (λ (cs : List Claim). lead limit cs m) (none-claimed before (m ∷ later) none)
     where
-      none : (earlier between : List Member) (f : Member) (s : Start) → before ≡ earlier ++ f ∷ between → IsIn s (starts_of limit f)
+      none : (earlier between : List ChainMember) (f : ChainMember) (s : Start) → before ≡ earlier ++ f ∷ between → IsIn s (starts_of limit f)
           → claim limit between (m ∷ later) s ≡ []
       none earlier between f s e i =
           let there = starts-there limit earlier f (between ++ m ∷ later) s i in
@@ -98,12 +98,12 @@ module _ (limit : ℕ) where
 
   -- the claims are one, and the frame agrees with it, or does so by its place, just if it agrees so with the packet that starts at q,
   -- where the frame begins at n
-  abbrev IsOne : List Claim → Member → List ℕ → ℕ → ℕ → Type 0
+  abbrev IsOne : List Claim → ChainMember → List ℕ → ℕ → ℕ → Type 0
   IsOne cs m t q n =
       (c : Claim) × (cs ≡ c ∷ []) × Iff (agrees limit c.far c.at m ≡ true) (Agrees limit t q n m)
       × Iff (agrees_at c.far c.at (length m.field) m.place ≡ true) (AgreesAt (reach_at t q) n (length m.field) m.place)
 
-  one-start : (earlier between later : List Member) (f m : Member) (s : Start) (skipped : List ℕ) → IsIn s (starts_of limit f) → LiesAfter f s skipped
+  one-start : (earlier between later : List ChainMember) (f m : ChainMember) (s : Start) (skipped : List ℕ) → IsIn s (starts_of limit f) → LiesAfter f s skipped
       → IsOpen limit (text (earlier ++ f ∷ (between ++ m ∷ later))) (length (text earlier) + length skipped) (earlier ++ f ∷ []) between
       → IsOne (claims limit (earlier ++ f ∷ between) (m ∷ later)) m (text (earlier ++ f ∷ (between ++ m ∷ later)))
       (length (text earlier) + length skipped) (length (text ((earlier ++ f ∷ []) ++ between)))
@@ -119,17 +119,17 @@ module _ (limit : ℕ) where
         place-at limit earlier f skipped s.octets lies.0 between (between ++ m ∷ later) m,
       )
 
-  one-at : (before later : List Member) (m : Member) (q : ℕ) → IsOpenAt limit (text (before ++ m ∷ later)) before q
+  one-at : (before later : List ChainMember) (m : ChainMember) (q : ℕ) → IsOpenAt limit (text (before ++ m ∷ later)) before q
       → IsOne (claims limit before (m ∷ later)) m (text (before ++ m ∷ later)) q (length (text before))
   one-at before later m q o =
       moved o.0 o.1 o.2 o.3 o.4 o.5
     where
-      moved : (earlier between : List Member) (f : Member) → before ≡ earlier ++ f ∷ between
+      moved : (earlier between : List ChainMember) (f : ChainMember) → before ≡ earlier ++ f ∷ between
           → IsStart limit (text (before ++ m ∷ later)) (length (text earlier)) (length (text earlier) + length f.field) f.place q
           → IsOpen limit (text (before ++ m ∷ later)) q (earlier ++ f ∷ []) between
           → IsOne (claims limit before (m ∷ later)) m (text (before ++ m ∷ later)) q (length (text before))
       moved earlier between f e start opened =
-          let ahead : List Member = m ∷ later in
+          let ahead : List ChainMember = m ∷ later in
           let all : List ℕ = text (earlier ++ f ∷ (between ++ m ∷ later)) in
           let same = text-at before later earlier between f m e in
           let found = starts-here limit earlier f (between ++ m ∷ later) q
@@ -140,12 +140,12 @@ module _ (limit : ℕ) where
           (subst (λ (t : List ℕ). IsOpen limit t q (earlier ++ f ∷ []) between) same opened)) in
           subst (λ (t : List ℕ). IsOne (claims limit before ahead) m t q (length (text before))) (sym same)
           (subst (λ (k : ℕ). IsOne (claims limit before ahead) m all k (length (text before))) (sym found.4)
-          (subst (λ (ms : List Member). IsOne (claims limit ms ahead) m all place (length (text ms))) (sym e)
-          (subst (λ (ms : List Member). IsOne (claims limit (earlier ++ f ∷ between) ahead) m all place (length (text ms)))
+          (subst (λ (ms : List ChainMember). IsOne (claims limit ms ahead) m all place (length (text ms))) (sym e)
+          (subst (λ (ms : List ChainMember). IsOne (claims limit (earlier ++ f ∷ between) ahead) m all place (length (text ms)))
           (append_assoc earlier (f ∷ []) between) one)))
 
   -- one is, and the frame agrees with it, or doesn't
-  lead-differs : (before later : List Member) (m : Member) (c : Claim) (r : Reason) → claims limit before (m ∷ later) ≡ c ∷ []
+  lead-differs : (before later : List ChainMember) (m : ChainMember) (c : Claim) (r : Reason) → claims limit before (m ∷ later) ≡ c ∷ []
       → (agrees limit c.far c.at m ≡ true → ⊥) → reason_at c.far c.at m ≡ r
       → lead limit (claims limit before (m ∷ later)) m ≡ lead_part m r (front_of m.place m.field)
   lead-differs before later m c r e differs why_not =
@@ -153,7 +153,7 @@ module _ (limit : ℕ) where
       ∙ ⊎_elim (λ agree. absurd (differs agree)) (λ differ. cond-false (agrees limit c.far c.at m) _ _ differ) (cases_Bool (agrees limit c.far c.at m))
       ∙ ap (λ (z : Reason). lead_part m z (front_of m.place m.field)) why_not
 
-  pub lead-pointer : (before later : List Member) (m : Member) (q : ℕ) → IsOpenAt limit (text (before ++ m ∷ later)) before q
+  pub lead-pointer : (before later : List ChainMember) (m : ChainMember) (q : ℕ) → IsOpenAt limit (text (before ++ m ∷ later)) before q
       → (AgreesAt (reach_at (text (before ++ m ∷ later)) q) (length (text before)) (length m.field) m.place → ⊥)
       → lead limit (claims limit before (m ∷ later)) m ≡ lead_part m why.Pointer (front_of m.place m.field)
   lead-pointer before later m q o differs =
@@ -162,7 +162,7 @@ module _ (limit : ℕ) where
       (⊎_elim (λ place. absurd (differs (one.3.0 place))) (λ place. cond-false (agrees_at one.0.far one.0.at (length m.field) m.place) _ _ place)
       (cases_Bool (agrees_at one.0.far one.0.at (length m.field) m.place)))
 
-  pub lead-long : (before later : List Member) (m : Member) (q : ℕ) → IsOpenAt limit (text (before ++ m ∷ later)) before q
+  pub lead-long : (before later : List ChainMember) (m : ChainMember) (q : ℕ) → IsOpenAt limit (text (before ++ m ∷ later)) before q
       → AgreesAt (reach_at (text (before ++ m ∷ later)) q) (length (text before)) (length m.field) m.place
       → IsLong limit (text (before ++ m ∷ later)) q (length (text before) + length m.field)
       → lead limit (claims limit before (m ∷ later)) m ≡ lead_part m why.Length (front_of m.place m.field)
@@ -171,7 +171,7 @@ module _ (limit : ℕ) where
       lead-differs before later m one.0 why.Length one.1 (λ agree. (one.2.0 agree).1 long)
       (cond-true (agrees_at one.0.far one.0.at (length m.field) m.place) _ _ (one.3.1 place))
 
-  pub lead-joined : (before later : List Member) (m : Member) (q : ℕ) → IsOpenAt limit (text (before ++ m ∷ later)) before q
+  pub lead-joined : (before later : List ChainMember) (m : ChainMember) (q : ℕ) → IsOpenAt limit (text (before ++ m ∷ later)) before q
       → Agrees limit (text (before ++ m ∷ later)) q (length (text before)) m
       → lead limit (claims limit before (m ∷ later)) m ≡ []
   lead-joined before later m q o agree =

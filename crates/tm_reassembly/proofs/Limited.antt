@@ -4,14 +4,14 @@ use Rattle.std.specs.List.{slice_get}
 use Rattle.std.proofs.lemmas.Bool.{cases_Bool}
 use Rattle.tm_frame.specs.Frame.{GoodFrame}
 use Rattle.tm_reassembly.specs.Among.{Among}
-use Rattle.tm_reassembly.specs.Chain.{Member, has_gap, member, master_member}
+use Rattle.tm_reassembly.specs.Chain.{ChainMember, has_frame_gap, member, master_member}
 use Rattle.tm_items.specs.Item.{Item, Packet}
-use Rattle.tm_reassembly.specs.Items.{master_gap_item, gap_item, gap_at, vca_at, items, after}
+use Rattle.tm_reassembly.specs.Items.{master_gap_item, gap_item, gap_at, vca_at, items_of_readings, state_after_readings}
 use Rattle.tm_reassembly.specs.Readings.{Reading}
 use Rattle.tm_reassembly.specs.Recording as raw
 use Rattle.tm_rules.specs.Rules.{Rules, chooses}
 use Rattle.tm_reassembly.specs.State.{State, Tail}
-use Rattle.tm_reassembly.specs.Valid.{IsFit, AllFit, IsState}
+use Rattle.tm_reassembly.specs.Valid.{IsFit, AllReadingsFit, IsValidState}
 use Rattle.tm_reassembly.proofs.Each.{Each, Each-append, Each-cond}
 use Rattle.tm_reassembly.proofs.Fits.{readings-fit}
 use Rattle.tm_reassembly.proofs.Joining.{before_of, tail_of, member_items, gap-each, part_items-each}
@@ -25,17 +25,17 @@ module _ (limit : ℕ) where
   Limited (Packet seen channel first place octets) = length octets ≤ limit
   Limited x = Unit {0}
 
-  each-master : (before : Option ℕ) (m : Member) → Each Limited (gap_at master_gap_item before m)
+  each-master : (before : Option ℕ) (m : ChainMember) → Each Limited (gap_at master_gap_item before m)
   each-master before m = gap-each Limited master_gap_item before m (λ expected. tt)
 
-  each-member : (channel : ℕ) (before : Option ℕ) (tail : Option Tail) (m : Member) → Each Limited (member_items limit channel before tail m)
+  each-member : (channel : ℕ) (before : Option ℕ) (tail : Option Tail) (m : ChainMember) → Each Limited (member_items limit channel before tail m)
   each-member channel before tail m =
       Each-append Limited (gap_at (gap_item channel) before m ++ vca_at channel m) _
       (Each-append Limited (gap_at (gap_item channel) before m) (vca_at channel m) (gap-each Limited (gap_item channel) before m (λ expected. tt)) (Each-cond Limited m.is_vca _ (λ e. (tt, tt))))
-      (part_items-each Limited limit channel m.number (λ p most. most) (λ p reason. tt) _ (chain_parts_at-at limit (has_gap before m) m.is_vca tail m))
+      (part_items-each Limited limit channel m.number (λ p most. most) (λ p reason. tt) _ (chain_parts_at-at limit (has_frame_gap before m) m.is_vca tail m))
 
   module _ (chosen : ℕ → Bool) where
-    each-good : (s : State) (g : GoodFrame) → HasOpenTails limit chosen s → IsFit (Ok g) → Each Limited (items limit chosen s (Ok g ∷ []))
+    each-good : (s : State) (g : GoodFrame) → HasOpenTails limit chosen s → IsFit (Ok g) → Each Limited (items_of_readings limit chosen s (Ok g ∷ []))
     each-good s g v fit =
         ⊎_elim
         (λ e.
@@ -46,17 +46,17 @@ module _ (limit : ℕ) where
         (λ e. subst (Each Limited) (sym (items-other limit chosen s g e)) (each-master s.master (master_member s.records g)))
         (cases_Bool (chosen g.channel))
 
-    each-item : (s : State) (rs : List Reading) → HasOpenTails limit chosen s → AllFit rs → Each Limited (items limit chosen s rs)
+    each-item : (s : State) (rs : List Reading) → HasOpenTails limit chosen s → AllReadingsFit rs → Each Limited (items_of_readings limit chosen s rs)
     each-item s [] v fits = tt
     each-item s (Err fault ∷ rs) v fits =
         subst (Each Limited) (sym (items-cons limit chosen s (Err fault) v tt rs fits.1))
-        (tt, each-item (after limit chosen s (Err fault ∷ [])) rs (valid-after limit chosen s (Err fault) v tt) fits.1)
+        (tt, each-item (state_after_readings limit chosen s (Err fault ∷ [])) rs (valid-after limit chosen s (Err fault) v tt) fits.1)
     each-item s (Ok g ∷ rs) v fits =
         subst (Each Limited) (sym (items-cons limit chosen s (Ok g) v fits.0 rs fits.1))
-        (Each-append Limited (items limit chosen s (Ok g ∷ [])) (items limit chosen (after limit chosen s (Ok g ∷ [])) rs)
-        (each-good s g v fits.0) (each-item (after limit chosen s (Ok g ∷ [])) rs (valid-after limit chosen s (Ok g) v fits.0) fits.1))
+        (Each-append Limited (items_of_readings limit chosen s (Ok g ∷ [])) (items_of_readings limit chosen (state_after_readings limit chosen s (Ok g ∷ [])) rs)
+        (each-good s g v fits.0) (each-item (state_after_readings limit chosen s (Ok g ∷ [])) rs (valid-after limit chosen s (Ok g) v fits.0) fits.1))
 
-pub packets-limited : (rules : Rules) (s : State) (records : List (List ℕ)) → IsState rules s
+pub packets-limited : (rules : Rules) (s : State) (records : List (List ℕ)) → IsValidState rules s
     → (seen channel first place : ℕ) (octets : List ℕ) → Among (Packet seen channel first place octets) (raw.items rules s records) → length octets ≤ rules.max_packet
 unfolding raw.items
 packets-limited rules s records v seen channel first place octets a =

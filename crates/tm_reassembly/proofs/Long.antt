@@ -1,7 +1,7 @@
 -- Packets over the limit: where their header isn't there yet they aren't long, and a frame that agrees has none.
 use Rattle.std.proofs.Common.{◌≡◌, ℕ, ◌+◌, ◌<◌, ◌≤◌, Bool, true, false, not, ◌&&◌, List, ◌∷◌, ◌++◌, length, refl, ap, ◌∙◌, ⊎_elim, arith, length-append, leb, ltb}
 use Rattle.std.proofs.lemmas.Bool.{lt-leb, leb-false, ltb-false, and_parts, and_cases, not-true}
-use Rattle.tm_reassembly.specs.Chain.{Member}
+use Rattle.tm_reassembly.specs.Chain.{ChainMember}
 use Rattle.tm_items.specs.OnePacket.{is_packet, reach}
 use Rattle.tm_reassembly.specs.Parts.{is_long, begins_packet, agrees, agrees_at}
 
@@ -17,7 +17,7 @@ pub within-limit : (limit far stop : ℕ) → 6 ≤ stop → is_long limit far s
 within-limit limit far stop there h =
     ⊎_elim (λ e. absurd (let less = leb-false 6 stop e in omega arith)) (λ e. ltb-false limit far e) (and_cases (leb 6 stop) (ltb limit far) h)
 
-module _ (limit far at : ℕ) (m : Member) (agree : agrees limit far at m ≡ true) where
+module _ (limit far at : ℕ) (m : ChainMember) (agree : agrees limit far at m ≡ true) where
   -- a frame that agrees does so by its place
   pub agrees-place : agrees_at far at (length m.field) m.place ≡ true
   agrees-place = (and_parts (agrees_at far at (length m.field) m.place) (not (is_long limit far (at + length m.field))) agree).0
@@ -35,7 +35,7 @@ pub begins-short : (limit : ℕ) (start : List ℕ) → begins_packet limit star
 begins-short limit start h = not-true (is_long limit (reach start) (length start)) (and_parts (is_packet start) (not (is_long limit (reach start) (length start))) h).1
 
 -- a start and a frame that agrees with it are one longer start
-pub begins-longer : (limit x : ℕ) (xs : List ℕ) (f : Member) → begins_packet limit (x ∷ xs) ≡ true
+pub begins-longer : (limit x : ℕ) (xs : List ℕ) (f : ChainMember) → begins_packet limit (x ∷ xs) ≡ true
     → agrees limit (reach ((x ∷ xs) ++ f.field)) (length (x ∷ xs)) f ≡ true → begins_packet limit ((x ∷ xs) ++ f.field) ≡ true
 begins-longer limit x xs f h agree =
     let len : length ((x ∷ xs) ++ f.field) ≡ length (x ∷ xs) + length f.field = length-append (x ∷ xs) f.field in

@@ -7,8 +7,8 @@ use Rattle.tm_frame.specs.Frame.{GoodFrame}
 use Rattle.tm_reassembly.specs.Readings.{Reading}
 use Rattle.tm_items.specs.Item.{Item, seen_of}
 use Rattle.tm_reassembly.specs.State.{State}
-use Rattle.tm_reassembly.specs.Chain.{Member, master_member, master_frames, master_stem, master_chain}
-use Rattle.tm_reassembly.specs.Items.{seen_at, master_gap_item, gap_at, gaps, master_items, last_count}
+use Rattle.tm_reassembly.specs.Chain.{ChainMember, master_member, master_frames, master_stem, master_chain}
+use Rattle.tm_reassembly.specs.Items.{seen_at, master_gap_item, gap_at, gaps, master_items, last_frame_count}
 use Rattle.tm_reassembly.proofs.Joining.{none_before, none_other, gap-each, gaps-each}
 use Rattle.tm_reassembly.proofs.Seen.{AllSeen, seen_at-all}
 
@@ -18,16 +18,16 @@ master_after before (Err fault) = before
 master_after before (Ok g) = Some g.master_count
 
 -- the gaps of members behind a stem with this count, or behind none
-pub masters-is : (before : Option ℕ) (ms : List Member) → master_items (master_stem before ++ ms) ≡ gaps master_gap_item before ms
+pub masters-is : (before : Option ℕ) (ms : List ChainMember) → master_items (master_stem before ++ ms) ≡ gaps master_gap_item before ms
 masters-is None ms = refl
 masters-is (Some count) ms = refl
 
-last-is : (before : Option ℕ) (ms : List Member) → last_count None (master_stem before ++ ms) ≡ last_count before ms
+last-is : (before : Option ℕ) (ms : List ChainMember) → last_frame_count None (master_stem before ++ ms) ≡ last_frame_count before ms
 last-is None ms = refl
 last-is (Some count) ms = refl
 
 -- a gap is seen at its frame's record
-pub master-at : (before : Option ℕ) (m : Member) → AllSeen (λ s. s ≡ m.number) (gap_at master_gap_item before m)
+pub master-at : (before : Option ℕ) (m : ChainMember) → AllSeen (λ s. s ≡ m.number) (gap_at master_gap_item before m)
 master-at before m = gap-each (λ x. seen_of x ≡ m.number) master_gap_item before m (λ expected. refl)
 
 -- the gaps of records that are numbered from k on are seen at k or later
@@ -60,7 +60,7 @@ masters-there k n before (Ok g) rs ne =
     (none_other k n (gap_at master_gap_item before (master_member k g)) ne (master-at before (master_member k g)))
 
 last-later : (k : ℕ) (before : Option ℕ) (r : Reading) (rs : List Reading)
-    → last_count before (master_frames k (r ∷ rs)) ≡ last_count (master_after before r) (master_frames (k + 1) rs)
+    → last_frame_count before (master_frames k (r ∷ rs)) ≡ last_frame_count (master_after before r) (master_frames (k + 1) rs)
 last-later k before (Err fault) rs = refl
 last-later k before (Ok g) rs = refl
 
@@ -71,7 +71,7 @@ pub masters-now : (s : State) (g : GoodFrame) (rs : List Reading)
 masters-now s g rs =
     ap (seen_at s.records) (masters-is s.master (master_frames s.records (Ok g ∷ rs))) ∙ masters-here s.records s.master g rs
 
-pub master-moved : (s : State) (r : Reading) → last_count None (master_chain s (r ∷ [])) ≡ master_after s.master r
+pub master-moved : (s : State) (r : Reading) → last_frame_count None (master_chain s (r ∷ [])) ≡ master_after s.master r
 master-moved s r = last-is s.master (master_frames s.records (r ∷ [])) ∙ last-later s.records s.master r []
 
 module _ (s t : State) (r : Reading) (moved : t.master ≡ master_after s.master r) (next : t.records ≡ s.records + 1) where
@@ -84,7 +84,7 @@ module _ (s t : State) (r : Reading) (moved : t.master ≡ master_after s.master
       ∙ rw (moved, next) (ap (seen_at n) (sym (masters-is (master_after s.master r) (master_frames (s.records + 1) rs))))
 
   -- the count that is left at the end
-  pub master-later : (rs : List Reading) → last_count None (master_chain s (r ∷ rs)) ≡ last_count None (master_chain t rs)
+  pub master-later : (rs : List Reading) → last_frame_count None (master_chain s (r ∷ rs)) ≡ last_frame_count None (master_chain t rs)
   master-later rs =
       last-is s.master (master_frames s.records (r ∷ rs))
       ∙ last-later s.records s.master r rs

@@ -10,17 +10,17 @@ use Rattle.std.proofs.lemmas.Bool.{cases_Bool, cases_eq, cond_both, cond-true, c
 use Rattle.std.proofs.lemmas.List.{append-nil, length-map}
 use Rattle.std.proofs.lemmas.List.Elements.{filter-append}
 use Rattle.tm_frame.specs.Frame.{GoodFrame}
-use Rattle.tm_frame.specs.Fault.{reading_of}
+use Rattle.tm_frame.specs.Fault.{frame_reading_of}
 use Rattle.tm_reassembly.specs.Readings.{Reading}
 use Rattle.tm_reassembly.specs.State.{State, Last}
 use Rattle.tm_items.specs.Item as item
 use Rattle.tm_items.specs.Item.{Item, seen_of}
-use Rattle.tm_reassembly.specs.Chain.{Member, chain, frames, master_chain, member_of, master_member, master_frames}
+use Rattle.tm_reassembly.specs.Chain.{ChainMember, chain, frames, master_chain, member_of, master_member, master_frames}
 use Rattle.tm_reassembly.specs.Parts.{Part, Fate, Held}
 use Rattle.tm_reassembly.specs.Items.{part_item, seen_at, gap_item, master_gap_item, gaps, gap_at, vca_at, master_items, channel_items, chain_parts, record_items, merged, part_items}
 use Rattle.tm_rules.specs.Rules.{Rules, chooses}
 use Rattle.tm_reassembly.specs.Recording.{readings, items}
-use Rattle.tm_reassembly.specs.Valid.{AllFit, PlaceFits, IsState, IsFit}
+use Rattle.tm_reassembly.specs.Valid.{AllReadingsFit, PlaceFits, IsValidState, IsFit}
 use Rattle.tm_reassembly.specs.Among.{Among, is_of, is_master_gap}
 use Rattle.tm_reassembly.proofs.Seen.{AllSeen, seen_at-all, seen_at-none}
 use Rattle.tm_reassembly.proofs.Joining.{before_of, tail_of, channel_items-is, AllNumbered, items-seen, gaps-each, vcas-each, none_other, gap-each}
@@ -34,7 +34,7 @@ IsFrame c k rs n = (i : ℕ) × (g : GoodFrame) × (n ≡ k + i) × (slice_get r
 next-frame : (c k : ℕ) (r : Reading) (rs : List Reading) (n : ℕ) → IsFrame c (k + 1) rs n → IsFrame c k (r ∷ rs) n
 next-frame c k r rs n h = let e = h.2 in (suc h.0, h.1, omega arith, h.3, h.4)
 
-frames-numbered : (c k : ℕ) (rs : List Reading) → AllFit rs → AllNumbered (IsFrame c k rs) (frames c k rs)
+frames-numbered : (c k : ℕ) (rs : List Reading) → AllReadingsFit rs → AllNumbered (IsFrame c k rs) (frames c k rs)
 frames-numbered c k [] h = tt
 frames-numbered c k (r ∷ rs) h =
     Each-append (λ m. IsFrame c k (r ∷ rs) m.number × PlaceFits m.place (length m.field)) (member_of c k r) (frames c (k + 1) rs) (own r h.0)
@@ -87,7 +87,7 @@ abbrev pub AllOf : ℕ → List Item → Type 0
 AllOf c xs = Each (λ x. is_of c x ≡ true) xs
 
 -- of whatever members
-any-member : (ms : List Member) → Each (λ m. Unit {0}) ms
+any-member : (ms : List ChainMember) → Each (λ m. Unit {0}) ms
 any-member [] = tt
 any-member (m ∷ ms) = (tt, any-member ms)
 
@@ -100,7 +100,7 @@ parts-of c (p ∷ ps) = Each-append (λ x. is_of c x ≡ true) (part_item c p p.
     one f = (eq-eqb c c refl, tt)
 
 -- master gaps are of no channel
-masters-of : (c : ℕ) (ms : List Member) → Each (λ x. is_of c x ≡ false) (master_items ms)
+masters-of : (c : ℕ) (ms : List ChainMember) → Each (λ x. is_of c x ≡ false) (master_items ms)
 masters-of c ms = gaps-each (λ m. Unit {0}) (λ x. is_of c x ≡ false) master_gap_item (λ m expected h. refl) None ms (any-member ms)
 
 -- and of no other
@@ -125,14 +125,14 @@ seen-exact n xs =
     Each-weaken (λ x. eqb (seen_of x) n ≡ true) (λ x. seen_of x ≡ n) (seen_at n xs) (λ x e. eqb-true (seen_of x) n e) (filter-passes (λ x. eqb (seen_of x) n) xs)
 
 -- the items of a channel are seen at good frames of it
-channel-seen : (rules : Rules) (s : State) → IsState rules s → (c : ℕ) (rs : List Reading) → AllFit rs
+channel-seen : (rules : Rules) (s : State) → IsValidState rules s → (c : ℕ) (rs : List Reading) → AllReadingsFit rs
     → AllSeen (IsFrame c s.records rs) (channel_items rules.max_packet c (chain s c rs))
 channel-seen rules s v c rs fits =
     let x : Option (Option Last) = slice_get s.channels c in
     subst (AllSeen (IsFrame c s.records rs)) (sym (channel_items-is rules.max_packet c x (frames c s.records rs)))
     (items-seen rules.max_packet (IsFrame c s.records rs) c (before_of x) (tail_of x) (frames c s.records rs) (open-at rules.max_packet (chooses rules) s v.shape c) (frames-numbered c s.records rs fits))
 
-pub seen-in_time : (rules : Rules) (s : State) (records : List (List ℕ)) → IsState rules s
+pub seen-in_time : (rules : Rules) (s : State) (records : List (List ℕ)) → IsValidState rules s
     → (c : ℕ) (x : Item) → Among x (channel_items rules.max_packet c (chain s c (readings rules.layout records)))
     → (s.records ≤ seen_of x) × (seen_of x < s.records + length records)
 seen-in_time rules s records v c x a =
@@ -140,11 +140,11 @@ seen-in_time rules s records v c x a =
     let f = among-each (λ y. IsFrame c s.records rs (seen_of y)) x _ (channel-seen rules s v c rs (readings-fit rules.layout records)) a in
     let at : seen_of x ≡ s.records + f.0 = f.2 in
     let inside : f.0 < length (readings rules.layout records) = slice_get_within (readings rules.layout records) f.0 (Ok f.1) f.3 in
-    let len : length (readings rules.layout records) ≡ length records = length-map records (reading_of rules.layout) in
+    let len : length (readings rules.layout records) ≡ length records = length-map records (frame_reading_of rules.layout) in
     (omega arith, omega arith)
 
 module _ (limit : ℕ) where
-  pub channel-of : (c : ℕ) (ms : List Member) → AllOf c (channel_items limit c ms)
+  pub channel-of : (c : ℕ) (ms : List ChainMember) → AllOf c (channel_items limit c ms)
   channel-of c ms =
       Each-append (λ x. is_of c x ≡ true) (gaps (gap_item c) None ms ++ flat_map (vca_at c) ms) (part_items c (chain_parts limit ms))
       (Each-append (λ x. is_of c x ≡ true) (gaps (gap_item c) None ms) (flat_map (vca_at c) ms)
@@ -199,7 +199,7 @@ module _ (limit : ℕ) where
     from-merged k (r ∷ rs) c x own a =
         ⊎_elim (from-record k r c x own) (from-merged (k + 1) rs c x own) (among-either x (record_items limit chosen s all k r) (merged limit chosen s all (k + 1) rs) a)
 
-pub channel-told : (rules : Rules) (s : State) (records : List (List ℕ)) → IsState rules s
+pub channel-told : (rules : Rules) (s : State) (records : List (List ℕ)) → IsValidState rules s
     → (c : ℕ) → chooses rules c ≡ true → (x : Item) → Among x (channel_items rules.max_packet c (chain s c (readings rules.layout records))) → Among x (items rules s records)
 unfolding items
 channel-told rules s records v c is_chosen x a =
@@ -316,7 +316,7 @@ module _ (limit : ℕ) where
         (λ ne. before-it k r rs ne (either (k + 1) rs))
         (cases_eq k n)
 
-pub channel-in_order : (rules : Rules) (s : State) (records : List (List ℕ)) → IsState rules s
+pub channel-in_order : (rules : Rules) (s : State) (records : List (List ℕ)) → IsValidState rules s
     → (c : ℕ) → chooses rules c ≡ true → (n : ℕ)
     → seen_at n (filter (λ x. is_of c x) (items rules s records)) ≡ seen_at n (channel_items rules.max_packet c (chain s c (readings rules.layout records)))
 unfolding items
@@ -344,7 +344,7 @@ not_master c x h = refl
 
 module _ (limit : ℕ) (chosen : ℕ → Bool) where
   -- one good frame
-  good-in : (s : State) (g : GoodFrame) → masters_in (read.items limit chosen s (Ok g ∷ [])) ≡ gap_at master_gap_item s.master (master_member s.records g)
+  good-in : (s : State) (g : GoodFrame) → masters_in (read.items_of_readings limit chosen s (Ok g ∷ [])) ≡ gap_at master_gap_item s.master (master_member s.records g)
   good-in s g =
       let own : List Item = (if chosen g.channel then seen_at s.records (channel_items limit g.channel (chain s g.channel (Ok g ∷ []))) else []) in
       let none : masters_in (if chosen g.channel then seen_at s.records (channel_items limit g.channel (chain s g.channel (Ok g ∷ []))) else []) ≡ [] =
@@ -359,22 +359,22 @@ module _ (limit : ℕ) (chosen : ℕ → Bool) where
       ∙ ap masters_in (masters-now s g [])
       ∙ filter-all is_master_gap _ (gap-each (λ x. is_master_gap x ≡ true) master_gap_item s.master (master_member s.records g) (λ expected. refl))
 
-  all-in : (s : State) (rs : List Reading) → HasOpenTails limit chosen s → AllFit rs
-      → masters_in (read.items limit chosen s rs) ≡ gaps master_gap_item s.master (master_frames s.records rs)
+  all-in : (s : State) (rs : List Reading) → HasOpenTails limit chosen s → AllReadingsFit rs
+      → masters_in (read.items_of_readings limit chosen s rs) ≡ gaps master_gap_item s.master (master_frames s.records rs)
   all-in s [] v fits = refl
   all-in s (Err fault ∷ rs) v fits =
       ap masters_in (items-cons limit chosen s (Err fault) v tt rs fits.1)
-      ∙ all-in (read.after limit chosen s (Err fault ∷ [])) rs (valid-after limit chosen s (Err fault) v tt) fits.1
+      ∙ all-in (read.state_after_readings limit chosen s (Err fault ∷ [])) rs (valid-after limit chosen s (Err fault) v tt) fits.1
       ∙ ap (λ (before : Option ℕ). gaps master_gap_item before (master_frames (s.records + 1) rs)) (master-moved s (Err fault))
   all-in s (Ok g ∷ rs) v fits =
       ap masters_in (items-cons limit chosen s (Ok g) v fits.0 rs fits.1)
-      ∙ filter-append is_master_gap (read.items limit chosen s (Ok g ∷ [])) (read.items limit chosen (read.after limit chosen s (Ok g ∷ [])) rs)
-      ∙ ap (λ (xs : List Item). xs ++ masters_in (read.items limit chosen (read.after limit chosen s (Ok g ∷ [])) rs)) (good-in s g)
+      ∙ filter-append is_master_gap (read.items_of_readings limit chosen s (Ok g ∷ [])) (read.items_of_readings limit chosen (read.state_after_readings limit chosen s (Ok g ∷ [])) rs)
+      ∙ ap (λ (xs : List Item). xs ++ masters_in (read.items_of_readings limit chosen (read.state_after_readings limit chosen s (Ok g ∷ [])) rs)) (good-in s g)
       ∙ ap (λ (xs : List Item). gap_at master_gap_item s.master (master_member s.records g) ++ xs)
-      (all-in (read.after limit chosen s (Ok g ∷ [])) rs (valid-after limit chosen s (Ok g) v fits.0) fits.1
+      (all-in (read.state_after_readings limit chosen s (Ok g ∷ [])) rs (valid-after limit chosen s (Ok g) v fits.0) fits.1
       ∙ ap (λ (before : Option ℕ). gaps master_gap_item before (master_frames (s.records + 1) rs)) (master-moved s (Ok g)))
 
-pub masters-told : (rules : Rules) (s : State) (records : List (List ℕ)) → IsState rules s
+pub masters-told : (rules : Rules) (s : State) (records : List (List ℕ)) → IsValidState rules s
     → filter is_master_gap (items rules s records) ≡ master_items (master_chain s (readings rules.layout records))
 unfolding items
 masters-told rules s records v =

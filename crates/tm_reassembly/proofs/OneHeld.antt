@@ -8,7 +8,7 @@ use Rattle.std.proofs.lemmas.Bool.{cases_Bool, cases_lt, cond_both, cond-true, c
 use Rattle.tm_items.specs.declared.items.Reason.TheVariants as why
 use Rattle.tm_items.specs.declared.items.Reason.{Reason}
 use Rattle.tm_reassembly.specs.State.{Tail}
-use Rattle.tm_reassembly.specs.Chain.{Member, Run, Runs, End, Unended, Ended, runs_after, has_gap, cut_before, with_member}
+use Rattle.tm_reassembly.specs.Chain.{ChainMember, Run, Runs, End, Unended, Ended, runs_after, has_frame_gap, cut_before, with_member}
 use Rattle.tm_reassembly.specs.Parts.{Part, Claim, Start, text, far_end, begins_packet, agrees, breaker, starts, starts_from, starts_of, fate_at, packet_part, part_from, start_part, claims, lead, lead_part, reason_at, front_of, parts_from, parts}
 use Rattle.tm_items.specs.OnePacket.{reach}
 use Rattle.tm_reassembly.specs.Items.{held_part, chain_parts}
@@ -18,23 +18,23 @@ use Rattle.tm_reassembly.proofs.OneOpen.{no-starts}
 abbrev tails : List Part → List Tail
 tails ps = flat_map (λ p. held_part p p.fate) ps
 
-lead_part-tails : (m : Member) (reason : Reason) (o : List ℕ) → tails (lead_part m reason o) ≡ []
+lead_part-tails : (m : ChainMember) (reason : Reason) (o : List ℕ) → tails (lead_part m reason o) ≡ []
 lead_part-tails m reason [] = refl
 lead_part-tails m reason (x ∷ xs) = refl
 
 module _ (limit : ℕ) where
   -- a start that reaches past all later frames, and each of them agrees with it
-  abbrev Stays : List Member → Type 0
+  abbrev Stays : List ChainMember → Type 0
   Stays later = (start : List ℕ) × (breaker limit (far_end start later) (length start) later ≡ None) × (length start + length (text later) < far_end start later)
 
-  lead-tails : (cs : List Claim) (m : Member) → tails (lead limit cs m) ≡ []
+  lead-tails : (cs : List Claim) (m : ChainMember) → tails (lead limit cs m) ≡ []
   lead-tails [] m = lead_part-tails m why.NoStart (front_of m.place m.field)
   lead-tails (c ∷ more) m =
       cond_both (agrees limit c.far c.at m) [] (lead_part m (reason_at c.far c.at m) (front_of m.place m.field)) (λ (ps : List Part). tails ps ≡ [])
       (λ e. refl) (λ e. lead_part-tails m (reason_at c.far c.at m) (front_of m.place m.field))
 
   -- the tails of a frame's starts, and of the frames after it
-  split-tails : (before : List Member) (m : Member) (later : List Member) (end : End)
+  split-tails : (before : List ChainMember) (m : ChainMember) (later : List ChainMember) (end : End)
       → tails (parts_from limit before (m ∷ later) end)
       ≡ tails (map (start_part limit m later end) (starts_of limit m)) ++ tails (parts_from limit (before ++ m ∷ []) later end)
   split-tails before m later end =
@@ -46,8 +46,8 @@ module _ (limit : ℕ) where
       (flat_map-append (λ p. held_part p p.fate) first own ∙ ap (λ (ts : List Tail). ts ++ tails own) (lead-tails (claims limit before (m ∷ later)) m))
 
   -- after such a start no frame has a start, so nothing is held
-  stays-alone : (far at : ℕ) (later : List Member) → breaker limit far at later ≡ None → at + length (text later) < far
-      → (before : List Member) (end : End) → tails (parts_from limit before later end) ≡ []
+  stays-alone : (far at : ℕ) (later : List ChainMember) → breaker limit far at later ≡ None → at + length (text later) < far
+      → (before : List ChainMember) (end : End) → tails (parts_from limit before later end) ≡ []
   stays-alone far at [] h past before end = refl
   stays-alone far at (m ∷ later) h past before end =
       let len : length (m.field ++ text later) ≡ length m.field + length (text later) = length-append m.field (text later) in
@@ -62,10 +62,10 @@ module _ (limit : ℕ) where
       (cases_Bool (agrees limit far at m))
 
   -- no tail, or one, of a start that stays
-  abbrev OneTail : List Tail → List Member → End → Type 0
+  abbrev OneTail : List Tail → List ChainMember → End → Type 0
   OneTail ts later end = (ts ≡ []) ⊎ ((length ts ≡ 1) × (end ≡ Unended) × Stays later)
 
-  one-part : (first place : ℕ) (later : List Member) (end : End) (start : List ℕ) → OneTail (tails (part_from limit first place later end start ∷ [])) later end
+  one-part : (first place : ℕ) (later : List ChainMember) (end : End) (start : List ℕ) → OneTail (tails (part_from limit first place later end start ∷ [])) later end
   one-part first place later end start =
       cond_both (begins_packet limit start) _ _ (λ (p : Part). OneTail (tails (p ∷ [])) later end)
       (λ v. broken (breaker limit (far_end start later) (length start) later) refl)
@@ -76,7 +76,7 @@ module _ (limit : ℕ) where
       by_end Unended s = inr (refl, refl, s)
       by_end (Ended reason seen) s = inl refl
 
-      broken : (b : Option Member) → breaker limit (far_end start later) (length start) later ≡ b
+      broken : (b : Option ChainMember) → breaker limit (far_end start later) (length start) later ≡ b
           → OneTail (tails (packet_part limit first place later end start (far_end start later) b ∷ [])) later end
       broken (Some m) e = inl refl
       broken None e =
@@ -87,7 +87,7 @@ module _ (limit : ℕ) where
           let len : length (start ++ text later) ≡ length start + length (text later) = length-append start (text later) in
           by_end end (start, e, omega arith))
 
-  module _ (m : Member) (later : List Member) (end : End) where
+  module _ (m : ChainMember) (later : List ChainMember) (end : End) where
     -- a frame's starts leave no tail, or its last one does
     starts-tails : (at skip : ℕ) (o : List ℕ) → OneTail (tails (map (start_part limit m later end) (starts limit at skip o))) later end
     starts-tails at skip [] = inl refl
@@ -116,7 +116,7 @@ module _ (limit : ℕ) where
         [ None ↦ inl refl | Some place ↦ starts-tails m.base place m.field ]
 
   -- a run holds at most one
-  run-tails : (before ms : List Member) (end : End) → length (tails (parts_from limit before ms end)) ≤ 1
+  run-tails : (before ms : List ChainMember) (end : End) → length (tails (parts_from limit before ms end)) ≤ 1
   run-tails before [] end = omega arith
   run-tails before (m ∷ later) end =
       let own : List Tail = tails (map (start_part limit m later end) (starts_of limit m)) in
@@ -132,7 +132,7 @@ module _ (limit : ℕ) where
       (own-tails m later end))
 
   -- and none, if it is ended
-  ended-tails : (before ms : List Member) (reason : Reason) (seen : ℕ) → tails (parts_from limit before ms (Ended reason seen)) ≡ []
+  ended-tails : (before ms : List ChainMember) (reason : Reason) (seen : ℕ) → tails (parts_from limit before ms (Ended reason seen)) ≡ []
   ended-tails before [] reason seen = refl
   ended-tails before (m ∷ later) reason seen =
       split-tails before m later (Ended reason seen)
@@ -144,7 +144,7 @@ module _ (limit : ℕ) where
   abbrev IsLast : Runs → Type 0
   IsLast rs = (length (tails (flat_map (parts limit) rs.others)) ≤ 1) × (rs.current.end ≡ Unended → rs.others ≡ [])
 
-  runs-tails : (members : List Member) (end : End) (others : List Run) → length (tails (flat_map (parts limit) others)) ≤ 1 → (end ≡ Unended → others ≡ [])
+  runs-tails : (members : List ChainMember) (end : End) (others : List Run) → length (tails (flat_map (parts limit) others)) ≤ 1 → (end ≡ Unended → others ≡ [])
       → length (tails (flat_map (parts limit) (record { members = members; end = end } ∷ others))) ≤ 1
   runs-tails members Unended others h last =
       subst (λ (rs : List Run). length (tails (flat_map (parts limit) (record { members = members; end = Unended } ∷ rs))) ≤ 1) (sym (last refl))
@@ -156,7 +156,7 @@ module _ (limit : ℕ) where
       ∙ ap (λ (ts : List Tail). ts ++ tails (flat_map (parts limit) others)) (ended-tails [] members reason seen)))
       h
 
-  cut-last : (gap vca : Bool) (m : Member) (rest : Runs) → IsLast rest → IsLast (cut_before gap m (with_member vca m rest))
+  cut-last : (gap vca : Bool) (m : ChainMember) (rest : Runs) → IsLast rest → IsLast (cut_before gap m (with_member vca m rest))
   cut-last true true m rest h = (
     runs-tails [] (Ended why.Vca m.number) (rest.current ∷ rest.others) (runs-tails rest.current.members rest.current.end rest.others h.0 h.1) (λ e. cc),
     λ e. cc,
@@ -165,11 +165,11 @@ module _ (limit : ℕ) where
   cut-last false true m rest h = (runs-tails rest.current.members rest.current.end rest.others h.0 h.1, λ e. cc)
   cut-last false false m rest h = h
 
-  all-last : (before : Option ℕ) (ms : List Member) → IsLast (runs_after before ms)
+  all-last : (before : Option ℕ) (ms : List ChainMember) → IsLast (runs_after before ms)
   all-last before [] = (omega arith, λ e. refl)
-  all-last before (m ∷ ms) = cut-last (has_gap before m) m.is_vca m (runs_after (Some m.count) ms) (all-last (Some m.count) ms)
+  all-last before (m ∷ ms) = cut-last (has_frame_gap before m) m.is_vca m (runs_after (Some m.count) ms) (all-last (Some m.count) ms)
 
-  pub one-held : (ms : List Member) → length (flat_map (λ p. held_part p p.fate) (chain_parts limit ms)) ≤ 1
+  pub one-held : (ms : List ChainMember) → length (flat_map (λ p. held_part p p.fate) (chain_parts limit ms)) ≤ 1
   one-held ms =
       let rs = runs_after None ms in
       let last = all-last None ms in

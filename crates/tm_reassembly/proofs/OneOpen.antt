@@ -3,9 +3,9 @@ use Rattle.std.proofs.Common.{◌≡◌, ℕ, suc, ◌+◌, ◌-◌, ◌<◌, �
 use Rattle.std.specs.List.{flat_map}
 use Rattle.std.proofs.lemmas.List.{append-nil}
 use Rattle.std.proofs.lemmas.Bool.{cases_Bool, cond-true, cond-false, ltb-true, eqb-true, and_parts}
-use Rattle.tm_reassembly.specs.Chain.{Member}
+use Rattle.tm_reassembly.specs.Chain.{ChainMember}
 use Rattle.tm_reassembly.specs.Parts.{Claim, Start, text, far_end, begins_packet, open_after, agrees, agrees_at, claim, claims, starts_from, starts_of}
-use Rattle.tm_reassembly.specs.Field.{stop_of, unfinished}
+use Rattle.tm_reassembly.specs.code.Field.{end_place_of, unfinished}
 use Rattle.tm_reassembly.proofs.Long.{agrees-place}
 use Rattle.tm_reassembly.proofs.Sweep.{step, own_claims, claims-push}
 use Rattle.tm_reassembly.proofs.Split.{start_at, last_start, starts-past, starts-unfinished}
@@ -16,12 +16,12 @@ module _ (limit : ℕ) where
   at-most true c = omega arith
   at-most false c = omega arith
 
-  claim-one : (between ahead : List Member) (start : Start) → length (claim limit between ahead start) ≤ 1
+  claim-one : (between ahead : List ChainMember) (start : Start) → length (claim limit between ahead start) ≤ 1
   claim-one between ahead start =
       at-most (begins_packet limit start.octets && open_after limit (far_end start.octets (between ++ ahead)) (length start.octets) between)
       (record { far = far_end start.octets (between ++ ahead); at = length start.octets + length (text between) })
 
-  last-one : (later : List Member) (stop : ℕ) (u : List ℕ) → OpenTail limit u → length (flat_map (claim limit [] later) (last_start limit stop u)) ≤ 1
+  last-one : (later : List ChainMember) (stop : ℕ) (u : List ℕ) → OpenTail limit u → length (flat_map (claim limit [] later) (last_start limit stop u)) ≤ 1
   last-one later stop [] h = omega arith
   last-one later stop (x ∷ xs) h =
       subst (λ (cs : List Claim). length cs ≤ 1)
@@ -29,16 +29,16 @@ module _ (limit : ℕ) where
       (claim-one [] later (start_at limit (stop - suc (length xs)) (x ∷ xs)))
 
   -- of its own starts a frame leaves at most one open
-  own-one : (m : Member) (later : List Member) → length (own_claims limit m later) ≤ 1
+  own-one : (m : ChainMember) (later : List ChainMember) → length (own_claims limit m later) ≤ 1
   own-one m later =
       elim m.place as (λ v. length (flat_map (claim limit [] later) (starts_from limit m.base v m.field)) ≤ 1) [
         | None ↦ omega arith
-        | Some place ↦ subst (λ (cs : List Claim). length cs ≤ 1) (sym (claims_split limit later (stop_of m) m.base place m.field refl))
-            (last-one later (stop_of m) (unfinished limit place m.field) (unfinished-open limit place m.field))
+        | Some place ↦ subst (λ (cs : List Claim). length cs ≤ 1) (sym (claims_split limit later (end_place_of m) m.base place m.field refl))
+            (last-one later (end_place_of m) (unfinished limit place m.field) (unfinished-open limit place m.field))
       ]
 
   -- a frame that agrees with a start that reaches past it has no starts: it has no place, or one that isn't inside its field
-  pub no-starts : (far at : ℕ) (m : Member) → agrees limit far at m ≡ true → at + length m.field < far → starts_of limit m ≡ []
+  pub no-starts : (far at : ℕ) (m : ChainMember) → agrees limit far at m ≡ true → at + length m.field < far → starts_of limit m ≡ []
   no-starts far at m agree past = by_place m.place (agrees-place limit far at m agree)
     where
       by_place : (v : Option ℕ) → agrees_at far at (length m.field) v ≡ true → starts_from limit m.base v m.field ≡ []
@@ -48,7 +48,7 @@ module _ (limit : ℕ) where
           starts-past limit m.base place m.field (omega arith)
 
   -- and where an earlier start stays open past it, none
-  step-one : (m : Member) (later : List Member) (c : Claim)
+  step-one : (m : ChainMember) (later : List ChainMember) (c : Claim)
       → (step limit m c ≡ []) ⊎ ((length (step limit m c) ≡ 1) × (own_claims limit m later ≡ []))
   step-one m later c =
       ⊎_elim
@@ -61,7 +61,7 @@ module _ (limit : ℕ) where
       (λ e. inl (cond-false (agrees limit c.far c.at m && ltb (c.at + length m.field) c.far) _ _ e))
       (cases_Bool (agrees limit c.far c.at m && ltb (c.at + length m.field) c.far))
 
-  step-all : (m : Member) (later : List Member) (cs : List Claim) → length cs ≤ 1 → length (flat_map (step limit m) cs ++ own_claims limit m later) ≤ 1
+  step-all : (m : ChainMember) (later : List ChainMember) (cs : List Claim) → length cs ≤ 1 → length (flat_map (step limit m) cs ++ own_claims limit m later) ≤ 1
   step-all m later [] h = own-one m later
   step-all m later (c ∷ d ∷ cs) h = absurd (omega arith)
   step-all m later (c ∷ []) h =
@@ -73,13 +73,13 @@ module _ (limit : ℕ) where
       let one = both.0 in omega arith))
       (step-one m later c)
 
-  one-more : (ms before later : List Member) → length (claims limit before (ms ++ later)) ≤ 1 → length (claims limit (before ++ ms) later) ≤ 1
-  one-more [] before later h = subst (λ (b : List Member). length (claims limit b later) ≤ 1) (sym (append-nil before)) h
+  one-more : (ms before later : List ChainMember) → length (claims limit before (ms ++ later)) ≤ 1 → length (claims limit (before ++ ms) later) ≤ 1
+  one-more [] before later h = subst (λ (b : List ChainMember). length (claims limit b later) ≤ 1) (sym (append-nil before)) h
   one-more (m ∷ ms) before later h =
-      subst (λ (b : List Member). length (claims limit b later) ≤ 1) (append_assoc before (m ∷ []) ms)
+      subst (λ (b : List ChainMember). length (claims limit b later) ≤ 1) (append_assoc before (m ∷ []) ms)
       (one-more ms (before ++ m ∷ []) later
       (subst (λ (cs : List Claim). length cs ≤ 1) (sym (claims-push limit before (ms ++ later) m))
       (step-all m (ms ++ later) (claims limit before (m ∷ (ms ++ later))) h)))
 
-  pub one-open : (before ahead : List Member) → length (claims limit before ahead) ≤ 1
+  pub one-open : (before ahead : List ChainMember) → length (claims limit before ahead) ≤ 1
   one-open before ahead = one-more before [] ahead (omega arith)

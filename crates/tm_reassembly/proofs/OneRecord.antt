@@ -9,32 +9,32 @@ use Rattle.std.proofs.lemmas.List.{append-nil}
 use Rattle.tm_rules.specs.Rules.{Rules, chooses}
 use Rattle.tm_reassembly.specs.Items.{master_gap_item, gap_at}
 use Rattle.tm_frame.specs.declared.fault.FrameFault.{FrameFault}
-use Rattle.tm_frame.specs.Fault.{reading_of}
+use Rattle.tm_frame.specs.Fault.{frame_reading_of}
 use Rattle.tm_frame.specs.Frame.{GoodFrame}
 use Rattle.tm_reassembly.specs.State.{State, Last, Tail}
 use Rattle.tm_reassembly.specs.Readings.{Reading}
 use Rattle.tm_items.specs.Item.{Item, Bad}
-use Rattle.tm_reassembly.specs.Chain.{member, has_gap, master_member}
-use Rattle.tm_reassembly.specs.Field.{chain_tail_at}
+use Rattle.tm_reassembly.specs.Chain.{member, has_frame_gap, master_member}
+use Rattle.tm_reassembly.specs.code.Field.{chain_tail_at}
 use Rattle.tm_reassembly.specs.Items as read
-use Rattle.tm_reassembly.specs.Kept.{Slot, HaveLimit, lasts, unused, count_in, tail_in, octets_in, counted, kept_items, kept_after}
+use Rattle.tm_reassembly.specs.code.Kept.{Slot, HaveLimit, lasts, unused, frame_count_in, tail_in, octets_in, counted, kept_items, last_after}
 use Rattle.tm_reassembly.proofs.Slots.{last_at, lasts_set, lasts_length, limit_at, limit_set}
 use Rattle.tm_reassembly.specs.Recording.{items, after}
 use Rattle.tm_items.specs.Sinks.{RefusesOne}
-use Rattle.tm_reassembly.specs.Valid.{IsState, IsFit, IsOpenTail}
+use Rattle.tm_reassembly.specs.Valid.{IsValidState, IsFit, IsOpenTail}
 use Rattle.tm_reassembly.proofs.States.{tail-short}
 use Rattle.tm_reassembly.proofs.Fits.{reading-fit}
 use Rattle.tm_reassembly.proofs.Joining.{before_of, tail_of, member_items}
 use Rattle.tm_reassembly.proofs.OneStep.{items-one, after-one, after-bad, items-other, after-other, open-at}
 
 -- what is read, and whether a channel is chosen, by rules that are equal to these
-pub read_as : {inside rules : Rules} (octets : List ℕ) {r : Reading} → inside ≡ rules → r ≡ reading_of inside.layout octets → reading_of rules.layout octets ≡ r
-read_as octets e f = ap (λ (r : Rules). reading_of r.layout octets) (sym e) ∙ sym f
+pub read_as : {inside rules : Rules} (octets : List ℕ) {r : Reading} → inside ≡ rules → r ≡ frame_reading_of inside.layout octets → frame_reading_of rules.layout octets ≡ r
+read_as octets e f = ap (λ (r : Rules). frame_reading_of r.layout octets) (sym e) ∙ sym f
 
 pub chosen_as : {inside rules : Rules} (c : ℕ) {asked answer : Bool} → inside ≡ rules → asked ≡ chooses inside c → asked ≡ answer → chooses rules c ≡ answer
 chosen_as c e f g = ap (λ (r : Rules). chooses r c) (sym e) ∙ sym f ∙ g
 
-before_some : (x : Option Last) → before_of (Some x) ≡ count_in x
+before_some : (x : Option Last) → before_of (Some x) ≡ frame_count_in x
 before_some None = refl
 before_some (Some last) = refl
 
@@ -44,37 +44,37 @@ tail_some (Some last) = refl
 
 -- the tail that is kept of a channel
 pub open_entry : (rules : Rules) (seen : ℕ) (master : Option ℕ) (channels : List (Option Last))
-    → IsState rules (record { records = seen; master = master; channels = channels })
+    → IsValidState rules (record { records = seen; master = master; channels = channels })
     → (c : ℕ) (d : Option Last) → c < 8 → IsOpenTail rules.max_packet (tail_in (slice_index_or channels c d))
 open_entry rules seen master channels v c d small =
     subst (IsOpenTail rules.max_packet) (ap tail_of (slice_get-get_or channels c d (rw v.shape.eight_channels small)) ∙ tail_some (slice_index_or channels c d))
     (open-at rules.max_packet (chooses rules) (record { records = seen; master = master; channels = channels }) v.shape c)
 
-module _ (rules : Rules) (seen : ℕ) (master : Option ℕ) (channels : List (Option Last)) (v : IsState rules (record { records = seen; master = master; channels = channels })) (octets : List ℕ) where
-  as_read : {r : Reading} → reading_of rules.layout octets ≡ r → items rules (record { records = seen; master = master; channels = channels }) (octets ∷ []) ≡ read.items rules.max_packet (chooses rules) (record { records = seen; master = master; channels = channels }) (r ∷ [])
+module _ (rules : Rules) (seen : ℕ) (master : Option ℕ) (channels : List (Option Last)) (v : IsValidState rules (record { records = seen; master = master; channels = channels })) (octets : List ℕ) where
+  as_read : {r : Reading} → frame_reading_of rules.layout octets ≡ r → items rules (record { records = seen; master = master; channels = channels }) (octets ∷ []) ≡ read.items_of_readings rules.max_packet (chooses rules) (record { records = seen; master = master; channels = channels }) (r ∷ [])
   unfolding items
-  as_read e = ap (λ (r : Reading). read.items rules.max_packet (chooses rules) (record { records = seen; master = master; channels = channels }) (r ∷ [])) e
+  as_read e = ap (λ (r : Reading). read.items_of_readings rules.max_packet (chooses rules) (record { records = seen; master = master; channels = channels }) (r ∷ [])) e
 
-  as_left : {r : Reading} → reading_of rules.layout octets ≡ r → after rules (record { records = seen; master = master; channels = channels }) (octets ∷ []) ≡ read.after rules.max_packet (chooses rules) (record { records = seen; master = master; channels = channels }) (r ∷ [])
+  as_left : {r : Reading} → frame_reading_of rules.layout octets ≡ r → after rules (record { records = seen; master = master; channels = channels }) (octets ∷ []) ≡ read.state_after_readings rules.max_packet (chooses rules) (record { records = seen; master = master; channels = channels }) (r ∷ [])
   unfolding after
-  as_left e = ap (λ (r : Reading). read.after rules.max_packet (chooses rules) (record { records = seen; master = master; channels = channels }) (r ∷ [])) e
+  as_left e = ap (λ (r : Reading). read.state_after_readings rules.max_packet (chooses rules) (record { records = seen; master = master; channels = channels }) (r ∷ [])) e
 
   -- a bad record
-  pub items_bad_record : (fault : FrameFault) → reading_of rules.layout octets ≡ Err fault
+  pub items_bad_record : (fault : FrameFault) → frame_reading_of rules.layout octets ≡ Err fault
       → Bad seen fault ∷ [] ≡ items rules (record { records = seen; master = master; channels = channels }) (octets ∷ [])
   items_bad_record fault e = sym (as_read e)
 
   pub refused_bad_record : {S F : Type 0} (takes : S → Item → S → Type 0) (refuses : S → Item → F → S → Type 0) (old new : S) (refusal : F) (fault : FrameFault)
-      → reading_of rules.layout octets ≡ Err fault → refuses old (Bad seen fault) refusal new
+      → frame_reading_of rules.layout octets ≡ Err fault → refuses old (Bad seen fault) refusal new
       → RefusesOne takes refuses old (items rules (record { records = seen; master = master; channels = channels }) (octets ∷ [])) refusal new
   refused_bad_record takes refuses old new refusal fault e h =
       subst (λ (xs : List Item). RefusesOne takes refuses old xs refusal new) (items_bad_record fault e) (inl h)
 
-  pub after_bad_record : (fault : FrameFault) → reading_of rules.layout octets ≡ Err fault
+  pub after_bad_record : (fault : FrameFault) → frame_reading_of rules.layout octets ≡ Err fault
       → ◌≡◌ {A = State} (record { records = seen + 1; master = master; channels = channels }) (after rules (record { records = seen; master = master; channels = channels }) (octets ∷ []))
   after_bad_record fault e = sym (as_left e ∙ after-bad rules.max_packet (chooses rules) (record { records = seen; master = master; channels = channels }) fault v.shape)
 
-  module _ (g : GoodFrame) (e : reading_of rules.layout octets ≡ Ok g) where
+  module _ (g : GoodFrame) (e : frame_reading_of rules.layout octets ≡ Ok g) where
     fit : IsFit (Ok g)
     fit = subst IsFit e (reading-fit rules.layout octets)
 
@@ -107,7 +107,7 @@ module _ (rules : Rules) (seen : ℕ) (master : Option ℕ) (channels : List (Op
         by_entry x = rw (before_some x, tail_some x) refl
 
     pub after_one_record : (c : ℕ) (d : Option Last) → c ≡ g.channel → chooses rules c ≡ true
-        → ◌≡◌ {A = State} (record { records = seen + 1; master = Some g.master_count; channels = slice_set channels c (kept_after rules.max_packet (slice_index_or channels c d) (member seen g)) })
+        → ◌≡◌ {A = State} (record { records = seen + 1; master = Some g.master_count; channels = slice_set channels c (last_after rules.max_packet (slice_index_or channels c d) (member seen g)) })
         (after rules (record { records = seen; master = master; channels = channels }) (octets ∷ []))
     after_one_record c d same is_chosen =
         sym
@@ -116,17 +116,17 @@ module _ (rules : Rules) (seen : ℕ) (master : Option ℕ) (channels : List (Op
         ∙ state_same refl refl
         (ap (λ (x : Option (Option Last)). set channels g.channel (moved x)) (there d)
         ∙ ap (λ (x : Option Last). set channels g.channel x) (by_entry (slice_index_or channels g.channel d))
-        ∙ ap (λ (k : ℕ). slice_set channels k (kept_after rules.max_packet (slice_index_or channels k d) (member seen g))) (sym same)))
+        ∙ ap (λ (k : ℕ). slice_set channels k (last_after rules.max_packet (slice_index_or channels k d) (member seen g))) (sym same)))
       where
         moved : Option (Option Last) → Option Last
-        moved x = Some (record { count = g.count; tail = chain_tail_at rules.max_packet (has_gap (before_of x) (member seen g)) (member seen g).is_vca (tail_of x) (member seen g) })
+        moved x = Some (record { count = g.count; tail = chain_tail_at rules.max_packet (has_frame_gap (before_of x) (member seen g)) (member seen g).is_vca (tail_of x) (member seen g) })
 
-        by_entry : (x : Option Last) → moved (Some x) ≡ kept_after rules.max_packet x (member seen g)
+        by_entry : (x : Option Last) → moved (Some x) ≡ last_after rules.max_packet x (member seen g)
         by_entry x = rw (before_some x, tail_some x) refl
 
 -- a tail is shorter than the limit, and there is none of a channel that isn't chosen
 pub held_short : (rules : Rules) (seen : ℕ) (master : Option ℕ) (channels : List (Option Last))
-    → IsState rules (record { records = seen; master = master; channels = channels })
+    → IsValidState rules (record { records = seen; master = master; channels = channels })
     → (c : ℕ) (d : Option Last) → c < 8 → length (octets_in (tail_in (slice_index_or channels c d))) < rules.max_packet
 held_short rules seen master channels v c d small =
     short (tail_in (slice_index_or channels c d)) (open_entry rules seen master channels v c d small)
@@ -136,7 +136,7 @@ held_short rules seen master channels v c d small =
     short (Some t) h = tail-short rules.max_packet t.octets v.limit.least h
 
 pub held_other : (rules : Rules) (seen : ℕ) (master : Option ℕ) (channels : List (Option Last))
-    → IsState rules (record { records = seen; master = master; channels = channels })
+    → IsValidState rules (record { records = seen; master = master; channels = channels })
     → (c : ℕ) (d : Option Last) → c < 8 → chooses rules c ≡ false → octets_in (tail_in (slice_index_or channels c d)) ≡ []
 held_other rules seen master channels v c d small other =
     ap (λ (x : Option Last). octets_in (tail_in x))
@@ -149,7 +149,7 @@ counted_master None seen count g e = refl
 counted_master (Some before) seen count g e = ap (λ (n : ℕ). gap_at master_gap_item (Some before) (counted seen n)) e
 
 -- what is kept of the channels, in their slots
-module _ (rules : Rules) (seen : ℕ) (master : Option ℕ) (slots : List Slot) (v : IsState rules (record { records = seen; master = master; channels = lasts slots })) (limits : HaveLimit rules.max_packet slots) where
+module _ (rules : Rules) (seen : ℕ) (master : Option ℕ) (slots : List Slot) (v : IsValidState rules (record { records = seen; master = master; channels = lasts slots })) (limits : HaveLimit rules.max_packet slots) where
   eight_slots : length slots ≡ 8
   eight_slots = sym (lasts_length slots) ∙ v.shape.eight_channels
 
@@ -164,7 +164,7 @@ module _ (rules : Rules) (seen : ℕ) (master : Option ℕ) (slots : List Slot) 
       let there = limit_at rules.max_packet slots c d limits (omega (arith, eight_slots)) in
       limit_set rules.max_packet slots c x limits (e ∙ there.0, omega (arith, there.1, f))
 
-  module _ (octets : List ℕ) (g : GoodFrame) (e : reading_of rules.layout octets ≡ Ok g) (count : ℕ) (counts : count ≡ g.master_count) where
+  module _ (octets : List ℕ) (g : GoodFrame) (e : frame_reading_of rules.layout octets ≡ Ok g) (count : ℕ) (counts : count ≡ g.master_count) where
     abbrev one_record : List Item
     one_record = items rules (record { records = seen; master = master; channels = lasts slots }) (octets ∷ [])
 
@@ -190,11 +190,11 @@ module _ (rules : Rules) (seen : ℕ) (master : Option ℕ) (slots : List Slot) 
           rw (counted_master master seen count g counts, (limit_at rules.max_packet slots c d limits inside).0, ← last_at slots c d)
           (items_one_record rules seen master (lasts slots) v octets g e c d.last same is_chosen)
 
-      pub after_slot : (x : Slot) → x.last ≡ kept_after (slice_index_or slots c d).limit (slice_index_or slots c d).last (member seen g)
+      pub after_slot : (x : Slot) → x.last ≡ last_after (slice_index_or slots c d).limit (slice_index_or slots c d).last (member seen g)
           → ◌≡◌ {A = State} (record { records = seen + 1; master = Some count; channels = lasts (slice_set slots c x) })
           (after rules (record { records = seen; master = master; channels = lasts slots }) (octets ∷ []))
       after_slot x h =
-          let k : x.last ≡ kept_after rules.max_packet (slice_index_or (lasts slots) c d.last) (member seen g) =
+          let k : x.last ≡ last_after rules.max_packet (slice_index_or (lasts slots) c d.last) (member seen g) =
           h ∙ rw ((limit_at rules.max_packet slots c d limits inside).0, ← last_at slots c d) refl in
           state_same refl (ap (λ (n : ℕ). Some n) counts) (lasts_set slots c x ∙ ap (λ (y : Option Last). slice_set (lasts slots) c y) k)
           ∙ after_one_record rules seen master (lasts slots) v octets g e c d.last same is_chosen

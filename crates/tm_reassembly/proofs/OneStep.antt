@@ -9,10 +9,10 @@ use Rattle.tm_frame.specs.Frame.{GoodFrame}
 use Rattle.tm_frame.specs.declared.fault.FrameFault.{FrameFault}
 use Rattle.tm_reassembly.specs.Readings.{Reading}
 use Rattle.tm_items.specs.Item as item
-use Rattle.tm_reassembly.specs.Chain.{Member, has_gap, member, member_of, is_vca_kind, chain, master_member, master_stem}
-use Rattle.tm_reassembly.specs.Field.{chain_tail_at}
+use Rattle.tm_reassembly.specs.Chain.{ChainMember, has_frame_gap, member, member_of, is_vca_kind, chain, master_member, master_stem}
+use Rattle.tm_reassembly.specs.code.Field.{chain_tail_at}
 use Rattle.tm_rules.specs.Channels.{eight}
-use Rattle.tm_reassembly.specs.Items.{seen_at, channel_items, channel_after, after, master_gap_item, gap_at, last_count, record_items, items, last_with}
+use Rattle.tm_reassembly.specs.Items.{seen_at, channel_items, channel_after, state_after_readings, master_gap_item, gap_at, last_frame_count, record_items, items_of_readings, last_with}
 use Rattle.tm_reassembly.specs.Valid.{HasShape}
 use Rattle.tm_reassembly.proofs.Chained.{IsOpenTail}
 use Rattle.tm_reassembly.proofs.Masters.{master_after, masters-now, master-moved}
@@ -74,7 +74,7 @@ module _ (limit : ℕ) where
   valid-from chosen s v = record { tails_open = λ c small is_chosen. open-at chosen s v c }
 
   -- no records leave a state as it is
-  pub after-nil : (chosen : ℕ → Bool) (s : State) → HasShape limit chosen s → after limit chosen s [] ≡ s
+  pub after-nil : (chosen : ℕ → Bool) (s : State) → HasShape limit chosen s → state_after_readings limit chosen s [] ≡ s
   after-nil chosen s v =
       let valid = valid-from chosen s v in
       let channels : map (channel_after limit chosen s []) eight ≡ s.channels =
@@ -92,18 +92,18 @@ module _ (limit : ℕ) where
       (cases_Bool (chosen c))) in
       state_same (omega arith) (master-nil s.master) channels
     where
-      master-nil : (before : Option ℕ) → last_count None (master_stem before ++ []) ≡ before
+      master-nil : (before : Option ℕ) → last_frame_count None (master_stem before ++ []) ≡ before
       master-nil None = refl
       master-nil (Some count) = refl
 
   -- the items of one good frame of a chosen channel
   pub items-one-valid : (chosen : ℕ → Bool) (s : State) (g : GoodFrame) → HasOpenTails limit chosen s → IsFit (Ok g) → chosen g.channel ≡ true
-      → items limit chosen s (Ok g ∷ [])
+      → items_of_readings limit chosen s (Ok g ∷ [])
       ≡ gap_at master_gap_item s.master (master_member s.records g)
       ++ member_items limit g.channel (before_of (slice_get s.channels g.channel)) (tail_of (slice_get s.channels g.channel)) (member s.records g)
   items-one-valid chosen s g valid fit is_chosen =
       let c : ℕ = g.channel in
-      let m : Member = member s.records g in
+      let m : ChainMember = member s.records g in
       let x : Option (Option Last) = slice_get s.channels g.channel in
       let one : member_of g.channel s.records (Ok g) ≡ member s.records g ∷ [] =
       cond-true (eqb g.channel g.channel) (member s.records g ∷ []) [] (eq-eqb g.channel g.channel refl) in
@@ -112,11 +112,11 @@ module _ (limit : ℕ) where
       ∙ ap (λ (xs : List item.Item). gap_at master_gap_item s.master (master_member s.records g) ++ xs)
       (cond-true (chosen g.channel) _ _ is_chosen
       ∙ ap (seen_at s.records) (channel_items-is limit g.channel x (member_of g.channel s.records (Ok g) ++ []))
-      ∙ ap (λ (ms : List Member). seen_at s.records (items_after limit g.channel (before_of x) (tail_of x) (ms ++ []))) one
+      ∙ ap (λ (ms : List ChainMember). seen_at s.records (items_after limit g.channel (before_of x) (tail_of x) (ms ++ []))) one
       ∙ items-here limit g.channel (before_of x) (tail_of x) m [] (valid.tails_open g.channel fit.0 is_chosen) fit.1 tt)
 
   pub items-one : (chosen : ℕ → Bool) (s : State) (g : GoodFrame) → HasShape limit chosen s → IsFit (Ok g) → chosen g.channel ≡ true
-      → items limit chosen s (Ok g ∷ [])
+      → items_of_readings limit chosen s (Ok g ∷ [])
       ≡ gap_at master_gap_item s.master (master_member s.records g)
       ++ member_items limit g.channel (before_of (slice_get s.channels g.channel)) (tail_of (slice_get s.channels g.channel)) (member s.records g)
   items-one chosen s g v fit is_chosen = items-one-valid chosen s g (valid-from chosen s v) fit is_chosen
@@ -138,14 +138,14 @@ module _ (limit : ℕ) where
 
   -- the state after it: the channel's count and tail, and all else as before
   pub after-one : (chosen : ℕ → Bool) (s : State) (g : GoodFrame) → HasShape limit chosen s → IsFit (Ok g) → chosen g.channel ≡ true
-      → after limit chosen s (Ok g ∷ [])
+      → state_after_readings limit chosen s (Ok g ∷ [])
       ≡ record {
         records = s.records + 1;
         master = Some g.master_count;
         channels = set s.channels g.channel
             (Some (record {
               count = g.count;
-              tail = chain_tail_at limit (has_gap (before_of (slice_get s.channels g.channel)) (member s.records g)) (is_vca_kind g.kind)
+              tail = chain_tail_at limit (has_frame_gap (before_of (slice_get s.channels g.channel)) (member s.records g)) (is_vca_kind g.kind)
                   (tail_of (slice_get s.channels g.channel)) (member s.records g);
             }));
       }
@@ -158,7 +158,7 @@ module _ (limit : ℕ) where
       kept : Last
       kept = record {
         count = g.count;
-        tail = chain_tail_at limit (has_gap (before_of (slice_get s.channels g.channel)) (member s.records g)) (is_vca_kind g.kind)
+        tail = chain_tail_at limit (has_frame_gap (before_of (slice_get s.channels g.channel)) (member s.records g)) (is_vca_kind g.kind)
             (tail_of (slice_get s.channels g.channel)) (member s.records g);
       }
 
@@ -185,18 +185,18 @@ module _ (limit : ℕ) where
   -- a record that has no frame of a chosen channel leaves all channels as they are
   channels-kept : (chosen : ℕ → Bool) (s : State) (r : Reading) → HasShape limit chosen s → IsFit r
       → ((c : ℕ) → c < 8 → chosen c ≡ true → member_of c s.records r ≡ [])
-      → after limit chosen s (r ∷ []) ≡ record { records = s.records + 1; master = master_after s.master r; channels = s.channels }
+      → state_after_readings limit chosen s (r ∷ []) ≡ record { records = s.records + 1; master = master_after s.master r; channels = s.channels }
   channels-kept chosen s r v fit none =
       state_same (omega arith) (master-moved s r)
       (ext_get (map (channel_after limit chosen s (r ∷ [])) eight) s.channels (sym v.eight_channels) (λ c small. kept-at chosen s r v fit c small (none c small)))
 
   -- a bad record
   pub after-bad : (chosen : ℕ → Bool) (s : State) (fault : FrameFault) → HasShape limit chosen s
-      → after limit chosen s (Err fault ∷ []) ≡ record { records = s.records + 1; master = s.master; channels = s.channels }
+      → state_after_readings limit chosen s (Err fault ∷ []) ≡ record { records = s.records + 1; master = s.master; channels = s.channels }
   after-bad chosen s fault v = channels-kept chosen s (Err fault) v tt (λ c small e. refl)
 
   -- a good frame of a channel that isn't chosen
-  pub items-other : (chosen : ℕ → Bool) (s : State) (g : GoodFrame) → chosen g.channel ≡ false → items limit chosen s (Ok g ∷ []) ≡ gap_at master_gap_item s.master (master_member s.records g)
+  pub items-other : (chosen : ℕ → Bool) (s : State) (g : GoodFrame) → chosen g.channel ≡ false → items_of_readings limit chosen s (Ok g ∷ []) ≡ gap_at master_gap_item s.master (master_member s.records g)
   items-other chosen s g e =
       append-nil (record_items limit chosen s (Ok g ∷ []) s.records (Ok g))
       ∙ ap (λ (xs : List item.Item). xs ++ (if chosen g.channel then seen_at s.records (channel_items limit g.channel (chain s g.channel (Ok g ∷ []))) else [])) (masters-now s g [])
@@ -204,7 +204,7 @@ module _ (limit : ℕ) where
       ∙ append-nil (gap_at master_gap_item s.master (master_member s.records g))
 
   pub after-other : (chosen : ℕ → Bool) (s : State) (g : GoodFrame) → HasShape limit chosen s → IsFit (Ok g) → chosen g.channel ≡ false
-      → after limit chosen s (Ok g ∷ []) ≡ record { records = s.records + 1; master = Some g.master_count; channels = s.channels }
+      → state_after_readings limit chosen s (Ok g ∷ []) ≡ record { records = s.records + 1; master = Some g.master_count; channels = s.channels }
   after-other chosen s g v fit not_chosen =
       channels-kept chosen s (Ok g) v fit
       (λ c small e.

@@ -8,7 +8,7 @@ use Rattle.std.proofs.Math.Seq.{take-append_seam, take-append-add, take-length}
 use Rattle.std.proofs.lemmas.List.Concat.{flat_map-append}
 use Rattle.std.proofs.lemmas.Bool.{cases_Bool, cond-true, cond-false, lt-ltb, and_right, and_from, and_parts, both_ways, lt-leb}
 use Rattle.tm_items.specs.declared.items.Reason.TheVariants as why
-use Rattle.tm_reassembly.specs.Chain.{Member, End}
+use Rattle.tm_reassembly.specs.Chain.{ChainMember, End}
 use Rattle.tm_reassembly.specs.Parts.{Part, Fate, Given, Lost, Start, text, far_end, is_long, begins_packet, reason_at, unread_reason, agrees_at, broken_part, start_part, packet_part, fate_at, agrees, open_after, joined, breaker, holder}
 use Rattle.tm_items.specs.OnePacket.{reach, is_packet}
 use Rattle.tm_reassembly.specs.Absolute.{reach_at, IsVersionZero, IsLong, BeginsPacket, AgreesAt, Agrees, IsOpen, IsWhole, LiesAfter, part_at}
@@ -17,7 +17,7 @@ use Rattle.tm_items.specs.declared.items.Reason.{Reason}
 use Rattle.tm_reassembly.proofs.Places.{drop-place, none-from, open-to, unbroken-from, text_split, text-length, begins-at, ends-at, place-at, agreement-at, own-long-at, zero-to, zero-from, begins-from, open-at, whole-at}
 
 -- a packet is seen at the record that holds its last octet
-pub holder-is : (far at number : ℕ) (between more : List Member) (m : Member)
+pub holder-is : (far at number : ℕ) (between more : List ChainMember) (m : ChainMember)
     → at + length (text between) < far → far ≤ (at + length (text between)) + length m.field
     → holder far at number (between ++ m ∷ more) ≡ m.number
 holder-is far at number [] more m h k =
@@ -29,12 +29,12 @@ holder-is far at number (f ∷ between) more m h k =
 
 module _ (limit : ℕ) where
   -- the frame that breaks a start off: the start is open there, the frame doesn't agree, and those between are the ones that joined
-  abbrev pub Breaks : ℕ → ℕ → List Member → Member → Type 0
+  abbrev pub Breaks : ℕ → ℕ → List ChainMember → ChainMember → Type 0
   Breaks far at later m =
-      (between : List Member) × (more : List Member) × (later ≡ between ++ m ∷ more) × (open_after limit far at between ≡ true)
+      (between : List ChainMember) × (more : List ChainMember) × (later ≡ between ++ m ∷ more) × (open_after limit far at between ≡ true)
       × (agrees limit far (at + length (text between)) m ≡ false) × (joined limit far at later ≡ between)
 
-  pub breaker-is : (far at : ℕ) (later : List Member) (m : Member) → breaker limit far at later ≡ Some m → Breaks far at later m
+  pub breaker-is : (far at : ℕ) (later : List ChainMember) (m : ChainMember) → breaker limit far at later ≡ Some m → Breaks far at later m
   breaker-is far at [] m h = absurd (none-some m h)
   breaker-is far at (f ∷ later) m h =
       ⊎_elim
@@ -45,17 +45,17 @@ module _ (limit : ℕ) where
       let len : length (f.field ++ text rest.0) ≡ length f.field + length (text rest.0) = length-append f.field (text rest.0) in (
         f ∷ rest.0,
         rest.1,
-        ap (λ (ms : List Member). f ∷ ms) rest.2,
+        ap (λ (ms : List ChainMember). f ∷ ms) rest.2,
         and_from (agrees limit far at f) _ agree rest.3,
         ap (λ (k : ℕ). agrees limit far k m) (omega arith) ∙ rest.4,
-        cond-true (ltb at far && agrees limit far at f) _ _ (and_from (ltb at far) (agrees limit far at f) past agree) ∙ ap (λ (ms : List Member). f ∷ ms) rest.5,
+        cond-true (ltb at far && agrees limit far at f) _ _ (and_from (ltb at far) (agrees limit far at f) past agree) ∙ ap (λ (ms : List ChainMember). f ∷ ms) rest.5,
       ))
       (λ differ.
       let same : f ≡ m = same_Some f m (sym (cond-true (ltb at far) _ _ past ∙ cond-false (agrees limit far at f) _ _ differ) ∙ h) in
       let z : at + 0 ≡ at = omega arith in (
         [],
         later,
-        ap (λ (x : Member). x ∷ later) same,
+        ap (λ (x : ChainMember). x ∷ later) same,
         past,
         ap (λ (k : ℕ). agrees limit far k m) z ∙ ap (agrees limit far at) (sym same) ∙ differ,
         cond-false (ltb at far && agrees limit far at f) _ _ (and_right (ltb at far) (agrees limit far at f) differ),
@@ -65,7 +65,7 @@ module _ (limit : ℕ) where
       (cases_Bool (ltb at far))
 
   -- a start is broken off at the first frame that doesn't agree with it
-  breaks-off : (far at : ℕ) (between more : List Member) (m : Member) → open_after limit far at between ≡ true
+  breaks-off : (far at : ℕ) (between more : List ChainMember) (m : ChainMember) → open_after limit far at between ≡ true
       → agrees limit far (at + length (text between)) m ≡ false
       → (breaker limit far at (between ++ m ∷ more) ≡ Some m) × (joined limit far at (between ++ m ∷ more) ≡ between)
   breaks-off far at [] more m o a =
@@ -82,10 +82,10 @@ module _ (limit : ℕ) where
       let rest = breaks-off far (at + length f.field) between more m both.1 (ap (λ (k : ℕ). agrees limit far k m) (omega arith) ∙ a) in (
         cond-true (ltb at far) _ _ reaches ∙ cond-true (agrees limit far at f) _ _ both.0 ∙ rest.0,
         cond-true (ltb at far && agrees limit far at f) _ _ (and_from (ltb at far) (agrees limit far at f) reaches both.0)
-            ∙ ap (λ (ms : List Member). f ∷ ms) rest.1,
+            ∙ ap (λ (ms : List ChainMember). f ∷ ms) rest.1,
       )
 
-  module _ (before : List Member) (f : Member) (later : List Member) (s : Start) (skipped : List ℕ) (lies : LiesAfter f s skipped) where
+  module _ (before : List ChainMember) (f : ChainMember) (later : List ChainMember) (s : Start) (skipped : List ℕ) (lies : LiesAfter f s skipped) where
     -- the text of the run, and the place of the start in it
     abbrev all : List ℕ
     all = text (before ++ f ∷ later)
@@ -165,7 +165,7 @@ module _ (limit : ℕ) where
         (ends-at limit before f skipped s.octets lies.0 later) refl
 
     -- a start that a frame breaks off: the octets up to that frame
-    broken-by : (end : End) (between more : List Member) (m : Member) (r : Reason) → later ≡ between ++ m ∷ more
+    broken-by : (end : End) (between more : List ChainMember) (m : ChainMember) (r : Reason) → later ≡ between ++ m ∷ more
         → IsOpen limit all here (before ++ f ∷ []) between
         → (Agrees limit all here (length (text ((before ++ f ∷ []) ++ between))) m → ⊥)
         → reason_at (far_end s.octets later) (length s.octets + length (text between)) m ≡ r
@@ -180,7 +180,7 @@ module _ (limit : ℕ) where
         let off = breaks-off far (length s.octets) between more m one.1 differ in
         packet-place end one.0
         ∙ ap (packet_part limit f.number s.place later end s.octets far) (ap (breaker limit far (length s.octets)) split ∙ off.0)
-        ∙ ap (λ (ms : List Member). broken_part f.number s.place (s.octets ++ text ms) far m)
+        ∙ ap (λ (ms : List ChainMember). broken_part f.number s.place (s.octets ++ text ms) far m)
         (ap (joined limit far (length s.octets)) split ∙ off.1)
         ∙ ap (λ (z : Reason). record { first = f.number; place = s.place; octets = s.octets ++ text between; fate = Lost z m.number })
         (ap (λ (n : ℕ). reason_at far n m) (length-append s.octets (text between)) ∙ reason)
@@ -191,7 +191,7 @@ module _ (limit : ℕ) where
         ∙ ap (λ (o : List ℕ). s.octets ++ o) (take-append_seam (text between) (text (m ∷ more))))
 
     -- by its place
-    pub broken-at : (end : End) (between more : List Member) (m : Member) → later ≡ between ++ m ∷ more
+    pub broken-at : (end : End) (between more : List ChainMember) (m : ChainMember) → later ≡ between ++ m ∷ more
         → IsOpen limit all here (before ++ f ∷ []) between
         → (AgreesAt (reach_at all here) (length (text ((before ++ f ∷ []) ++ between))) (length m.field) m.place → ⊥)
         → start_part limit f later end s
@@ -204,7 +204,7 @@ module _ (limit : ℕ) where
         (cases_Bool (agrees_at (far_end s.octets later) (length s.octets + length (text between)) (length m.field) m.place)))
 
     -- only because the packet is over the limit
-    pub broken_long-at : (end : End) (between more : List Member) (m : Member) → later ≡ between ++ m ∷ more
+    pub broken_long-at : (end : End) (between more : List ChainMember) (m : ChainMember) → later ≡ between ++ m ∷ more
         → IsOpen limit all here (before ++ f ∷ []) between
         → AgreesAt (reach_at all here) (length (text ((before ++ f ∷ []) ++ between))) (length m.field) m.place
         → IsLong limit all here (length (text ((before ++ f ∷ []) ++ between)) + length m.field)
@@ -217,7 +217,7 @@ module _ (limit : ℕ) where
 
     -- a start that neither ends in the text nor is broken off: all the octets that follow
     pub unended-at : (end : End) → BeginsPacket limit all here (length (text (before ++ f ∷ []))) → (IsWhole limit all here (before ++ f ∷ []) later → ⊥)
-        → ((between more : List Member) (m : Member) → later ≡ between ++ m ∷ more → IsOpen limit all here (before ++ f ∷ []) between
+        → ((between more : List ChainMember) (m : ChainMember) → later ≡ between ++ m ∷ more → IsOpen limit all here (before ++ f ∷ []) between
         → Agrees limit all here (length (text ((before ++ f ∷ []) ++ between))) m)
         → start_part limit f later end s ≡ part_at f s all here (length all) (fate_at end)
     unended-at end zero not_whole each =
@@ -235,7 +235,7 @@ module _ (limit : ℕ) where
         (λ fits.
         absurd (not_whole ((whole-at limit before f skipped s.octets lies.0 lies.2 later).0
         (and_from (begins_packet limit s.octets) _ packet
-        (and_from (is_none (breaker limit far (length s.octets) later)) _ (ap (λ (b : Option Member). is_none b) none) fits)))))
+        (and_from (is_none (breaker limit far (length s.octets) later)) _ (ap (λ (b : Option ChainMember). is_none b) none) fits)))))
         (λ past. cond-false (leb (far_end s.octets later) (length (s.octets ++ text later))) _ _ past)
         (cases_Bool (leb (far_end s.octets later) (length (s.octets ++ text later))))
         ∙ part-place (length all) (length (s.octets ++ text later)) (s.octets ++ text later) (fate_at end)

@@ -6,8 +6,8 @@ use Rattle.std.proofs.lemmas.List.{append-nil, take-append-le}
 use Rattle.std.proofs.lemmas.List.Concat.{flat_map-append}
 use Rattle.std.proofs.lemmas.Bool.{and_from, cases_Bool, cases_lt, cond-true, cond-false, ltb-true, leb-true, lt-ltb, le-leb, lt-leb, eqb-true, eq-eqb, and_parts, both_ways}
 use Rattle.std.proofs.Math.Seq.{drop-append_seam}
-use Rattle.tm_packet.specs.Header.{version_of, header_of}
-use Rattle.tm_reassembly.specs.Chain.{Member}
+use Rattle.tm_packet.specs.Header.{packet_version_of, packet_header_of}
+use Rattle.tm_reassembly.specs.Chain.{ChainMember}
 use Rattle.tm_reassembly.specs.Parts.{text, far_end, is_long, begins_packet, agrees, agrees_at, open_after, breaker}
 use Rattle.tm_items.specs.OnePacket.{reach, is_packet}
 use Rattle.tm_reassembly.specs.Verdict.{is_whole}
@@ -31,14 +31,14 @@ reach-place before t =
     ∙ ap (λ (k : ℕ). length before + k) (sym (reach-short t short)))
     (λ long.
     cond-true (leb (n + 6) (length (before ++ t))) _ _ (le-leb (n + 6) (length (before ++ t)) (omega arith))
-    ∙ ap (λ (o : List ℕ). length before + ((header_of (take 6 o)).data_length + 7)) (drop-place before t)
+    ∙ ap (λ (o : List ℕ). length before + ((packet_header_of (take 6 o)).data_length + 7)) (drop-place before t)
     ∙ ap (λ (k : ℕ). length before + k) (sym (reach-long t long)))
     (cases_lt (length t) 6)
 
 pub version-place : (before start t : List ℕ) → 0 < length start
-    → version_of (take 1 (drop (length before) (before ++ (start ++ t)))) ≡ version_of (take 1 start)
+    → packet_version_of (take 1 (drop (length before) (before ++ (start ++ t)))) ≡ packet_version_of (take 1 start)
 version-place before start t some =
-    ap (λ (o : List ℕ). version_of (take 1 o)) (drop-place before (start ++ t)) ∙ ap version_of (take-append-le 1 start t (omega arith))
+    ap (λ (o : List ℕ). packet_version_of (take 1 o)) (drop-place before (start ++ t)) ∙ ap packet_version_of (take-append-le 1 start t (omega arith))
 
 -- one frame
 agrees-to : (q far at len : ℕ) (place : Option ℕ) → agrees_at far at len place ≡ true → AgreesAt (q + far) (q + at) len place
@@ -49,11 +49,11 @@ agrees-from : (q far at len : ℕ) (place : Option ℕ) → AgreesAt (q + far) (
 agrees-from q far at len None h = le-leb (at + len) far (omega arith)
 agrees-from q far at len (Some place) h = eq-eqb far (at + place) (omega arith)
 
-not_split : (earlier later : List Member) (g : Member) → [] ≡ earlier ++ g ∷ later → ⊥
+not_split : (earlier later : List ChainMember) (g : ChainMember) → [] ≡ earlier ++ g ∷ later → ⊥
 not_split [] later g e = cc
 not_split (x ∷ earlier) later g e = cc
 
-pub none-from : (b : Option Member) → is_none b ≡ true → b ≡ None
+pub none-from : (b : Option ChainMember) → is_none b ≡ true → b ≡ None
 none-from None h = refl
 none-from (Some m) h = absurd (cc)
 
@@ -80,11 +80,11 @@ module _ (limit : ℕ) where
       ⊎_elim (λ l. absurd (h (long-from q r b far at e g l))) (λ s. s) (cases_Bool (is_long limit far at))
 
   -- each frame between agrees
-  abbrev pub Each : ℕ → ℕ → List Member → Type 0
+  abbrev pub Each : ℕ → ℕ → List ChainMember → Type 0
   Each far at between =
-      (earlier later : List Member) (g : Member) → between ≡ earlier ++ g ∷ later → agrees limit far (at + length (text earlier)) g ≡ true
+      (earlier later : List ChainMember) (g : ChainMember) → between ≡ earlier ++ g ∷ later → agrees limit far (at + length (text earlier)) g ≡ true
 
-  each-cons : (far at : ℕ) (m : Member) (between : List Member) → agrees limit far at m ≡ true → Each far (at + length m.field) between → Each far at (m ∷ between)
+  each-cons : (far at : ℕ) (m : ChainMember) (between : List ChainMember) → agrees limit far at m ≡ true → Each far (at + length m.field) between → Each far at (m ∷ between)
   each-cons far at m between a h [] later g e =
       let same : m ≡ g = cc in
       let z : at + 0 ≡ at = omega arith in
@@ -93,18 +93,18 @@ module _ (limit : ℕ) where
       let same : m ≡ x = cc in
       let rest : between ≡ earlier ++ g ∷ later = cc in
       let len : length (x.field ++ text earlier) ≡ length x.field + length (text earlier) = length-append x.field (text earlier) in
-      let size : length m.field ≡ length x.field = ap (λ (z : Member). length z.field) same in
+      let size : length m.field ≡ length x.field = ap (λ (z : ChainMember). length z.field) same in
       ap (λ (k : ℕ). agrees limit far k g) (omega arith) ∙ h earlier later g rest
 
-  each-first : (far at : ℕ) (m : Member) (between : List Member) → Each far at (m ∷ between) → agrees limit far at m ≡ true
+  each-first : (far at : ℕ) (m : ChainMember) (between : List ChainMember) → Each far at (m ∷ between) → agrees limit far at m ≡ true
   each-first far at m between h = let z : at ≡ at + 0 = omega arith in ap (λ (k : ℕ). agrees limit far k m) z ∙ h [] between m refl
 
-  each-rest : (far at : ℕ) (m : Member) (between : List Member) → Each far at (m ∷ between) → Each far (at + length m.field) between
+  each-rest : (far at : ℕ) (m : ChainMember) (between : List ChainMember) → Each far at (m ∷ between) → Each far (at + length m.field) between
   each-rest far at m between h earlier later g e =
       let len : length (m.field ++ text earlier) ≡ length m.field + length (text earlier) = length-append m.field (text earlier) in
-      ap (λ (k : ℕ). agrees limit far k g) (omega arith) ∙ h (m ∷ earlier) later g (ap (λ (ms : List Member). m ∷ ms) e)
+      ap (λ (k : ℕ). agrees limit far k g) (omega arith) ∙ h (m ∷ earlier) later g (ap (λ (ms : List ChainMember). m ∷ ms) e)
 
-  pub open-to : (far at : ℕ) (between : List Member) → open_after limit far at between ≡ true → (at + length (text between) < far) × Each far at between
+  pub open-to : (far at : ℕ) (between : List ChainMember) → open_after limit far at between ≡ true → (at + length (text between) < far) × Each far at between
   open-to far at [] h = (let e = ltb-true at far h in omega arith, λ earlier later g e. absurd (not_split earlier later g e))
   open-to far at (m ∷ between) h =
       let both = and_parts (agrees limit far at m) (open_after limit far (at + length m.field) between) h in
@@ -112,7 +112,7 @@ module _ (limit : ℕ) where
       let len : length (m.field ++ text between) ≡ length m.field + length (text between) = length-append m.field (text between) in
       (let r = rest.0 in omega arith, each-cons far at m between both.0 rest.1)
 
-  open-from : (far at : ℕ) (between : List Member) → at + length (text between) < far → Each far at between → open_after limit far at between ≡ true
+  open-from : (far at : ℕ) (between : List ChainMember) → at + length (text between) < far → Each far at between → open_after limit far at between ≡ true
   open-from far at [] h each = lt-ltb at far (omega arith)
   open-from far at (m ∷ between) h each =
       let len : length (m.field ++ text between) ≡ length m.field + length (text between) = length-append m.field (text between) in
@@ -120,12 +120,12 @@ module _ (limit : ℕ) where
       (open-from far (at + length m.field) between (omega arith) (each-rest far at m between each))
 
   -- no frame breaks
-  abbrev pub Unbroken : ℕ → ℕ → List Member → Type 0
+  abbrev pub Unbroken : ℕ → ℕ → List ChainMember → Type 0
   Unbroken far at later =
-      (between more : List Member) (m : Member) → later ≡ between ++ m ∷ more → open_after limit far at between ≡ true
+      (between more : List ChainMember) (m : ChainMember) → later ≡ between ++ m ∷ more → open_after limit far at between ≡ true
       → agrees limit far (at + length (text between)) m ≡ true
 
-  unbroken-to : (far at : ℕ) (later : List Member) → breaker limit far at later ≡ None → Unbroken far at later
+  unbroken-to : (far at : ℕ) (later : List ChainMember) → breaker limit far at later ≡ None → Unbroken far at later
   unbroken-to far at [] h between more m e o = absurd (not_split between more m e)
   unbroken-to far at (f ∷ later) h [] more m e o =
       let same : f ≡ m = cc in
@@ -140,7 +140,7 @@ module _ (limit : ℕ) where
       let rest : later ≡ between ++ m ∷ more = cc in
       let both = and_parts (agrees limit far at x) (open_after limit far (at + length x.field) between) o in
       let past = open-to far (at + length x.field) between both.1 in
-      let size : length f.field ≡ length x.field = ap (λ (z : Member). length z.field) same in
+      let size : length f.field ≡ length x.field = ap (λ (z : ChainMember). length z.field) same in
       let len : length (x.field ++ text between) ≡ length x.field + length (text between) = length-append x.field (text between) in
       let agreed : agrees limit far at f ≡ true = ap (agrees limit far at) same ∙ both.0 in
       let here : at < far = let p = past.0 in omega arith in
@@ -149,7 +149,7 @@ module _ (limit : ℕ) where
       ap (λ (k : ℕ). agrees limit far k m) (omega arith)
       ∙ unbroken-to far (at + length f.field) later none between more m rest (ap (λ (k : ℕ). open_after limit far (at + k) between) size ∙ both.1)
 
-  pub unbroken-from : (far at : ℕ) (later : List Member) → Unbroken far at later → breaker limit far at later ≡ None
+  pub unbroken-from : (far at : ℕ) (later : List ChainMember) → Unbroken far at later → breaker limit far at later ≡ None
   unbroken-from far at [] h = refl
   unbroken-from far at (f ∷ later) h =
       ⊎_elim
@@ -161,13 +161,13 @@ module _ (limit : ℕ) where
       (λ between more m e o.
       let len : length (f.field ++ text between) ≡ length f.field + length (text between) = length-append f.field (text between) in
       ap (λ (k : ℕ). agrees limit far k m) (omega arith)
-      ∙ h (f ∷ between) more m (ap (λ (ms : List Member). f ∷ ms) e) (and_from (agrees limit far at f) _ agreed o)))
+      ∙ h (f ∷ between) more m (ap (λ (ms : List ChainMember). f ∷ ms) e) (and_from (agrees limit far at f) _ agreed o)))
       (λ past. cond-false (ltb at far) _ _ past)
       (cases_Bool (ltb at far))
 
   -- a start whose frame has the octets `skipped` before it
-  module _ (before : List Member) (f : Member) (skipped start : List ℕ) (whole_field : f.field ≡ skipped ++ start) where
-    pub text_split : (later : List Member) → text (before ++ f ∷ later) ≡ (text before ++ skipped) ++ (start ++ text later)
+  module _ (before : List ChainMember) (f : ChainMember) (skipped start : List ℕ) (whole_field : f.field ≡ skipped ++ start) where
+    pub text_split : (later : List ChainMember) → text (before ++ f ∷ later) ≡ (text before ++ skipped) ++ (start ++ text later)
     text_split later =
         flat_map-append (λ m. m.field) before (f ∷ later)
         ∙ ap (λ (o : List ℕ). text before ++ (o ++ text later)) whole_field
@@ -176,7 +176,7 @@ module _ (limit : ℕ) where
         regroup : (a b c d : List ℕ) → a ++ ((b ++ c) ++ d) ≡ (a ++ b) ++ (c ++ d)
         regroup a b c d = simp append_assoc
 
-    pub ends-at : (later : List Member)
+    pub ends-at : (later : List ChainMember)
         → reach_at (text (before ++ f ∷ later)) (length (text before) + length skipped) ≡ (length (text before) + length skipped) + far_end start later
     ends-at later =
         let len : length (text before ++ skipped) ≡ length (text before) + length skipped = length-append (text before) skipped in
@@ -186,7 +186,7 @@ module _ (limit : ℕ) where
         ∙ ap (λ (k : ℕ). k + far_end start later) len
 
     -- where a later frame begins
-    pub begins-at : (between : List Member)
+    pub begins-at : (between : List ChainMember)
         → length (text ((before ++ f ∷ []) ++ between)) ≡ (length (text before) + length skipped) + (length start + length (text between))
     begins-at between =
         let own : length f.field ≡ length skipped + length start = ap (λ (o : List ℕ). length o) whole_field ∙ length-append skipped start in
@@ -201,11 +201,11 @@ module _ (limit : ℕ) where
         let all : length (text (before ++ f ∷ [])) ≡ length (text before) + length f.field = simp (flat_map-append, length-append, append-nil) in
         omega arith
 
-    later-end : (between : List Member) (m : Member) → length (text ((before ++ f ∷ []) ++ between)) + length m.field
+    later-end : (between : List ChainMember) (m : ChainMember) → length (text ((before ++ f ∷ []) ++ between)) + length m.field
         ≡ (length (text before) + length skipped) + ((length start + length (text between)) + length m.field)
     later-end between m = let b = begins-at between in omega arith
 
-    pub place-at : (between later : List Member) (m : Member)
+    pub place-at : (between later : List ChainMember) (m : ChainMember)
         → Iff (agrees_at (far_end start later) (length start + length (text between)) (length m.field) m.place ≡ true)
         (AgreesAt (reach_at (text (before ++ f ∷ later)) (length (text before) + length skipped)) (length (text ((before ++ f ∷ []) ++ between))) (length m.field) m.place)
     place-at between later m =
@@ -216,7 +216,7 @@ module _ (limit : ℕ) where
           λ h. agrees-from q far at (length m.field) m.place (rw (ends-at later, begins-at between) at h),
         )
 
-    pub long-at : (between later : List Member) (m : Member)
+    pub long-at : (between later : List ChainMember) (m : ChainMember)
         → Iff (is_long limit (far_end start later) ((length start + length (text between)) + length m.field) ≡ true)
         (IsLong limit (text (before ++ f ∷ later)) (length (text before) + length skipped) (length (text ((before ++ f ∷ []) ++ between)) + length m.field))
     long-at between later m = (
@@ -224,7 +224,7 @@ module _ (limit : ℕ) where
       long-to _ _ _ (far_end start later) ((length start + length (text between)) + length m.field) (ends-at later) (later-end between m),
     )
 
-    pub agreement-at : (between later : List Member) (m : Member)
+    pub agreement-at : (between later : List ChainMember) (m : ChainMember)
         → Iff (agrees limit (far_end start later) (length start + length (text between)) m ≡ true)
         (Agrees limit (text (before ++ f ∷ later)) (length (text before) + length skipped) (length (text ((before ++ f ∷ []) ++ between))) m)
     agreement-at between later m =
@@ -240,7 +240,7 @@ module _ (limit : ℕ) where
         )
 
     -- in its own frame
-    pub own-long-at : (later : List Member)
+    pub own-long-at : (later : List ChainMember)
         → Iff (is_long limit (reach start) (length start) ≡ true)
         (IsLong limit (text (before ++ f ∷ later)) (length (text before) + length skipped) (length (text (before ++ f ∷ []))))
     own-long-at later = (
@@ -249,27 +249,27 @@ module _ (limit : ℕ) where
     )
 
     module _ (some : 0 < length start) where
-      version-at : (later : List Member)
-          → version_of (take 1 (drop (length (text before) + length skipped) (text (before ++ f ∷ later)))) ≡ version_of (take 1 start)
+      version-at : (later : List ChainMember)
+          → packet_version_of (take 1 (drop (length (text before) + length skipped) (text (before ++ f ∷ later)))) ≡ packet_version_of (take 1 start)
       version-at later =
-          ap (λ (t : List ℕ). version_of (take 1 (drop (length (text before) + length skipped) t))) (text_split later)
-          ∙ ap (λ (k : ℕ). version_of (take 1 (drop k ((text before ++ skipped) ++ (start ++ text later))))) (sym (length-append (text before) skipped))
+          ap (λ (t : List ℕ). packet_version_of (take 1 (drop (length (text before) + length skipped) t))) (text_split later)
+          ∙ ap (λ (k : ℕ). packet_version_of (take 1 (drop k ((text before ++ skipped) ++ (start ++ text later))))) (sym (length-append (text before) skipped))
           ∙ version-place (text before ++ skipped) start (text later) some
 
-      pub zero-to : (later : List Member) → is_packet start ≡ true → IsVersionZero (text (before ++ f ∷ later)) (length (text before) + length skipped)
-      zero-to later h = version-at later ∙ eqb-true (version_of (take 1 start)) 0 h
+      pub zero-to : (later : List ChainMember) → is_packet start ≡ true → IsVersionZero (text (before ++ f ∷ later)) (length (text before) + length skipped)
+      zero-to later h = version-at later ∙ eqb-true (packet_version_of (take 1 start)) 0 h
 
-      pub zero-from : (later : List Member) → IsVersionZero (text (before ++ f ∷ later)) (length (text before) + length skipped) → is_packet start ≡ true
-      zero-from later h = eq-eqb (version_of (take 1 start)) 0 (sym (version-at later) ∙ h)
+      pub zero-from : (later : List ChainMember) → IsVersionZero (text (before ++ f ∷ later)) (length (text before) + length skipped) → is_packet start ≡ true
+      zero-from later h = eq-eqb (packet_version_of (take 1 start)) 0 (sym (version-at later) ∙ h)
 
-      pub begins-to : (later : List Member) → begins_packet limit start ≡ true
+      pub begins-to : (later : List ChainMember) → begins_packet limit start ≡ true
           → BeginsPacket limit (text (before ++ f ∷ later)) (length (text before) + length skipped) (length (text (before ++ f ∷ [])))
       begins-to later h = (
         zero-to later (begins-zero limit start h),
         short-to _ _ _ (far_end start later) (length start) (ends-at later) own-end (own-long-settled limit start later ∙ begins-short limit start h),
       )
 
-      pub begins-from : (later : List Member)
+      pub begins-from : (later : List ChainMember)
           → BeginsPacket limit (text (before ++ f ∷ later)) (length (text before) + length skipped) (length (text (before ++ f ∷ [])))
           → begins_packet limit start ≡ true
       begins-from later h =
@@ -282,7 +282,7 @@ module _ (limit : ℕ) where
       reaches-past : (r q b far at : ℕ) → r ≡ q + far → b ≡ q + at → b < r → at < far
       reaches-past r q b far at e g h = omega arith
 
-      pub open-at : (between later : List Member)
+      pub open-at : (between later : List ChainMember)
           → Iff ((begins_packet limit start && open_after limit (far_end start later) (length start) between) ≡ true)
           (IsOpen limit (text (before ++ f ∷ later)) (length (text before) + length skipped) (before ++ f ∷ []) between)
       open-at between later = (
@@ -300,7 +300,7 @@ module _ (limit : ℕ) where
             (λ earlier more g e. (agreement-at earlier later g).1 (h.2 earlier more g e))),
       )
 
-      pub text-length : (later : List Member) → length (text (before ++ f ∷ later)) ≡ (length (text before) + length skipped) + length (start ++ text later)
+      pub text-length : (later : List ChainMember) → length (text (before ++ f ∷ later)) ≡ (length (text before) + length skipped) + length (start ++ text later)
       text-length later =
           ap (λ (t : List ℕ). length t) (text_split later)
           ∙ length-append (text before ++ skipped) (start ++ text later)
@@ -312,7 +312,7 @@ module _ (limit : ℕ) where
       fits-from : (r q b far len : ℕ) → r ≡ q + far → b ≡ q + len → r ≤ b → far ≤ len
       fits-from r q b far len e g h = omega arith
 
-      pub whole-at : (later : List Member)
+      pub whole-at : (later : List ChainMember)
           → Iff (is_whole limit start later ≡ true)
           (IsWhole limit (text (before ++ f ∷ later)) (length (text before) + length skipped) (before ++ f ∷ []) later)
       whole-at later = (
@@ -330,7 +330,7 @@ module _ (limit : ℕ) where
         λ h.
             and_from (begins_packet limit start) _ (begins-from later h.0)
             (and_from (is_none (breaker limit (far_end start later) (length start) later)) (leb (far_end start later) (length (start ++ text later)))
-            (ap (λ (b : Option Member). is_none b)
+            (ap (λ (b : Option ChainMember). is_none b)
             (unbroken-from (far_end start later) (length start) later
             (λ between more m e o.
             (agreement-at between later m).1

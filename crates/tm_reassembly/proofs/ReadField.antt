@@ -6,7 +6,7 @@ use Rattle.tm_reassembly.proofs.Split.{whole_part, field_parts-whole, unfinished
 use Rattle.tm_items.specs.Item.{Item, Packet}
 use Rattle.tm_reassembly.specs.Parts.{Part, begins_packet}
 use Rattle.tm_items.specs.OnePacket.{reach}
-use Rattle.tm_reassembly.specs.Field.{field_parts, unfinished}
+use Rattle.tm_reassembly.specs.code.Field.{field_parts, unfinished}
 use Rattle.tm_items.specs.Sinks.{TakesAll, RefusesOne}
 use Rattle.tm_reassembly.specs.Items.{part_items}
 

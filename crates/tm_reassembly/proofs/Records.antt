@@ -6,27 +6,27 @@ use Rattle.std.specs.List.{flat_map, slice_get}
 use Rattle.std.proofs.lemmas.List.{append-nil}
 use Rattle.std.proofs.lemmas.List.Concat.{flat_map-append}
 use Rattle.std.proofs.lemmas.Bool.{cases_Bool, cond_both, eq-eqb, cond-true, cond-false}
-pub use Rattle.tm_reassembly.specs.Valid.{IsFit, AllFit}
+pub use Rattle.tm_reassembly.specs.Valid.{IsFit, AllReadingsFit}
 use Rattle.tm_reassembly.specs.State.{State, Last, Tail}
 use Rattle.tm_reassembly.specs.Readings.{Reading}
 use Rattle.tm_items.specs.Item.{Item}
-use Rattle.tm_reassembly.specs.Chain.{Member, has_gap, stem_of, stem_with, chain, frames, member_of, member, Unended}
+use Rattle.tm_reassembly.specs.Chain.{ChainMember, has_frame_gap, stem_of, stem_with, chain, frames, member_of, member, Unended}
 use Rattle.tm_reassembly.specs.Parts.{Part}
-use Rattle.tm_reassembly.specs.Field.{chain_parts_at, chain_tail_at}
+use Rattle.tm_reassembly.specs.code.Field.{chain_parts_at, chain_tail_at}
 use Rattle.tm_rules.specs.Channels.{eight}
-use Rattle.tm_reassembly.specs.Items.{seen_at, held_part, channel_items, chain_parts, last_count, last_with, first_of, channel_after, after, record_items, merged, items, empty}
+use Rattle.tm_reassembly.specs.Items.{seen_at, held_part, channel_items, chain_parts, last_frame_count, last_with, first_tail, channel_after, state_after_readings, record_items, merged, items_of_readings, empty}
 use Rattle.tm_reassembly.proofs.Step.{PlaceFits}
 use Rattle.tm_reassembly.proofs.Chained.{IsOpenTail, chained, chained_step, chained_end, chain_parts-stem, chain_parts-fresh, left_parts}
 use Rattle.tm_reassembly.proofs.Seen.{held-none, chain_parts_at-at, chain_tail_at-open}
 use Rattle.tm_reassembly.proofs.Masters.{masters-now, masters-later, master-moved, master-later}
 use Rattle.tm_reassembly.proofs.Joining.{before_of, tail_of, items_after, channel_items-is, member_items, FitFrom, items-here, items-there}
 
-last_count-is : (x : Option (Option Last)) (fs : List Member) → last_count None (stem_of x ++ fs) ≡ last_count (before_of x) fs
+last_count-is : (x : Option (Option Last)) (fs : List ChainMember) → last_frame_count None (stem_of x ++ fs) ≡ last_frame_count (before_of x) fs
 last_count-is None fs = refl
 last_count-is (Some None) fs = refl
 last_count-is (Some (Some last)) fs = with_tail last.tail
   where
-    with_tail : (t : Option Tail) → last_count None (stem_with last.count t ∷ fs) ≡ last_count (Some last.count) fs
+    with_tail : (t : Option Tail) → last_frame_count None (stem_with last.count t ∷ fs) ≡ last_frame_count (Some last.count) fs
     with_tail None = refl
     with_tail (Some t) = refl
 
@@ -46,23 +46,23 @@ pub none_kept : (c : ℕ) (last : Last) → slice_get empty.channels c ≡ Some 
 none_kept c last e = let there = at_eight (λ d. None) c (slice_get_within empty.channels c (Some last) e) in cc
 
 -- a record has no frame of the channel, or one
-data FrameOf (c k : ℕ) (fs : List Member) : Type 0 where
+data FrameOf (c k : ℕ) (fs : List ChainMember) : Type 0 where
   no_frame : fs ≡ [] → FrameOf c k fs
-  one_frame : (f : Member) → fs ≡ f ∷ [] → f.number ≡ k → PlaceFits f.place (length f.field) → FrameOf c k fs
+  one_frame : (f : ChainMember) → fs ≡ f ∷ [] → f.number ≡ k → PlaceFits f.place (length f.field) → FrameOf c k fs
 
 frame_cases : (c k : ℕ) (r : Reading) → IsFit r → FrameOf c k (member_of c k r)
 frame_cases c k (Err fault) h = no_frame refl
 frame_cases c k (Ok f) h =
     cond_both (eqb f.channel c) (member k f ∷ []) [] (FrameOf c k) (λ e. one_frame (member k f) refl refl h.1) (λ e. no_frame refl)
 
-pub frames-fit : (c k : ℕ) (rs : List Reading) → AllFit rs → FitFrom k (frames c k rs)
+pub frames-fit : (c k : ℕ) (rs : List Reading) → AllReadingsFit rs → FitFrom k (frames c k rs)
 frames-fit c k [] h = tt
 frames-fit c k (r ∷ rs) h =
     Each-append (λ m. (k ≤ m.number) × PlaceFits m.place (length m.field)) (member_of c k r) (frames c (k + 1) rs) (own (member_of c k r) (frame_cases c k r h.0))
     (Each-weaken (λ m. (k + 1 ≤ m.number) × PlaceFits m.place (length m.field)) (λ m. (k ≤ m.number) × PlaceFits m.place (length m.field)) (frames c (k + 1) rs)
     (λ m p. (let b = p.0 in omega arith, p.1)) (frames-fit c (k + 1) rs h.1))
   where
-    own : (fs : List Member) → FrameOf c k fs → Each (λ m. (k ≤ m.number) × PlaceFits m.place (length m.field)) fs
+    own : (fs : List ChainMember) → FrameOf c k fs → Each (λ m. (k ≤ m.number) × PlaceFits m.place (length m.field)) fs
     own fs (no_frame e) = rw e tt
     own fs (one_frame f e n p) = rw e ((omega arith, p), tt)
 
@@ -93,46 +93,46 @@ state_same e f g = rw (e, f, g)
 append_same : {a b c d : List Item} → a ≡ c → b ≡ d → a ++ b ≡ c ++ d
 append_same e f = rw (e, f)
 
-AllFit-append : (rs qs : List Reading) → AllFit rs → AllFit qs → AllFit (rs ++ qs)
+AllFit-append : (rs qs : List Reading) → AllReadingsFit rs → AllReadingsFit qs → AllReadingsFit (rs ++ qs)
 AllFit-append [] qs h k = k
 AllFit-append (r ∷ rs) qs h k = (h.0, AllFit-append rs qs h.1 k)
 
 module _ (limit : ℕ) where
   -- the tail that a chain leaves
-  chain_parts-is : (x : Option (Option Last)) (fs : List Member) → chain_parts limit (stem_of x ++ fs) ≡ chained limit (before_of x) (tail_of x) fs
+  chain_parts-is : (x : Option (Option Last)) (fs : List ChainMember) → chain_parts limit (stem_of x ++ fs) ≡ chained limit (before_of x) (tail_of x) fs
   chain_parts-is None fs = chain_parts-fresh limit fs
   chain_parts-is (Some None) fs = chain_parts-fresh limit fs
   chain_parts-is (Some (Some last)) fs = chain_parts-stem limit last.count last.tail fs
 
-  abbrev pub tail_after : Option ℕ → Option Tail → List Member → Option Tail
-  tail_after before tail fs = first_of (flat_map (λ p. held_part p p.fate) (chained limit before tail fs))
+  abbrev pub tail_after : Option ℕ → Option Tail → List ChainMember → Option Tail
+  tail_after before tail fs = first_tail (flat_map (λ p. held_part p p.fate) (chained limit before tail fs))
 
   pub tail_after-end : (before : Option ℕ) (tail : Option Tail) → IsOpenTail limit tail → tail_after before tail [] ≡ tail
-  tail_after-end before tail h = ap (λ (ps : List Part). first_of (flat_map (λ p. held_part p p.fate) ps)) (chained_end limit before tail h) ∙ same tail
+  tail_after-end before tail h = ap (λ (ps : List Part). first_tail (flat_map (λ p. held_part p p.fate) ps)) (chained_end limit before tail h) ∙ same tail
     where
-      same : (t : Option Tail) → first_of (flat_map (λ p. held_part p p.fate) (left_parts t Unended)) ≡ t
+      same : (t : Option Tail) → first_tail (flat_map (λ p. held_part p p.fate) (left_parts t Unended)) ≡ t
       same None = refl
       same (Some t) = refl
 
-  tail_after-step : (before : Option ℕ) (tail : Option Tail) (f : Member) (fs : List Member) → IsOpenTail limit tail → PlaceFits f.place (length f.field)
-      → tail_after before tail (f ∷ fs) ≡ tail_after (Some f.count) (chain_tail_at limit (has_gap before f) f.is_vca tail f) fs
+  tail_after-step : (before : Option ℕ) (tail : Option Tail) (f : ChainMember) (fs : List ChainMember) → IsOpenTail limit tail → PlaceFits f.place (length f.field)
+      → tail_after before tail (f ∷ fs) ≡ tail_after (Some f.count) (chain_tail_at limit (has_frame_gap before f) f.is_vca tail f) fs
   tail_after-step before tail f fs h k =
-      let here : List Part = chain_parts_at limit (has_gap before f) f.is_vca tail f in
-      let rest : List Part = chained limit (Some f.count) (chain_tail_at limit (has_gap before f) f.is_vca tail f) fs in
-      ap (λ (ps : List Part). first_of (flat_map (λ p. held_part p p.fate) ps)) (chained_step limit before tail f fs h k)
-      ∙ ap first_of
+      let here : List Part = chain_parts_at limit (has_frame_gap before f) f.is_vca tail f in
+      let rest : List Part = chained limit (Some f.count) (chain_tail_at limit (has_frame_gap before f) f.is_vca tail f) fs in
+      ap (λ (ps : List Part). first_tail (flat_map (λ p. held_part p p.fate) ps)) (chained_step limit before tail f fs h k)
+      ∙ ap first_tail
       (flat_map-append (λ p. held_part p p.fate) here rest
-      ∙ ap (λ (ts : List Tail). ts ++ flat_map (λ p. held_part p p.fate) rest) (held-none limit f.number here (chain_parts_at-at limit (has_gap before f) f.is_vca tail f)))
+      ∙ ap (λ (ts : List Tail). ts ++ flat_map (λ p. held_part p p.fate) rest) (held-none limit f.number here (chain_parts_at-at limit (has_frame_gap before f) f.is_vca tail f)))
 
   -- what a channel's state is after records
   pub channel_after-is : (chosen : ℕ → Bool) (s : State) (rs : List Reading) (c : ℕ) → chosen c ≡ true
       → channel_after limit chosen s rs c
       ≡ last_with (tail_after (before_of (slice_get s.channels c)) (tail_of (slice_get s.channels c)) (frames c s.records rs))
-      (last_count (before_of (slice_get s.channels c)) (frames c s.records rs))
+      (last_frame_count (before_of (slice_get s.channels c)) (frames c s.records rs))
   channel_after-is chosen s rs c h =
       cond-true (chosen c) _ _ h
       ∙ pair_same
-      (ap (λ (ps : List Part). first_of (flat_map (λ p. held_part p p.fate) ps)) (chain_parts-is (slice_get s.channels c) (frames c s.records rs)))
+      (ap (λ (ps : List Part). first_tail (flat_map (λ p. held_part p p.fate) ps)) (chain_parts-is (slice_get s.channels c) (frames c s.records rs)))
       (last_count-is (slice_get s.channels c) (frames c s.records rs))
     where
       pair_same : {a b : Option Tail} {m n : Option ℕ} → a ≡ b → m ≡ n → last_with a m ≡ last_with b n
@@ -146,48 +146,48 @@ module _ (limit : ℕ) where
     open_tail : IsOpenTail limit (tail_of (slice_get s.channels c))
     open_tail = valid.tails_open c small is_chosen
 
-    pub new-is : slice_get (after limit chosen s (r ∷ [])).channels c
+    pub new-is : slice_get (state_after_readings limit chosen s (r ∷ [])).channels c
         ≡ Some (last_with (tail_after (before_of (slice_get s.channels c)) (tail_of (slice_get s.channels c)) (member_of c s.records r ++ []))
-        (last_count (before_of (slice_get s.channels c)) (member_of c s.records r ++ [])))
+        (last_frame_count (before_of (slice_get s.channels c)) (member_of c s.records r ++ [])))
     new-is = at_eight (channel_after limit chosen s (r ∷ [])) c small ∙ ap (λ (x : Option Last). Some x) (channel_after-is chosen s (r ∷ []) c is_chosen)
 
     -- no frame of the channel: the channel's state stays
-    pub before-kept : member_of c s.records r ≡ [] → before_of (slice_get (after limit chosen s (r ∷ [])).channels c) ≡ before_of (slice_get s.channels c)
+    pub before-kept : member_of c s.records r ≡ [] → before_of (slice_get (state_after_readings limit chosen s (r ∷ [])).channels c) ≡ before_of (slice_get s.channels c)
     before-kept e =
         ap before_of new-is ∙ before_with _ _
-        ∙ ap (λ (fs : List Member). last_count (before_of (slice_get s.channels c)) (fs ++ [])) e
+        ∙ ap (λ (fs : List ChainMember). last_frame_count (before_of (slice_get s.channels c)) (fs ++ [])) e
 
-    pub tail-kept : member_of c s.records r ≡ [] → tail_of (slice_get (after limit chosen s (r ∷ [])).channels c) ≡ tail_of (slice_get s.channels c)
+    pub tail-kept : member_of c s.records r ≡ [] → tail_of (slice_get (state_after_readings limit chosen s (r ∷ [])).channels c) ≡ tail_of (slice_get s.channels c)
     tail-kept e =
         let t : tail_after (before_of (slice_get s.channels c)) (tail_of (slice_get s.channels c)) (member_of c s.records r ++ []) ≡ tail_of (slice_get s.channels c) =
-        ap (λ (fs : List Member). tail_after (before_of (slice_get s.channels c)) (tail_of (slice_get s.channels c)) (fs ++ [])) e
+        ap (λ (fs : List ChainMember). tail_after (before_of (slice_get s.channels c)) (tail_of (slice_get s.channels c)) (fs ++ [])) e
         ∙ tail_after-end (before_of (slice_get s.channels c)) (tail_of (slice_get s.channels c)) open_tail in
-        let n : last_count (before_of (slice_get s.channels c)) (member_of c s.records r ++ []) ≡ before_of (slice_get s.channels c) =
-        ap (λ (fs : List Member). last_count (before_of (slice_get s.channels c)) (fs ++ [])) e in
+        let n : last_frame_count (before_of (slice_get s.channels c)) (member_of c s.records r ++ []) ≡ before_of (slice_get s.channels c) =
+        ap (λ (fs : List ChainMember). last_frame_count (before_of (slice_get s.channels c)) (fs ++ [])) e in
         ap tail_of new-is ∙ tail_with _ _ (λ z. t ∙ no_tail (slice_get s.channels c) (sym n ∙ z)) ∙ t
 
-    module _ (f : Member) (e : member_of c s.records r ≡ f ∷ []) (place : PlaceFits f.place (length f.field)) where
+    module _ (f : ChainMember) (e : member_of c s.records r ≡ f ∷ []) (place : PlaceFits f.place (length f.field)) where
       -- one frame: its count, and the tail that it leaves
-      pub before-moved : before_of (slice_get (after limit chosen s (r ∷ [])).channels c) ≡ Some f.count
+      pub before-moved : before_of (slice_get (state_after_readings limit chosen s (r ∷ [])).channels c) ≡ Some f.count
       before-moved =
           ap before_of new-is ∙ before_with _ _
-          ∙ ap (λ (fs : List Member). last_count (before_of (slice_get s.channels c)) (fs ++ [])) e
+          ∙ ap (λ (fs : List ChainMember). last_frame_count (before_of (slice_get s.channels c)) (fs ++ [])) e
 
-      pub tail-moved : tail_of (slice_get (after limit chosen s (r ∷ [])).channels c)
-          ≡ chain_tail_at limit (has_gap (before_of (slice_get s.channels c)) f) f.is_vca (tail_of (slice_get s.channels c)) f
+      pub tail-moved : tail_of (slice_get (state_after_readings limit chosen s (r ∷ [])).channels c)
+          ≡ chain_tail_at limit (has_frame_gap (before_of (slice_get s.channels c)) f) f.is_vca (tail_of (slice_get s.channels c)) f
       tail-moved =
-          let left : Option Tail = chain_tail_at limit (has_gap (before_of (slice_get s.channels c)) f) f.is_vca (tail_of (slice_get s.channels c)) f in
+          let left : Option Tail = chain_tail_at limit (has_frame_gap (before_of (slice_get s.channels c)) f) f.is_vca (tail_of (slice_get s.channels c)) f in
           let t : tail_after (before_of (slice_get s.channels c)) (tail_of (slice_get s.channels c)) (member_of c s.records r ++ []) ≡ left =
-          ap (λ (fs : List Member). tail_after (before_of (slice_get s.channels c)) (tail_of (slice_get s.channels c)) (fs ++ [])) e
+          ap (λ (fs : List ChainMember). tail_after (before_of (slice_get s.channels c)) (tail_of (slice_get s.channels c)) (fs ++ [])) e
           ∙ tail_after-step (before_of (slice_get s.channels c)) (tail_of (slice_get s.channels c)) f [] open_tail place
-          ∙ tail_after-end (Some f.count) left (chain_tail_at-open limit (has_gap (before_of (slice_get s.channels c)) f) f.is_vca (tail_of (slice_get s.channels c)) f open_tail) in
-          let n : last_count (before_of (slice_get s.channels c)) (member_of c s.records r ++ []) ≡ Some f.count =
-          ap (λ (fs : List Member). last_count (before_of (slice_get s.channels c)) (fs ++ [])) e in
+          ∙ tail_after-end (Some f.count) left (chain_tail_at-open limit (has_frame_gap (before_of (slice_get s.channels c)) f) f.is_vca (tail_of (slice_get s.channels c)) f open_tail) in
+          let n : last_frame_count (before_of (slice_get s.channels c)) (member_of c s.records r ++ []) ≡ Some f.count =
+          ap (λ (fs : List ChainMember). last_frame_count (before_of (slice_get s.channels c)) (fs ++ [])) e in
           ap tail_of new-is ∙ tail_with _ _ (λ z. absurd (none-some f.count (sym z ∙ n))) ∙ t
 
     -- at a later record the channel's items are as from the state after this one
     items-later : (rs : List Reading) (n : ℕ) → (s.records ≡ n → ⊥)
-        → seen_at n (channel_items limit c (chain s c (r ∷ rs))) ≡ seen_at n (channel_items limit c (chain (after limit chosen s (r ∷ [])) c rs))
+        → seen_at n (channel_items limit c (chain s c (r ∷ rs))) ≡ seen_at n (channel_items limit c (chain (state_after_readings limit chosen s (r ∷ [])) c rs))
     items-later rs n ne = by_case (frame_cases c s.records r fit)
       where
         moved : {a b : Option ℕ} {t u : Option Tail} → a ≡ b → t ≡ u
@@ -198,36 +198,36 @@ module _ (limit : ℕ) where
             ≡ seen_at n (items_after limit c (before_of (slice_get s.channels c)) (tail_of (slice_get s.channels c)) (member_of c s.records r ++ frames c (s.records + 1) rs))
         start = ap (seen_at n) (channel_items-is limit c (slice_get s.channels c) (member_of c s.records r ++ frames c (s.records + 1) rs))
 
-        stop : seen_at n (items_after limit c (before_of (slice_get (after limit chosen s (r ∷ [])).channels c)) (tail_of (slice_get (after limit chosen s (r ∷ [])).channels c)) (frames c (s.records + 1) rs))
-            ≡ seen_at n (channel_items limit c (chain (after limit chosen s (r ∷ [])) c rs))
-        stop = sym (ap (seen_at n) (channel_items-is limit c (slice_get (after limit chosen s (r ∷ [])).channels c) (frames c (s.records + 1) rs)))
+        stop : seen_at n (items_after limit c (before_of (slice_get (state_after_readings limit chosen s (r ∷ [])).channels c)) (tail_of (slice_get (state_after_readings limit chosen s (r ∷ [])).channels c)) (frames c (s.records + 1) rs))
+            ≡ seen_at n (channel_items limit c (chain (state_after_readings limit chosen s (r ∷ [])) c rs))
+        stop = sym (ap (seen_at n) (channel_items-is limit c (slice_get (state_after_readings limit chosen s (r ∷ [])).channels c) (frames c (s.records + 1) rs)))
 
         by_case : FrameOf c s.records (member_of c s.records r)
-            → seen_at n (channel_items limit c (chain s c (r ∷ rs))) ≡ seen_at n (channel_items limit c (chain (after limit chosen s (r ∷ [])) c rs))
+            → seen_at n (channel_items limit c (chain s c (r ∷ rs))) ≡ seen_at n (channel_items limit c (chain (state_after_readings limit chosen s (r ∷ [])) c rs))
         by_case (no_frame e) =
             start
-            ∙ ap (λ (ms : List Member). seen_at n (items_after limit c (before_of (slice_get s.channels c)) (tail_of (slice_get s.channels c)) (ms ++ frames c (s.records + 1) rs))) e
+            ∙ ap (λ (ms : List ChainMember). seen_at n (items_after limit c (before_of (slice_get s.channels c)) (tail_of (slice_get s.channels c)) (ms ++ frames c (s.records + 1) rs))) e
             ∙ moved (sym (before-kept e)) (sym (tail-kept e))
             ∙ stop
         by_case (one_frame f e number place) =
             start
-            ∙ ap (λ (ms : List Member). seen_at n (items_after limit c (before_of (slice_get s.channels c)) (tail_of (slice_get s.channels c)) (ms ++ frames c (s.records + 1) rs))) e
+            ∙ ap (λ (ms : List ChainMember). seen_at n (items_after limit c (before_of (slice_get s.channels c)) (tail_of (slice_get s.channels c)) (ms ++ frames c (s.records + 1) rs))) e
             ∙ items-there limit c (before_of (slice_get s.channels c)) (tail_of (slice_get s.channels c)) f (frames c (s.records + 1) rs) open_tail place n (λ q. ne (sym number ∙ q))
             ∙ moved (sym (before-moved f e place)) (sym (tail-moved f e place))
             ∙ stop
 
     -- at this record the channel's items are the same, whatever comes later
-    items-now : (rs : List Reading) → AllFit rs → member_of c s.records r ≢ []
+    items-now : (rs : List Reading) → AllReadingsFit rs → member_of c s.records r ≢ []
         → seen_at s.records (channel_items limit c (chain s c (r ∷ rs))) ≡ seen_at s.records (channel_items limit c (chain s c (r ∷ [])))
     items-now rs fits some = by_case (frame_cases c s.records r fit)
       where
-        here : (qs : List Reading) → AllFit qs → (f : Member) → member_of c s.records r ≡ f ∷ [] → f.number ≡ s.records → PlaceFits f.place (length f.field)
+        here : (qs : List Reading) → AllReadingsFit qs → (f : ChainMember) → member_of c s.records r ≡ f ∷ [] → f.number ≡ s.records → PlaceFits f.place (length f.field)
             → seen_at s.records (channel_items limit c (chain s c (r ∷ qs))) ≡ member_items limit c (before_of (slice_get s.channels c)) (tail_of (slice_get s.channels c)) f
         here qs fitted f e number place =
             let later : FitFrom (suc f.number) (frames c (s.records + 1) qs) =
             subst (λ (k : ℕ). FitFrom k (frames c (s.records + 1) qs)) (omega arith) (frames-fit c (s.records + 1) qs fitted) in
             ap (seen_at s.records) (channel_items-is limit c (slice_get s.channels c) (member_of c s.records r ++ frames c (s.records + 1) qs))
-            ∙ ap (λ (ms : List Member). seen_at s.records (items_after limit c (before_of (slice_get s.channels c)) (tail_of (slice_get s.channels c)) (ms ++ frames c (s.records + 1) qs))) e
+            ∙ ap (λ (ms : List ChainMember). seen_at s.records (items_after limit c (before_of (slice_get s.channels c)) (tail_of (slice_get s.channels c)) (ms ++ frames c (s.records + 1) qs))) e
             ∙ ap (λ (k : ℕ). seen_at k (items_after limit c (before_of (slice_get s.channels c)) (tail_of (slice_get s.channels c)) (f ∷ frames c (s.records + 1) qs))) (sym number)
             ∙ items-here limit c (before_of (slice_get s.channels c)) (tail_of (slice_get s.channels c)) f (frames c (s.records + 1) qs) open_tail place later
 
@@ -237,49 +237,49 @@ module _ (limit : ℕ) where
         by_case (one_frame f e number place) = here rs fits f e number place ∙ sym (here [] tt f e number place)
 
     -- the state of the channel after more records
-    pub channel-later : (rs : List Reading) → channel_after limit chosen s (r ∷ rs) c ≡ channel_after limit chosen (after limit chosen s (r ∷ [])) rs c
+    pub channel-later : (rs : List Reading) → channel_after limit chosen s (r ∷ rs) c ≡ channel_after limit chosen (state_after_readings limit chosen s (r ∷ [])) rs c
     channel-later rs = by_case (frame_cases c s.records r fit)
       where
         same : {a b : Option ℕ} {t u : Option Tail} → a ≡ b → t ≡ u
-            → last_with (tail_after a t (frames c (s.records + 1) rs)) (last_count a (frames c (s.records + 1) rs))
-            ≡ last_with (tail_after b u (frames c (s.records + 1) rs)) (last_count b (frames c (s.records + 1) rs))
+            → last_with (tail_after a t (frames c (s.records + 1) rs)) (last_frame_count a (frames c (s.records + 1) rs))
+            ≡ last_with (tail_after b u (frames c (s.records + 1) rs)) (last_frame_count b (frames c (s.records + 1) rs))
         same e f = rw (e, f)
 
         stop : last_with
-            (tail_after (before_of (slice_get (after limit chosen s (r ∷ [])).channels c)) (tail_of (slice_get (after limit chosen s (r ∷ [])).channels c)) (frames c (s.records + 1) rs))
-            (last_count (before_of (slice_get (after limit chosen s (r ∷ [])).channels c)) (frames c (s.records + 1) rs))
-            ≡ channel_after limit chosen (after limit chosen s (r ∷ [])) rs c
-        stop = sym (channel_after-is chosen (after limit chosen s (r ∷ [])) rs c is_chosen)
+            (tail_after (before_of (slice_get (state_after_readings limit chosen s (r ∷ [])).channels c)) (tail_of (slice_get (state_after_readings limit chosen s (r ∷ [])).channels c)) (frames c (s.records + 1) rs))
+            (last_frame_count (before_of (slice_get (state_after_readings limit chosen s (r ∷ [])).channels c)) (frames c (s.records + 1) rs))
+            ≡ channel_after limit chosen (state_after_readings limit chosen s (r ∷ [])) rs c
+        stop = sym (channel_after-is chosen (state_after_readings limit chosen s (r ∷ [])) rs c is_chosen)
 
-        by_case : FrameOf c s.records (member_of c s.records r) → channel_after limit chosen s (r ∷ rs) c ≡ channel_after limit chosen (after limit chosen s (r ∷ [])) rs c
+        by_case : FrameOf c s.records (member_of c s.records r) → channel_after limit chosen s (r ∷ rs) c ≡ channel_after limit chosen (state_after_readings limit chosen s (r ∷ [])) rs c
         by_case (no_frame e) =
             channel_after-is chosen s (r ∷ rs) c is_chosen
-            ∙ ap (λ (ms : List Member).
+            ∙ ap (λ (ms : List ChainMember).
             last_with (tail_after (before_of (slice_get s.channels c)) (tail_of (slice_get s.channels c)) (ms ++ frames c (s.records + 1) rs))
-            (last_count (before_of (slice_get s.channels c)) (ms ++ frames c (s.records + 1) rs))) e
+            (last_frame_count (before_of (slice_get s.channels c)) (ms ++ frames c (s.records + 1) rs))) e
             ∙ same (sym (before-kept e)) (sym (tail-kept e))
             ∙ stop
         by_case (one_frame f e number place) =
             channel_after-is chosen s (r ∷ rs) c is_chosen
-            ∙ ap (λ (ms : List Member).
+            ∙ ap (λ (ms : List ChainMember).
             last_with (tail_after (before_of (slice_get s.channels c)) (tail_of (slice_get s.channels c)) (ms ++ frames c (s.records + 1) rs))
-            (last_count (before_of (slice_get s.channels c)) (ms ++ frames c (s.records + 1) rs))) e
-            ∙ ap (λ (t : Option Tail). last_with t (last_count (Some f.count) (frames c (s.records + 1) rs)))
+            (last_frame_count (before_of (slice_get s.channels c)) (ms ++ frames c (s.records + 1) rs))) e
+            ∙ ap (λ (t : Option Tail). last_with t (last_frame_count (Some f.count) (frames c (s.records + 1) rs)))
             (tail_after-step (before_of (slice_get s.channels c)) (tail_of (slice_get s.channels c)) f (frames c (s.records + 1) rs) open_tail place)
             ∙ same (sym (before-moved f e place)) (sym (tail-moved f e place))
             ∙ stop
 
     -- and its tail stays open
-    pub tail-later : IsOpenTail limit (tail_of (slice_get (after limit chosen s (r ∷ [])).channels c))
+    pub tail-later : IsOpenTail limit (tail_of (slice_get (state_after_readings limit chosen s (r ∷ [])).channels c))
     tail-later = by_case (frame_cases c s.records r fit)
       where
-        by_case : FrameOf c s.records (member_of c s.records r) → IsOpenTail limit (tail_of (slice_get (after limit chosen s (r ∷ [])).channels c))
+        by_case : FrameOf c s.records (member_of c s.records r) → IsOpenTail limit (tail_of (slice_get (state_after_readings limit chosen s (r ∷ [])).channels c))
         by_case (no_frame e) = subst (IsOpenTail limit) (sym (tail-kept e)) open_tail
         by_case (one_frame f e number place) =
             subst (IsOpenTail limit) (sym (tail-moved f e place))
-            (chain_tail_at-open limit (has_gap (before_of (slice_get s.channels c)) f) f.is_vca (tail_of (slice_get s.channels c)) f open_tail)
+            (chain_tail_at-open limit (has_frame_gap (before_of (slice_get s.channels c)) f) f.is_vca (tail_of (slice_get s.channels c)) f open_tail)
 
-  pub record_items-now : (chosen : ℕ → Bool) (s : State) (r : Reading) → HasOpenTails chosen s → IsFit r → (rs : List Reading) → AllFit rs
+  pub record_items-now : (chosen : ℕ → Bool) (s : State) (r : Reading) → HasOpenTails chosen s → IsFit r → (rs : List Reading) → AllReadingsFit rs
       → record_items limit chosen s (r ∷ rs) s.records r ≡ record_items limit chosen s (r ∷ []) s.records r
   record_items-now chosen s (Err fault) valid fit rs fits = refl
   record_items-now chosen s (Ok g) valid fit rs fits =
@@ -295,15 +295,15 @@ module _ (limit : ℕ) where
       (cases_Bool (chosen g.channel)))
 
   module _ (chosen : ℕ → Bool) (s : State) (r : Reading) (valid : HasOpenTails chosen s) (fit : IsFit r) where
-    merged-later : (rs : List Reading) (n : ℕ) (qs : List Reading) → s.records < n → AllFit qs
-        → merged limit chosen s (r ∷ rs) n qs ≡ merged limit chosen (after limit chosen s (r ∷ [])) rs n qs
+    merged-later : (rs : List Reading) (n : ℕ) (qs : List Reading) → s.records < n → AllReadingsFit qs
+        → merged limit chosen s (r ∷ rs) n qs ≡ merged limit chosen (state_after_readings limit chosen s (r ∷ [])) rs n qs
     merged-later rs n [] h fits = refl
     merged-later rs n (q ∷ qs) h fits = append_same (one q fits.0) (merged-later rs (n + 1) qs (omega arith) fits.1)
       where
-        one : (q : Reading) → IsFit q → record_items limit chosen s (r ∷ rs) n q ≡ record_items limit chosen (after limit chosen s (r ∷ [])) rs n q
+        one : (q : Reading) → IsFit q → record_items limit chosen s (r ∷ rs) n q ≡ record_items limit chosen (state_after_readings limit chosen s (r ∷ [])) rs n q
         one (Err fault) k = refl
         one (Ok g) k =
-            append_same (masters-later s (after limit chosen s (r ∷ [])) r (master-moved s r) (omega arith) rs n (λ z. omega arith))
+            append_same (masters-later s (state_after_readings limit chosen s (r ∷ [])) r (master-moved s r) (omega arith) rs n (λ z. omega arith))
             (⊎_elim
             (λ e.
             cond-true (chosen g.channel) _ _ e
@@ -313,8 +313,8 @@ module _ (limit : ℕ) where
             (cases_Bool (chosen g.channel)))
 
     -- the items of a record and more records: those of the record, and then those of the others
-    pub items-cons : (rs : List Reading) → AllFit rs
-        → items limit chosen s (r ∷ rs) ≡ items limit chosen s (r ∷ []) ++ items limit chosen (after limit chosen s (r ∷ [])) rs
+    pub items-cons : (rs : List Reading) → AllReadingsFit rs
+        → items_of_readings limit chosen s (r ∷ rs) ≡ items_of_readings limit chosen s (r ∷ []) ++ items_of_readings limit chosen (state_after_readings limit chosen s (r ∷ [])) rs
     items-cons rs fits =
         rw (
           record_items-now chosen s r valid fit rs fits,
@@ -322,13 +322,13 @@ module _ (limit : ℕ) where
           append-nil (record_items limit chosen s (r ∷ []) s.records r),
         )
 
-    pub valid-after : HasOpenTails chosen (after limit chosen s (r ∷ []))
+    pub valid-after : HasOpenTails chosen (state_after_readings limit chosen s (r ∷ []))
     valid-after = record { tails_open = λ c small is_chosen. tail-later chosen s r valid fit c small is_chosen }
 
-    pub after-cons : (rs : List Reading) → after limit chosen s (r ∷ rs) ≡ after limit chosen (after limit chosen s (r ∷ [])) rs
+    pub after-cons : (rs : List Reading) → state_after_readings limit chosen s (r ∷ rs) ≡ state_after_readings limit chosen (state_after_readings limit chosen s (r ∷ [])) rs
     after-cons rs =
-        state_same (omega arith) (master-later s (after limit chosen s (r ∷ [])) r (master-moved s r) (omega arith) rs)
-        (map_eight (channel_after limit chosen s (r ∷ rs)) (channel_after limit chosen (after limit chosen s (r ∷ [])) rs)
+        state_same (omega arith) (master-later s (state_after_readings limit chosen s (r ∷ [])) r (master-moved s r) (omega arith) rs)
+        (map_eight (channel_after limit chosen s (r ∷ rs)) (channel_after limit chosen (state_after_readings limit chosen s (r ∷ [])) rs)
         (λ c small.
         ⊎_elim
         (λ e. channel-later chosen s r valid fit c small e rs)
@@ -336,25 +336,25 @@ module _ (limit : ℕ) where
         (cases_Bool (chosen c))))
 
   -- joining, over any two lists of records
-  pub items-append : (chosen : ℕ → Bool) (s : State) (rs qs : List Reading) → HasOpenTails chosen s → after limit chosen s [] ≡ s → AllFit rs → AllFit qs
-      → items limit chosen s (rs ++ qs) ≡ items limit chosen s rs ++ items limit chosen (after limit chosen s rs) qs
-  items-append chosen s [] qs valid still fits more = ap (λ (z : State). items limit chosen z qs) (sym still)
+  pub items-append : (chosen : ℕ → Bool) (s : State) (rs qs : List Reading) → HasOpenTails chosen s → state_after_readings limit chosen s [] ≡ s → AllReadingsFit rs → AllReadingsFit qs
+      → items_of_readings limit chosen s (rs ++ qs) ≡ items_of_readings limit chosen s rs ++ items_of_readings limit chosen (state_after_readings limit chosen s rs) qs
+  items-append chosen s [] qs valid still fits more = ap (λ (z : State). items_of_readings limit chosen z qs) (sym still)
   items-append chosen s (r ∷ rs) qs valid still fits more =
-      let next : HasOpenTails chosen (after limit chosen s (r ∷ [])) = valid-after chosen s r valid fits.0 in
+      let next : HasOpenTails chosen (state_after_readings limit chosen s (r ∷ [])) = valid-after chosen s r valid fits.0 in
       items-cons chosen s r valid fits.0 (rs ++ qs) (AllFit-append rs qs fits.1 more)
-      ∙ ap (λ (xs : List Item). items limit chosen s (r ∷ []) ++ xs)
-      (items-append chosen (after limit chosen s (r ∷ [])) rs qs next (sym (after-cons chosen s r valid fits.0 [])) fits.1 more)
-      ∙ regroup (items limit chosen s (r ∷ [])) (items limit chosen (after limit chosen s (r ∷ [])) rs) _ _ _
+      ∙ ap (λ (xs : List Item). items_of_readings limit chosen s (r ∷ []) ++ xs)
+      (items-append chosen (state_after_readings limit chosen s (r ∷ [])) rs qs next (sym (after-cons chosen s r valid fits.0 [])) fits.1 more)
+      ∙ regroup (items_of_readings limit chosen s (r ∷ [])) (items_of_readings limit chosen (state_after_readings limit chosen s (r ∷ [])) rs) _ _ _
       (sym (items-cons chosen s r valid fits.0 rs fits.1))
-      (ap (λ (z : State). items limit chosen z qs) (sym (after-cons chosen s r valid fits.0 rs)))
+      (ap (λ (z : State). items_of_readings limit chosen z qs) (sym (after-cons chosen s r valid fits.0 rs)))
     where
       regroup : (a b c d e : List Item) → a ++ b ≡ d → c ≡ e → a ++ (b ++ c) ≡ d ++ e
       regroup a b c d e f g = sym (append_assoc a b c) ∙ rw (f, g)
 
-  pub after-append : (chosen : ℕ → Bool) (s : State) (rs qs : List Reading) → HasOpenTails chosen s → after limit chosen s [] ≡ s → AllFit rs
-      → after limit chosen s (rs ++ qs) ≡ after limit chosen (after limit chosen s rs) qs
-  after-append chosen s [] qs valid still fits = ap (λ (z : State). after limit chosen z qs) (sym still)
+  pub after-append : (chosen : ℕ → Bool) (s : State) (rs qs : List Reading) → HasOpenTails chosen s → state_after_readings limit chosen s [] ≡ s → AllReadingsFit rs
+      → state_after_readings limit chosen s (rs ++ qs) ≡ state_after_readings limit chosen (state_after_readings limit chosen s rs) qs
+  after-append chosen s [] qs valid still fits = ap (λ (z : State). state_after_readings limit chosen z qs) (sym still)
   after-append chosen s (r ∷ rs) qs valid still fits =
       after-cons chosen s r valid fits.0 (rs ++ qs)
-      ∙ after-append chosen (after limit chosen s (r ∷ [])) rs qs (valid-after chosen s r valid fits.0) (sym (after-cons chosen s r valid fits.0 [])) fits.1
-      ∙ ap (λ (z : State). after limit chosen z qs) (sym (after-cons chosen s r valid fits.0 rs))
+      ∙ after-append chosen (state_after_readings limit chosen s (r ∷ [])) rs qs (valid-after chosen s r valid fits.0) (sym (after-cons chosen s r valid fits.0 [])) fits.1
+      ∙ ap (λ (z : State). state_after_readings limit chosen z qs) (sym (after-cons chosen s r valid fits.0 rs))

@@ -8,10 +8,10 @@ use Rattle.std.proofs.lemmas.Bool.{cond_both, leb-false, eq-eqb, ne_eqb, leb-tru
 use Rattle.tm_items.specs.declared.items.Reason.{Reason}
 use Rattle.tm_reassembly.specs.State.{Tail}
 use Rattle.tm_items.specs.Item.{Item, seen_of}
-use Rattle.tm_reassembly.specs.Chain.{Member}
+use Rattle.tm_reassembly.specs.Chain.{ChainMember}
 use Rattle.tm_reassembly.specs.Parts.{Part, Fate, Given, Lost, Held, agrees, begins_packet, lead, lead_part, front_of, is_long}
 use Rattle.tm_items.specs.OnePacket.{reach}
-use Rattle.tm_reassembly.specs.Field.{stop_of, field_parts, unfinished, parts_in, left_in, tail_at, frame_parts, frame_tail, step_parts, step_tail, ended_parts, chain_parts_at, chain_tail_at}
+use Rattle.tm_reassembly.specs.code.Field.{end_place_of, field_parts, unfinished, parts_in, left_in, tail_at, frame_parts, frame_tail, step_parts, step_tail, ended_parts, chain_parts_at, chain_tail_at}
 use Rattle.tm_reassembly.specs.Items.{seen_at, held_part}
 use Rattle.tm_reassembly.proofs.Long.{begins-longer, begins-short, agrees-short, within-limit}
 use Rattle.tm_reassembly.proofs.Fresh.{OpenTail, unfinished-open}
@@ -47,7 +47,7 @@ module _ (limit : ℕ) where
       one Held e = absurd e
       one f e = refl
 
-  lead_part-at : (m : Member) (reason : Reason) (o : List ℕ) → AllAt m.number (lead_part m reason o)
+  lead_part-at : (m : ChainMember) (reason : Reason) (o : List ℕ) → AllAt m.number (lead_part m reason o)
   lead_part-at m reason [] = tt
   lead_part-at m reason (x ∷ xs) = (refl, tt)
 
@@ -75,10 +75,10 @@ module _ (limit : ℕ) where
       )) (λ q. tt))
       (λ p. (refl, tt))
 
-  frame_parts-at : (m : Member) → AllAt m.number (frame_parts limit m)
-  frame_parts-at m = elim m.place as (λ v. AllAt m.number (parts_in limit m.number (stop_of m) v m.field)) [ None ↦ tt | Some place ↦ field_parts-at m.number (stop_of m) place m.field ]
+  frame_parts-at : (m : ChainMember) → AllAt m.number (frame_parts limit m)
+  frame_parts-at m = elim m.place as (λ v. AllAt m.number (parts_in limit m.number (end_place_of m) v m.field)) [ None ↦ tt | Some place ↦ field_parts-at m.number (end_place_of m) place m.field ]
 
-  step_parts-at : (tail : Option Tail) (m : Member) → AllAt m.number (step_parts limit tail m)
+  step_parts-at : (tail : Option Tail) (m : ChainMember) → AllAt m.number (step_parts limit tail m)
   step_parts-at None m = Each-append (λ p. IsAt m.number p p.fate) (lead limit [] m) (frame_parts limit m) (lead_part-at m _ (front_of m.place m.field)) (frame_parts-at m)
   step_parts-at (Some t) m =
       let far : ℕ = reach (t.octets ++ m.field) in
@@ -94,7 +94,7 @@ module _ (limit : ℕ) where
       )) (λ q. tt))
       (λ p. (refl, Each-append (λ p. IsAt m.number p p.fate) _ (frame_parts limit m) (lead_part-at m _ (front_of m.place m.field)) (frame_parts-at m)))
 
-  pub chain_parts_at-at : (gap vca : Bool) (tail : Option Tail) (m : Member) → AllAt m.number (chain_parts_at limit gap vca tail m)
+  pub chain_parts_at-at : (gap vca : Bool) (tail : Option Tail) (m : ChainMember) → AllAt m.number (chain_parts_at limit gap vca tail m)
   chain_parts_at-at true true tail m = ended_parts-at tail _ m.number
   chain_parts_at-at true false tail m = Each-append (λ p. IsAt m.number p p.fate) _ _ (ended_parts-at tail _ m.number) (step_parts-at None m)
   chain_parts_at-at false true tail m = ended_parts-at tail _ m.number
@@ -105,12 +105,12 @@ module _ (limit : ℕ) where
   tail_at-open number stop [] h = tt
   tail_at-open number stop (x ∷ xs) h = h
 
-  frame_tail-open : (m : Member) → IsOpenTail limit (frame_tail limit m)
+  frame_tail-open : (m : ChainMember) → IsOpenTail limit (frame_tail limit m)
   frame_tail-open m =
-      elim m.place as (λ v. IsOpenTail limit (tail_at m.number (stop_of m) (left_in limit v m.field)))
-      [ None ↦ tt | Some place ↦ tail_at-open m.number (stop_of m) (unfinished limit place m.field) (unfinished-open limit place m.field) ]
+      elim m.place as (λ v. IsOpenTail limit (tail_at m.number (end_place_of m) (left_in limit v m.field)))
+      [ None ↦ tt | Some place ↦ tail_at-open m.number (end_place_of m) (unfinished limit place m.field) (unfinished-open limit place m.field) ]
 
-  step_tail-open : (tail : Option Tail) (m : Member) → IsOpenTail limit tail → IsOpenTail limit (step_tail limit tail m)
+  step_tail-open : (tail : Option Tail) (m : ChainMember) → IsOpenTail limit tail → IsOpenTail limit (step_tail limit tail m)
   step_tail-open None m h = frame_tail-open m
   step_tail-open (Some t) m h =
       cond_both (agrees limit (reach (t.octets ++ m.field)) (length t.octets) m) _ _ (IsOpenTail limit)
@@ -124,7 +124,7 @@ module _ (limit : ℕ) where
       longer [] h a k = absurd h
       longer (x ∷ xs) h a k = (begins-longer limit x xs m h.0 a, k)
 
-  pub chain_tail_at-open : (gap vca : Bool) (tail : Option Tail) (m : Member) → IsOpenTail limit tail → IsOpenTail limit (chain_tail_at limit gap vca tail m)
+  pub chain_tail_at-open : (gap vca : Bool) (tail : Option Tail) (m : ChainMember) → IsOpenTail limit tail → IsOpenTail limit (chain_tail_at limit gap vca tail m)
   chain_tail_at-open gap true tail m h = tt
   chain_tail_at-open true false tail m h = frame_tail-open m
   chain_tail_at-open false false tail m h = step_tail-open tail m h

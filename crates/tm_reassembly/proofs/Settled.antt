@@ -4,7 +4,7 @@ use Rattle.std.proofs.lemmas.List.{append-nil}
 use Rattle.std.proofs.lemmas.List.Concat.{flat_map-append}
 use Rattle.std.proofs.lemmas.Bool.{cases_lt, lt-ltb, le-leb, lt-leb, and_right}
 use Rattle.tm_reassembly.specs.Valid.{PlacesFit}
-use Rattle.tm_reassembly.specs.Chain.{Member}
+use Rattle.tm_reassembly.specs.Chain.{ChainMember}
 use Rattle.tm_reassembly.specs.Parts.{text, far_end, is_long, begins_packet, agrees, open_after, breaker}
 use Rattle.tm_items.specs.OnePacket.{reach}
 use Rattle.tm_reassembly.specs.Verdict.{is_whole, ends_in}
@@ -14,7 +14,7 @@ use Rattle.tm_reassembly.proofs.Step.{reach-two, PlaceFits, agrees_both}
 
 module _ (limit : ℕ) where
   -- far beyond the frames between, the number itself doesn't matter
-  open_far : (d n a : ℕ) (between : List Member) → PlacesFit between → a + length (text between) < d → a + length (text between) < n
+  open_far : (d n a : ℕ) (between : List ChainMember) → PlacesFit between → a + length (text between) < d → a + length (text between) < n
       → a + length (text between) < 6 → open_after limit d a between ≡ open_after limit n a between
   open_far d n a [] fits h k short = lt-ltb a d (omega arith) ∙ sym (lt-ltb a n (omega arith))
   open_far d n a (m ∷ between) fits h k short =
@@ -28,7 +28,7 @@ module _ (limit : ℕ) where
       both_same p q = rw (p, q)
 
   -- where a packet ends is settled by the frames between and m, or lies beyond m
-  far-settled : (start : List ℕ) (between : List Member) (m : Member) (more : List Member)
+  far-settled : (start : List ℕ) (between : List ChainMember) (m : ChainMember) (more : List ChainMember)
       → (far_end start (between ++ m ∷ more) ≡ far_end start (between ++ m ∷ []))
       ⊎ (((length start + length (text between)) + length m.field < far_end start (between ++ m ∷ more))
       × ((length start + length (text between)) + length m.field < far_end start (between ++ m ∷ []))
@@ -45,7 +45,7 @@ module _ (limit : ℕ) where
       (λ both. inr (omega (arith, rnow, rall, len, both.1), omega (arith, rnow, rall, len, both.0), omega (arith, len, both.2)))
       (reach-two s (text more))
 
-  pub open-settled : (start : List ℕ) (between : List Member) (m : Member) (more : List Member) → PlacesFit between
+  pub open-settled : (start : List ℕ) (between : List ChainMember) (m : ChainMember) (more : List ChainMember) → PlacesFit between
       → open_after limit (far_end start (between ++ m ∷ more)) (length start) between ≡ open_after limit (far_end start (between ++ m ∷ [])) (length start) between
   open-settled start between m more fits =
       ⊎_elim
@@ -53,7 +53,7 @@ module _ (limit : ℕ) where
       (λ both. open_far _ _ (length start) between fits (omega (arith, both.0)) (omega (arith, both.1)) (omega (arith, both.2)))
       (far-settled start between m more)
 
-  pub agreement-settled : (start : List ℕ) (between : List Member) (m : Member) (more : List Member) → PlaceFits m.place (length m.field)
+  pub agreement-settled : (start : List ℕ) (between : List ChainMember) (m : ChainMember) (more : List ChainMember) → PlaceFits m.place (length m.field)
       → agrees limit (far_end start (between ++ m ∷ more)) (length start + length (text between)) m
       ≡ agrees limit (far_end start (between ++ m ∷ [])) (length start + length (text between)) m
   agreement-settled start between m more fits =
@@ -63,7 +63,7 @@ module _ (limit : ℕ) where
       (far-settled start between m more)
 
   -- whether its packet is long there
-  pub long-settled : (start : List ℕ) (between : List Member) (m : Member) (more : List Member)
+  pub long-settled : (start : List ℕ) (between : List ChainMember) (m : ChainMember) (more : List ChainMember)
       → is_long limit (far_end start (between ++ m ∷ more)) ((length start + length (text between)) + length m.field)
       ≡ is_long limit (far_end start (between ++ m ∷ [])) ((length start + length (text between)) + length m.field)
   long-settled start between m more =
@@ -73,7 +73,7 @@ module _ (limit : ℕ) where
       (far-settled start between m more)
 
   -- and in its own frame
-  pub own-long-settled : (start : List ℕ) (later : List Member)
+  pub own-long-settled : (start : List ℕ) (later : List ChainMember)
       → is_long limit (far_end start later) (length start) ≡ is_long limit (reach start) (length start)
   own-long-settled start later =
       ⊎_elim
@@ -82,25 +82,25 @@ module _ (limit : ℕ) where
       (reach-two start (text later))
 
   -- where a packet ends in m or before, the frames after m have no say
-  breaker-within : (d a : ℕ) (between : List Member) (m : Member) (more : List Member) → d ≤ (a + length (text between)) + length m.field
+  breaker-within : (d a : ℕ) (between : List ChainMember) (m : ChainMember) (more : List ChainMember) → d ≤ (a + length (text between)) + length m.field
       → breaker limit d a (between ++ m ∷ more) ≡ breaker limit d a (between ++ m ∷ [])
   breaker-within d a [] m more h = rw (breaker-settled limit d (a + length m.field) more (omega arith))
   breaker-within d a (f ∷ between) m more h =
       let len : length (text (f ∷ between)) ≡ length f.field + length (text between) = length-append f.field (text between) in
       rw (breaker-within d (a + length f.field) between m more (omega arith))
 
-  enough-text : (d : ℕ) (start : List ℕ) (between : List Member) (m : Member) (more : List Member) → d ≤ (length start + length (text between)) + length m.field
+  enough-text : (d : ℕ) (start : List ℕ) (between : List ChainMember) (m : ChainMember) (more : List ChainMember) → d ≤ (length start + length (text between)) + length m.field
       → leb d (length (start ++ text (between ++ m ∷ more))) ≡ true
   enough-text d start between m more h =
       let len : length (start ++ text (between ++ m ∷ more)) ≡ length start + (length (text between) + (length m.field + length (text more))) =
       simp (flat_map-append, length-append) in
       le-leb _ _ (omega arith)
 
-  past : (d a : ℕ) (m : Member) → a + length m.field < d → ends_in d a m ≡ false
+  past : (d a : ℕ) (m : ChainMember) → a + length m.field < d → ends_in d a m ≡ false
   past d a m h = and_right (ltb a d) (leb d (a + length m.field)) (lt-leb d (a + length m.field) h)
 
   -- whole, with its last octet in m
-  pub whole-settled : (start : List ℕ) (between : List Member) (m : Member) (more : List Member)
+  pub whole-settled : (start : List ℕ) (between : List ChainMember) (m : ChainMember) (more : List ChainMember)
       → (is_whole limit start (between ++ m ∷ more) && ends_in (far_end start (between ++ m ∷ more)) (length start + length (text between)) m)
       ≡ (is_whole limit start (between ++ m ∷ []) && ends_in (far_end start (between ++ m ∷ [])) (length start + length (text between)) m)
   whole-settled start between m more =

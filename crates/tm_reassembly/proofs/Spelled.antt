@@ -11,23 +11,24 @@ use Rattle.tm_frame.specs.declared.layout.LayoutParts.{LayoutParts}
 use Rattle.tm_reassembly.specs.declared.fault.StateFault.{StateFault}
 use Rattle.tm_rules.specs.Rules.{Rules, chooses}
 use Rattle.tm_reassembly.specs.State.{Tail}
-use Rattle.tm_reassembly.specs.Checkpoint.{two, four, block, master_octets, spelling, old_spelling, four_at, two_at, Read, ReadAll, Decoded, is_unfinished, block_read, blocks_read, in_front, and_then, ReadMaster, master_read, with_channels, with_master, decoding_of, old_decoding_of}
+use Rattle.tm_reassembly.specs.Checkpoint.{four_octets, block, master_octets, state_spelling, old_spelling, four_at, ReadBlock, ReadBlocks, DecodedState, is_unfinished, block_read, blocks_read, in_front, and_then_blocks, ReadMaster, master_read, with_channels, with_master, state_decoding_of, old_decoding_of}
+use Rattle.tm_bits.specs.Bits.{two_octets, two_at}
 
 -- ---- numbers
 
-two_again : (a b : ℕ) → a < 256 → b < 256 → two (256 * a + b) ≡ a ∷ b ∷ []
+two_again : (a b : ℕ) → a < 256 → b < 256 → two_octets (256 * a + b) ≡ a ∷ b ∷ []
 two_again a b p q =
     let x : (256 * a + b) / 256 ≡ a = omega arith in
     let y : (256 * a + b) % 256 ≡ b = omega arith in
     rw (x, y) refl
 
-four_again : (a b c d : ℕ) → a < 256 → b < 256 → c < 256 → d < 256 → four (65536 * (256 * a + b) + (256 * c + d)) ≡ a ∷ b ∷ c ∷ d ∷ []
+four_again : (a b c d : ℕ) → a < 256 → b < 256 → c < 256 → d < 256 → four_octets (65536 * (256 * a + b) + (256 * c + d)) ≡ a ∷ b ∷ c ∷ d ∷ []
 four_again a b c d p q r s =
     let x : (65536 * (256 * a + b) + (256 * c + d)) / 65536 ≡ 256 * a + b = omega arith in
     let y : (65536 * (256 * a + b) + (256 * c + d)) % 65536 ≡ 256 * c + d = omega arith in
-    ap (λ (n : ℕ). two n ++ two ((65536 * (256 * a + b) + (256 * c + d)) % 65536)) x
-    ∙ ap (λ (n : ℕ). two (256 * a + b) ++ two n) y
-    ∙ ap (λ (l : List ℕ). l ++ two (256 * c + d)) (two_again a b p q)
+    ap (λ (n : ℕ). two_octets n ++ two_octets ((65536 * (256 * a + b) + (256 * c + d)) % 65536)) x
+    ∙ ap (λ (n : ℕ). two_octets (256 * a + b) ++ two_octets n) y
+    ∙ ap (λ (l : List ℕ). l ++ two_octets (256 * c + d)) (two_again a b p q)
     ∙ ap (λ (l : List ℕ). (a ∷ b ∷ []) ++ l) (two_again c d r s)
 
 -- ---- a block
@@ -44,12 +45,12 @@ both xs n m a b h k =
     let len = length-drop n xs in
     record { inside = omega arith; same = take-add n m xs ∙ ap (λ (l : List ℕ). l ++ take m (drop n xs)) h.same ∙ ap (λ (l : List ℕ). a ++ l) k.same }
 
-four_spelled : (xs : List ℕ) → AreOctets xs → 4 ≤ length xs → Begins xs 4 (four (four_at xs 0))
+four_spelled : (xs : List ℕ) → AreOctets xs → 4 ≤ length xs → Begins xs 4 (four_octets (four_at xs 0))
 four_spelled (a ∷ b ∷ c ∷ d ∷ more) h long = record { inside = long; same = sym (four_again a b c d (h.below 0) (h.below 1) (h.below 2) (h.below 3)) }
 four_spelled xs h long = absurd (omega arith)
 
 -- the octets at the front are the block of what was read
-pub IsSpelled : List ℕ → Result Read StateFault → Type 0
+pub IsSpelled : List ℕ → Result ReadBlock StateFault → Type 0
 IsSpelled xs (Ok one) = Begins xs one.octets (block one.kept)
 IsSpelled xs (Err found) = Unit {0}
 
@@ -66,15 +67,15 @@ tail_spelled (x0 ∷ x1 ∷ x2 ∷ x3 ∷ x4 ∷ x5 ∷ x6 ∷ x7 ∷ x8 ∷ x9 
     let octets : List ℕ = take size more in
     let all : slice_range xs 12 (12 + size) ≡ octets = ap (λ (k : ℕ). take k more) m in
     let len : length octets ≡ size = length-take-le size more (omega arith) in
-    let first : four (four_at xs 2) ≡ x2 ∷ x3 ∷ x4 ∷ x5 ∷ [] = four_again x2 x3 x4 x5 (h.below 2) (h.below 3) (h.below 4) (h.below 5) in
-    let place : two (two_at xs 6) ≡ x6 ∷ x7 ∷ [] = two_again x6 x7 (h.below 6) (h.below 7) in
-    let number : four (length octets) ≡ x8 ∷ x9 ∷ x10 ∷ x11 ∷ [] = ap (λ (k : ℕ). four k) (len ∙ s) ∙ four_again x8 x9 x10 x11 (h.below 8) (h.below 9) (h.below 10) (h.below 11) in
+    let first : four_octets (four_at xs 2) ≡ x2 ∷ x3 ∷ x4 ∷ x5 ∷ [] = four_again x2 x3 x4 x5 (h.below 2) (h.below 3) (h.below 4) (h.below 5) in
+    let place : two_octets (two_at xs 6) ≡ x6 ∷ x7 ∷ [] = two_again x6 x7 (h.below 6) (h.below 7) in
+    let number : four_octets (length octets) ≡ x8 ∷ x9 ∷ x10 ∷ x11 ∷ [] = ap (λ (k : ℕ). four_octets k) (len ∙ s) ∙ four_again x8 x9 x10 x11 (h.below 8) (h.below 9) (h.below 10) (h.below 11) in
     ap (λ (k : ℕ). take k xs) n
     ∙ ap (λ (f : ℕ). f ∷ x1 ∷ x2 ∷ x3 ∷ x4 ∷ x5 ∷ x6 ∷ x7 ∷ x8 ∷ x9 ∷ x10 ∷ x11 ∷ octets) flag
     ∙ sym
-    (ap (λ (o : List ℕ). 2 ∷ x1 ∷ (four (four_at xs 2) ++ two (two_at xs 6) ++ four (length o) ++ o)) all
-    ∙ ap (λ (l : List ℕ). 2 ∷ x1 ∷ (l ++ two (two_at xs 6) ++ four (length octets) ++ octets)) first
-    ∙ ap (λ (l : List ℕ). 2 ∷ x1 ∷ ((x2 ∷ x3 ∷ x4 ∷ x5 ∷ []) ++ l ++ four (length octets) ++ octets)) place
+    (ap (λ (o : List ℕ). 2 ∷ x1 ∷ (four_octets (four_at xs 2) ++ two_octets (two_at xs 6) ++ four_octets (length o) ++ o)) all
+    ∙ ap (λ (l : List ℕ). 2 ∷ x1 ∷ (l ++ two_octets (two_at xs 6) ++ four_octets (length octets) ++ octets)) first
+    ∙ ap (λ (l : List ℕ). 2 ∷ x1 ∷ ((x2 ∷ x3 ∷ x4 ∷ x5 ∷ []) ++ l ++ four_octets (length octets) ++ octets)) place
     ∙ ap (λ (l : List ℕ). 2 ∷ x1 ∷ ((x2 ∷ x3 ∷ x4 ∷ x5 ∷ []) ++ (x6 ∷ x7 ∷ []) ++ l ++ octets)) number)
 tail_spelled xs size h flag s long = absurd (omega arith)
 
@@ -123,16 +124,16 @@ module _ (limit : ℕ) (layout : LayoutParts) (records : ℕ) where
 -- ---- the blocks
 
 -- the octets at the front are the blocks of what was read
-AllSpelled : List ℕ → Result ReadAll StateFault → Type 0
+AllSpelled : List ℕ → Result ReadBlocks StateFault → Type 0
 AllSpelled xs (Ok all) = Begins xs all.octets (flat_map block all.kept)
 AllSpelled xs (Err found) = Unit {0}
 
-then_spelled : (xs : List ℕ) (x : Result Read StateFault) (others : ℕ → Result ReadAll StateFault) → IsSpelled xs x
-    → ((used : ℕ) → AllSpelled (drop used xs) (others used)) → AllSpelled xs (and_then x others)
+then_spelled : (xs : List ℕ) (x : Result ReadBlock StateFault) (others : ℕ → Result ReadBlocks StateFault) → IsSpelled xs x
+    → ((used : ℕ) → AllSpelled (drop used xs) (others used)) → AllSpelled xs (and_then_blocks x others)
 unfolding AllSpelled IsSpelled
 then_spelled xs (Ok one) others h g = by_rest (others one.octets) (g one.octets)
   where
-    by_rest : (x : Result ReadAll StateFault) → AllSpelled (drop one.octets xs) x → AllSpelled xs (in_front one x)
+    by_rest : (x : Result ReadBlocks StateFault) → AllSpelled (drop one.octets xs) x → AllSpelled xs (in_front one x)
     by_rest (Ok rest) k = both xs one.octets rest.octets (block one.kept) (flat_map block rest.kept) h k
     by_rest (Err found) k = tt
 then_spelled xs (Err found) others h g = tt
@@ -172,16 +173,16 @@ master_spelled (flag ∷ xs) =
     counted (y ∷ ys) e h = ap (λ (n : ℕ). n ∷ y ∷ []) e
 
 -- the octets at the front are the spelling of what was read
-StateSpelled : List ℕ → Result Decoded StateFault → Type 0
-StateSpelled xs (Ok d) = Begins xs d.octets (spelling d.state)
+StateSpelled : List ℕ → Result DecodedState StateFault → Type 0
+StateSpelled xs (Ok d) = Begins xs d.octets (state_spelling d.state)
 StateSpelled xs (Err found) = Unit {0}
 
-channels_spelled : (xs : List ℕ) (read : ReadMaster) (x : Result ReadAll StateFault) → AreOctets xs → 4 ≤ length xs → Begins (drop 4 xs) read.octets (master_octets read.count)
+channels_spelled : (xs : List ℕ) (read : ReadMaster) (x : Result ReadBlocks StateFault) → AreOctets xs → 4 ≤ length xs → Begins (drop 4 xs) read.octets (master_octets read.count)
     → AllSpelled (drop read.octets (drop 4 xs)) x → StateSpelled xs (with_channels (four_at xs 0) read.count (4 + read.octets) x)
 unfolding AllSpelled StateSpelled
 channels_spelled xs read (Ok all) h long m g =
     let n : 4 + (read.octets + all.octets) ≡ (4 + read.octets) + all.octets = omega arith in
-    subst (λ (k : ℕ). Begins xs k (four (four_at xs 0) ++ (master_octets read.count ++ flat_map block all.kept))) n
+    subst (λ (k : ℕ). Begins xs k (four_octets (four_at xs 0) ++ (master_octets read.count ++ flat_map block all.kept))) n
     (both xs 4 (read.octets + all.octets) _ _ (four_spelled xs h long) (both (drop 4 xs) read.octets all.octets _ _ m g))
 channels_spelled xs read (Err found) h long m g = tt
 
@@ -193,25 +194,25 @@ master_then rules xs (Ok read) h long m =
     (blocks_spelled rules (four_at xs 0) 8 0 (drop read.octets (drop 4 xs)) (octets_behind read.octets (drop 4 xs) (octets_behind 4 xs h)))
 master_then rules xs (Err found) h long m = tt
 
-decoding_spelled : (rules : Rules) (xs : List ℕ) → AreOctets xs → StateSpelled xs (decoding_of rules xs)
-unfolding decoding_of StateSpelled
+decoding_spelled : (rules : Rules) (xs : List ℕ) → AreOctets xs → StateSpelled xs (state_decoding_of rules xs)
+unfolding state_decoding_of StateSpelled
 decoding_spelled rules xs h =
     cond_both (ltb (length xs) 4) _ _ (StateSpelled xs) (λ p. tt)
     (λ p. master_then rules xs (master_read (drop 4 xs)) h (ltb-false (length xs) 4 p) (master_spelled (drop 4 xs)))
 
-pub spelled-again : (rules : Rules) (octets : List ℕ) (d : Decoded) → AreOctets octets → decoding_of rules octets ≡ Ok d
-    → (d.octets ≤ length octets) × (take d.octets octets ≡ spelling d.state)
+pub spelled-again : (rules : Rules) (octets : List ℕ) (d : DecodedState) → AreOctets octets → state_decoding_of rules octets ≡ Ok d
+    → (d.octets ≤ length octets) × (take d.octets octets ≡ state_spelling d.state)
 unfolding StateSpelled
 spelled-again rules octets d h e =
-    let b : Begins octets d.octets (spelling d.state) = subst (StateSpelled octets) e (decoding_spelled rules octets h) in (b.inside, b.same)
+    let b : Begins octets d.octets (state_spelling d.state) = subst (StateSpelled octets) e (decoding_spelled rules octets h) in (b.inside, b.same)
 
 -- ---- the same in the form of versions 1 and 2
 
-OldSpelled : List ℕ → Result Decoded StateFault → Type 0
+OldSpelled : List ℕ → Result DecodedState StateFault → Type 0
 OldSpelled xs (Ok d) = Begins xs d.octets (old_spelling d.state) × (d.state.master ≡ None)
 OldSpelled xs (Err found) = Unit {0}
 
-old_channels_spelled : (xs : List ℕ) (x : Result ReadAll StateFault) → AreOctets xs → 4 ≤ length xs → AllSpelled (drop 4 xs) x
+old_channels_spelled : (xs : List ℕ) (x : Result ReadBlocks StateFault) → AreOctets xs → 4 ≤ length xs → AllSpelled (drop 4 xs) x
     → OldSpelled xs (with_channels (four_at xs 0) None 4 x)
 unfolding AllSpelled OldSpelled
 old_channels_spelled xs (Ok all) h long g = (both xs 4 all.octets _ _ (four_spelled xs h long) g, refl)
@@ -225,7 +226,7 @@ old_decoding_spelled rules xs h =
     old_channels_spelled xs (blocks_read rules (four_at xs 0) 8 0 (drop 4 xs)) h (ltb-false (length xs) 4 p)
     (blocks_spelled rules (four_at xs 0) 8 0 (drop 4 xs) (octets_behind 4 xs h)))
 
-pub old-spelled-again : (rules : Rules) (octets : List ℕ) (d : Decoded) → AreOctets octets → old_decoding_of rules octets ≡ Ok d
+pub old-spelled-again : (rules : Rules) (octets : List ℕ) (d : DecodedState) → AreOctets octets → old_decoding_of rules octets ≡ Ok d
     → (d.octets ≤ length octets) × (take d.octets octets ≡ old_spelling d.state) × (d.state.master ≡ None)
 unfolding OldSpelled
 old-spelled-again rules octets d h e =

@@ -10,11 +10,12 @@ use Rattle.tm_frame.specs.declared.layout.LayoutParts.{LayoutParts}
 use Rattle.tm_reassembly.specs.declared.fault.StateFault.{StateFault}
 use Rattle.tm_rules.specs.Rules.{Rules, chooses}
 use Rattle.tm_reassembly.specs.State.{State, Last, Tail}
-use Rattle.tm_reassembly.specs.Checkpoint.{block, with_tail, master_octets, spelling, old_spelling, four_at, two_at, Read, Decoded, is_unfinished, tail_read, flagged, block_read, blocks_read, in_front, and_then, master_read, with_channels, with_master, decoding_of, old_decoding_of}
+use Rattle.tm_reassembly.specs.Checkpoint.{block, with_tail, master_octets, state_spelling, old_spelling, four_at, ReadBlock, DecodedState, is_unfinished, tail_read, flagged, block_read, blocks_read, in_front, and_then_blocks, master_read, with_channels, with_master, state_decoding_of, old_decoding_of}
+use Rattle.tm_bits.specs.Bits.{two_at}
 use Rattle.tm_reassembly.specs.Parts.{begins_packet}
 use Rattle.tm_items.specs.OnePacket.{reach}
 use Rattle.tm_reassembly.specs.Valid as ok
-use Rattle.tm_reassembly.specs.Valid.{IsState}
+use Rattle.tm_reassembly.specs.Valid.{IsValidState}
 use Rattle.tm_reassembly.proofs.States.{tail-short}
 
 -- ---- numbers
@@ -30,7 +31,7 @@ not_zero n h = ne_eqb n 0 (λ e. omega arith)
 
 -- ---- a block
 
-abbrev good : Last → ℕ → Result Read StateFault
+abbrev good : Last → ℕ → Result ReadBlock StateFault
 good last octets = Ok (record { kept = Some last; octets = octets })
 
 module _ (limit : ℕ) where
@@ -124,7 +125,7 @@ module _ (rules : Rules) (records : ℕ) where
   blocks-again c (o ∷ os) rest h =
       let xs : List ℕ = block o ++ (flat_map block os ++ rest) in
       ap (λ (l : List ℕ). blocks_read rules records (length (o ∷ os)) c l) (append_assoc (block o) (flat_map block os) rest)
-      ∙ ap (λ (x : Result Read StateFault). and_then x (λ used. blocks_read rules records (length os) (c + 1) (drop used xs)))
+      ∙ ap (λ (x : Result ReadBlock StateFault). and_then_blocks x (λ used. blocks_read rules records (length os) (c + 1) (drop used xs)))
       (block-again rules.max_packet rules.layout records (chooses rules c) o (flat_map block os ++ rest) h.0)
       ∙ ap (λ (l : List ℕ). in_front (record { kept = o; octets = length (block o) }) (blocks_read rules records (length os) (c + 1) l))
       (drop-append_seam (block o) (flat_map block os ++ rest))
@@ -151,17 +152,17 @@ master-again (Some count) rest = cond-false (eqb (length (count ∷ rest)) 0) _ 
 
 -- ---- the state
 
-abbrev pub decoded : State → ℕ → Result Decoded StateFault
+abbrev pub decoded : State → ℕ → Result DecodedState StateFault
 decoded state octets = Ok (record { state = state; octets = octets })
 
 module _ (rules : Rules) where
-  tail_fits : (s : State) → IsState rules s → (c : ℕ) (last : Last) → slice_get s.channels c ≡ Some (Some last) → (tail : Option Tail) → last.tail ≡ tail
+  tail_fits : (s : State) → IsValidState rules s → (c : ℕ) (last : Last) → slice_get s.channels c ≡ Some (Some last) → (tail : Option Tail) → last.tail ≡ tail
       → TailFits rules.max_packet rules.layout s.records tail
   unfolding TailFits
   tail_fits s v c last e None f = tt
   tail_fits s v c last e (Some t) f = let w = v.within c last t e f in (w.first, w.place, v.shape.tails c last t e f, tail-short rules.max_packet t.octets v.limit.least (v.shape.tails c last t e f))
 
-  channel_fits : (s : State) → IsState rules s → (c : ℕ) (o : Option Last) → slice_get s.channels c ≡ Some o → Fits rules.max_packet rules.layout (chooses rules (0 + c)) s.records o
+  channel_fits : (s : State) → IsValidState rules s → (c : ℕ) (o : Option Last) → slice_get s.channels c ≡ Some o → Fits rules.max_packet rules.layout (chooses rules (0 + c)) s.records o
   unfolding Fits
   channel_fits s v c None e = tt
   channel_fits s v c (Some last) e =
@@ -173,16 +174,16 @@ module _ (rules : Rules) where
         tail_fits s v c last e last.tail refl,
       )
 
-  channels-again : (s : State) (rest : List ℕ) → IsState rules s
+  channels-again : (s : State) (rest : List ℕ) → IsValidState rules s
       → blocks_read rules s.records 8 0 (flat_map block s.channels ++ rest) ≡ Ok (record { kept = s.channels; octets = length (flat_map block s.channels) })
   channels-again s rest v =
       ap (λ (n : ℕ). blocks_read rules s.records n 0 (flat_map block s.channels ++ rest)) (sym v.shape.eight_channels)
       ∙ blocks-again rules s.records 0 s.channels rest (all_fit rules s.records 0 s.channels (channel_fits s v))
 
-  pub read-again : (s : State) (rest : List ℕ) → IsState rules s → decoding_of rules (spelling s ++ rest) ≡ Ok (record { state = s; octets = length (spelling s) })
-  unfolding decoding_of
+  pub read-again : (s : State) (rest : List ℕ) → IsValidState rules s → state_decoding_of rules (state_spelling s ++ rest) ≡ Ok (record { state = s; octets = length (state_spelling s) })
+  unfolding state_decoding_of
   read-again s rest v =
-      let xs : List ℕ = spelling s ++ rest in
+      let xs : List ℕ = state_spelling s ++ rest in
       cond-false (ltb (length xs) 4) _ _ (le-ltb (length xs) 4 (omega arith))
       ∙ ap (λ (n : ℕ). with_master rules n (drop 4 xs) (master_read (drop 4 xs))) (four_digits s.records)
       ∙ ap (λ (l : List ℕ). with_master rules s.records l (master_read l)) (append_assoc (master_octets s.master) (flat_map block s.channels) rest)
@@ -192,10 +193,10 @@ module _ (rules : Rules) where
       ∙ ap (with_channels s.records s.master (4 + length (master_octets s.master))) (channels-again s rest v)
       ∙ ap (decoded s)
       (let l = length-append (master_octets s.master) (flat_map block s.channels) in
-      let z : (4 + length (master_octets s.master)) + length (flat_map block s.channels) ≡ length (spelling s) = omega arith in z)
+      let z : (4 + length (master_octets s.master)) + length (flat_map block s.channels) ≡ length (state_spelling s) = omega arith in z)
 
   -- in the form of versions 1 and 2 the state comes back without its last master channel count
-  pub old-read-again : (s : State) (rest : List ℕ) → IsState rules s
+  pub old-read-again : (s : State) (rest : List ℕ) → IsValidState rules s
       → old_decoding_of rules (old_spelling s ++ rest)
       ≡ Ok (record { state = record { records = s.records; master = None; channels = s.channels }; octets = length (old_spelling s) })
   unfolding old_decoding_of
@@ -206,20 +207,20 @@ module _ (rules : Rules) where
       ∙ ap (with_channels s.records None 4) (channels-again s rest v)
       ∙ ap (decoded (record { records = s.records; master = None; channels = s.channels })) (let z : 4 + length (flat_map block s.channels) ≡ length (old_spelling s) = omega arith in z)
 
-  unfoldable pub state_in : Result Decoded StateFault → State → State
+  unfoldable pub state_in : Result DecodedState StateFault → State → State
   state_in (Ok d) s = d.state
   state_in (Err found) s = s
 
-  unfoldable pub octets_in : Result Decoded StateFault → ℕ
+  unfoldable pub octets_in : Result DecodedState StateFault → ℕ
   octets_in (Ok d) = d.octets
   octets_in (Err found) = 0
 
   -- no spelling is a proper prefix of another
-  pub no-prefix : (s t : State) (rest : List ℕ) → IsState rules s → IsState rules t → spelling s ++ rest ≡ spelling t → (s ≡ t) × (rest ≡ [])
+  pub no-prefix : (s t : State) (rest : List ℕ) → IsValidState rules s → IsValidState rules t → state_spelling s ++ rest ≡ state_spelling t → (s ≡ t) × (rest ≡ [])
   unfolding state_in octets_in
   no-prefix s t rest v w e =
-      let same : decoded s (length (spelling s)) ≡ decoded t (length (spelling t)) =
-      sym (read-again s rest v) ∙ ap (decoding_of rules) (e ∙ sym (append-nil (spelling t))) ∙ read-again t [] w in
-      let long : length (spelling s) ≡ length (spelling t) = ap octets_in same in
-      let sum : length (spelling s) + length rest ≡ length (spelling t) = sym (length-append (spelling s) rest) ∙ ap length e in
-      (ap (λ (x : Result Decoded StateFault). state_in x s) same, nil_from_length rest (omega arith))
+      let same : decoded s (length (state_spelling s)) ≡ decoded t (length (state_spelling t)) =
+      sym (read-again s rest v) ∙ ap (state_decoding_of rules) (e ∙ sym (append-nil (state_spelling t))) ∙ read-again t [] w in
+      let long : length (state_spelling s) ≡ length (state_spelling t) = ap octets_in same in
+      let sum : length (state_spelling s) + length rest ≡ length (state_spelling t) = sym (length-append (state_spelling s) rest) ∙ ap length e in
+      (ap (λ (x : Result DecodedState StateFault). state_in x s) same, nil_from_length rest (omega arith))

@@ -9,19 +9,19 @@ use Rattle.tm_bits.proofs.PartLemmas.{octets_after}
 use Rattle.tm_frame.specs.declared.layout.LayoutParts.{LayoutParts}
 use Rattle.tm_frame.specs.declared.frame.Kind.TheVariants as got
 use Rattle.tm_frame.specs.declared.frame.Kind.{Kind}
-use Rattle.tm_frame.specs.Fault.{reading_of}
+use Rattle.tm_frame.specs.Fault.{frame_reading_of}
 use Rattle.tm_frame.specs.Frame.{GoodFrame}
 use Rattle.tm_reassembly.specs.Readings.{Reading}
 use Rattle.tm_reassembly.specs.State.{State, Last, Tail}
-use Rattle.tm_reassembly.specs.Chain.{has_gap, member, counted_field, place_of, is_vca_kind}
+use Rattle.tm_reassembly.specs.Chain.{has_frame_gap, member, counted_field, start_place_of, is_vca_kind}
 use Rattle.tm_items.specs.OnePacket.{reach}
 use Rattle.tm_reassembly.specs.Parts.{agrees, begins_packet}
-use Rattle.tm_reassembly.specs.Field.{chain_tail_at, step_tail, frame_tail, tail_left, tail_at, left_in, unfinished}
+use Rattle.tm_reassembly.specs.code.Field.{chain_tail_at, step_tail, frame_tail, tail_left, tail_at, left_in, unfinished}
 use Rattle.tm_reassembly.specs.Items.{empty}
 use Rattle.tm_reassembly.specs.Items as read
 use Rattle.tm_reassembly.specs.Recording.{after, readings}
 use Rattle.tm_reassembly.specs.Valid as ok
-use Rattle.tm_reassembly.specs.Valid.{HasShape, IsCount, IsState, IsWithin, AllOctets}
+use Rattle.tm_reassembly.specs.Valid.{HasShape, IsCount, IsValidState, IsWithin, AllOctets}
 use Rattle.tm_reassembly.proofs.Chained.{IsOpenTail, IsTail}
 use Rattle.tm_reassembly.proofs.Seen.{chain_tail_at-open}
 use Rattle.tm_reassembly.proofs.Joining.{before_of, tail_of}
@@ -88,8 +88,8 @@ module _ (limit : ℕ) where
 
     within-frame : Within layout (records + 1) (frame_tail limit (member records f))
     within-frame =
-        within-at (left_in limit (place_of f.kind) (counted_field f.kind f.field)) (octets_left (place_of f.kind) (counted_field f.kind f.field) (octets_field f.kind f.field good.octets))
-        (left_most (place_of f.kind) (counted_field f.kind f.field))
+        within-at (left_in limit (start_place_of f.kind) (counted_field f.kind f.field)) (octets_left (start_place_of f.kind) (counted_field f.kind f.field) (octets_field f.kind f.field good.octets))
+        (left_most (start_place_of f.kind) (counted_field f.kind f.field))
 
     within-left : (t : Tail) (far : ℕ) → IsWithin layout records t → Within layout (records + 1) (tail_left limit t (member records f) far)
     within-left t far h =
@@ -119,7 +119,7 @@ module _ (limit : ℕ) where
     pub open_tail : IsOpenTail limit last.tail
     pub within : Within layout records last.tail
 
-pub keeps-at : (rules : Rules) (s : State) → IsState rules s → (c : ℕ) (last : Last)
+pub keeps-at : (rules : Rules) (s : State) → IsValidState rules s → (c : ℕ) (last : Last)
     → slice_get s.channels c ≡ Some (Some last) → Keeps rules.max_packet rules.layout s.records last
 keeps-at rules s v c last e = record {
   count = v.counts c last e;
@@ -135,7 +135,7 @@ keeps-at rules s v c last e = record {
 pub state-from : (rules : Rules) (s : State) → IsLimit rules.max_packet → s.records < 2 ^ 32 → ok.IsCount s.master → length s.channels ≡ 8
     → ((c : ℕ) → chooses rules c ≡ false → c < 8 → slice_get s.channels c ≡ Some None)
     → ((c : ℕ) (last : Last) → slice_get s.channels c ≡ Some (Some last) → Keeps rules.max_packet rules.layout s.records last)
-    → IsState rules s
+    → IsValidState rules s
 state-from rules s range small octet eight only keeps = record {
   limit = range;
   records = small;
@@ -148,16 +148,16 @@ state-from rules s range small octet eight only keeps = record {
 keeps-more : (limit : ℕ) (layout : LayoutParts) (records : ℕ) (last : Last) → Keeps limit layout records last → Keeps limit layout (records + 1) last
 keeps-more limit layout records last k = record { count = k.count; open_tail = k.open_tail; within = within-more layout records last.tail k.within }
 
-module _ (rules : Rules) (s : State) (v : IsState rules s) (more : s.records + 1 < 2 ^ 32) where
+module _ (rules : Rules) (s : State) (v : IsValidState rules s) (more : s.records + 1 < 2 ^ 32) where
   -- where the channels stay, the state stays valid
-  kept-valid : (master : Option ℕ) → ok.IsCount master → IsState rules (record { records = s.records + 1; master = master; channels = s.channels })
+  kept-valid : (master : Option ℕ) → ok.IsCount master → IsValidState rules (record { records = s.records + 1; master = master; channels = s.channels })
   kept-valid master octet =
       state-from rules (record { records = s.records + 1; master = master; channels = s.channels }) v.limit more octet v.shape.eight_channels v.shape.only_chosen
       (λ c last e. keeps-more rules.max_packet rules.layout s.records last (keeps-at rules s v c last e))
 
   -- where one chosen channel keeps something else that it may
   set-valid : (master : Option ℕ) → ok.IsCount master → (channel : ℕ) (kept : Last) → channel < 8 → chooses rules channel ≡ true → Keeps rules.max_packet rules.layout (s.records + 1) kept
-      → IsState rules (record { records = s.records + 1; master = master; channels = set s.channels channel (Some kept) })
+      → IsValidState rules (record { records = s.records + 1; master = master; channels = set s.channels channel (Some kept) })
   set-valid master octet channel kept small e k =
       state-from rules (record { records = s.records + 1; master = master; channels = set s.channels channel (Some kept) }) v.limit more octet
       (length-set s.channels channel (Some kept) ∙ v.shape.eight_channels)
@@ -182,22 +182,22 @@ module _ (rules : Rules) (s : State) (v : IsState rules s) (more : s.records + 1
   within_now c (Some None) e = tt
   within_now c (Some (Some last)) e = (keeps-at rules s v c last e).within
 
-  read-valid : (r : Reading) → IsRead rules.layout r → IsState rules (read.after rules.max_packet (chooses rules) s (r ∷ []))
-  read-valid (Err fault) h = subst (IsState rules) (sym (after-bad rules.max_packet (chooses rules) s fault v.shape)) (kept-valid s.master v.master)
+  read-valid : (r : Reading) → IsRead rules.layout r → IsValidState rules (read.state_after_readings rules.max_packet (chooses rules) s (r ∷ []))
+  read-valid (Err fault) h = subst (IsValidState rules) (sym (after-bad rules.max_packet (chooses rules) s fault v.shape)) (kept-valid s.master v.master)
   read-valid (Ok g) h =
       ⊎_elim
-      (λ e. subst (IsState rules) (sym (after-one rules.max_packet (chooses rules) s g v.shape h.fits e)) (set-valid (Some g.master_count) h.master g.channel _ h.fits.0 e (next e)))
-      (λ e. subst (IsState rules) (sym (after-other rules.max_packet (chooses rules) s g v.shape h.fits e)) (kept-valid (Some g.master_count) h.master))
+      (λ e. subst (IsValidState rules) (sym (after-one rules.max_packet (chooses rules) s g v.shape h.fits e)) (set-valid (Some g.master_count) h.master g.channel _ h.fits.0 e (next e)))
+      (λ e. subst (IsValidState rules) (sym (after-other rules.max_packet (chooses rules) s g v.shape h.fits e)) (kept-valid (Some g.master_count) h.master))
       (cases_Bool (chooses rules g.channel))
     where
       next : chooses rules g.channel ≡ true → Keeps rules.max_packet rules.layout (s.records + 1)
           (record {
             count = g.count;
-            tail = chain_tail_at rules.max_packet (has_gap (before_of (slice_get s.channels g.channel)) (member s.records g)) (is_vca_kind g.kind)
+            tail = chain_tail_at rules.max_packet (has_frame_gap (before_of (slice_get s.channels g.channel)) (member s.records g)) (is_vca_kind g.kind)
                 (tail_of (slice_get s.channels g.channel)) (member s.records g);
           })
       next e =
-          let gap = has_gap (before_of (slice_get s.channels g.channel)) (member s.records g) in
+          let gap = has_frame_gap (before_of (slice_get s.channels g.channel)) (member s.records g) in
           let tail = tail_of (slice_get s.channels g.channel) in
           record {
             count = h.count;
@@ -206,25 +206,25 @@ module _ (rules : Rules) (s : State) (v : IsState rules s) (more : s.records + 1
           }
 
 -- the state of no records is valid
-pub empty-valid : (rules : Rules) → IsLimit rules.max_packet → IsState rules empty
+pub empty-valid : (rules : Rules) → IsLimit rules.max_packet → IsValidState rules empty
 empty-valid rules range =
     state-from rules empty range (omega arith) tt refl (λ c n less. at_eight (λ d. None) c less) (λ c last e. absurd (none_kept c last e))
 
 -- and so is the state after one record, and after any
-pub record-valid : (rules : Rules) (s : State) (octets : List ℕ) → IsState rules s → AreOctets octets
-    → s.records + 1 < 2 ^ 32 → IsState rules (after rules s (octets ∷ []))
+pub record-valid : (rules : Rules) (s : State) (octets : List ℕ) → IsValidState rules s → AreOctets octets
+    → s.records + 1 < 2 ^ 32 → IsValidState rules (after rules s (octets ∷ []))
 unfolding after
-record-valid rules s octets v h more = read-valid rules s v more (reading_of rules.layout octets) (reading-good rules.layout octets h)
+record-valid rules s octets v h more = read-valid rules s v more (frame_reading_of rules.layout octets) (reading-good rules.layout octets h)
 
-pub records-valid : (rules : Rules) (s : State) (records : List (List ℕ)) → IsState rules s
-    → AllOctets records → s.records + length records < 2 ^ 32 → IsState rules (after rules s records)
+pub records-valid : (rules : Rules) (s : State) (records : List (List ℕ)) → IsValidState rules s
+    → AllOctets records → s.records + length records < 2 ^ 32 → IsValidState rules (after rules s records)
 unfolding after
-records-valid rules s [] v h most = subst (IsState rules) (sym (after-nil rules.max_packet (chooses rules) s v.shape)) v
+records-valid rules s [] v h most = subst (IsValidState rules) (sym (after-nil rules.max_packet (chooses rules) s v.shape)) v
 records-valid rules s (octets ∷ rest) v h most =
     let one = record-valid rules s octets v h.0 (omega arith) in
-    subst (IsState rules)
+    subst (IsValidState rules)
     (sym
-    (after-append rules.max_packet (chooses rules) s (reading_of rules.layout octets ∷ []) (readings rules.layout rest) (valid-from rules.max_packet (chooses rules) s v.shape) (after-nil rules.max_packet (chooses rules) s v.shape)
+    (after-append rules.max_packet (chooses rules) s (frame_reading_of rules.layout octets ∷ []) (readings rules.layout rest) (valid-from rules.max_packet (chooses rules) s v.shape) (after-nil rules.max_packet (chooses rules) s v.shape)
     (reading-fit rules.layout octets, tt)))
     (records-valid rules (after rules s (octets ∷ [])) rest one h.1 (omega arith))
 
@@ -238,6 +238,6 @@ tail-short limit (x ∷ xs) least h =
     (λ enough. let most = within-limit limit (reach (x ∷ xs)) (length (x ∷ xs)) enough (begins-short limit (x ∷ xs) h.0) in omega arith)
     (cases_lt (length (x ∷ xs)) 6)
 
-pub short-tails : (rules : Rules) (s : State) → IsState rules s → (c : ℕ) (last : Last) (t : Tail)
+pub short-tails : (rules : Rules) (s : State) → IsValidState rules s → (c : ℕ) (last : Last) (t : Tail)
     → slice_get s.channels c ≡ Some (Some last) → last.tail ≡ Some t → length t.octets < rules.max_packet
 short-tails rules s v c last t e f = tail-short rules.max_packet t.octets v.limit.least (v.shape.tails c last t e f)

@@ -5,9 +5,9 @@ use Rattle.std.proofs.lemmas.Bool.{le-leb, eq-eqb, eqb-true, cond-true}
 use Rattle.tm_reassembly.specs.State.{Tail}
 use Rattle.tm_reassembly.specs.Parts.{Given, agrees_at, is_long}
 use Rattle.tm_items.specs.OnePacket.{reach}
-use Rattle.tm_reassembly.specs.Field.{step_parts, frame_parts}
+use Rattle.tm_reassembly.specs.code.Field.{step_parts, frame_parts}
 use Rattle.tm_reassembly.proofs.Long.{and_not}
-use Rattle.tm_reassembly.specs.Kept.{tail_of_octets, octets_in, grown, completed, member_at}
+use Rattle.tm_reassembly.specs.code.Kept.{tail_of_octets, octets_in, grown, completed, member_at}
 
 -- the first six octets of a tail and a field
 pub join_six : (tail field : List ℕ) → length tail ≤ 6 → tail ++ take (6 - length tail) field ≡ take 6 (tail ++ field)

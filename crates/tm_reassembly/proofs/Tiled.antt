@@ -12,11 +12,11 @@ use Rattle.tm_frame.specs.declared.frame.Kind.{Kind}
 use Rattle.tm_reassembly.specs.Readings.{Reading}
 use Rattle.tm_items.specs.Item as item
 use Rattle.tm_items.specs.Item.{Item}
-use Rattle.tm_reassembly.specs.Chain.{Member, has_gap, member, master_member, member_of, is_vca_kind, counted_field}
+use Rattle.tm_reassembly.specs.Chain.{ChainMember, has_frame_gap, member, master_member, member_of, is_vca_kind, counted_field}
 use Rattle.tm_reassembly.specs.Parts.{Part, Fate, Given, Lost, Held}
-use Rattle.tm_reassembly.specs.Field.{chain_parts_at, chain_tail_at}
-use Rattle.tm_reassembly.specs.Items.{items, after, empty, part_item, gap_item, master_gap_item, gap_at, vca_at, part_items}
-use Rattle.tm_reassembly.specs.Valid.{HasShape, IsFit, AllFit}
+use Rattle.tm_reassembly.specs.code.Field.{chain_parts_at, chain_tail_at}
+use Rattle.tm_reassembly.specs.Items.{items_of_readings, state_after_readings, empty, part_item, gap_item, master_gap_item, gap_at, vca_at, part_items}
+use Rattle.tm_reassembly.specs.Valid.{HasShape, IsFit, AllReadingsFit}
 use Rattle.tm_reassembly.specs.Tiles.{Spot, field_spots, kind_spots, record_spots, channel_spots, IsHeld, Takes, Tile, is_part_of, parts_of, tail_of, held_tail}
 use Rattle.tm_reassembly.proofs.Chained.{IsOpenTail}
 use Rattle.tm_reassembly.proofs.Seen.{AllAt, chain_parts_at-at, IsAt}
@@ -68,7 +68,7 @@ others-none c own (p ∷ ps) h = Each-append (λ x. is_part_of c x ≡ false) (p
 of-none : (c : ℕ) (xs ys : List Item) → Each (λ x. is_part_of c x ≡ false) xs → parts_of c (xs ++ ys) ≡ parts_of c ys
 of-none c xs ys h = filter-append (λ x. is_part_of c x) xs ys ∙ ap (λ (zs : List Item). zs ++ parts_of c ys) (filter-none (λ x. is_part_of c x) xs h)
 
-gap-none : (c : ℕ) (before : Option ℕ) (m : Member) → Each (λ x. is_part_of c x ≡ false) (gap_at master_gap_item before m)
+gap-none : (c : ℕ) (before : Option ℕ) (m : ChainMember) → Each (λ x. is_part_of c x ≡ false) (gap_at master_gap_item before m)
 gap-none c before m = gap-each (λ x. is_part_of c x ≡ false) master_gap_item before m (λ expected. refl)
 
 -- what a frame adds to the fields of its channel
@@ -87,25 +87,25 @@ empty-tail c = by_entry (slice_get empty.channels c) refl
     by_entry (Some None) e = refl
 
 module _ (limit : ℕ) where
-  member-parts : (c own : ℕ) (before : Option ℕ) (tail : Option Tail) (m : Member)
-      → parts_of c (member_items limit own before tail m) ≡ parts_of c (part_items own (chain_parts_at limit (has_gap before m) m.is_vca tail m))
+  member-parts : (c own : ℕ) (before : Option ℕ) (tail : Option Tail) (m : ChainMember)
+      → parts_of c (member_items limit own before tail m) ≡ parts_of c (part_items own (chain_parts_at limit (has_frame_gap before m) m.is_vca tail m))
   member-parts c own before tail m =
       of-none c (gap_at (gap_item own) before m ++ vca_at own m) _
       (Each-append (λ x. is_part_of c x ≡ false) (gap_at (gap_item own) before m) (vca_at own m)
       (gap-each (λ x. is_part_of c x ≡ false) (gap_item own) before m (λ expected. refl)) (Each-cond (λ x. is_part_of c x ≡ false) m.is_vca _ (λ e. (refl, tt))))
 
-  other-member : (c own : ℕ) (before : Option ℕ) (tail : Option Tail) (m : Member) → eqb own c ≡ false → parts_of c (member_items limit own before tail m) ≡ []
+  other-member : (c own : ℕ) (before : Option ℕ) (tail : Option Tail) (m : ChainMember) → eqb own c ≡ false → parts_of c (member_items limit own before tail m) ≡ []
   other-member c own before tail m h =
-      member-parts c own before tail m ∙ filter-none (λ x. is_part_of c x) _ (others-none c own (chain_parts_at limit (has_gap before m) m.is_vca tail m) h)
+      member-parts c own before tail m ∙ filter-none (λ x. is_part_of c x) _ (others-none c own (chain_parts_at limit (has_frame_gap before m) m.is_vca tail m) h)
 
   -- one record
   abbrev Result : (ℕ → Bool) → State → Reading → ℕ → List Spot → Type 0
   Result chosen s r c h =
-      (middle : List Spot) × Tile (h ++ record_spots c s.records r) (parts_of c (items limit chosen s (r ∷ []))) middle
-      × IsHeld (held_tail (after limit chosen s (r ∷ [])) c) middle
+      (middle : List Spot) × Tile (h ++ record_spots c s.records r) (parts_of c (items_of_readings limit chosen s (r ∷ []))) middle
+      × IsHeld (held_tail (state_after_readings limit chosen s (r ∷ [])) c) middle
 
   quiet : (chosen : ℕ → Bool) (s : State) (r : Reading) (c : ℕ) (h : List Spot) → HasOpenTails limit chosen s → IsFit r → c < 8 → chosen c ≡ true
-      → IsHeld (held_tail s c) h → parts_of c (items limit chosen s (r ∷ [])) ≡ [] → record_spots c s.records r ≡ [] → member_of c s.records r ≡ []
+      → IsHeld (held_tail s c) h → parts_of c (items_of_readings limit chosen s (r ∷ [])) ≡ [] → record_spots c s.records r ≡ [] → member_of c s.records r ≡ []
       → Result chosen s r c h
   quiet chosen s r c h valid fit small is_chosen held nothing no_spots no_frame = (
     h,
@@ -118,20 +118,20 @@ module _ (limit : ℕ) where
       → IsHeld (held_tail s g.channel) h → Result chosen s (Ok g) g.channel h
   own-record chosen s g h valid fit is_chosen held =
       let c : ℕ = g.channel in
-      let m : Member = member s.records g in
+      let m : ChainMember = member s.records g in
       let x : Option (Option Last) = slice_get s.channels g.channel in
       let one : member_of g.channel s.records (Ok g) ≡ member s.records g ∷ [] =
       cond-true (eqb g.channel g.channel) (member s.records g ∷ []) [] (eq-eqb g.channel g.channel refl) in
-      let lies : Laid (h ++ plain_spots m.is_vca (spots_of m)) (chain_parts_at limit (has_gap (before_of x) m) m.is_vca (tail_of x) m) (chain_tail_at limit (has_gap (before_of x) m) m.is_vca (tail_of x) m) =
-      chain_lays limit (has_gap (before_of x) m) m.is_vca (tail_of x) m h (valid.tails_open c fit.0 is_chosen) held in
+      let lies : Laid (h ++ plain_spots m.is_vca (spots_of m)) (chain_parts_at limit (has_frame_gap (before_of x) m) m.is_vca (tail_of x) m) (chain_tail_at limit (has_frame_gap (before_of x) m) m.is_vca (tail_of x) m) =
+      chain_lays limit (has_frame_gap (before_of x) m) m.is_vca (tail_of x) m h (valid.tails_open c fit.0 is_chosen) held in
       let spots : record_spots g.channel s.records (Ok g) ≡ plain_spots (is_vca_kind g.kind) (spots_of (member s.records g)) =
       cond-true (eqb g.channel g.channel) (kind_spots s.records g.kind g.field) [] (eq-eqb g.channel g.channel refl) ∙ plain-kind s.records g.kind g.field in
-      let given : parts_of c (items limit chosen s (Ok g ∷ [])) ≡ parts_of c (part_items c (chain_parts_at limit (has_gap (before_of x) m) m.is_vca (tail_of x) m)) =
+      let given : parts_of c (items_of_readings limit chosen s (Ok g ∷ [])) ≡ parts_of c (part_items c (chain_parts_at limit (has_frame_gap (before_of x) m) m.is_vca (tail_of x) m)) =
       ap (parts_of c) (items-one-valid limit chosen s g valid fit is_chosen) ∙ of-none c _ _ (gap-none c s.master (master_member s.records g)) ∙ member-parts c c (before_of x) (tail_of x) m in (
         lies.0,
         subst (λ (xs : List Item). Tile (h ++ record_spots c s.records (Ok g)) xs lies.0) (sym given)
-            (subst (λ (z : List Spot). Tile (h ++ z) (parts_of c (part_items c (chain_parts_at limit (has_gap (before_of x) m) m.is_vca (tail_of x) m))) lies.0) (sym spots)
-            (tile-parts limit c m.number _ lies.0 _ (chain_parts_at-at limit (has_gap (before_of x) m) m.is_vca (tail_of x) m) lies.1)),
+            (subst (λ (z : List Spot). Tile (h ++ z) (parts_of c (part_items c (chain_parts_at limit (has_frame_gap (before_of x) m) m.is_vca (tail_of x) m))) lies.0) (sym spots)
+            (tile-parts limit c m.number _ lies.0 _ (chain_parts_at-at limit (has_frame_gap (before_of x) m) m.is_vca (tail_of x) m) lies.1)),
         subst (λ (t : Option Tail). IsHeld t lies.0)
             (sym (tail-moved limit chosen s (Ok g) valid fit g.channel fit.0 is_chosen (member s.records g) one fit.1)) lies.2,
       )
@@ -160,24 +160,24 @@ module _ (limit : ℕ) where
 
   -- any records, from any state whose tail has these octets
   pub tiles-from : (chosen : ℕ → Bool) (c : ℕ) → c < 8 → chosen c ≡ true
-      → (rs : List Reading) (s : State) (h : List Spot) → HasOpenTails limit chosen s → after limit chosen s [] ≡ s → AllFit rs → IsHeld (held_tail s c) h
-      → (rest : List Spot) × Tile (h ++ channel_spots c s.records rs) (parts_of c (items limit chosen s rs)) rest
-      × IsHeld (held_tail (after limit chosen s rs) c) rest
+      → (rs : List Reading) (s : State) (h : List Spot) → HasOpenTails limit chosen s → state_after_readings limit chosen s [] ≡ s → AllReadingsFit rs → IsHeld (held_tail s c) h
+      → (rest : List Spot) × Tile (h ++ channel_spots c s.records rs) (parts_of c (items_of_readings limit chosen s rs)) rest
+      × IsHeld (held_tail (state_after_readings limit chosen s rs) c) rest
   tiles-from chosen c small is_chosen [] s h valid still fits held =
       (h, append-nil h, subst (λ (z : State). IsHeld (held_tail z c) h) (sym still) held)
   tiles-from chosen c small is_chosen (r ∷ rs) s h valid still fits held =
       let one = one-record chosen s r c h valid fits.0 small is_chosen held in
-      let next = tiles-from chosen c small is_chosen rs (after limit chosen s (r ∷ [])) one.0 (valid-after limit chosen s r valid fits.0)
+      let next = tiles-from chosen c small is_chosen rs (state_after_readings limit chosen s (r ∷ [])) one.0 (valid-after limit chosen s r valid fits.0)
       (sym (after-cons limit chosen s r valid fits.0 [])) fits.1 one.2 in
-      let given : parts_of c (items limit chosen s (r ∷ rs)) ≡ parts_of c (items limit chosen s (r ∷ [])) ++ parts_of c (items limit chosen (after limit chosen s (r ∷ [])) rs) =
+      let given : parts_of c (items_of_readings limit chosen s (r ∷ rs)) ≡ parts_of c (items_of_readings limit chosen s (r ∷ [])) ++ parts_of c (items_of_readings limit chosen (state_after_readings limit chosen s (r ∷ [])) rs) =
       ap (parts_of c) (items-cons limit chosen s r valid fits.0 rs fits.1)
-      ∙ filter-append (λ x. is_part_of c x) (items limit chosen s (r ∷ [])) (items limit chosen (after limit chosen s (r ∷ [])) rs) in (
+      ∙ filter-append (λ x. is_part_of c x) (items_of_readings limit chosen s (r ∷ [])) (items_of_readings limit chosen (state_after_readings limit chosen s (r ∷ [])) rs) in (
         next.0,
         subst (λ (xs : List Item). Tile (h ++ (record_spots c s.records r ++ channel_spots c (s.records + 1) rs)) xs next.0) (sym given)
-            (subst (λ (z : List Spot). Tile z (parts_of c (items limit chosen s (r ∷ [])) ++ parts_of c (items limit chosen (after limit chosen s (r ∷ [])) rs)) next.0)
+            (subst (λ (z : List Spot). Tile z (parts_of c (items_of_readings limit chosen s (r ∷ [])) ++ parts_of c (items_of_readings limit chosen (state_after_readings limit chosen s (r ∷ [])) rs)) next.0)
             (append_assoc h (record_spots c s.records r) (channel_spots c (s.records + 1) rs))
-            (Tile-append _ (one.0 ++ channel_spots c (s.records + 1) rs) next.0 (parts_of c (items limit chosen s (r ∷ []))) _
-            (Tile-more (h ++ record_spots c s.records r) one.0 (channel_spots c (s.records + 1) rs) (parts_of c (items limit chosen s (r ∷ []))) one.1)
+            (Tile-append _ (one.0 ++ channel_spots c (s.records + 1) rs) next.0 (parts_of c (items_of_readings limit chosen s (r ∷ []))) _
+            (Tile-more (h ++ record_spots c s.records r) one.0 (channel_spots c (s.records + 1) rs) (parts_of c (items_of_readings limit chosen s (r ∷ []))) one.1)
             next.1)),
         subst (λ (z : State). IsHeld (held_tail z c) next.0) (sym (after-cons limit chosen s r valid fits.0 rs)) next.2,
       )
@@ -189,9 +189,9 @@ module _ (limit : ℕ) where
     tails = λ c last t e f. absurd (none_kept c last e);
   }
 
-  pub tiled : (chosen : ℕ → Bool) (channel : ℕ) (records : List Reading) → channel < 8 → chosen channel ≡ true → AllFit records
-      → (rest : List Spot) × Tile (channel_spots channel 0 records) (parts_of channel (items limit chosen empty records)) rest
-      × IsHeld (held_tail (after limit chosen empty records) channel) rest
+  pub tiled : (chosen : ℕ → Bool) (channel : ℕ) (records : List Reading) → channel < 8 → chosen channel ≡ true → AllReadingsFit records
+      → (rest : List Spot) × Tile (channel_spots channel 0 records) (parts_of channel (items_of_readings limit chosen empty records)) rest
+      × IsHeld (held_tail (state_after_readings limit chosen empty records) channel) rest
   tiled chosen channel records small is_chosen fits =
       tiles-from chosen channel small is_chosen records empty []
       (record { tails_open = λ c k e. subst (IsOpenTail limit) (sym (empty-tail c)) tt })

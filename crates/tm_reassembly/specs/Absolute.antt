@@ -1,16 +1,16 @@
 -- The same said with places in the text of a run: a second reading, that the first one is proved equal to.
 use Rattle.std.specs.Prelude.{◌≡◌, ◌⊎◌, ℕ, ◌+◌, ◌<◌, ◌≤◌, nat_le, Option, Some, None, List, [], ◌∷◌, ◌++◌, length, take, drop, slice_range, if◌then◌else◌}
-use Rattle.tm_packet.specs.Header.{version_of, header_of}
-use Rattle.tm_reassembly.specs.Chain.{Member}
+use Rattle.tm_packet.specs.Header.{packet_version_of, packet_header_of}
+use Rattle.tm_reassembly.specs.Chain.{ChainMember}
 use Rattle.tm_reassembly.specs.Parts.{Part, Fate, Start, text}
 
 -- where the packet that starts at q ends, by the six octets of its header, or seven octets on where the text doesn't have them
 abbrev pub reach_at : List ℕ → ℕ → ℕ
-reach_at t q = if nat_le (q + 6) (length t) then q + ((header_of (take 6 (drop q t))).data_length + 7) else q + 7
+reach_at t q = if nat_le (q + 6) (length t) then q + ((packet_header_of (take 6 (drop q t))).data_length + 7) else q + 7
 
 -- the octet at q begins with version 0
 abbrev pub IsVersionZero : List ℕ → ℕ → Type 0
-IsVersionZero t q = version_of (take 1 (drop q t)) ≡ 0
+IsVersionZero t q = packet_version_of (take 1 (drop q t)) ≡ 0
 
 -- by its place a frame whose octets begin at `begin` agrees with a packet that ends at `end_of`
 abbrev pub AgreesAt : ℕ → ℕ → ℕ → Option ℕ → Type 0
@@ -28,21 +28,21 @@ module _ (limit : ℕ) where
   BeginsPacket t q stop = IsVersionZero t q × (IsLong t q stop → ⊥)
 
   -- a frame whose octets begin at `begin` agrees with the packet at q: by its place, and the packet isn't long there
-  abbrev pub Agrees : List ℕ → ℕ → ℕ → Member → Type 0
+  abbrev pub Agrees : List ℕ → ℕ → ℕ → ChainMember → Type 0
   Agrees t q begin m = AgreesAt (reach_at t q) begin (length m.field) m.place × (IsLong t q (begin + length m.field) → ⊥)
 
   -- The frames `front` are those up to and with the start's own, and `between` those from there to the frame in question: a packet that is
   -- read begins at the start, it reaches past the frame's beginning, and each frame between agrees with it.
-  abbrev pub IsOpen : List ℕ → ℕ → List Member → List Member → Type 0
+  abbrev pub IsOpen : List ℕ → ℕ → List ChainMember → List ChainMember → Type 0
   IsOpen t q front between =
       BeginsPacket t q (length (text front)) × (length (text (front ++ between)) < reach_at t q)
-      × ((earlier later : List Member) (g : Member) → between ≡ earlier ++ g ∷ later → Agrees t q (length (text (front ++ earlier))) g)
+      × ((earlier later : List ChainMember) (g : ChainMember) → between ≡ earlier ++ g ∷ later → Agrees t q (length (text (front ++ earlier))) g)
 
   -- a packet that is read begins at q, the text ends it, and each later frame at which it is open agrees with it
-  abbrev pub IsWhole : List ℕ → ℕ → List Member → List Member → Type 0
+  abbrev pub IsWhole : List ℕ → ℕ → List ChainMember → List ChainMember → Type 0
   IsWhole t q front later =
       BeginsPacket t q (length (text front)) × (reach_at t q ≤ length t)
-      × ((between more : List Member) (m : Member) → later ≡ between ++ m ∷ more → IsOpen t q front between
+      × ((between more : List ChainMember) (m : ChainMember) → later ≡ between ++ m ∷ more → IsOpen t q front between
       → Agrees t q (length (text (front ++ between))) m)
 
   -- The starts of a frame whose octets are those of the text from `begin` up to, not with, `stop`: its place, and each place in it
@@ -52,9 +52,9 @@ module _ (limit : ℕ) where
     reached : (q : ℕ) → IsStart t begin stop place q → BeginsPacket t q stop → reach_at t q < stop → IsStart t begin stop place (reach_at t q)
 
   -- at the frame that follows those of `before`, the start at q of one of them is open
-  abbrev pub IsOpenAt : List ℕ → List Member → ℕ → Type 0
+  abbrev pub IsOpenAt : List ℕ → List ChainMember → ℕ → Type 0
   IsOpenAt t before q =
-      (earlier : List Member) × (between : List Member) × (f : Member) × (before ≡ earlier ++ f ∷ between)
+      (earlier : List ChainMember) × (between : List ChainMember) × (f : ChainMember) × (before ≡ earlier ++ f ∷ between)
       × IsStart t (length (text earlier)) (length (text earlier) + length f.field) f.place q
       × IsOpen t q (earlier ++ f ∷ []) between
 
@@ -66,9 +66,9 @@ IsIn s [] = ⊥
 IsIn s (x ∷ xs) = (s ≡ x) ⊎ IsIn s xs
 
 -- what stands before a start in its frame, from the start's place
-abbrev pub LiesAfter : Member → Start → List ℕ → Type 0
+abbrev pub LiesAfter : ChainMember → Start → List ℕ → Type 0
 LiesAfter f s skipped = (f.field ≡ skipped ++ s.octets) × (s.place ≡ f.base + length skipped) × (0 < length s.octets)
 
 -- the part that a start of f becomes, with the octets of a text from q up to, not with, `stop`
-abbrev pub part_at : Member → Start → List ℕ → ℕ → ℕ → Fate → Part
+abbrev pub part_at : ChainMember → Start → List ℕ → ℕ → ℕ → Fate → Part
 part_at f s t q stop fate = record { first = f.number; place = s.place; octets = slice_range t q stop; fate = fate }

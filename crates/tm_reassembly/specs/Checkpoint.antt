@@ -1,5 +1,6 @@
 -- How a state is spelled in octets, and what octets spell. Numbers have the most significant octet first.
 use Rattle.std.specs.Prelude.{ℕ, zero, suc, ◌+◌, ◌*◌, ◌/◌, ◌%◌, Bool, not, ◌==◌, ◌&&◌, ◌||◌, nat_lt, nat_le, Option, Some, None, Result, Ok, Err, List, [], ◌∷◌, ◌++◌, length, drop, slice_index, slice_range, if◌then◌else◌}
+use Rattle.tm_bits.specs.Bits.{two_octets, two_at}
 use Rattle.std.specs.List.{flat_map}
 use Rattle.tm_frame.specs.declared.layout.LayoutParts.{LayoutParts}
 use Rattle.tm_reassembly.specs.declared.fault.StateFault.{StateFault}
@@ -11,16 +12,13 @@ use Rattle.tm_reassembly.specs.State.{State, Last, Tail}
 
 -- ---- spelling
 
--- a number in two octets, and in four
-abbrev pub two : ℕ → List ℕ
-two n = n / 256 ∷ n % 256 ∷ []
-
-abbrev pub four : ℕ → List ℕ
-four n = two (n / 65536) ++ two (n % 65536)
+-- a number in four octets, the most significant first
+abbrev pub four_octets : ℕ → List ℕ
+four_octets n = two_octets (n / 65536) ++ two_octets (n % 65536)
 
 -- a tail: the record and the place where it begins, the number of its octets, and these
 abbrev pub tail_octets : Tail → List ℕ
-tail_octets t = four t.first ++ two t.place ++ four (length t.octets) ++ t.octets
+tail_octets t = four_octets t.first ++ two_octets t.place ++ four_octets (length t.octets) ++ t.octets
 
 -- the block of a channel: 0 where nothing is kept; 1 and the last count; or 2, the last count and the tail
 abbrev pub with_tail : ℕ → Option Tail → List ℕ
@@ -37,24 +35,21 @@ master_octets None = 0 ∷ []
 master_octets (Some count) = 1 ∷ count ∷ []
 
 -- the number of records, the last master channel count, and the blocks of the channels
-abbrev pub spelling : State → List ℕ
-spelling s = four s.records ++ master_octets s.master ++ flat_map block s.channels
+abbrev pub state_spelling : State → List ℕ
+state_spelling s = four_octets s.records ++ master_octets s.master ++ flat_map block s.channels
 
 -- the same in the form of versions 1 and 2, which has no master channel count
 abbrev pub old_spelling : State → List ℕ
-old_spelling s = four s.records ++ flat_map block s.channels
+old_spelling s = four_octets s.records ++ flat_map block s.channels
 
 -- ---- reading
 
--- the number in two octets from a place on, and in four
-abbrev pub two_at : List ℕ → ℕ → ℕ
-two_at xs i = 256 * slice_index xs i + slice_index xs (i + 1)
-
+-- the number in the four octets from a place on
 abbrev pub four_at : List ℕ → ℕ → ℕ
 four_at xs i = 65536 * two_at xs i + two_at xs (i + 2)
 
 -- what is kept of a channel, and how many octets spelled it
-pub record Read : Type 0 where
+pub record ReadBlock : Type 0 where
   pub kept : Option Last
   pub octets : ℕ
 
@@ -64,7 +59,7 @@ module _ (limit : ℕ) where
   is_unfinished octets = begins_packet limit octets && nat_lt (length octets) (reach octets)
 
   -- the tail in a block of which the fixed parts are there: its beginning, its length, its octets, and what these begin
-  abbrev pub tail_read : LayoutParts → ℕ → List ℕ → ℕ → ℕ → ℕ → Result Read StateFault
+  abbrev pub tail_read : LayoutParts → ℕ → List ℕ → ℕ → ℕ → ℕ → Result ReadBlock StateFault
   tail_read layout records xs first place size =
       if not (nat_lt first records) || nat_lt layout.frame_length (place + 7) then Err fault.Place
       else if (size == 0) || nat_le limit size then Err fault.Tail
@@ -79,7 +74,7 @@ module _ (limit : ℕ) where
       })
 
   -- the block of a channel, by its flag
-  abbrev pub flagged : LayoutParts → Bool → ℕ → List ℕ → ℕ → Result Read StateFault
+  abbrev pub flagged : LayoutParts → Bool → ℕ → List ℕ → ℕ → Result ReadBlock StateFault
   flagged layout chosen records xs flag =
       if flag == 0 then Ok (record { kept = None; octets = 1 })
       else if not chosen || nat_lt 2 flag then Err fault.Flag
@@ -89,29 +84,29 @@ module _ (limit : ℕ) where
       else tail_read layout records xs (four_at xs 2) (two_at xs 6) (four_at xs 8)
 
   -- the block at the front of octets
-  unfoldable pub block_read : LayoutParts → Bool → ℕ → List ℕ → Result Read StateFault
+  unfoldable pub block_read : LayoutParts → Bool → ℕ → List ℕ → Result ReadBlock StateFault
   block_read layout chosen records xs = if length xs == 0 then Err fault.Short else flagged layout chosen records xs (slice_index xs 0)
 
 -- what is kept of several channels, and how many octets spelled it
-pub record ReadAll : Type 0 where
+pub record ReadBlocks : Type 0 where
   pub kept : List (Option Last)
   pub octets : ℕ
 
 -- one more in front
-abbrev pub in_front : Read → Result ReadAll StateFault → Result ReadAll StateFault
+abbrev pub in_front : ReadBlock → Result ReadBlocks StateFault → Result ReadBlocks StateFault
 in_front one (Ok rest) = Ok (record { kept = one.kept ∷ rest.kept; octets = one.octets + rest.octets })
 in_front one (Err found) = Err found
 
 -- a block, and then the others behind its octets
-abbrev pub and_then : Result Read StateFault → (ℕ → Result ReadAll StateFault) → Result ReadAll StateFault
-and_then (Ok one) others = in_front one (others one.octets)
-and_then (Err found) others = Err found
+abbrev pub and_then_blocks : Result ReadBlock StateFault → (ℕ → Result ReadBlocks StateFault) → Result ReadBlocks StateFault
+and_then_blocks (Ok one) others = in_front one (others one.octets)
+and_then_blocks (Err found) others = Err found
 
 -- the blocks of n channels from channel c on: the first fault, or what they spell
-unfoldable pub blocks_read : Rules → ℕ → ℕ → ℕ → List ℕ → Result ReadAll StateFault
+unfoldable pub blocks_read : Rules → ℕ → ℕ → ℕ → List ℕ → Result ReadBlocks StateFault
 blocks_read rules records zero c xs = Ok (record { kept = []; octets = 0 })
 blocks_read rules records (suc n) c xs =
-    and_then (block_read rules.max_packet rules.layout (chooses rules c) records xs) (λ used. blocks_read rules records n (c + 1) (drop used xs))
+    and_then_blocks (block_read rules.max_packet rules.layout (chooses rules c) records xs) (λ used. blocks_read rules records n (c + 1) (drop used xs))
 
 -- a last master channel count, if there is one, and how many octets spelled it
 pub record ReadMaster : Type 0 where
@@ -128,30 +123,30 @@ master_read (flag ∷ xs) =
     else Ok (record { count = Some (slice_index xs 0); octets = 2 })
 
 -- the state, and the number of octets that were read
-pub record Decoded : Type 0 where
+pub record DecodedState : Type 0 where
   pub state : State
   pub octets : ℕ
 
 -- a number of records, a last master channel count, which the first so many octets spelled, and the channels
-abbrev pub with_channels : ℕ → Option ℕ → ℕ → Result ReadAll StateFault → Result Decoded StateFault
+abbrev pub with_channels : ℕ → Option ℕ → ℕ → Result ReadBlocks StateFault → Result DecodedState StateFault
 with_channels records master octets (Ok all) =
     Ok (record { state = record { records = records; master = master; channels = all.kept }; octets = octets + all.octets })
 with_channels records master octets (Err found) = Err found
 
 -- a number of records, a last master channel count, and the channels of the octets behind it
-abbrev pub with_master : Rules → ℕ → List ℕ → Result ReadMaster StateFault → Result Decoded StateFault
+abbrev pub with_master : Rules → ℕ → List ℕ → Result ReadMaster StateFault → Result DecodedState StateFault
 with_master rules records xs (Ok read) =
     with_channels records read.count (4 + read.octets) (blocks_read rules records 8 0 (drop read.octets xs))
 with_master rules records xs (Err found) = Err found
 
 -- what octets spell: too few of them, or the first fault of the master channel count or of a block, or a state
-unfoldable pub decoding_of : Rules → List ℕ → Result Decoded StateFault
-decoding_of rules xs =
+unfoldable pub state_decoding_of : Rules → List ℕ → Result DecodedState StateFault
+state_decoding_of rules xs =
     if nat_lt (length xs) 4 then Err fault.Short
     else with_master rules (four_at xs 0) (drop 4 xs) (master_read (drop 4 xs))
 
 -- the same in the form of versions 1 and 2
-unfoldable pub old_decoding_of : Rules → List ℕ → Result Decoded StateFault
+unfoldable pub old_decoding_of : Rules → List ℕ → Result DecodedState StateFault
 old_decoding_of rules xs =
     if nat_lt (length xs) 4 then Err fault.Short
     else with_channels (four_at xs 0) None 4 (blocks_read rules (four_at xs 0) 8 0 (drop 4 xs))

@@ -6,32 +6,32 @@ use Rattle.tm_items.specs.declared.items.Reason.TheVariants as why
 use Rattle.tm_items.specs.Item.{Item, Bad, MasterGap, Gap, Vca, Dropped, Packet, Short, seen_of}
 use Rattle.tm_reassembly.specs.State.{State, Last, Tail}
 use Rattle.tm_rules.specs.Channels.{eight}
-use Rattle.tm_reassembly.specs.Chain.{Member, chain, master_chain, runs, has_gap, next_count}
+use Rattle.tm_reassembly.specs.Chain.{ChainMember, chain, master_chain, runs, has_frame_gap, next_frame_count}
 use Rattle.tm_reassembly.specs.Parts.{Part, Fate, Given, Lost, Held, parts}
 
 -- a gap of a channel: the count that should have been found, and the member that has another one
-abbrev pub gap_item : ℕ → ℕ → Member → Item
+abbrev pub gap_item : ℕ → ℕ → ChainMember → Item
 gap_item channel expected m = Gap m.number channel expected m.count ((m.count + 256 - expected) % 256)
 
 -- a gap of the master channel
-abbrev pub master_gap_item : ℕ → Member → Item
+abbrev pub master_gap_item : ℕ → ChainMember → Item
 master_gap_item expected m = MasterGap m.number expected m.count ((m.count + 256 - expected) % 256)
 
 -- the gap of a member after one with this count, if it has one: an item of what was expected, and of the member
-abbrev pub gap_at : (ℕ → Member → Item) → Option ℕ → Member → List Item
+abbrev pub gap_at : (ℕ → ChainMember → Item) → Option ℕ → ChainMember → List Item
 gap_at gap None m = []
-gap_at gap (Some before) m = if has_gap (Some before) m then gap (next_count before) m ∷ [] else []
+gap_at gap (Some before) m = if has_frame_gap (Some before) m then gap (next_frame_count before) m ∷ [] else []
 
 -- the gaps of a chain after a member with this count
-abbrev pub gaps : (ℕ → Member → Item) → Option ℕ → List Member → List Item
+abbrev pub gaps : (ℕ → ChainMember → Item) → Option ℕ → List ChainMember → List Item
 gaps gap before [] = []
 gaps gap before (m ∷ ms) = gap_at gap before m ++ gaps gap (Some m.count) ms
 
 -- the gaps of the master chain
-abbrev pub master_items : List Member → List Item
+abbrev pub master_items : List ChainMember → List Item
 master_items ms = gaps master_gap_item None ms
 
-abbrev pub vca_at : ℕ → Member → List Item
+abbrev pub vca_at : ℕ → ChainMember → List Item
 vca_at channel m = if m.is_vca then Vca m.number channel ∷ [] else []
 
 abbrev pub part_item : ℕ → Part → Fate → List Item
@@ -53,14 +53,14 @@ held_part p (Given seen) = []
 held_part p (Lost reason seen) = []
 held_part p Held = record { first = p.first; place = p.place; octets = p.octets } ∷ []
 
-abbrev pub first_of : List Tail → Option Tail
-first_of [] = None
-first_of (t ∷ more) = Some t
+abbrev pub first_tail : List Tail → Option Tail
+first_tail [] = None
+first_tail (t ∷ more) = Some t
 
 -- the count of the last member of a chain
-abbrev pub last_count : Option ℕ → List Member → Option ℕ
-last_count before [] = before
-last_count before (m ∷ ms) = last_count (Some m.count) ms
+abbrev pub last_frame_count : Option ℕ → List ChainMember → Option ℕ
+last_frame_count before [] = before
+last_frame_count before (m ∷ ms) = last_frame_count (Some m.count) ms
 
 abbrev pub last_with : Option Tail → Option ℕ → Option Last
 last_with tail None = None
@@ -68,11 +68,11 @@ last_with tail (Some count) = Some (record { count = count; tail = tail })
 
 module _ (limit : ℕ) where
   -- all parts of a chain, run by run, in the order of the text
-  abbrev pub chain_parts : List Member → List Part
+  abbrev pub chain_parts : List ChainMember → List Part
   chain_parts ms = flat_map (parts limit) (runs ms)
 
   -- all items of a channel
-  abbrev pub channel_items : ℕ → List Member → List Item
+  abbrev pub channel_items : ℕ → List ChainMember → List Item
   channel_items channel ms =
       gaps (gap_item channel) None ms ++ flat_map (vca_at channel) ms ++ flat_map (λ p. part_item channel p p.fate) (chain_parts ms)
 
@@ -88,25 +88,25 @@ module _ (limit : ℕ) where
   merged chosen s records number (r ∷ rs) = record_items chosen s records number r ++ merged chosen s records (number + 1) rs
 
   -- the items of records that come after a state, record by record
-  abbrev pub items : (ℕ → Bool) → State → List Reading → List Item
-  items chosen s records = merged chosen s records s.records records
+  abbrev pub items_of_readings : (ℕ → Bool) → State → List Reading → List Item
+  items_of_readings chosen s records = merged chosen s records s.records records
 
   -- the tail that a chain holds at its end (there is at most one)
-  abbrev pub held : List Member → Option Tail
-  held ms = first_of (flat_map (λ p. held_part p p.fate) (chain_parts ms))
+  abbrev pub held : List ChainMember → Option Tail
+  held ms = first_tail (flat_map (λ p. held_part p p.fate) (chain_parts ms))
 
   abbrev pub channel_after : (ℕ → Bool) → State → List Reading → ℕ → Option Last
   channel_after chosen s records channel =
       if chosen channel
-      then last_with (held (chain s channel records)) (last_count None (chain s channel records))
+      then last_with (held (chain s channel records)) (last_frame_count None (chain s channel records))
       else None
 
   -- the state after more records
-  abbrev pub after : (ℕ → Bool) → State → List Reading → State
-  after chosen s records =
+  abbrev pub state_after_readings : (ℕ → Bool) → State → List Reading → State
+  state_after_readings chosen s records =
       record {
         records = s.records + length records;
-        master = last_count None (master_chain s records);
+        master = last_frame_count None (master_chain s records);
         channels = map (channel_after chosen s records) eight;
       }
 

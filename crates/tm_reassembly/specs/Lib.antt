@@ -4,14 +4,12 @@ pub mod Chain
 pub mod Parts
 pub mod Items
 pub mod Recording
-pub mod Field
 pub mod Steps
 pub mod Checkpoint
 pub mod OlderForms
-pub mod Blocks
 pub mod Valid
-pub mod Kept
 pub mod Verdict
 pub mod Tiles
 pub mod Absolute
 pub mod Among
+pub mod code

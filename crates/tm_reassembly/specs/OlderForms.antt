@@ -1,7 +1,7 @@
 -- What is lost with the last master channel count, which the older forms of a checkpoint don't have.
 use Rattle.std.specs.Prelude.{◌≡◌, ◌⊎◌, ℕ, ◌+◌, None, Result, Ok, Err, List, [], ◌∷◌, ◌++◌}
 use Rattle.tm_reassembly.specs.declared.fault.StateFault.{StateFault}
-use Rattle.tm_reassembly.specs.Checkpoint.{Decoded}
+use Rattle.tm_reassembly.specs.Checkpoint.{DecodedState}
 use Rattle.tm_items.specs.Item.{Item, MasterGap}
 use Rattle.tm_reassembly.specs.State.{State}
 
@@ -23,6 +23,6 @@ pub record LacksMasterGap (all fewer : List Item) : Type 0 where
   pub gap_is : IsMasterGapAtMost gap
 
 -- the same answer, one octet more being read
-abbrev pub one_octet_more : Result Decoded StateFault → Result Decoded StateFault
+abbrev pub one_octet_more : Result DecodedState StateFault → Result DecodedState StateFault
 one_octet_more (Ok d) = Ok (record { state = d.state; octets = d.octets + 1 })
 one_octet_more (Err found) = Err found

@@ -8,10 +8,10 @@ use Rattle.std.specs.List.{flat_map}
 use Rattle.tm_items.specs.OnePacket.{is_packet, reach}
 use Rattle.tm_items.specs.declared.items.Reason.TheVariants as why
 use Rattle.tm_items.specs.declared.items.Reason.{Reason}
-use Rattle.tm_reassembly.specs.Chain.{Member, Run, End, Unended, Ended}
+use Rattle.tm_reassembly.specs.Chain.{ChainMember, Run, End, Unended, Ended}
 
 -- the text of a run: all its fields, joined
-abbrev pub text : List Member → List ℕ
+abbrev pub text : List ChainMember → List ℕ
 text ms = flat_map (λ m. m.field) ms
 
 -- A start: the place of its first octet in the data field of its record, and the rest of its frame's field from there on.
@@ -23,7 +23,7 @@ pub record Start : Type 0 where
 -- there are to a frame's beginning.
 
 -- how many octets there are from a start to where its packet ends, by the whole text ahead
-abbrev pub far_end : List ℕ → List Member → ℕ
+abbrev pub far_end : List ℕ → List ChainMember → ℕ
 far_end start later = reach (start ++ text later)
 
 -- by its place a frame agrees with a packet: it has no place, and the packet reaches its end; or the packet reaches just its place
@@ -32,7 +32,7 @@ agrees_at far at len None = nat_le (at + len) far
 agrees_at far at len (Some place) = far == at + place
 
 -- the record that holds a packet's last octet, where the octets before `at` end in the record of this number
-abbrev pub holder : ℕ → ℕ → ℕ → List Member → ℕ
+abbrev pub holder : ℕ → ℕ → ℕ → List ChainMember → ℕ
 holder far at number [] = number
 holder far at number (m ∷ later) = if nat_le far at then number else holder far (at + length m.field) m.number later
 
@@ -63,12 +63,12 @@ abbrev pub front_of : Option ℕ → List ℕ → List ℕ
 front_of None field = field
 front_of (Some place) field = take place field
 
-abbrev pub lead_part : Member → Reason → List ℕ → List Part
+abbrev pub lead_part : ChainMember → Reason → List ℕ → List Part
 lead_part m reason [] = []
 lead_part m reason (x ∷ xs) = record { first = m.number; place = m.base; octets = x ∷ xs; fate = Lost reason m.number } ∷ []
 
 -- why a frame doesn't agree: only because the packet is long, where its place agrees; else by its place
-abbrev pub reason_at : ℕ → ℕ → Member → Reason
+abbrev pub reason_at : ℕ → ℕ → ChainMember → Reason
 reason_at far at m = if agrees_at far at (length m.field) m.place then why.Length else why.Pointer
 
 -- why the rest of a frame is unread: the packet that starts there is long, where it is of version 0; else it is of another version
@@ -76,7 +76,7 @@ abbrev pub unread_reason : List ℕ → Reason
 unread_reason start = if is_packet start then why.Length else why.Version
 
 -- a tail that a frame breaks off
-abbrev pub broken_part : ℕ → ℕ → List ℕ → ℕ → Member → Part
+abbrev pub broken_part : ℕ → ℕ → List ℕ → ℕ → ChainMember → Part
 broken_part first place octets far broken = record {
   first = first;
   place = place;
@@ -107,33 +107,33 @@ module _ (limit : ℕ) where
   starts_from base None field = []
   starts_from base (Some place) field = starts base place field
 
-  abbrev pub starts_of : Member → List Start
+  abbrev pub starts_of : ChainMember → List Start
   starts_of m = starts_from m.base m.place m.field
 
   -- a frame agrees with a packet: by its place, and the packet isn't long there
-  abbrev pub agrees : ℕ → ℕ → Member → Bool
+  abbrev pub agrees : ℕ → ℕ → ChainMember → Bool
   agrees far at m = agrees_at far at (length m.field) m.place && not (is_long far (at + length m.field))
 
   -- A start reaches past the frames `between`, and each of them agrees with it. Of a start that begins a packet that is read this
   -- says that it is open at the frame after them.
-  abbrev pub open_after : ℕ → ℕ → List Member → Bool
+  abbrev pub open_after : ℕ → ℕ → List ChainMember → Bool
   open_after far at [] = nat_lt at far
   open_after far at (m ∷ between) = agrees far at m && open_after far (at + length m.field) between
 
   -- looking ahead, the frames at which a start is open and that agree with it
-  abbrev pub joined : ℕ → ℕ → List Member → List Member
+  abbrev pub joined : ℕ → ℕ → List ChainMember → List ChainMember
   joined far at [] = []
   joined far at (m ∷ later) = if nat_lt at far && agrees far at m then m ∷ joined far (at + length m.field) later else []
 
   -- looking ahead, the frame at which a start is open and that doesn't agree with it
-  abbrev pub breaker : ℕ → ℕ → List Member → Option Member
+  abbrev pub breaker : ℕ → ℕ → List ChainMember → Option ChainMember
   breaker far at [] = None
   breaker far at (m ∷ later) =
       if nat_lt at far then (if agrees far at m then breaker far (at + length m.field) later else Some m) else None
 
   -- A start that begins a packet that is read: a tail up to the frame that doesn't agree; else a whole packet, if the text has it; else
   -- a tail up to the end of the run.
-  abbrev pub packet_part : ℕ → ℕ → List Member → End → List ℕ → ℕ → Option Member → Part
+  abbrev pub packet_part : ℕ → ℕ → List ChainMember → End → List ℕ → ℕ → Option ChainMember → Part
   packet_part first place later end start far (Some broken) =
       broken_part first place (start ++ text (joined far (length start) later)) far broken
   packet_part first place later end start far None =
@@ -147,35 +147,35 @@ module _ (limit : ℕ) where
       else record { first = first; place = place; octets = start ++ text later; fate = fate_at end }
 
   -- else the rest of the frame is unread
-  abbrev pub part_from : ℕ → ℕ → List Member → End → List ℕ → Part
+  abbrev pub part_from : ℕ → ℕ → List ChainMember → End → List ℕ → Part
   part_from first place later end start =
       if begins_packet start
       then packet_part first place later end start (far_end start later) (breaker (far_end start later) (length start) later)
       else record { first = first; place = place; octets = start; fate = Lost (unread_reason start) first }
 
-  abbrev pub start_part : Member → List Member → End → Start → Part
+  abbrev pub start_part : ChainMember → List ChainMember → End → Start → Part
   start_part m later end start = part_from m.number start.place later end start.octets
 
   -- what one start claims at the first of `ahead`, where `between` are the frames after its own
-  abbrev pub claim : List Member → List Member → Start → List Claim
+  abbrev pub claim : List ChainMember → List ChainMember → Start → List Claim
   claim between ahead start =
       if begins_packet start.octets && open_after (far_end start.octets (between ++ ahead)) (length start.octets) between
       then record { far = far_end start.octets (between ++ ahead); at = length start.octets + length (text between) } ∷ []
       else []
 
   -- the claims at the first of `ahead`, of the starts in the frames before it
-  abbrev pub claims : List Member → List Member → List Claim
+  abbrev pub claims : List ChainMember → List ChainMember → List Claim
   claims [] ahead = []
   claims (f ∷ between) ahead = flat_map (claim between ahead) (starts_of f) ++ claims between ahead
 
   -- the lead of a frame: lost where no start is open there, or where one is and the frame doesn't agree (there is at most one, which is
   -- proved)
-  abbrev pub lead : List Claim → Member → List Part
+  abbrev pub lead : List Claim → ChainMember → List Part
   lead [] m = lead_part m why.NoStart (front_of m.place m.field)
   lead (c ∷ more) m = if agrees c.far c.at m then [] else lead_part m (reason_at c.far c.at m) (front_of m.place m.field)
 
   -- the parts of a run from a frame on, in the order of the text
-  abbrev pub parts_from : List Member → List Member → End → List Part
+  abbrev pub parts_from : List ChainMember → List ChainMember → End → List Part
   parts_from before [] end = []
   parts_from before (m ∷ later) end =
       lead (claims before (m ∷ later)) m

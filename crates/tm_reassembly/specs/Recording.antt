@@ -1,7 +1,7 @@
 -- Raw records: the items that they give, and the state that they leave.
 use Rattle.std.specs.Prelude.{ℕ, List, map}
 use Rattle.tm_frame.specs.declared.layout.LayoutParts.{LayoutParts}
-use Rattle.tm_frame.specs.Fault.{reading_of}
+use Rattle.tm_frame.specs.Fault.{frame_reading_of}
 use Rattle.tm_reassembly.specs.Readings.{Reading}
 use Rattle.tm_rules.specs.Rules.{Rules, chooses}
 use Rattle.tm_items.specs.Item.{Item}
@@ -10,12 +10,12 @@ use Rattle.tm_reassembly.specs.Items as read
 
 -- each record, as it reads
 abbrev pub readings : LayoutParts → List (List ℕ) → List Reading
-readings layout records = map (reading_of layout) records
+readings layout records = map (frame_reading_of layout) records
 
 -- the items of records that come after a state
 unfoldable pub items : Rules → State → List (List ℕ) → List Item
-items rules s records = read.items rules.max_packet (chooses rules) s (readings rules.layout records)
+items rules s records = read.items_of_readings rules.max_packet (chooses rules) s (readings rules.layout records)
 
 -- the state after them
 unfoldable pub after : Rules → State → List (List ℕ) → State
-after rules s records = read.after rules.max_packet (chooses rules) s (readings rules.layout records)
+after rules s records = read.state_after_readings rules.max_packet (chooses rules) s (readings rules.layout records)

@@ -21,8 +21,8 @@ abbrev pub progress_in : Rules → State → Progress
 progress_in rules state = record { rules = rules; state = state; failed = false; room = 8 * rules.max_packet }
 
 -- before any record
-abbrev pub begun : Rules → Progress
-begun rules = progress_in rules empty
+abbrev pub new_progress : Rules → Progress
+new_progress rules = progress_in rules empty
 
 -- the greatest number of records
 abbrev pub most_records : ℕ
@@ -36,13 +36,13 @@ abbrev pub stepped : Progress → List ℕ → Progress
 stepped p octets = record { rules = p.rules; state = after p.rules p.state (octets ∷ []); failed = false; room = p.room }
 
 -- the last count that a state has of a channel
-abbrev pub count_of : Option (Option Last) → Option ℕ
-count_of None = None
-count_of (Some None) = None
-count_of (Some (Some last)) = Some last.count
+abbrev pub count_of_last : Option (Option Last) → Option ℕ
+count_of_last None = None
+count_of_last (Some None) = None
+count_of_last (Some (Some last)) = Some last.count
 
 abbrev pub last_count_of : State → ℕ → Option ℕ
-last_count_of s channel = count_of (slice_get s.channels channel)
+last_count_of s channel = count_of_last (slice_get s.channels channel)
 
 -- given up: nothing is said any more of the channels
 pub record IsGivenUp (old new : Progress) : Type 0 where

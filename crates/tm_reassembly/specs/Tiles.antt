@@ -34,8 +34,8 @@ abbrev pub channel_spots : ℕ → ℕ → List Reading → List Spot
 channel_spots channel number [] = []
 channel_spots channel number (r ∷ rs) = record_spots channel number r ++ channel_spots channel (number + 1) rs
 
-abbrev pub octets_at : List Spot → List ℕ
-octets_at spots = map (λ x. x.octet) spots
+abbrev pub spot_octets : List Spot → List ℕ
+spot_octets spots = map (λ x. x.octet) spots
 
 -- there are octets, and the first of them is at this place of this record
 abbrev pub BeginsAt : ℕ → ℕ → List Spot → Type 0
@@ -45,7 +45,7 @@ BeginsAt first place (x ∷ xs) = (x.record_number ≡ first) × (x.place ≡ pl
 -- an item takes the octets that it tells of off the front
 abbrev pub Takes : List Spot → Item → List Spot → Type 0
 Takes spots (item.Packet seen channel first place octets) rest =
-    (these : List Spot) × (spots ≡ these ++ rest) × (octets_at these ≡ octets) × BeginsAt first place these
+    (these : List Spot) × (spots ≡ these ++ rest) × (spot_octets these ≡ octets) × BeginsAt first place these
 Takes spots (item.Dropped seen channel first place octets reason) rest =
     (these : List Spot) × (spots ≡ these ++ rest) × (length these ≡ octets) × BeginsAt first place these
 Takes spots (item.Bad seen fault) rest = ⊥
@@ -62,7 +62,7 @@ Tile spots (x ∷ xs) rest = (middle : List Spot) × Takes spots x middle × Til
 -- the octets that are left are those of the tail, or there are none
 abbrev pub IsHeld : Option Tail → List Spot → Type 0
 IsHeld None spots = spots ≡ []
-IsHeld (Some t) spots = (octets_at spots ≡ t.octets) × BeginsAt t.first t.place spots
+IsHeld (Some t) spots = (spot_octets spots ≡ t.octets) × BeginsAt t.first t.place spots
 
 -- the packets and dropped parts of a channel
 abbrev pub is_part_of : ℕ → Item → Bool

@@ -4,7 +4,7 @@ use Rattle.tm_bits.specs.Bits.{AreOctets}
 use Rattle.tm_frame.specs.declared.layout.LayoutParts.{LayoutParts}
 use Rattle.tm_reassembly.specs.Readings.{Reading}
 use Rattle.tm_reassembly.specs.State.{State, Last, Tail}
-use Rattle.tm_reassembly.specs.Chain.{Member, place_of, counted_field}
+use Rattle.tm_reassembly.specs.Chain.{ChainMember, start_place_of, counted_field}
 use Rattle.tm_reassembly.specs.Parts.{begins_packet}
 use Rattle.tm_items.specs.OnePacket.{reach}
 use Rattle.tm_rules.specs.Rules.{Rules, IsLimit, chooses}
@@ -21,18 +21,18 @@ abbrev pub PlaceFits : Option ℕ → ℕ → Type 0
 PlaceFits None len = Unit {0}
 PlaceFits (Some place) len = place ≤ len
 
-abbrev pub PlacesFit : List Member → Type 0
+abbrev pub PlacesFit : List ChainMember → Type 0
 PlacesFit [] = Unit {0}
 PlacesFit (m ∷ ms) = PlaceFits m.place (length m.field) × PlacesFit ms
 
 -- a good frame's channel is one of eight, and its place isn't past its field's end
 abbrev pub IsFit : Reading → Type 0
 IsFit (Err fault) = Unit {0}
-IsFit (Ok f) = (f.channel < 8) × PlaceFits (place_of f.kind) (length (counted_field f.kind f.field))
+IsFit (Ok f) = (f.channel < 8) × PlaceFits (start_place_of f.kind) (length (counted_field f.kind f.field))
 
-abbrev pub AllFit : List Reading → Type 0
-AllFit [] = Unit {0}
-AllFit (r ∷ rs) = IsFit r × AllFit rs
+abbrev pub AllReadingsFit : List Reading → Type 0
+AllReadingsFit [] = Unit {0}
+AllReadingsFit (r ∷ rs) = IsFit r × AllReadingsFit rs
 
 -- ---- states
 
@@ -65,7 +65,7 @@ IsCount None = Unit {0}
 IsCount (Some count) = count < 256
 
 -- A valid state: what the checks of a checkpoint ask. Some valid states are left by no recording.
-pub record IsState (rules : Rules) (s : State) : Type 0 where
+pub record IsValidState (rules : Rules) (s : State) : Type 0 where
   pub limit : IsLimit rules.max_packet
   pub records : s.records < 2 ^ 32
   pub master : IsCount s.master

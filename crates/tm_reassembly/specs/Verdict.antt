@@ -1,10 +1,10 @@
 -- What is said of a start at a later frame of its run, and how runs grow.
 use Rattle.std.specs.Prelude.{◌≡◌, ℕ, ◌+◌, nat_lt, nat_le, Bool, ◌&&◌, is_none, List, [], ◌∷◌, ◌++◌, length}
-use Rattle.tm_reassembly.specs.Chain.{Member, Run, Unended}
+use Rattle.tm_reassembly.specs.Chain.{ChainMember, Run, Unended}
 use Rattle.tm_reassembly.specs.Parts.{text, far_end, is_long, begins_packet, open_after, agrees, breaker}
 
 -- whether a packet ends in a frame that it reaches into
-abbrev pub ends_in : ℕ → ℕ → Member → Bool
+abbrev pub ends_in : ℕ → ℕ → ChainMember → Bool
 ends_in far at m = nat_lt at far && nat_le far (at + length m.field)
 
 -- whether the start is open at the frame, whether the frame agrees with it, whether its packet is long there, and whether it is whole
@@ -17,13 +17,13 @@ pub record Verdict : Type 0 where
 
 module _ (limit : ℕ) where
   -- whether a start is whole: it begins a packet that is read, its text ends it, and each later frame at which it is open agrees with it
-  abbrev pub is_whole : List ℕ → List Member → Bool
+  abbrev pub is_whole : List ℕ → List ChainMember → Bool
   is_whole start later =
       begins_packet limit start
       && (is_none (breaker limit (far_end start later) (length start) later) && nat_le (far_end start later) (length (start ++ text later)))
 
   -- of a start, by the frames between its own and m, by m, and by the frames after m
-  abbrev pub verdict : List ℕ → List Member → Member → List Member → Verdict
+  abbrev pub verdict : List ℕ → List ChainMember → ChainMember → List ChainMember → Verdict
   verdict start between m later =
       record {
         opened = begins_packet limit start && open_after limit (far_end start (between ++ m ∷ later)) (length start) between;
@@ -34,13 +34,13 @@ module _ (limit : ℕ) where
       }
 
   -- whether the start is whole with its last octet in its own frame
-  abbrev pub completed_at_once : List ℕ → List Member → Bool
+  abbrev pub completed_at_once : List ℕ → List ChainMember → Bool
   completed_at_once start later = is_whole start later && nat_le (far_end start later) (length start)
 
 -- the first of these runs goes on from a run that nothing ended
 abbrev pub GoesOn : Run → List Run → Type 0
 GoesOn r [] = ⊥
-GoesOn r (q ∷ qs) = (more : List Member) × (q.members ≡ r.members ++ more) × (r.end ≡ Unended)
+GoesOn r (q ∷ qs) = (more : List ChainMember) × (q.members ≡ r.members ++ more) × (r.end ≡ Unended)
 
 -- runs, and then what more frames make of them: the ended ones are as they were, and the last one goes on
 abbrev pub GrowFrom : Run → List Run → List Run → Type 0

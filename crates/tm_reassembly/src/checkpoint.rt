@@ -1,8 +1,9 @@
 //! The block of a channel in a checkpoint.
 
 ghost use Rattle.std.specs.Prelude.{◌≡◌, ◌+◌, ◌<◌, ◌≤◌, ◌++◌, None, Some, Ok, Err, true, length, slice_index, vec_len, vec_capacity, IfOk, IfErr};
-ghost use Rattle.tm_reassembly.specs.Checkpoint.{two, four, two_at, four_at, is_unfinished, master_octets, master_read, tail_read, flagged, block_read};
-ghost use Rattle.tm_reassembly.specs.Blocks.{kept_of};
+ghost use Rattle.tm_reassembly.specs.Checkpoint.{four_octets, four_at, is_unfinished, master_octets, master_read, tail_read, flagged, block_read};
+ghost use Rattle.tm_bits.specs.Bits.{two_octets, two_at};
+ghost use Rattle.tm_reassembly.specs.code.Blocks.{block_last};
 ghost use Rattle.tm_rules.specs.Rules.{chooses};
 ghost use Rattle.tm_reassembly.specs.Valid.{IsCount};
 ghost use Rattle.tm_reassembly.specs.declared.fault.StateFault.TheVariants as found;
@@ -33,7 +34,7 @@ impl<'a> Block<'a> {
 /// Appends a number in two octets, for which there is room.
 pub fn push_two(out: &mut Vec<u8>, number: u16)
     requires { vec_len out.old + 2 ≤ vec_capacity out.old }
-    ensures items { out.new.items ≡ out.old.items ++ two number }
+    ensures items { out.new.items ≡ out.old.items ++ two_octets number }
     ensures len { vec_len out.new ≡ vec_len out.old + 2 }
     ensures room { vec_capacity out.old ≤ vec_capacity out.new }
 {
@@ -43,7 +44,7 @@ pub fn push_two(out: &mut Vec<u8>, number: u16)
 /// Appends a number in four octets, for which there is room.
 pub fn push_four(out: &mut Vec<u8>, number: u32)
     requires { vec_len out.old + 4 ≤ vec_capacity out.old }
-    ensures items { out.new.items ≡ out.old.items ++ four number }
+    ensures items { out.new.items ≡ out.old.items ++ four_octets number }
     ensures len { vec_len out.new ≡ vec_len out.old + 4 }
     ensures room { vec_capacity out.old ≤ vec_capacity out.new }
 {
@@ -148,7 +149,7 @@ pub fn read_block<'a>(
     records: u32,
     octets: &'a [u8],
 ) -> Result<(Block<'a>, usize), StateFault>
-    ensures ok { IfOk result (λ found. block_read rules.now.max_packet rules.now.layout (chooses rules.now channel) records octets.now ≡ Ok (record { kept = kept_of found.0; octets = found.1 })) }
+    ensures ok { IfOk result (λ found. block_read rules.now.max_packet rules.now.layout (chooses rules.now channel) records octets.now ≡ Ok (record { kept = block_last found.0; octets = found.1 })) }
     ensures inside { IfOk result (λ found. found.1 ≤ length octets.now) }
     ensures most { IfOk result (λ found. length found.0.tail.now ≤ rules.now.max_packet) }
     ensures refused { IfErr result (λ fault. block_read rules.now.max_packet rules.now.layout (chooses rules.now channel) records octets.now ≡ Err fault) }
@@ -174,7 +175,7 @@ pub fn read_block<'a>(
 
 // Reads the block of a channel without a tail, whose flag is there.
 fn read_count<'a>(octets: &'a [u8]) -> Result<(Block<'a>, usize), StateFault>
-    ensures ok { IfOk result (λ found. (2 ≤ length octets.now) × (kept_of found.0 ≡ Some (record { count = slice_index octets.now 1; tail = None })) × (found.1 ≡ 2) × (length found.0.tail.now ≡ 0)) }
+    ensures ok { IfOk result (λ found. (2 ≤ length octets.now) × (block_last found.0 ≡ Some (record { count = slice_index octets.now 1; tail = None })) × (found.1 ≡ 2) × (length found.0.tail.now ≡ 0)) }
     ensures refused { IfErr result (λ fault. (length octets.now < 2) × (fault ≡ found.Short)) }
 {
     if octets.len() < 2 {
@@ -195,7 +196,7 @@ fn read_tail<'a>(
 ) -> Result<(Block<'a>, usize), StateFault>
     requires { 12 ≤ length octets.now }
     ensures ok { IfOk result (λ found. tail_read rules.now.max_packet rules.now.layout records octets.now (four_at octets.now 2) (two_at octets.now 6) (four_at octets.now 8)
-        ≡ Ok (record { kept = kept_of found.0; octets = found.1 })) }
+        ≡ Ok (record { kept = block_last found.0; octets = found.1 })) }
     ensures inside { IfOk result (λ found. found.1 ≤ length octets.now) }
     ensures most { IfOk result (λ found. length found.0.tail.now ≤ rules.now.max_packet) }
     ensures refused { IfErr result (λ fault. tail_read rules.now.max_packet rules.now.layout records octets.now (four_at octets.now 2) (two_at octets.now 6) (four_at octets.now 8) ≡ Err fault) }

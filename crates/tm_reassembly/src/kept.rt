@@ -1,13 +1,13 @@
 //! What is kept of a channel from frame to frame.
 
 ghost use Rattle.std.specs.Prelude.{◌≡◌, ◌+◌, ◌<◌, ◌≤◌, vec_len, vec_capacity, ◌∷◌, ◌++◌, length, IfOk, IfErr, OnOk, Option, None, Some, IsSome, true, false};
-ghost use Rattle.tm_reassembly.specs.Blocks.{kept_of};
+ghost use Rattle.tm_reassembly.specs.code.Blocks.{block_last};
 ghost use Rattle.tm_reassembly.specs.Checkpoint.{block};
-ghost use Rattle.tm_reassembly.specs.Chain.{member, has_gap, is_vca_kind};
-ghost use Rattle.tm_reassembly.specs.Field.{chain_parts_at, chain_tail_at, ended_parts, step_parts, step_tail};
+ghost use Rattle.tm_reassembly.specs.Chain.{member, has_frame_gap, is_vca_kind};
+ghost use Rattle.tm_reassembly.specs.code.Field.{chain_parts_at, chain_tail_at, ended_parts, step_parts, step_tail};
 ghost use Rattle.tm_reassembly.specs.Items.{gap_item, master_gap_item, gap_at, vca_at, close_last, part_items};
 ghost use Rattle.tm_items.specs.Item as value;
-ghost use Rattle.tm_reassembly.specs.Kept.{Slot, last_of, octets_in, count_in, tail_in, kept_items, kept_after, counted, missed, member_at};
+ghost use Rattle.tm_reassembly.specs.code.Kept.{Slot, last_of, octets_in, frame_count_in, tail_in, kept_items, last_after, counted, missed, member_at};
 ghost use Rattle.tm_rules.specs.Rules.{IsLimit};
 ghost use Rattle.tm_items.specs.Sinks.{TakesAll, RefusesOne};
 ghost use Rattle.tm_reassembly.specs.State.{Last};
@@ -49,7 +49,7 @@ impl Kept {
 
     /// The last count.
     pub fn count(&self) -> Option<u8>
-        ensures { result ≡ count_in self.now.last }
+        ensures { result ≡ frame_count_in self.now.last }
     {
         self.count
     }
@@ -72,7 +72,7 @@ impl Kept {
         requires channel { channel < 8 }
         requires open { IsOpenTail self.old.limit (tail_in self.old.last) }
         ensures taken { OnOk result (TakesAll S.takes sink.old (kept_items self.old.limit channel self.old.last (member seen frame.now)) sink.new) }
-        ensures left { OnOk result (self.new.last ≡ kept_after self.old.limit self.old.last (member seen frame.now)) }
+        ensures left { OnOk result (self.new.last ≡ last_after self.old.limit self.old.last (member seen frame.now)) }
         ensures limit { self.new.limit ≡ self.old.limit }
         ensures room { self.old.room ≤ self.new.room }
         ensures refused { IfErr result (λ fault. RefusesOne S.takes S.refuses sink.old (kept_items self.old.limit channel self.old.last (member seen frame.now)) fault sink.new) }
@@ -98,7 +98,7 @@ impl Kept {
     ) -> Result<(), S::Fault>
         requires channel { channel < 8 }
         requires open { IsOpenTail self.old.limit (tail_in self.old.last) }
-        requires counted { count_in self.old.last ≡ Some frame.now.count }
+        requires counted { frame_count_in self.old.last ≡ Some frame.now.count }
         ensures taken { OnOk result (TakesAll S.takes sink.old
             (vca_at channel (member seen frame.now) ++ part_items channel (chain_parts_at self.old.limit gap (is_vca_kind frame.now.kind) (tail_in self.old.last) (member seen frame.now))) sink.new) }
         ensures left { OnOk result (self.new.last ≡ Some (record {
@@ -131,7 +131,7 @@ impl Kept {
         requires { channel < 8 }
         ensures taken { OnOk result (TakesAll S.takes sink.old
             (value.Vca seen channel ∷ part_items channel (chain_parts_at self.old.limit gap true (tail_in self.old.last) (counted seen 0))) sink.new) }
-        ensures left { OnOk result (self.new.last ≡ last_of (count_in self.old.last) None) }
+        ensures left { OnOk result (self.new.last ≡ last_of (frame_count_in self.old.last) None) }
         ensures limit { self.new.limit ≡ self.old.limit }
         ensures room { self.old.room ≤ self.new.room }
         ensures refused { IfErr result (λ fault. RefusesOne S.takes S.refuses sink.old
@@ -158,9 +158,9 @@ impl Kept {
         requires most { length field.now ≤ 2042 }
         requires place { PlaceFits place (length field.now) }
         requires open { IsOpenTail self.old.limit (tail_in self.old.last) }
-        requires counted { IsSome (count_in self.old.last) }
+        requires counted { IsSome (frame_count_in self.old.last) }
         ensures taken { OnOk result (TakesAll S.takes sink.old (part_items channel (chain_parts_at self.old.limit gap false (tail_in self.old.last) (member_at seen place field.now))) sink.new) }
-        ensures left { OnOk result (self.new.last ≡ last_of (count_in self.old.last) (chain_tail_at self.old.limit gap false (tail_in self.old.last) (member_at seen place field.now))) }
+        ensures left { OnOk result (self.new.last ≡ last_of (frame_count_in self.old.last) (chain_tail_at self.old.limit gap false (tail_in self.old.last) (member_at seen place field.now))) }
         ensures limit { self.new.limit ≡ self.old.limit }
         ensures room { self.old.room ≤ self.new.room }
         ensures refused { IfErr result (λ fault. RefusesOne S.takes S.refuses sink.old (part_items channel (chain_parts_at self.old.limit gap false (tail_in self.old.last) (member_at seen place field.now))) fault sink.new) }
@@ -224,7 +224,7 @@ impl Kept {
     /// Keeps what a checkpoint says of the channel.
     pub fn restore(&mut self, read: &Block<'_>)
         requires { length read.now.tail.now ≤ self.old.limit }
-        ensures last { self.new.last ≡ kept_of read.now }
+        ensures last { self.new.last ≡ block_last read.now }
         ensures limit { self.new.limit ≡ self.old.limit }
         ensures room { self.old.room ≤ self.new.room }
     {
@@ -260,7 +260,7 @@ fn give_gap<S: Sink>(
 ) -> Result<bool, S::Fault>
     requires { channel < 8 }
     ensures taken { OnOk result (TakesAll S.takes sink.old (gap_at (gap_item channel) before (counted seen found)) sink.new) }
-    ensures answer { IfOk result (λ gap. gap ≡ has_gap before (counted seen found)) }
+    ensures answer { IfOk result (λ gap. gap ≡ has_frame_gap before (counted seen found)) }
     ensures refused { IfErr result (λ fault. RefusesOne S.takes S.refuses sink.old (gap_at (gap_item channel) before (counted seen found)) fault sink.new) }
 {
     let Some(expected) = missed(before, found) else {

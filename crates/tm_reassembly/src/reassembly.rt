@@ -3,17 +3,17 @@
 ghost use Rattle.std.specs.Prelude.{◌≡◌, ◌⊎◌, ◌+◌, ◌*◌, ◌<◌, ◌≤◌, ◌++◌, IfOk, IfErr, OnOk, OnErr, IsOk, Ok, Err, vec_len, vec_capacity, replicate, List, Option, None, Some, true, false, [], ◌∷◌, length};
 ghost use Rattle.std.specs.List.{flat_map};
 ghost use Rattle.tm_frame.specs.Layout.{record_length_of};
-ghost use Rattle.tm_reassembly.specs.Checkpoint.{block, spelling, blocks_read, with_channels, decoding_of, old_decoding_of};
+ghost use Rattle.tm_reassembly.specs.Checkpoint.{block, state_spelling, blocks_read, with_channels, state_decoding_of, old_decoding_of};
 ghost use Rattle.tm_reassembly.specs.declared.fault.StateFault.TheVariants as found;
 ghost use Rattle.tm_reassembly.specs.Items.{closing, close_channels};
-ghost use Rattle.tm_reassembly.specs.Kept.{HaveLimit, lasts, octets_in, rooms, unused};
+ghost use Rattle.tm_reassembly.specs.code.Kept.{HaveLimit, lasts, octets_in, rooms, unused};
 ghost use Rattle.tm_reassembly.specs.Recording.{items, after};
 ghost use Rattle.tm_rules.specs.Rules.{IsLimit, chooses};
 ghost use Rattle.tm_items.specs.Sinks.{TakesAll, RefusesOne};
 ghost use Rattle.tm_reassembly.specs.State.{State, Last};
-ghost use Rattle.tm_reassembly.specs.Steps.{Progress, begun, most_records, progress_in, step_items, stepped, StepRefused, CloseRefused, last_count_of};
+ghost use Rattle.tm_reassembly.specs.Steps.{Progress, new_progress, most_records, progress_in, step_items, stepped, StepRefused, CloseRefused, last_count_of};
 ghost use Rattle.tm_reassembly.specs.Tiles.{held_tail};
-ghost use Rattle.tm_reassembly.specs.Valid.{IsCount, IsState};
+ghost use Rattle.tm_reassembly.specs.Valid.{IsCount, IsValidState};
 
 use crate::checkpoint::{four_at, master_length, push_four, push_master, read_block, read_master};
 use crate::fault::{NoMemory, StateFault, StepFault};
@@ -44,7 +44,7 @@ impl Model for Reassembly {
       room = rooms r.kept;
     } };
 
-    ghost invariant = { λ r. r.failed ≡ false → IsState r.rules (record { records = r.records; master = r.master; channels = lasts r.kept })
+    ghost invariant = { λ r. r.failed ≡ false → IsValidState r.rules (record { records = r.records; master = r.master; channels = lasts r.kept })
         × HaveLimit r.rules.max_packet r.kept };
 }
 
@@ -62,7 +62,7 @@ impl Reassembly {
         max_packet: u32,
     ) -> Result<Reassembly, NoMemory>
         requires { IsLimit max_packet }
-        ensures { IfOk result (λ reassembly. reassembly ≡ begun (record { layout = layout; channels = channels; max_packet = max_packet })) }
+        ensures { IfOk result (λ reassembly. reassembly ≡ new_progress (record { layout = layout; channels = channels; max_packet = max_packet })) }
     {
         match eight(alloc, max_packet as usize) {
             Ok(kept) => Ok(Reassembly {
@@ -144,7 +144,7 @@ impl Reassembly {
     /// Whether a step was refused by its sink. As long as none was, the state is a valid one.
     pub fn failed(&self) -> bool
         ensures value { result ≡ self.now.failed }
-        ensures valid { self.now.failed ≡ false → IsState self.now.rules self.now.state }
+        ensures valid { self.now.failed ≡ false → IsValidState self.now.rules self.now.state }
     {
         self.failed
     }
@@ -218,8 +218,8 @@ impl Reassembly {
     /// `NoMemory` where the octets have no room for it and can't be given more; they are then as they were.
     pub fn encode(&self, out: &mut Vec<u8>) -> Result<(), NoMemory>
         requires { self.now.failed ≡ false }
-        ensures appended { OnOk result (out.new.items ≡ out.old.items ++ spelling self.now.state) }
-        ensures full { OnErr result (vec_capacity out.old < vec_len out.old + length (spelling self.now.state)) }
+        ensures appended { OnOk result (out.new.items ≡ out.old.items ++ state_spelling self.now.state) }
+        ensures full { OnErr result (vec_capacity out.old < vec_len out.old + length (state_spelling self.now.state)) }
         ensures unchanged { OnErr result (out.new.items ≡ out.old.items) }
     {
         match out.try_reserve(4 + master_length(self.master) + spelled_length(&self.kept)) {
@@ -250,12 +250,12 @@ impl Reassembly {
         octets: &[u8],
     ) -> Result<(Reassembly, usize), StateFault>
         requires { IsLimit max_packet }
-        ensures ok { IfOk result (λ read. decoding_of (record { layout = layout; channels = channels; max_packet = max_packet }) octets.now
+        ensures ok { IfOk result (λ read. state_decoding_of (record { layout = layout; channels = channels; max_packet = max_packet }) octets.now
             ≡ Ok (record { state = read.0.state; octets = read.1 })) }
         ensures same { IfOk result (λ read. read.0
             ≡ progress_in (record { layout = layout; channels = channels; max_packet = max_packet }) read.0.state) }
-        ensures refused { IfErr result (λ fault. (decoding_of (record { layout = layout; channels = channels; max_packet = max_packet }) octets.now ≡ Err fault)
-            ⊎ ((fault ≡ found.NoMemory) × IsOk (decoding_of (record { layout = layout; channels = channels; max_packet = max_packet }) octets.now))) }
+        ensures refused { IfErr result (λ fault. (state_decoding_of (record { layout = layout; channels = channels; max_packet = max_packet }) octets.now ≡ Err fault)
+            ⊎ ((fault ≡ found.NoMemory) × IsOk (state_decoding_of (record { layout = layout; channels = channels; max_packet = max_packet }) octets.now))) }
     {
         let rules = Rules {
             layout,
@@ -390,7 +390,7 @@ fn take_record<S: Sink>(
     sink: &mut S,
 ) -> Result<(), S::Fault>
     requires record { length octets.now ≡ record_length_of rules.now.layout }
-    requires state { IsState rules.now (record { records = seen; master = master.old; channels = lasts kept.old }) }
+    requires state { IsValidState rules.now (record { records = seen; master = master.old; channels = lasts kept.old }) }
     requires limit { HaveLimit rules.now.max_packet kept.old }
     ensures taken { OnOk result (TakesAll S.takes sink.old
         (items rules.now (record { records = seen; master = master.old; channels = lasts kept.old }) (octets.now ∷ [])) sink.new) }

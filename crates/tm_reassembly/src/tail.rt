@@ -1,11 +1,11 @@
 //! The tail of a channel: the octets so far of a packet that isn't whole.
 
 ghost use Rattle.std.specs.Prelude.{◌≡◌, ◌+◌, ◌<◌, ◌≤◌, ◌++◌, length, take, IfOk, IfErr, OnOk, Option, None, Some, is_some, true, vec_len, vec_capacity};
-ghost use Rattle.tm_reassembly.specs.Blocks.{spelled_tail};
+ghost use Rattle.tm_reassembly.specs.code.Blocks.{spelled_tail};
 ghost use Rattle.tm_items.specs.declared.items.Reason.TheVariants as why;
-ghost use Rattle.tm_reassembly.specs.Field.{step_parts, step_tail, ended_parts, frame_parts, frame_tail};
+ghost use Rattle.tm_reassembly.specs.code.Field.{step_parts, step_tail, ended_parts, frame_parts, frame_tail};
 ghost use Rattle.tm_items.specs.Item as value;
-ghost use Rattle.tm_reassembly.specs.Kept.{Buffer, tail_of_octets, octets_in, grown, completed, member_at};
+ghost use Rattle.tm_reassembly.specs.code.Kept.{Buffer, tail_of_octets, octets_in, grown, completed, member_at};
 ghost use Rattle.tm_reassembly.specs.Parts as model;
 ghost use Rattle.tm_reassembly.specs.Parts.{lead_part, front_of};
 ghost use Rattle.tm_rules.specs.Rules.{IsLimit};

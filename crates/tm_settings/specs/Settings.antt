@@ -13,7 +13,7 @@ use Rattle.tm_settings.specs.declared.key.Key.{Key}
 use Rattle.tm_settings.specs.declared.key.Key.TheVariants.{Spacecraft, FrameLength, SkipBefore, SkipAfter, Secondary, Ocf, ErrorControl, Channels, MaxPacket}
 use Rattle.tm_settings.specs.declared.fault.SettingsFault.{SettingsFault}
 use Rattle.tm_settings.specs.declared.fault.SettingsFault.TheVariants.{Toml, Unknown, Missing, Kind, Range}
-use Rattle.tm_settings.specs.Keys.{name_of, is_name}
+use Rattle.tm_settings.specs.Keys.{key_name, is_name}
 
 -- ---- unknown keys
 
@@ -103,7 +103,7 @@ channels_at key d = of_kind key (λ zs. of_range key (channels_of (map channel_n
 
 -- what a document has at a key
 abbrev pub value_at : Key → Members → Option Data
-value_at key ms = get_member (name_of key) ms
+value_at key ms = get_member (key_name key) ms
 
 -- the keys of the layout in the order of the table, the first with a fault deciding
 abbrev pub layout_from : Members → ReadAs LayoutParts

@@ -17,11 +17,11 @@ pub enum Key {
 }
 
 impl Key {
-    ghost use Rattle.tm_settings.specs.Keys.{name_of};
+    ghost use Rattle.tm_settings.specs.Keys.{key_name};
 
     /// The key as it is written.
     pub fn word(self) -> &'static str
-        ensures { result.now ≡ name_of self }
+        ensures { result.now ≡ key_name self }
     {
         match self {
             Key::Spacecraft => "spacecraft",

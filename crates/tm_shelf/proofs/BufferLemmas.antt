@@ -2,7 +2,7 @@
 use Rattle.std.proofs.Common.{◌≡◌, ◌≢◌, ◌+◌, ◌∙◌, ℕ, List, [], Some, Ok, Err, Result, Vec, sym, subst, ap, arith, ⊎_elim}
 use Rattle.std.specs.Prelude.{OnOk, option_map, slice_get}
 use Rattle.std.proofs.lemmas.Bool.{cases_eq}
-use Rattle.tm_shelf.specs.Buffers.{AreEmptyOf}
+use Rattle.tm_shelf.specs.code.Buffers.{AreEmptyOf}
 
 module _ {Z : Type 0} where
   -- the first n are empty, and the next

@@ -3,37 +3,37 @@ use Rattle.std.proofs.Common.{◌≡◌, ◌+◌, ◌++◌, ◌∙◌, ℕ, List
 use Rattle.std.specs.Prelude.{◌⊎◌, OnOk, length, option_map, slice_get}
 use Rattle.std.proofs.lemmas.Option.{slice_get-map}
 use Rattle.tm_devices.specs.Devices.{PutsFront}
-use Rattle.tm_shelf.specs.Buffers.{AreEmpty, IsExtended}
-use Rattle.tm_shelf.specs.Shelves.{HoldsNone, IsAdded, octets_of}
+use Rattle.tm_shelf.specs.code.Buffers.{AreEmpty, IsExtended}
+use Rattle.tm_shelf.specs.Shelves.{HoldsNone, IsAdded, buffer_octets}
 
 pub none_put : (new : Option (ℕ → List ℕ)) (application : ℕ) (octets : List ℕ) → PutsFront None new application octets
 none_put new application octets = ([], octets, refl, λ some. some, tt)
 
 module _ {Z : Type 0} where
-  seen : (buffers : List (Vec ℕ Z)) (n : ℕ) → slice_get (octets_of buffers) n ≡ option_map (λ octets. octets.items) (slice_get buffers n)
+  seen : (buffers : List (Vec ℕ Z)) (n : ℕ) → slice_get (buffer_octets buffers) n ≡ option_map (λ octets. octets.items) (slice_get buffers n)
   seen buffers n = slice_get-map (λ octets. octets.items) buffers n
 
-  pub none_seen : (buffers : List (Vec ℕ Z)) → AreEmpty buffers → HoldsNone (octets_of buffers)
+  pub none_seen : (buffers : List (Vec ℕ Z)) → AreEmpty buffers → HoldsNone (buffer_octets buffers)
   none_seen buffers empty application below = seen buffers application ∙ empty application below
 
   extended : (o : Option (Vec ℕ Z)) (added : List ℕ) → option_map (λ octets. octets.items ++ added) o ≡ option_map (λ octets. octets ++ added) (option_map (λ octets. octets.items) o)
   extended None added = refl
   extended (Some buffer) added = refl
 
-  pub added_seen : (old new : List (Vec ℕ Z)) (application : ℕ) (added : List ℕ) → IsExtended old new application added → IsAdded (octets_of old) (octets_of new) application added
+  pub added_seen : (old new : List (Vec ℕ Z)) (application : ℕ) (added : List ℕ) → IsExtended old new application added → IsAdded (buffer_octets old) (buffer_octets new) application added
   added_seen old new application added is = (
     seen new application ∙ is.0 ∙ extended (slice_get old application) added ∙ ap (option_map (λ octets. octets ++ added)) (sym (seen old application)),
     λ other is_other. seen new other ∙ ap (option_map (λ octets. octets.items)) (is.1 other is_other) ∙ sym (seen old other),
   )
 
   -- likewise, where a call may fail
-  pub none_of_call : {X Y : Type 0} (r : Result X Y) (buffers : List (Vec ℕ Z)) → OnOk r (AreEmpty buffers) → OnOk r (HoldsNone (octets_of buffers))
+  pub none_of_call : {X Y : Type 0} (r : Result X Y) (buffers : List (Vec ℕ Z)) → OnOk r (AreEmpty buffers) → OnOk r (HoldsNone (buffer_octets buffers))
   none_of_call (Ok value) buffers empty = none_seen buffers empty
   none_of_call (Err fault) buffers empty = tt
 
   pub put_seen : {X Y : Type 0} (r : Result X Y) (old new : List (Vec ℕ Z)) (application : ℕ) (added : List ℕ) (before after : ℕ)
       → OnOk r ((IsExtended old new application added × (after ≡ before + length added)) ⊎ AreEmpty new)
-      → OnOk r ((IsAdded (octets_of old) (octets_of new) application added × (after ≡ before + length added)) ⊎ HoldsNone (octets_of new))
+      → OnOk r ((IsAdded (buffer_octets old) (buffer_octets new) application added × (after ≡ before + length added)) ⊎ HoldsNone (buffer_octets new))
   put_seen (Ok value) old new application added before after h =
       ⊎_elim (λ extended. inl (added_seen old new application added extended.0, extended.1)) (λ empty. inr (none_seen new empty)) h
   put_seen (Err fault) old new application added before after h = tt

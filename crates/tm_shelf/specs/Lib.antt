@@ -1,3 +1,4 @@
-pub mod Buffers
+pub mod Names
 pub mod ShelfFaults
 pub mod Shelves
+pub mod code

@@ -1,5 +1,6 @@
 -- What a shelf of files is seen as.
-use Rattle.std.specs.Prelude.{◌≡◌, ◌≢◌, ◌<◌, ◌++◌, ℕ, Bool, List, [], Some, Vec, map, option_map, slice_get}
+use Rattle.std.specs.Prelude.{◌≡◌, ◌≢◌, ◌<◌, ◌++◌, ℕ, Bool, List, [], Option, Some, Vec, map, option_map, slice_get}
+use Rattle.tm_places.specs.declared.places.Places.{Places}
 
 -- a shelf of files
 pub record ShelfState : Type 0 where
@@ -17,10 +18,14 @@ pub record ShelfState : Type 0 where
   pub refused : ℕ
   -- the last put that was refused was so for want of memory
   pub starved : Bool
+  -- the application of that put, where it was so since its file is another file of the run
+  pub taken : Option ℕ
+  -- what the names of the run's other files stand for
+  pub places : Places
 
 -- the octets in each of these buffers
-abbrev pub octets_of : {Z : Type 0} → List (Vec ℕ Z) → List (List ℕ)
-octets_of buffers = map (λ octets. octets.items) buffers
+abbrev pub buffer_octets : {Z : Type 0} → List (Vec ℕ Z) → List (List ℕ)
+buffer_octets buffers = map (λ octets. octets.items) buffers
 
 -- nothing is held of any application
 abbrev pub HoldsNone : List (List ℕ) → Type 0

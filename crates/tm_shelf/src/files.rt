@@ -1,14 +1,16 @@
 //! The files of a folder, and what is held of each before it is written.
 
-ghost use Rattle.std.specs.Prelude.{◌≡◌, ◌≢◌, ◌<◌, ◌+◌, ◌++◌, ◌⊎◌, ℕ, [], Some, true, false, length, vec_len, slice_get, replicate, IfErr, IfOk, MatchResult, OnOk};
+ghost use Rattle.std.specs.Prelude.{◌≡◌, ◌≢◌, ◌<◌, ◌+◌, ◌++◌, ◌⊎◌, ℕ, [], None, Some, true, false, length, vec_len, slice_get, string_bytes, replicate, IfErr, IfOk, MatchResult, OnOk};
 ghost use Rattle.tm_devices.specs.Devices.{Counts};
-ghost use Rattle.tm_shelf.specs.Buffers.{AreEmpty, IsExtended};
-ghost use Rattle.tm_shelf.specs.ShelfFaults.{is_starving};
+ghost use Rattle.tm_shelf.specs.code.Buffers.{AreEmpty, IsExtended};
+ghost use Rattle.tm_shelf.specs.ShelfFaults.{is_starving, taken_by};
+ghost use Rattle.tm_shelf.specs.Names.{IsClear, file_in};
 
 use std::alloc::{AllocError, Global};
 use std::fs::{File, OpenOptions};
 use std::io::{self, Write};
 use std::rt::Files;
+use tm_places::{Place, Places, is_any, place_of, place_of_file};
 
 // So many applications there are.
 const APPLICATIONS: usize = 2048;
@@ -21,8 +23,17 @@ const MOST_HELD: usize = 8_388_608;
 pub enum ShelfFault {
     /// A file can't be made or written.
     NotWritten,
+    /// The file is another file of the run.
+    Taken,
     /// Memory ran out.
     NoMemory,
+}
+
+/// The name of an application's file in a folder.
+pub fn name_in(alloc: Global, dir: &str, application: usize) -> Result<String, AllocError>
+    ensures { IfOk result (λ name. string_bytes name ≡ file_in dir.now application) }
+{
+    format!(in alloc; "{dir}/apid-{application:04}.pkt")
 }
 
 // The folder of the files `apid-NNNN.pkt`, and how they are made and written there.
@@ -32,20 +43,36 @@ struct Folder<'a, R> {
     alloc: Global,
     dir: &'a str,
     goes_on: bool,
+    // What the names of the run's other files stand for.
+    places: &'a Places,
 }
 
 impl<R: Files + AllocGlobal> Folder<'_, R> {
     // The name of an application's file.
     fn name_of(&self, application: usize) -> Result<String, ShelfFault> {
-        let dir = self.dir;
-        match format!(in self.alloc; "{dir}/apid-{application:04}.pkt") {
+        match name_in(self.alloc, self.dir, application) {
             Ok(name) => Ok(name),
             Err(_) => Err(ShelfFault::NoMemory),
         }
     }
 
-    // Opens the file of this name, which is empty from then on unless the run goes on.
-    fn make(&self, name: &str) -> io::Result<R::File> {
+    // What the name of a file stands for, unless that is another file of the run, or one of those that were made.
+    fn clear(&self, name: &str, made: &[Place]) -> Result<Place, ShelfFault>
+        ensures { IfOk result (IsClear self.now.places.now made.now) }
+    {
+        let Ok(place) = place_of(self.rt, name) else {
+            return Err(ShelfFault::NoMemory);
+        };
+        if self.places.has(&place) || is_any(&place, made) {
+            return Err(ShelfFault::Taken);
+        }
+        Ok(place)
+    }
+
+    // Opens the file of this name, which is empty from then on unless the run goes on. Its place has to be clear.
+    fn make(&self, name: &str, made: &[Place], place: &Place) -> io::Result<R::File>
+        requires { IsClear self.now.places.now made.now place.now }
+    {
         if self.goes_on {
             OpenOptions::new()
                 .append(true)
@@ -56,21 +83,33 @@ impl<R: Files + AllocGlobal> Folder<'_, R> {
         }
     }
 
-    // Makes the file of an application, unless it was begun.
-    fn begin(&self, application: usize, begun: &mut bool) -> Result<(), ShelfFault>
+    // Makes the file of an application, and remembers its place.
+    fn begin(&self, application: usize, made: &mut Vec<Place>) -> Result<(), ShelfFault> {
+        let name = self.name_of(application)?;
+        let place = self.clear(name.as_str(), made.as_slice())?;
+        let Ok(file) = self.make(name.as_str(), made.as_slice(), &place) else {
+            return Err(ShelfFault::NotWritten);
+        };
+        match made.push(place_of_file(self.alloc, &file)) {
+            Ok(()) => Ok(()),
+            Err(_) => Err(ShelfFault::NoMemory),
+        }
+    }
+
+    // Likewise, unless it was begun.
+    fn begin_once(
+        &self,
+        application: usize,
+        begun: &mut bool,
+        made: &mut Vec<Place>,
+    ) -> Result<(), ShelfFault>
         ensures { OnOk result (begun.new ≡ true) }
     {
-        if *begun {
-            return Ok(());
+        if !*begun {
+            self.begin(application, made)?;
+            *begun = true;
         }
-        let name = self.name_of(application)?;
-        match self.make(name.as_str()) {
-            Ok(_) => {
-                *begun = true;
-                Ok(())
-            }
-            Err(_) => Err(ShelfFault::NotWritten),
-        }
+        Ok(())
     }
 
     // Opens the file of an application, to write behind what it has.
@@ -153,19 +192,29 @@ pub struct HeldFiles<'a, R> {
     // For each application what is not written yet, and whether its file was begun.
     held: Vec<Vec<u8>>,
     begun: Vec<bool>,
+    // The places of the files that were made.
+    made: Vec<Place>,
     octets: usize,
     refused: u64,
     // A put was refused for want of memory.
     starved: bool,
+    // The application of a put that was refused since its file is another file of the run.
+    taken: Option<usize>,
     ghost all_held: { vec_len held ≡ 2048 },
     ghost all_begun: { vec_len begun ≡ 2048 },
 }
 
 impl<'a, R: Files + AllocGlobal> HeldFiles<'a, R> {
-    /// Files in this folder, none begun. Those that are there are gone on with where the run goes on, and else begin empty.
-    pub fn new(rt: &'a R, dir: &'a str, goes_on: bool) -> Result<Self, AllocError>
-        ensures folder { IfOk result (λ s. (s.folder.dir ≡ dir.entry) × (s.folder.goes_on ≡ goes_on)) }
-        ensures counts { IfOk result (λ s. (s.octets ≡ 0) × (s.refused ≡ 0) × (s.starved ≡ false)) }
+    /// Files in this folder, none begun. Those that are there are gone on with where the run goes on, and else begin empty. The places are those of
+    /// the run's other files.
+    pub fn new(
+        rt: &'a R,
+        dir: &'a str,
+        goes_on: bool,
+        places: &'a Places,
+    ) -> Result<Self, AllocError>
+        ensures folder { IfOk result (λ s. (s.folder.dir ≡ dir.entry) × (s.folder.goes_on ≡ goes_on) × (s.folder.places ≡ places.entry)) }
+        ensures counts { IfOk result (λ s. (s.octets ≡ 0) × (s.refused ≡ 0) × (s.starved ≡ false) × (s.taken ≡ None)) }
         ensures begun { IfOk result (λ s. s.begun.items ≡ replicate 2048 false) }
         ensures held { IfOk result (λ s. AreEmpty s.held.items) }
     {
@@ -177,14 +226,17 @@ impl<'a, R: Files + AllocGlobal> HeldFiles<'a, R> {
             alloc,
             dir,
             goes_on,
+            places,
         };
         Ok(HeldFiles {
             folder,
             held,
             begun,
+            made: Vec::new(alloc),
             octets: 0,
             refused: 0,
             starved: false,
+            taken: None,
         })
     }
 
@@ -195,12 +247,26 @@ impl<'a, R: Files + AllocGlobal> HeldFiles<'a, R> {
         self.starved
     }
 
+    /// The name of the files' folder.
+    pub fn dir(&self) -> &'a str
+        ensures { result ≡ self.now.folder.dir }
+    {
+        self.folder.dir
+    }
+
+    /// The application of the last put that was refused, where its file is another file of the run.
+    pub fn taken(&self) -> Option<usize>
+        ensures { result ≡ self.now.taken }
+    {
+        self.taken
+    }
+
     /// Writes all that is held. Where a file can't be written the others still are.
     pub fn write_held(&mut self) -> Result<(), ShelfFault>
         ensures held { OnOk result (AreEmpty self.new.held.items) }
         ensures octets { self.new.octets ≡ 0 }
         ensures begun { self.new.begun ≡ self.old.begun }
-        ensures same { (self.new.folder ≡ self.old.folder) × (self.new.refused ≡ self.old.refused) × (self.new.starved ≡ self.old.starved) }
+        ensures same { (self.new.folder ≡ self.old.folder) × (self.new.refused ≡ self.old.refused) × (self.new.starved ≡ self.old.starved) × (self.new.taken ≡ self.old.taken) }
     {
         self.octets = 0;
         self.folder.write_all(self.held.as_mut_slice())
@@ -214,10 +280,10 @@ impl<'a, R: Files + AllocGlobal> HeldFiles<'a, R> {
         ensures held { OnOk result ((IsExtended self.old.held.items self.new.held.items application octets.now × (self.new.octets ≡ self.old.octets + length octets.now))
             ⊎ AreEmpty self.new.held.items) }
         ensures few { OnOk result (self.new.octets < 8388608) }
-        ensures same { (self.new.folder ≡ self.old.folder) × (self.new.refused ≡ self.old.refused) × (self.new.starved ≡ self.old.starved) }
+        ensures same { (self.new.folder ≡ self.old.folder) × (self.new.refused ≡ self.old.refused) × (self.new.starved ≡ self.old.starved) × (self.new.taken ≡ self.old.taken) }
     {
-        self.folder
-            .begin(application, &mut self.begun[application])?;
+        let begun = &mut self.begun[application];
+        self.folder.begin_once(application, begun, &mut self.made)?;
         add(self.held.as_mut_slice(), application, octets)?;
         self.octets = self.octets.saturating_add(octets.len());
         if self.octets < MOST_HELD {
@@ -236,6 +302,7 @@ impl<'a, R: Files + AllocGlobal> HeldFiles<'a, R> {
         ensures same { self.new.folder ≡ self.old.folder }
         ensures counts { Counts self.old.refused self.new.refused result }
         ensures starved { MatchResult result (λ _. self.new.starved ≡ self.old.starved) (λ fault. self.new.starved ≡ is_starving fault) }
+        ensures taken { MatchResult result (λ _. self.new.taken ≡ self.old.taken) (λ fault. self.new.taken ≡ taken_by application fault) }
     {
         let put = if application < APPLICATIONS {
             self.hold(application, octets)
@@ -246,6 +313,10 @@ impl<'a, R: Files + AllocGlobal> HeldFiles<'a, R> {
             return Ok(());
         };
         self.starved = matches!(fault, ShelfFault::NoMemory);
+        self.taken = match fault {
+            ShelfFault::Taken => Some(application),
+            ShelfFault::NotWritten | ShelfFault::NoMemory => None,
+        };
         self.refused = self.refused.saturating_add(1);
         Err(fault)
     }

@@ -4,5 +4,5 @@
 mod files;
 mod shelf;
 
-pub use files::ShelfFault;
+pub use files::{ShelfFault, name_in};
 pub use shelf::FileShelf;

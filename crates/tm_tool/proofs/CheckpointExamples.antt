@@ -7,11 +7,11 @@ use Rattle.tm_frame.specs.ErrorControl.{error_control_of, long_division, subtrac
 use Rattle.tm_packet.specs.Merge.{no_entries}
 use Rattle.tm_packet.specs.Spelling.{state_of}
 use Rattle.tm_rules.specs.Channels.{all_channels}
-use Rattle.tm_reassembly.specs.Checkpoint.{block_read, blocks_read, decoding_of, master_read, old_decoding_of}
+use Rattle.tm_reassembly.specs.Checkpoint.{block_read, blocks_read, state_decoding_of, master_read, old_decoding_of}
 use Rattle.tm_rules.specs.Rules.{Rules}
 use Rattle.tm_tool.specs.declared.fault.CheckpointFault.TheVariants as fault
 use Rattle.tm_tool.specs.declared.version.Version.TheVariants.{One, Two}
-use Rattle.tm_tool.specs.Checkpoints.{checkpoint_of, framed, resumed, spelled_in, with_check, without_master}
+use Rattle.tm_tool.specs.Checkpoints.{checkpoint_of, framed, resumed, spelled_in, with_check, work_without_master}
 use Rattle.tm_tool.specs.RecordingPieces.{Work}
 
 -- frames of so many octets of spacecraft 42, all channels, and packets of at most so many octets
@@ -87,15 +87,15 @@ in_version_1 = refl
 -- ---- read
 
 read : resumed (rules 24 65542) (third ++ 0x07 ∷ 0x4F ∷ []) ≡ Ok (record { work = after_three; fresh = false })
-unfolding resumed framed after_three rules start limit records master counts third begun no_entries state_of block_read blocks_read master_read decoding_of error_control_of long_division subtract bits_of low_bits number part
+unfolding resumed framed after_three rules start limit records master counts third begun no_entries state_of block_read blocks_read master_read state_decoding_of error_control_of long_division subtract bits_of low_bits number part
 read = refl
 
 -- of an older version the last master channel count is not there
-read_version_2 : resumed (rules 24 65542) (second ++ 0x74 ∷ 0xE5 ∷ []) ≡ Ok (record { work = without_master after_three; fresh = false })
+read_version_2 : resumed (rules 24 65542) (second ++ 0x74 ∷ 0xE5 ∷ []) ≡ Ok (record { work = work_without_master after_three; fresh = false })
 unfolding resumed framed after_three rules start limit records counts second begun no_entries state_of block_read blocks_read old_decoding_of error_control_of long_division subtract bits_of low_bits number part
 read_version_2 = refl
 
-read_version_1 : resumed (rules 24 65542) (first ++ 0x7D ∷ 0xE1 ∷ []) ≡ Ok (record { work = without_master after_three; fresh = false })
+read_version_1 : resumed (rules 24 65542) (first ++ 0x7D ∷ 0xE1 ∷ []) ≡ Ok (record { work = work_without_master after_three; fresh = false })
 unfolding resumed framed after_three rules start records counts first begun no_entries state_of block_read blocks_read old_decoding_of error_control_of long_division subtract bits_of low_bits number part
 read_version_1 = refl
 
@@ -150,10 +150,10 @@ limit_of_version_1 = refl
 
 -- a flag of channel 0 that there is not, before a right check
 flag : resumed (rules 24 65542) (with_check (start 3 ++ (limit ++ (records ++ (master ++ counts 3))))) ≡ Err fault.State
-unfolding resumed framed rules start limit records master counts begun block_read blocks_read master_read decoding_of error_control_of long_division subtract bits_of low_bits number
+unfolding resumed framed rules start limit records master counts begun block_read blocks_read master_read state_decoding_of error_control_of long_division subtract bits_of low_bits number
 flag = refl
 
 -- an octet before a right check
 trailing : resumed (rules 24 65542) (with_check (third ++ 0x00 ∷ [])) ≡ Err fault.Trailing
-unfolding resumed framed rules start limit records master counts third begun no_entries state_of block_read blocks_read master_read decoding_of error_control_of long_division subtract bits_of low_bits number part
+unfolding resumed framed rules start limit records master counts third begun no_entries state_of block_read blocks_read master_read state_decoding_of error_control_of long_division subtract bits_of low_bits number part
 trailing = refl

@@ -17,16 +17,16 @@ use Rattle.tm_packet.proofs.Spelled as sequence_read
 use Rattle.tm_packet.proofs.SpellingLemmas as sequence_written
 use Rattle.tm_reassembly.specs.declared.fault.StateFault.{StateFault}
 use Rattle.tm_reassembly.specs.Checkpoint as reassembly
-use Rattle.tm_reassembly.specs.Checkpoint.{two, two_at}
+use Rattle.tm_bits.specs.Bits.{two_octets, two_at}
 use Rattle.tm_rules.specs.Rules.{Rules, IsLimit}
 use Rattle.tm_reassembly.specs.State.{State}
-use Rattle.tm_reassembly.specs.Valid.{IsState}
+use Rattle.tm_reassembly.specs.Valid.{IsValidState}
 use Rattle.tm_reassembly.proofs.Fits.{octets_front}
 use Rattle.tm_tool.specs.declared.fault.CheckpointFault.{CheckpointFault}
 use Rattle.tm_tool.specs.declared.fault.CheckpointFault.TheVariants as fault
 use Rattle.tm_tool.specs.declared.version.Version.{Version}
 use Rattle.tm_tool.specs.declared.version.Version.TheVariants.{One, Two, Three}
-use Rattle.tm_tool.specs.Checkpoints.{IsWork, form_of, version_of, tells, kept_state, kept_in, magic, settings_in, head_octets, state_octets, with_check, spelled_in, checkpoint_of, check_holds, says_settings, framed_as, framed, inner, job_of, with_entries, with_state, state_in, resumed_as, resumed}
+use Rattle.tm_tool.specs.Checkpoints.{IsWork, form_of, version_named, tells, kept_state, kept_in, magic, settings_in, head_octets, state_octets, with_check, spelled_in, checkpoint_of, check_holds, says_settings, framed_as, framed, inner, job_of, with_entries, with_state, state_in, resumed_as, resumed}
 use Rattle.tm_tool.specs.Jobs.{JobState}
 use Rattle.tm_output.specs.Pieces.{Entries}
 use Rattle.tm_tool.specs.RecordingPieces.{Work}
@@ -49,16 +49,16 @@ passed : (b : Bool) (found : CheckpointFault) (rest : Result Version CheckpointF
 passed true found rest v e = cc
 passed false found rest v e = (refl, e)
 
-framed_in : (s : Rules) (octets : List ℕ) (x : Option Version) (v : Version) → take 4 octets ≡ magic → version_of (slice_index octets 4) ≡ x → framed_as s octets x ≡ Ok v
+framed_in : (s : Rules) (octets : List ℕ) (x : Option Version) (v : Version) → take 4 octets ≡ magic → version_named (slice_index octets 4) ≡ x → framed_as s octets x ≡ Ok v
     → IsFramed v s octets
 framed_in s octets None v first is e = cc
 framed_in s octets (Some u) v first is e =
     let says : Bool = says_settings u s octets in
     let three : Result Version CheckpointFault = Ok u in
-    let two : Result Version CheckpointFault = if not says then Err fault.Settings else three in
-    let one : Result Version CheckpointFault = if not (check_holds octets) then Err fault.Check else two in
+    let two_octets : Result Version CheckpointFault = if not says then Err fault.Settings else three in
+    let one : Result Version CheckpointFault = if not (check_holds octets) then Err fault.Check else two_octets in
     let a = passed (ltb (length octets) (form_of u).least) fault.Short one v e in
-    let b = passed (not (check_holds octets)) fault.Check two v a.1 in
+    let b = passed (not (check_holds octets)) fault.Check two_octets v a.1 in
     let c = passed (not says) fault.Settings three v b.1 in
     let same : u ≡ v = cc in
     let both_are = and_parts (tells u s) (bytes_eq (slice_range octets 5 (5 + (form_of u).settings)) (settings_in u s)) (not-false says c.0) in
@@ -75,11 +75,11 @@ framed_in s octets (Some u) v first is e =
 pub is_framed : (s : Rules) (octets : List ℕ) (v : Version) → framed s octets ≡ Ok v → IsFramed v s octets
 unfolding framed
 is_framed s octets v e =
-    let two : Result Version CheckpointFault = framed_as s octets (version_of (slice_index octets 4)) in
-    let one : Result Version CheckpointFault = if not (bytes_eq (take 4 octets) magic) then Err fault.Magic else two in
+    let two_octets : Result Version CheckpointFault = framed_as s octets (version_named (slice_index octets 4)) in
+    let one : Result Version CheckpointFault = if not (bytes_eq (take 4 octets) magic) then Err fault.Magic else two_octets in
     let a = passed (ltb (length octets) 33) fault.Short one v e in
-    let b = passed (not (bytes_eq (take 4 octets) magic)) fault.Magic two v a.1 in
-    framed_in s octets (version_of (slice_index octets 4)) v ((bytes_eq-Decides (take 4 octets) magic).0 (not-false _ b.0)) refl b.1
+    let b = passed (not (bytes_eq (take 4 octets) magic)) fault.Magic two_octets v a.1 in
+    framed_in s octets (version_named (slice_index octets 4)) v ((bytes_eq-Decides (take 4 octets) magic).0 (not-false _ b.0)) refl b.1
 
 pub framed_again : (s : Rules) (octets : List ℕ) (v : Version) → IsFramed v s octets → framed s octets ≡ Ok v
 unfolding framed
@@ -87,7 +87,7 @@ framed_again s octets v h =
     let magic_there : bytes_eq (take 4 octets) magic ≡ true = (bytes_eq-Decides (take 4 octets) magic).1 h.magic_is in
     let settings_there : bytes_eq (slice_range octets 5 (5 + (form_of v).settings)) (settings_in v s) ≡ true =
     (bytes_eq-Decides (slice_range octets 5 (5 + (form_of v).settings)) (settings_in v s)).1 h.settings_are in
-    let version_there : version_of (slice_index octets 4) ≡ Some v = ap version_of h.version_is ∙ named v in
+    let version_there : version_named (slice_index octets 4) ≡ Some v = ap version_named h.version_is ∙ named v in
     let fits = (around_fits v).1 in
     let long = h.long in
     rw (le-ltb (length octets) 33 (omega arith), magic_there, version_there, le-ltb (length octets) (form_of v).least long, h.check_is, h.told, settings_there) refl
@@ -95,7 +95,7 @@ framed_again s octets v h =
 -- ---- written
 
 abbrev pub body : Version → Work → List ℕ
-body v w = state_octets v w.state ++ sequence.spelling w.entries
+body v w = state_octets v w.state ++ sequence.entries_spelling w.entries
 
 abbrev pub checked : Version → Work → List ℕ
 checked v w = head_octets v w.rules ++ body v w
@@ -118,24 +118,24 @@ bound w h =
     let a = length-spelled Three w in
     let b = state_most w.rules w.state h.state in
     let c = sequence_most w.entries h.entries in
-    let d = length-append (reassembly.spelling w.state) (sequence.spelling w.entries) in
+    let d = length-append (reassembly.state_spelling w.state) (sequence.entries_spelling w.entries) in
     omega arith
 
 pub most : (w : Work) → IsWork w → length (checkpoint_of w) ≤ 622710
 most w h = let a = bound w h in let b = h.state.limit.most in omega arith
 
 -- the number that is written behind octets
-number_behind : (xs : List ℕ) (n : ℕ) → two_at (xs ++ two n) (length xs) ≡ n
+number_behind : (xs : List ℕ) (n : ℕ) → two_at (xs ++ two_octets n) (length xs) ≡ n
 number_behind xs n =
     let z : length xs + 0 ≡ length xs = omega arith in
-    let high : slice_index (xs ++ two n) (length xs) ≡ n / 256 = rw z at (get_or-append-add xs (two n) 0 0) in
-    let low : slice_index (xs ++ two n) (length xs + 1) ≡ n % 256 = get_or-append-add xs (two n) 1 0 in
+    let high : slice_index (xs ++ two_octets n) (length xs) ≡ n / 256 = rw z at (get_or-append-add xs (two_octets n) 0 0) in
+    let low : slice_index (xs ++ two_octets n) (length xs + 1) ≡ n % 256 = get_or-append-add xs (two_octets n) 1 0 in
     rw (high, low) (omega arith)
 
 check_behind : (xs : List ℕ) → check_holds (with_check xs) ≡ true
 check_behind xs =
-    let len : length (with_check xs) - 2 ≡ length xs = let a = length-append xs (two (error_control_of xs)) in omega arith in
-    rw (len, take-append_seam xs (two (error_control_of xs))) (eq-eqb (two_at (with_check xs) (length xs)) (error_control_of xs) (number_behind xs (error_control_of xs)))
+    let len : length (with_check xs) - 2 ≡ length xs = let a = length-append xs (two_octets (error_control_of xs)) in omega arith in
+    rw (len, take-append_seam xs (two_octets (error_control_of xs))) (eq-eqb (two_at (with_check xs) (length xs)) (error_control_of xs) (number_behind xs (error_control_of xs)))
 
 settings_there : (v : Version) (w : Work) → slice_range (spelled_in v w) 5 (5 + (form_of v).settings) ≡ settings_in v w.rules
 unfolding spelled_in
@@ -150,7 +150,7 @@ framed_spelled v w h told = record {
       let a = length-spelled v w in
       let b = state_least v w.rules w.state h.state in
       let c = sequence_least w.entries in
-      let d = length-append (state_octets v w.state) (sequence.spelling w.entries) in
+      let d = length-append (state_octets v w.state) (sequence.entries_spelling w.entries) in
       omega arith;
   magic_is = refl;
   version_is = refl;
@@ -160,7 +160,7 @@ framed_spelled v w h told = record {
 }
 
 abbrev pub check : Version → Work → List ℕ
-check v w = two (error_control_of (checked v w))
+check v w = two_octets (error_control_of (checked v w))
 
 -- the octets behind the settings, whatever follows
 pub behind_head : (v : Version) (w : Work) (rest : List ℕ) → drop (5 + (form_of v).settings) (spelled_in v w ++ rest) ≡ (body v w ++ check v w) ++ rest
@@ -177,19 +177,19 @@ inner_spelled v w =
     ap (drop k) (sym (append-nil (spelled_in v w))) ∙ behind_head v w [] ∙ append-nil (body v w ++ check v w) in
     rw (rest, len) (take-append_seam (body v w) (check v w))
 
-entries_again : (s : Rules) (state : State) (entries : Entries) → valid.IsState entries
-    → with_entries s state (length (sequence.spelling entries)) (sequence.decoding_of (sequence.spelling entries)) ≡ Ok (job_of s state entries)
+entries_again : (s : Rules) (state : State) (entries : Entries) → valid.AreValidEntries entries
+    → with_entries s state (length (sequence.entries_spelling entries)) (sequence.entries_decoding_of (sequence.entries_spelling entries)) ≡ Ok (job_of s state entries)
 entries_again s state entries h =
-    let spelled : List ℕ = sequence.spelling entries in
-    let read : sequence.decoding_of spelled ≡ Ok (record { entries = entries; octets = length spelled }) =
-    ap sequence.decoding_of (sym (append-nil spelled)) ∙ sequence_written.decoding-spelling entries [] h in
+    let spelled : List ℕ = sequence.entries_spelling entries in
+    let read : sequence.entries_decoding_of spelled ≡ Ok (record { entries = entries; octets = length spelled }) =
+    ap sequence.entries_decoding_of (sym (append-nil spelled)) ∙ sequence_written.decoding-spelling entries [] h in
     rw (read, le-ltb (length spelled) (length spelled) (omega arith)) refl
 
 body_again : (v : Version) (w : Work) → IsWork w
     → with_state w.rules (body v w) (state_in v w.rules (body v w)) ≡ Ok (job_of w.rules (kept_state v w.state) w.entries)
 body_again v w h =
     let spelled : List ℕ = state_octets v w.state in
-    let rest : List ℕ = sequence.spelling w.entries in
+    let rest : List ℕ = sequence.entries_spelling w.entries in
     rw (state_again v w.rules w.state rest h.state, drop-append_seam spelled rest) (entries_again w.rules (kept_state v w.state) w.entries h.entries)
 
 pub older_again : (v : Version) (w : Work) → IsWork w → tells v w.rules ≡ true → resumed w.rules (spelled_in v w) ≡ Ok (record { work = kept_in v w; fresh = false })
@@ -201,8 +201,8 @@ pub read_again : (w : Work) → IsWork w → resumed w.rules (checkpoint_of w) �
 read_again w h = older_again Three w h refl
 
 -- the parts of a checkpoint, one behind the other
-pub joined : (w : Work) (a b c d : List ℕ) → a ≡ head_octets Three w.rules → b ≡ a ++ reassembly.spelling w.state
-    → c ≡ b ++ sequence.spelling w.entries → d ≡ with_check c → d ≡ checkpoint_of w
+pub joined : (w : Work) (a b c d : List ℕ) → a ≡ head_octets Three w.rules → b ≡ a ++ reassembly.state_spelling w.state
+    → c ≡ b ++ sequence.entries_spelling w.entries → d ≡ with_check c → d ≡ checkpoint_of w
 unfolding spelled_in
 joined w a b c d first second third last = rw (last, third, second, first) refl
 
@@ -220,7 +220,7 @@ resumed_in s octets v between r around is e = rw (around, ← is) e
 -- where the state is read, what is said of the octets behind it decides
 pub resumed_behind : (s : Rules) (octets : List ℕ) (v : Version) (between rest : List ℕ) (state : State) (read : ℕ) (r : Result JobState CheckpointFault) → framed s octets ≡ Ok v
     → between ≡ inner v octets → state_in v s between ≡ Ok (record { state = state; octets = read }) → rest ≡ drop read between
-    → with_entries s state (length rest) (sequence.decoding_of rest) ≡ r → resumed s octets ≡ r
+    → with_entries s state (length rest) (sequence.entries_decoding_of rest) ≡ r → resumed s octets ≡ r
 resumed_behind s octets v between rest state read r around is there behind e = resumed_in s octets v between r around is (rw (there, ← behind) e)
 
 -- a job that is made, or want of memory
@@ -240,12 +240,12 @@ none_left false found made job e = (refl, cc)
 
 -- these octets are the entries of the job, which has these settings and this state
 record AreEntries (s : Rules) (state : State) (octets : List ℕ) (job : JobState) : Type 0 where
-  spelled : octets ≡ sequence.spelling job.work.entries
+  spelled : octets ≡ sequence.entries_spelling job.work.entries
   same : job_of s state job.work.entries ≡ job
-  fit : valid.IsState job.work.entries
+  fit : valid.AreValidEntries job.work.entries
 
-entries_read : (s : Rules) (state : State) (octets : List ℕ) (job : JobState) (r : Result sequence.Decoded TrackerFault) → AreOctets octets
-    → sequence.decoding_of octets ≡ r → with_entries s state (length octets) r ≡ Ok job → AreEntries s state octets job
+entries_read : (s : Rules) (state : State) (octets : List ℕ) (job : JobState) (r : Result sequence.DecodedEntries TrackerFault) → AreOctets octets
+    → sequence.entries_decoding_of octets ≡ r → with_entries s state (length octets) r ≡ Ok job → AreEntries s state octets job
 entries_read s state octets job (Err found) h read e = cc
 entries_read s state octets job (Ok d) h read e =
     let none = none_left (ltb d.octets (length octets)) fault.Trailing (job_of s state d.entries) job e in
@@ -253,9 +253,9 @@ entries_read s state octets job (Ok d) h read e =
     let spelled = sequence_read.spelled-again octets d h read in
     let entries : d.entries ≡ job.work.entries = ap (λ (j : JobState). j.work.entries) none.1 in
     record {
-      spelled = sym (take_all d.octets octets all) ∙ spelled.1 ∙ ap sequence.spelling entries;
+      spelled = sym (take_all d.octets octets all) ∙ spelled.1 ∙ ap sequence.entries_spelling entries;
       same = ap (λ (l : Entries). job_of s state l) (sym entries) ∙ none.1;
-      fit = subst valid.IsState entries (entries_valid.entries_read octets d read);
+      fit = subst valid.AreValidEntries entries (entries_valid.entries_read octets d read);
     }
 
 -- these octets are the body of the job, which has these settings and what the version keeps
@@ -264,15 +264,15 @@ record IsBody (v : Version) (s : Rules) (octets : List ℕ) (job : JobState) : T
   settings : job.work.rules ≡ s
   stale : job.fresh ≡ false
   kept : kept_in v job.work ≡ job.work
-  state : IsLimit s.max_packet → IsState job.work.rules job.work.state
-  entries : valid.IsState job.work.entries
+  state : IsLimit s.max_packet → IsValidState job.work.rules job.work.state
+  entries : valid.AreValidEntries job.work.entries
 
-body_read : (v : Version) (s : Rules) (octets : List ℕ) (job : JobState) (r : Result reassembly.Decoded StateFault) → AreOctets octets
+body_read : (v : Version) (s : Rules) (octets : List ℕ) (job : JobState) (r : Result reassembly.DecodedState StateFault) → AreOctets octets
     → state_in v s octets ≡ r → with_state s octets r ≡ Ok job → IsBody v s octets job
 body_read v s octets job (Err found) h read e = cc
 body_read v s octets job (Ok d) h read e =
     let rest : List ℕ = drop d.octets octets in
-    let entries = entries_read s d.state rest job (sequence.decoding_of rest) (octets_behind d.octets octets h) refl e in
+    let entries = entries_read s d.state rest job (sequence.entries_decoding_of rest) (octets_behind d.octets octets h) refl e in
     let spelled = state_spelled v s octets d h read in
     let state : d.state ≡ job.work.state = ap (λ (j : JobState). j.work.state) entries.same in
     record {
@@ -285,11 +285,11 @@ body_read v s octets job (Ok d) h read e =
       kept =
           ap (λ (t : State). record { rules = job.work.rules; state = t; entries = job.work.entries })
           (ap (kept_state v) (sym state) ∙ spelled.kept ∙ state);
-      state = λ range. subst (λ (j : JobState). IsState j.work.rules j.work.state) entries.same (state_valid s range v octets d h read);
+      state = λ range. subst (λ (j : JobState). IsValidState j.work.rules j.work.state) entries.same (state_valid s range v octets d h read);
       entries = entries.fit;
     }
 
-last_two : (ys : List ℕ) → AreOctets ys → length ys ≡ 2 → two (256 * slice_index ys 0 + slice_index ys 1) ≡ ys
+last_two : (ys : List ℕ) → AreOctets ys → length ys ≡ 2 → two_octets (256 * slice_index ys 0 + slice_index ys 1) ≡ ys
 last_two (a ∷ b ∷ []) h e =
     let small : b < 256 = h.below 1 in
     let high : (256 * a + b) / 256 ≡ a = omega arith in

@@ -3,13 +3,13 @@ use Rattle.std.proofs.Common.{◌≡◌, ℕ, zero, suc, ◌+◌, ◌*◌, ◌<�
 use Rattle.std.specs.List.{flat_map, slice_get}
 use Rattle.std.proofs.lemmas.List.{get_or-drop, length-take-le, take-append-drop}
 use Rattle.std.proofs.Math.Seq.{drop-cons}
-use Rattle.tm_packet.specs.declared.tracker.Last as counted
+use Rattle.tm_packet.specs.declared.tracker.PairEntry as counted
 use Rattle.tm_packet.specs.Spelling as sequence
 use Rattle.tm_packet.specs.Valid as valid
-use Rattle.tm_reassembly.specs.Checkpoint.{block, with_tail, master_octets, spelling}
+use Rattle.tm_reassembly.specs.Checkpoint.{block, with_tail, master_octets, state_spelling}
 use Rattle.tm_rules.specs.Rules.{Rules}
 use Rattle.tm_reassembly.specs.State.{State, Last, Tail}
-use Rattle.tm_reassembly.specs.Valid.{IsState}
+use Rattle.tm_reassembly.specs.Valid.{IsValidState}
 use Rattle.tm_reassembly.proofs.States.{short-tails}
 use Rattle.tm_tool.specs.declared.version.Version.{Version}
 use Rattle.tm_tool.specs.declared.version.Version.TheVariants.{Three}
@@ -18,7 +18,7 @@ use Rattle.tm_tool.specs.Checkpoints.{form_of, state_octets}
 -- ---- entries
 
 abbrev Places : Type 0
-Places = List (Option counted.Last)
+Places = List (Option counted.PairEntry)
 
 abbrev many : ℕ → Places → ℕ
 many k s = length (sequence.entries_from k s)
@@ -60,17 +60,17 @@ per_channel n (suc m) k s l h =
     omega arith
 
 -- no key of idle packets has an entry
-pub entries_most : (s : Places) → valid.IsState s → many 0 s ≤ 16376
+pub entries_most : (s : Places) → valid.AreValidEntries s → many 0 s ≤ 16376
 entries_most s h = per_channel 2047 8 0 s h.places h.idle
 
-length-spelled : (es : List sequence.Entry) → length (sequence.spelled es) ≡ 6 * length es
+length-spelled : (es : List sequence.KeyedEntry) → length (sequence.spelled es) ≡ 6 * length es
 length-spelled [] = refl
 length-spelled (e ∷ es) = let h = length-spelled es in omega arith
 
-pub sequence_most : (s : Places) → valid.IsState s → length (sequence.spelling s) ≤ 98258
+pub sequence_most : (s : Places) → valid.AreValidEntries s → length (sequence.entries_spelling s) ≤ 98258
 sequence_most s h = let a = entries_most s h in let b = length-spelled (sequence.entries_from 0 s) in omega arith
 
-pub sequence_least : (s : Places) → 2 ≤ length (sequence.spelling s)
+pub sequence_least : (s : Places) → 2 ≤ length (sequence.entries_spelling s)
 sequence_least s = omega arith
 
 -- ---- the state
@@ -115,7 +115,7 @@ master_length : (master : Option ℕ) → (1 ≤ length (master_octets master)) 
 master_length None = (omega arith, omega arith)
 master_length (Some count) = (omega arith, omega arith)
 
-pub state_most : (rules : Rules) (s : State) → IsState rules s → length (spelling s) ≤ 94 + 8 * rules.max_packet
+pub state_most : (rules : Rules) (s : State) → IsValidState rules s → length (state_spelling s) ≤ 94 + 8 * rules.max_packet
 state_most rules s h =
     let master = (master_length s.master).1 in
     let blocks = blocks_most rules.max_packet s.channels (short-tails rules s h) in
@@ -125,7 +125,7 @@ state_most rules s h =
     omega arith
 
 -- the fewest octets of a state in a version: one more where the last master channel count stands
-pub state_least : (v : Version) (rules : Rules) (s : State) → IsState rules s → (form_of v).least ≤ length (state_octets v s) + (9 + (form_of v).settings)
+pub state_least : (v : Version) (rules : Rules) (s : State) → IsValidState rules s → (form_of v).least ≤ length (state_octets v s) + (9 + (form_of v).settings)
 state_least Three rules s h =
     let eight = h.shape.eight_channels in
     let blocks = blocks_least s.channels in

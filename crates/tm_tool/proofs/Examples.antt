@@ -20,13 +20,13 @@ use Rattle.tm_rules.specs.Channels.{all_channels}
 use Rattle.tm_reassembly.specs.Recording.{items, after}
 use Rattle.tm_output.specs.declared.command.Command.TheVariants.{Extract, Packets}
 use Rattle.tm_output.specs.declared.command.Ending.TheVariants.{Close}
-use Rattle.tm_tool.specs.Checkpoints.{without_master}
+use Rattle.tm_tool.specs.Checkpoints.{work_without_master}
 use Rattle.tm_output.specs.FieldRows.{tabled, too_short}
-use Rattle.tm_tool.specs.Jobs.{begun, rows_head}
+use Rattle.tm_tool.specs.Jobs.{new_job, rows_head}
 use Rattle.tm_output.specs.Lines.{drop_line, gap_line, master_gap_line, note_line, packet_line, short_line, short_packet_line}
 use Rattle.tm_output.specs.Outputs.{outs, reports}
 use Rattle.tm_tool.specs.RecordingPieces.{Work, pieces, worked}
-use Rattle.tm_output.specs.Pieces.{line_of, listed, noted, notes_of, octets_of, report_of, rows_text, text_of, unclosed_piece}
+use Rattle.tm_output.specs.Pieces.{item_line, listed, noted, notes_of, packet_octets, report_of, rows_text, text_of, unclosed_piece}
 use Rattle.tm_output.specs.Records.{records, rest_of}
 
 -- frames of so many octets of spacecraft 42: a data field has six fewer
@@ -35,7 +35,7 @@ layout n = record { frame_length = n; skip_before = 0; skip_after = 0; spacecraf
 
 -- a job before any record, of all channels and of packets of any length
 job : ℕ → Work
-job n = (begun (record { layout = layout n; channels = all_channels; max_packet = 65542 })).work
+job n = (new_job (record { layout = layout n; channels = all_channels; max_packet = 65542 })).work
 
 fifty_fives : ℕ → List ℕ
 fifty_fives n = replicate n 0x55
@@ -60,14 +60,14 @@ header count data_length = record {
 
 two_packets : outs (pieces (text_of Packets) Close (job 24) (0x02 ∷ 0xA0 ∷ 0x00 ∷ 0x00 ∷ 0x18 ∷ 0x00 ∷ (packet 7 0 ++ packet 11 1)))
     ≡ packet_line 0 0 0 0 (header 0 0) 7 ++ (packet_line 0 0 0 7 (header 1 4) 11 ++ [])
-unfolding pieces records rest_of items after octets_of listed noted no_entries header layout job fifty_fives packet cut fault_of part number bits_of low_bits
+unfolding pieces records rest_of items after packet_octets listed noted no_entries header layout job fifty_fives packet cut fault_of part number bits_of low_bits
 two_packets = refl
 
 pointer_drop_and_sequence_gap : reports (pieces (text_of Extract) Close (job 24)
     ((0x02 ∷ 0xA0 ∷ 0x00 ∷ 0x00 ∷ 0x18 ∷ 0x00 ∷ (packet 10 0 ++ cut 0 8 (packet 14 1)))
     ++ (0x02 ∷ 0xA0 ∷ 0x01 ∷ 0x01 ∷ 0x18 ∷ 0x08 ∷ (fifty_fives 8 ++ packet 10 2))))
     ≡ drop_line 1 0 0 10 8 reason.Pointer ++ (drop_line 1 0 1 0 8 reason.Pointer ++ ((note_line 1 0 100 (note.Gap 1 2 1) ++ []) ++ []))
-unfolding pieces records rest_of items after octets_of listed report_of line_of drop_line note_line short_line digits noted notes_of no_entries unclosed_piece layout job fifty_fives packet cut fault_of part number bits_of low_bits
+unfolding pieces records rest_of items after packet_octets listed report_of item_line drop_line note_line short_line digits noted notes_of no_entries unclosed_piece layout job fifty_fives packet cut fault_of part number bits_of low_bits
 pointer_drop_and_sequence_gap = refl
 
 -- a frame is missing: of the master channel, and of its own
@@ -84,16 +84,16 @@ behind_master : List ℕ
 behind_master = gap_line 3 0 1 2 1 ++ (drop_line 3 0 2 10 8 reason.Gap ++ (drop_line 3 0 3 0 6 reason.NoStart ++ note_line 3 0 100 (note.Gap 3 4 1)))
 
 frame_gap : reports (pieces (text_of Extract) Close (job 24) with_gap) ≡ master_gap_line 3 1 2 1 ++ behind_master
-unfolding pieces records rest_of items after octets_of listed report_of line_of master_gap_line gap_line drop_line note_line short_line digits noted notes_of no_entries unclosed_piece layout job fifty_fives packet cut before_gap with_gap behind_master fault_of part number bits_of low_bits
+unfolding pieces records rest_of items after packet_octets listed report_of item_line master_gap_line gap_line drop_line note_line short_line digits noted notes_of no_entries unclosed_piece layout job fifty_fives packet cut before_gap with_gap behind_master fault_of part number bits_of low_bits
 frame_gap = refl
 
 -- from before that frame: all of it; and without the last master channel count, as from an older checkpoint, all but the line of the master channel
 gap_resumed : reports (pieces (text_of Extract) Close (worked (job 24) before_gap) with_gap) ≡ master_gap_line 3 1 2 1 ++ behind_master
-unfolding pieces records rest_of items after octets_of listed report_of line_of master_gap_line gap_line drop_line note_line short_line digits noted notes_of no_entries unclosed_piece layout job fifty_fives packet cut before_gap with_gap behind_master fault_of part number bits_of low_bits
+unfolding pieces records rest_of items after packet_octets listed report_of item_line master_gap_line gap_line drop_line note_line short_line digits noted notes_of no_entries unclosed_piece layout job fifty_fives packet cut before_gap with_gap behind_master fault_of part number bits_of low_bits
 gap_resumed = refl
 
-gap_resumed_without : reports (pieces (text_of Extract) Close (without_master (worked (job 24) before_gap)) with_gap) ≡ behind_master
-unfolding pieces records rest_of items after octets_of listed report_of line_of master_gap_line gap_line drop_line note_line short_line digits noted notes_of no_entries unclosed_piece layout job fifty_fives packet cut before_gap with_gap behind_master fault_of part number bits_of low_bits
+gap_resumed_without : reports (pieces (text_of Extract) Close (work_without_master (worked (job 24) before_gap)) with_gap) ≡ behind_master
+unfolding pieces records rest_of items after packet_octets listed report_of item_line master_gap_line gap_line drop_line note_line short_line digits noted notes_of no_entries unclosed_piece layout job fifty_fives packet cut before_gap with_gap behind_master fault_of part number bits_of low_bits
 gap_resumed_without = refl
 
 groups : reports (pieces (text_of Extract) Close (job 27)
@@ -103,14 +103,14 @@ groups : reports (pieces (text_of Extract) Close (job 27)
     ++ (0x02 ∷ 0xA0 ∷ 0x02 ∷ 0x02 ∷ 0x18 ∷ 0x00 ∷ (0x00 ∷ 0x64 ∷ 0x40 ∷ 0x0A ∷ 0x00 ∷ 0x00 ∷ 0x55 ∷ 0x07 ∷ 0xFF ∷ 0xC0 ∷ 0x00 ∷ 0x00 ∷ 0x07 ∷ fifty_fives 8)))))
     ≡ (note_line 0 0 100 (note.Whole 5 7) ++ [])
     ++ ((note_line 1 0 100 (note.Broken 8 8 why.Unsegmented) ++ []) ++ (note_line 3 0 100 (note.Broken 10 10 why.Close) ++ []))
-unfolding pieces records rest_of items after octets_of listed report_of line_of drop_line note_line short_line digits noted notes_of no_entries unclosed_piece layout job fifty_fives packet cut fault_of part number bits_of low_bits
+unfolding pieces records rest_of items after packet_octets listed report_of item_line drop_line note_line short_line digits noted notes_of no_entries unclosed_piece layout job fifty_fives packet cut fault_of part number bits_of low_bits
 groups = refl
 
 short_rest : reports (pieces (text_of Extract) Close (job 24)
     ((0x02 ∷ 0xA0 ∷ 0x00 ∷ 0x00 ∷ 0x18 ∷ 0x00 ∷ cut 0 18 (packet 26 0))
     ++ ((0x02 ∷ 0xA2 ∷ 0x01 ∷ 0x00 ∷ 0x18 ∷ 0x00 ∷ cut 0 18 (packet 22 0)) ++ replicate 10 0)))
     ≡ short_line 2 10 ++ (drop_line 2 0 0 0 18 reason.Close ++ (drop_line 2 1 1 0 18 reason.Close ++ []))
-unfolding pieces records rest_of items after octets_of listed report_of line_of drop_line note_line short_line digits noted notes_of no_entries unclosed_piece layout job fifty_fives packet cut fault_of part number bits_of low_bits
+unfolding pieces records rest_of items after packet_octets listed report_of item_line drop_line note_line short_line digits noted notes_of no_entries unclosed_piece layout job fifty_fives packet cut fault_of part number bits_of low_bits
 short_rest = refl
 
 two_channels : outs (pieces (text_of Extract) Close (job 24)
@@ -119,7 +119,7 @@ two_channels : outs (pieces (text_of Extract) Close (job 24)
     ++ ((0x02 ∷ 0xA2 ∷ 0x02 ∷ 0x01 ∷ 0x18 ∷ 0x04 ∷ (cut 18 22 (packet 22 0) ++ packet 14 1))
     ++ (0x02 ∷ 0xA0 ∷ 0x03 ∷ 0x01 ∷ 0x18 ∷ 0x08 ∷ (cut 18 26 (packet 26 0) ++ packet 10 1))))))
     ≡ packet 22 0 ++ (packet 14 1 ++ (packet 26 0 ++ packet 10 1))
-unfolding pieces records rest_of items after octets_of listed noted no_entries layout job fifty_fives packet cut fault_of part number bits_of low_bits
+unfolding pieces records rest_of items after packet_octets listed noted no_entries layout job fifty_fives packet cut fault_of part number bits_of low_bits
 two_channels = refl
 
 -- ---- rows of fields
@@ -149,5 +149,5 @@ other_application = refl
 
 one_bit_short : reports (pieces (rows_text (record { name = codes "EXTRA"; data_type = Uint; begin = 128; length = 1 } ∷ five_fields) 100) Close (job 22) one_packet)
     ≡ short_packet_line 0 0 0 0 129 128
-unfolding pieces records rest_of items after too_short report_of line_of short_packet_line noted notes_of no_entries unclosed_piece layout job five_fields one_packet fault_of part number bits_of low_bits digits
+unfolding pieces records rest_of items after too_short report_of item_line short_packet_line noted notes_of no_entries unclosed_piece layout job five_fields one_packet fault_of part number bits_of low_bits digits
 one_bit_short = refl

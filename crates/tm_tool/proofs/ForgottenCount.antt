@@ -8,16 +8,16 @@ use Rattle.tm_reassembly.proofs.OlderForms.{items-lack, states-meet}
 use Rattle.tm_output.specs.declared.command.Command.{Command}
 use Rattle.tm_output.specs.declared.command.Ending.{Ending}
 use Rattle.tm_output.specs.declared.command.Ending.TheVariants.{Close}
-use Rattle.tm_tool.specs.Checkpoints.{without_master}
+use Rattle.tm_tool.specs.Checkpoints.{work_without_master}
 use Rattle.tm_output.specs.Lines.{master_gap_line}
 use Rattle.tm_tool.specs.OlderVersions.{gap_piece, IsGapLineAtMost, LacksGapLine}
-use Rattle.tm_output.specs.Outlets.{GivesNone, no_text}
+use Rattle.tm_output.specs.code.Outlets.{GivesNone, no_text}
 use Rattle.tm_output.specs.Outputs.{Piece}
-use Rattle.tm_output.specs.Pieces.{Entries, Texts, line_of, noted, noted_all, piece_of, pieces_of, report_of, text_of}
+use Rattle.tm_output.specs.Pieces.{Entries, Texts, item_line, noted, noted_all, piece_of, pieces_of, report_of, text_of}
 use Rattle.tm_tool.specs.RecordingPieces.{Work, chosen, end_pieces, further, items_of, pieces, record_pieces, worked}
 use Rattle.tm_output.specs.Records.{rest_of}
 use Rattle.tm_output.specs.Shelves.{shelf_text}
-use Rattle.tm_output.specs.ShelfLaws.{no_shelf}
+use Rattle.tm_output.specs.code.ShelfLaws.{no_shelf}
 use Rattle.tm_tool.proofs.Running.{IsValid, noted-append, pieces-append}
 
 -- a gap of the master channel leaves the entries as they are
@@ -27,11 +27,11 @@ gap_noted entries gap (inl e) = ap (noted_all entries) e
 gap_noted entries gap (inr (seen, expected, found, missing, e)) = ap (noted_all entries) e
 
 -- the items of records from a work, and from it without its last master channel count
-lacks_item : (w : Work) (rs : List (List ℕ)) → IsValid w → LacksMasterGap (items_of w rs) (items_of (without_master w) rs)
+lacks_item : (w : Work) (rs : List (List ℕ)) → IsValid w → LacksMasterGap (items_of w rs) (items_of (work_without_master w) rs)
 lacks_item w rs valid = items-lack w.rules w.state rs valid
 
 states_same : (w : Work) (rs : List (List ℕ)) → IsValid w
-    → forgotten.without_master (worked w rs).state ≡ forgotten.without_master (worked (without_master w) rs).state
+    → forgotten.without_master (worked w rs).state ≡ forgotten.without_master (worked (work_without_master w) rs).state
 states_same w rs valid =
     ⊎_elim (λ e. sym (ap forgotten.without_master e)) (λ e. sym (ap forgotten.without_master e.0)) (states-meet w.rules w.state rs valid)
 
@@ -41,14 +41,14 @@ entries_same entries xs ys h =
     (rw (noted-append entries h.front h.back) refl)
 
 -- the works that records leave differ in the last master channel count alone
-works_same : (w : Work) (rs : List (List ℕ)) → IsValid w → without_master (worked w rs) ≡ without_master (worked (without_master w) rs)
+works_same : (w : Work) (rs : List (List ℕ)) → IsValid w → work_without_master (worked w rs) ≡ work_without_master (worked (work_without_master w) rs)
 works_same w rs valid =
-    rw (states_same w rs valid, entries_same w.entries (items_of w rs) (items_of (without_master w) rs) (lacks_item w rs valid)) refl
+    rw (states_same w rs valid, entries_same w.entries (items_of w rs) (items_of (work_without_master w) rs) (lacks_item w rs valid)) refl
 
 -- of texts that give nothing of a gap of the master channel but its line
 module _ {A : Type 0} (text : Texts A) (none : (seen expected found missing : ℕ) → GivesNone text (MasterGap seen expected found missing)) where
   line_piece : (entries : Entries) (seen expected found missing : ℕ) → piece_of text entries (MasterGap seen expected found missing) ≡ gap_piece seen expected found missing
-  unfolding report_of line_of
+  unfolding report_of item_line
   line_piece entries seen expected found missing =
       let gives = none seen expected found missing in
       let line : List ℕ = master_gap_line seen expected found missing in
@@ -79,35 +79,35 @@ module _ {A : Type 0} (text : Texts A) (none : (seen expected found missing : �
       }
 
   -- what an ending has does not rest on the last master channel count
-  same_end : (ending : Ending) (w : Work) (rest : ℕ) → end_pieces text ending w rest ≡ end_pieces text ending (without_master w) rest
+  same_end : (ending : Ending) (w : Work) (rest : ℕ) → end_pieces text ending w rest ≡ end_pieces text ending (work_without_master w) rest
   same_end Close w rest = refl
   same_end _ w rest = refl
 
   ends_same : (ending : Ending) (w : Work) (rs : List (List ℕ)) (rest : ℕ) → IsValid w
-      → end_pieces text ending (worked (without_master w) rs) rest ≡ end_pieces text ending (worked w rs) rest
+      → end_pieces text ending (worked (work_without_master w) rs) rest ≡ end_pieces text ending (worked w rs) rest
   ends_same ending w rs rest valid =
-      rw (same_end ending (worked (without_master w) rs) rest, ← works_same w rs valid) (sym (same_end ending (worked w rs) rest))
+      rw (same_end ending (worked (work_without_master w) rs) rest, ← works_same w rs valid) (sym (same_end ending (worked w rs) rest))
 
-  lacks_gap : (ending : Ending) (w : Work) (recording : List ℕ) → IsValid w → LacksGapLine (pieces text ending w recording) (pieces text ending (without_master w) recording)
+  lacks_gap : (ending : Ending) (w : Work) (recording : List ℕ) → IsValid w → LacksGapLine (pieces text ending w recording) (pieces text ending (work_without_master w) recording)
   unfolding pieces
   lacks_gap ending w recording valid =
       let rs : List (List ℕ) = chosen ending (further w recording) in
       let rest : ℕ = length (rest_of (record_length_of w.rules.layout) recording) in
-      let h = lacks_piece w.entries (items_of w rs) (items_of (without_master w) rs) (end_pieces text ending (worked w rs) rest) (lacks_item w rs valid) in
+      let h = lacks_piece w.entries (items_of w rs) (items_of (work_without_master w) rs) (end_pieces text ending (worked w rs) rest) (lacks_item w rs valid) in
       record {
         front = h.front;
         gap = h.gap;
         back = h.back;
         all_is = h.all_is;
-        fewer_is = ap (λ (ps : List (Piece A)). record_pieces text (without_master w) rs ++ ps) (ends_same ending w rs rest valid) ∙ h.fewer_is;
+        fewer_is = ap (λ (ps : List (Piece A)). record_pieces text (work_without_master w) rs ++ ps) (ends_same ending w rs rest valid) ∙ h.fewer_is;
         gap_is = h.gap_is;
       }
 
 pub command_lacks : (command : Command) (ending : Ending) (w : Work) (recording : List ℕ) → IsValid w
-    → LacksGapLine (pieces (text_of command) ending w recording) (pieces (text_of command) ending (without_master w) recording)
+    → LacksGapLine (pieces (text_of command) ending w recording) (pieces (text_of command) ending (work_without_master w) recording)
 command_lacks command ending w recording valid =
     lacks_gap (text_of command) (λ seen expected found missing. no_text command (MasterGap seen expected found missing) tt) ending w recording valid
 
 pub shelf_lacks : (ending : Ending) (w : Work) (recording : List ℕ) → IsValid w
-    → LacksGapLine (pieces shelf_text ending w recording) (pieces shelf_text ending (without_master w) recording)
+    → LacksGapLine (pieces shelf_text ending w recording) (pieces shelf_text ending (work_without_master w) recording)
 shelf_lacks ending w recording valid = lacks_gap shelf_text (λ seen expected found missing. no_shelf (MasterGap seen expected found missing) tt) ending w recording valid

@@ -6,7 +6,7 @@ use Rattle.tm_fields.specs.Rows.{head_of}
 use Rattle.tm_output.specs.declared.command.Command.{Command}
 use Rattle.tm_output.specs.declared.command.Command.TheVariants.{Extract, Packets, Fields}
 use Rattle.tm_output.specs.declared.fault.RunFault.{RunFault}
-use Rattle.tm_output.specs.Outlets.{PutStopped}
+use Rattle.tm_output.specs.code.Outlets.{PutStopped}
 use Rattle.tm_output.specs.Outputs.{Stopped, Took, lines_way, view}
 use Rattle.tm_output.specs.Pieces.{way_of}
 use Rattle.tm_output.proofs.PieceLemmas.{flushed, stopped_put, took_piece}

@@ -4,7 +4,7 @@ use Rattle.std.proofs.KnownBytes.{Appends-trans}
 use Rattle.tm_frame.specs.Layout.{record_length_of}
 use Rattle.tm_output.specs.declared.fault.RunFault.{RunFault}
 use Rattle.tm_output.specs.declared.command.Ending.{Ending}
-use Rattle.tm_output.specs.Outputs.{AppendsCut, Caused, Piece, Took, View, Way, outs, reports}
+use Rattle.tm_output.specs.Outputs.{AppendsCut, CausedByOutput, Piece, Took, View, Way, outs, reports}
 use Rattle.tm_output.specs.Pieces.{Texts}
 use Rattle.tm_tool.specs.RecordingPieces.{Work, pieces}
 use Rattle.tm_tool.specs.Runs.{IsHeadedStop, IsStoppedAt, StoppedIn}
@@ -35,8 +35,8 @@ module _ {A K : Type 0} (grows : K → K → List A → Type 0) (grows-nil : (k 
         cut = all.cut;
         memory = all.memory;
         refused = all.refused;
-        too_many = λ e. absurd (subst (Caused old new) e h.stopped.cause);
-        short = λ e. absurd (subst (Caused old new) e h.stopped.cause);
+        too_many = λ e. absurd (subst (CausedByOutput old new) e h.stopped.cause);
+        short = λ e. absurd (subst (CausedByOutput old new) e h.stopped.cause);
       }
   stop_told (Some octets) (inr h) = record {
     cut = cut_behind h.mid (pieces text ending w octets) h.headed (run_cut grows grows-nil grows-trans way text ending w valid some (Some octets) next h.mid new fault h.stopped);

@@ -13,7 +13,7 @@ use Rattle.tm_rules.specs.Channels.{mask_from, mask_of}
 use Rattle.tm_reassembly.specs.Checkpoint as reassembly
 use Rattle.tm_rules.specs.Rules.{Rules}
 use Rattle.tm_reassembly.specs.State.{State}
-use Rattle.tm_reassembly.specs.Valid.{IsState}
+use Rattle.tm_reassembly.specs.Valid.{IsValidState}
 use Rattle.tm_tool.specs.declared.version.Version.{Version}
 use Rattle.tm_tool.specs.declared.version.Version.TheVariants.{One, Two, Three}
 use Rattle.tm_tool.specs.Checkpoints.{IsWork, form_of, tells, kept_state, kept_in, presence_octet, three, settings_octets, head_octets, state_octets, spelled_in, state_in}
@@ -107,18 +107,18 @@ behind xs ys a b e f =
     sym (drop-append_seam ys a) ∙ ap (drop (length ys)) (rw e at f) ∙ drop-append_seam ys b
 
 -- the octets of states that go on in the same way tell what the version keeps of them
-states_told : (v : Version) (rules : Rules) (s t : State) (a b : List ℕ) → IsState rules s → IsState rules t
+states_told : (v : Version) (rules : Rules) (s t : State) (a b : List ℕ) → IsValidState rules s → IsValidState rules t
     → state_octets v s ++ a ≡ state_octets v t ++ b → (kept_state v s ≡ kept_state v t) × (a ≡ b)
 states_told v rules s t a b p q e =
     let read = sym (state_again v rules s a p) ∙ ap (state_in v rules) e ∙ state_again v rules t b q in
-    let same : kept_state v s ≡ kept_state v t = ap (λ (d : reassembly.Decoded). d.state) (same_Ok _ _ read) in
+    let same : kept_state v s ≡ kept_state v t = ap (λ (d : reassembly.DecodedState). d.state) (same_Ok _ _ read) in
     let octets : state_octets v s ≡ state_octets v t = sym (kept_spelled v s) ∙ ap (state_octets v) same ∙ kept_spelled v t in
     (same, behind (state_octets v s) (state_octets v t) a b octets e)
 
-entries_told : (s t : Entries) (a b : List ℕ) → valid.IsState s → valid.IsState t → sequence.spelling s ++ a ≡ sequence.spelling t ++ b → s ≡ t
+entries_told : (s t : Entries) (a b : List ℕ) → valid.AreValidEntries s → valid.AreValidEntries t → sequence.entries_spelling s ++ a ≡ sequence.entries_spelling t ++ b → s ≡ t
 entries_told s t a b v w e =
-    let read = sym (sequence_written.decoding-spelling s a v) ∙ ap sequence.decoding_of e ∙ sequence_written.decoding-spelling t b w in
-    ap (λ (d : sequence.Decoded). d.entries) (same_Ok _ _ read)
+    let read = sym (sequence_written.decoding-spelling s a v) ∙ ap sequence.entries_decoding_of e ∙ sequence_written.decoding-spelling t b w in
+    ap (λ (d : sequence.DecodedEntries). d.entries) (same_Ok _ _ read)
 
 -- ---- checkpoints
 
@@ -131,21 +131,21 @@ front Three w rest = refl
 
 -- the octets behind them, part by part
 parts : (v : Version) (w : Work) (rest : List ℕ) → drop (5 + (form_of v).settings) (spelled_in v w ++ rest)
-    ≡ state_octets v w.state ++ (sequence.spelling w.entries ++ (check v w ++ rest))
+    ≡ state_octets v w.state ++ (sequence.entries_spelling w.entries ++ (check v w ++ rest))
 parts v w rest =
     behind_head v w rest
     ∙ append_assoc (body v w) (check v w) rest
-    ∙ append_assoc (state_octets v w.state) (sequence.spelling w.entries) (check v w ++ rest)
+    ∙ append_assoc (state_octets v w.state) (sequence.entries_spelling w.entries) (check v w ++ rest)
 
 works_told : (v : Version) (a b : Work) (rest more : List ℕ) → IsWork a → IsWork b → tells v a.rules ≡ true → tells v b.rules ≡ true
     → spelled_in v a ++ rest ≡ spelled_in v b ++ more → kept_in v a ≡ kept_in v b
 works_told v a b rest more ha hb ta tb e =
     let k : ℕ = 5 + (form_of v).settings in
     let settings : a.rules ≡ b.rules = settings_told v a.rules b.rules (ha.eight ∙ sym hb.eight) ta tb (sym (front v a rest) ∙ ap (take k) e ∙ front v b more) in
-    let tails : state_octets v a.state ++ (sequence.spelling a.entries ++ (check v a ++ rest))
-    ≡ state_octets v b.state ++ (sequence.spelling b.entries ++ (check v b ++ more)) = sym (parts v a rest) ∙ ap (drop k) e ∙ parts v b more in
-    let moved : IsState a.rules b.state = subst (λ (s : Rules). IsState s b.state) (sym settings) hb.state in
-    let told = states_told v a.rules a.state b.state (sequence.spelling a.entries ++ (check v a ++ rest)) (sequence.spelling b.entries ++ (check v b ++ more)) ha.state moved tails in
+    let tails : state_octets v a.state ++ (sequence.entries_spelling a.entries ++ (check v a ++ rest))
+    ≡ state_octets v b.state ++ (sequence.entries_spelling b.entries ++ (check v b ++ more)) = sym (parts v a rest) ∙ ap (drop k) e ∙ parts v b more in
+    let moved : IsValidState a.rules b.state = subst (λ (s : Rules). IsValidState s b.state) (sym settings) hb.state in
+    let told = states_told v a.rules a.state b.state (sequence.entries_spelling a.entries ++ (check v a ++ rest)) (sequence.entries_spelling b.entries ++ (check v b ++ more)) ha.state moved tails in
     let entries : a.entries ≡ b.entries = entries_told a.entries b.entries (check v a ++ rest) (check v b ++ more) ha.entries hb.entries told.1 in
     rw (settings, told.0, entries) refl
 

@@ -5,7 +5,7 @@ use Rattle.std.proofs.lemmas.Bool.{eq-eqb}
 use Rattle.tm_packet.specs.declared.notes.Note.{Note}
 use Rattle.tm_packet.specs.Merge as sequence
 use Rattle.tm_packet.specs.Merge.{Sent}
-use Rattle.tm_packet.specs.Valid.{AllFit, IsState}
+use Rattle.tm_packet.specs.Valid.{AllHeadersFit, AreValidEntries}
 use Rattle.tm_packet.proofs.AfterValid.{header-fits}
 use Rattle.tm_packet.proofs.Merging.{after-append, after_from-none, notes-append}
 use Rattle.tm_reassembly.specs.Among.{Among, is_of}
@@ -18,28 +18,28 @@ use Rattle.tm_tool.specs.NotesInAll.{pieces_with, report_with, sent_among, sent_
 use Rattle.tm_tool.proofs.WorkValid.{noted-valid}
 
 -- an item leaves the entries that its packet leaves, if it is one
-noted_is : (entries : Entries) (x : Item) → noted entries x ≡ sequence.after entries (sent_in x)
+noted_is : (entries : Entries) (x : Item) → noted entries x ≡ sequence.entries_after entries (sent_in x)
 unfolding noted sent_in
 noted_is entries (Packet seen channel first place octets) = refl
 noted_is entries _ = sym (after_from-none 0 entries)
 
 -- and items those of all their packets
-pub noted_all_is : (entries : Entries) (xs : List Item) → noted_all entries xs ≡ sequence.after entries (sent_among xs)
+pub noted_all_is : (entries : Entries) (xs : List Item) → noted_all entries xs ≡ sequence.entries_after entries (sent_among xs)
 noted_all_is entries [] = sym (after_from-none 0 entries)
 noted_all_is entries (x ∷ xs) =
-    noted_all_is (noted entries x) xs ∙ ap (λ (e : Entries). sequence.after e (sent_among xs)) (noted_is entries x)
+    noted_all_is (noted entries x) xs ∙ ap (λ (e : Entries). sequence.entries_after e (sent_among xs)) (noted_is entries x)
     ∙ sym (after-append entries (sent_in x) (sent_among xs))
 
 -- the packets among items have channels of the eight
 abbrev pub HasChannels : List Item → Type 0
 HasChannels xs = (c : ℕ) (x : Item) → is_of c x ≡ true → Among x xs → c < 8
 
-item_fits : (x : Item) (others : List Sent) → ((c : ℕ) → is_of c x ≡ true → c < 8) → AllFit others → AllFit (sent_in x ++ others)
+item_fits : (x : Item) (others : List Sent) → ((c : ℕ) → is_of c x ≡ true → c < 8) → AllHeadersFit others → AllHeadersFit (sent_in x ++ others)
 unfolding sent_in
 item_fits (Packet seen channel first place octets) others h fit = (header-fits channel octets (h channel (eq-eqb channel channel refl)), fit)
 item_fits _ others h fit = fit
 
-all_fit : (xs : List Item) → HasChannels xs → AllFit (sent_among xs)
+all_fit : (xs : List Item) → HasChannels xs → AllHeadersFit (sent_among xs)
 all_fit [] h = tt
 all_fit (x ∷ xs) h = item_fits x (sent_among xs) (λ c own. h c x own (inl refl)) (all_fit xs (λ c y own a. h c y own (inr a)))
 
@@ -59,7 +59,7 @@ module _ {A : Type 0} (text : Texts A) (entries : Entries) (more : List Item) wh
   one_is _ others = refl
 
 -- the pieces of items have the notes of all their packets
-pub pieces_noted : {A : Type 0} (text : Texts A) (entries : Entries) (xs : List Item) → IsState entries → HasChannels xs
+pub pieces_noted : {A : Type 0} (text : Texts A) (entries : Entries) (xs : List Item) → AreValidEntries entries → HasChannels xs
     → pieces_of text entries xs ≡ pieces_with text (sequence.notes entries (sent_among xs)) xs
 pieces_noted text entries [] valid h = refl
 pieces_noted {A} text entries (x ∷ xs) valid h =
@@ -95,4 +95,4 @@ none_closing s rest = by_rest (nat_lt 0 rest)
 -- so the groups that are open there are those of all packets
 pub open_is : (entries : Entries) (s : State) (rest : ℕ) → noted_all entries (closing s rest) ≡ entries
 open_is entries s rest =
-    noted_all_is entries (closing s rest) ∙ ap (sequence.after entries) (none_closing s rest) ∙ after_from-none 0 entries
+    noted_all_is entries (closing s rest) ∙ ap (sequence.entries_after entries) (none_closing s rest) ∙ after_from-none 0 entries

@@ -4,7 +4,7 @@ use Rattle.std.specs.List.{concat}
 use Rattle.std.specs.Io.KnownBytes.{Consumes, IsAtEnd}
 use Rattle.std.proofs.KnownBytes.{Consumes-nil, Consumes-trans}
 use Rattle.tm_tool.specs.Runs.{HasRead}
-use Rattle.tm_tool.specs.Stepping.{HasPassed, PassingFails, PassingEnds}
+use Rattle.tm_tool.specs.code.Stepping.{HasPassed, PassingFails, PassingEnds}
 use Rattle.tm_output.proofs.ListingLemmas.{AreRecords-append, concat-one}
 
 pub passing_first : (size : ℕ) (left : Option (List ℕ)) → HasPassed size 0 left left

@@ -4,9 +4,9 @@ use Rattle.std.proofs.lemmas.Bool.{cond_both}
 use Rattle.tm_bits.specs.Bits.{AreOctets}
 use Rattle.tm_bits.proofs.PartLemmas.{octets_behind}
 use Rattle.tm_reassembly.specs.declared.fault.StateFault.{StateFault}
-use Rattle.tm_reassembly.specs.Checkpoint.{Decoded, ReadAll, ReadMaster, four_at, blocks_read, master_read, with_channels, with_master, decoding_of, old_decoding_of}
+use Rattle.tm_reassembly.specs.Checkpoint.{DecodedState, ReadBlocks, ReadMaster, four_at, blocks_read, master_read, with_channels, with_master, state_decoding_of, old_decoding_of}
 use Rattle.tm_rules.specs.Rules.{Rules, IsLimit}
-use Rattle.tm_reassembly.specs.Valid.{IsCount, IsState}
+use Rattle.tm_reassembly.specs.Valid.{IsCount, IsValidState}
 use Rattle.tm_reassembly.proofs.Decoding.{blocks_valid}
 use Rattle.tm_tool.specs.declared.version.Version.{Version}
 use Rattle.tm_tool.specs.declared.version.Version.TheVariants.{Three}
@@ -20,8 +20,8 @@ four_below xs h =
     let d = h.below 3 in
     omega arith
 
-abbrev IsRead : Rules → Result Decoded StateFault → Type 0
-IsRead rules (Ok d) = IsState rules d.state
+abbrev IsRead : Rules → Result DecodedState StateFault → Type 0
+IsRead rules (Ok d) = IsValidState rules d.state
 IsRead rules (Err found) = Unit {0}
 
 abbrev IsMaster : Result ReadMaster StateFault → Type 0
@@ -38,7 +38,7 @@ master-valid (flag ∷ xs) h =
     (λ q. cond_both (eqb (length xs) 0) _ _ IsMaster (λ r. tt) (λ r. h.below 1)))
 
 module _ (rules : Rules) (range : IsLimit rules.max_packet) where
-  channels-valid : (records octets : ℕ) (master : Option ℕ) (xs : List ℕ) (all : Result ReadAll StateFault) → AreOctets xs → records < 2 ^ 32 → IsCount master
+  channels-valid : (records octets : ℕ) (master : Option ℕ) (xs : List ℕ) (all : Result ReadBlocks StateFault) → AreOctets xs → records < 2 ^ 32 → IsCount master
       → blocks_read rules records 8 0 xs ≡ all → IsRead rules (with_channels records master octets all)
   channels-valid records octets master xs (Ok all) h small count e = blocks_valid rules records all.octets all.kept xs h small e range master count
   channels-valid records octets master xs (Err found) h small count e = tt
@@ -49,8 +49,8 @@ module _ (rules : Rules) (range : IsLimit rules.max_packet) where
       channels-valid records (4 + read.octets) read.count (drop read.octets xs) (blocks_read rules records 8 0 (drop read.octets xs)) (octets_behind read.octets xs h) small count refl
   with-valid records xs (Err found) h small count = tt
 
-  decoding-valid : (xs : List ℕ) → AreOctets xs → IsRead rules (decoding_of rules xs)
-  unfolding decoding_of
+  decoding-valid : (xs : List ℕ) → AreOctets xs → IsRead rules (state_decoding_of rules xs)
+  unfolding state_decoding_of
   decoding-valid xs h =
       cond_both (ltb (length xs) 4) _ _ (IsRead rules) (λ p. tt)
       (λ p. with-valid (four_at xs 0) (drop 4 xs) (master_read (drop 4 xs)) (octets_behind 4 xs h) (four_below xs h) (master-valid (drop 4 xs) (octets_behind 4 xs h)))
@@ -65,5 +65,5 @@ module _ (rules : Rules) (range : IsLimit rules.max_packet) where
   any-valid Three xs h = decoding-valid xs h
   any-valid _ xs h = old_decoding-valid xs h
 
-  pub state_valid : (v : Version) (xs : List ℕ) (d : Decoded) → AreOctets xs → state_in v rules xs ≡ Ok d → IsState rules d.state
+  pub state_valid : (v : Version) (xs : List ℕ) (d : DecodedState) → AreOctets xs → state_in v rules xs ≡ Ok d → IsValidState rules d.state
   state_valid v xs d h e = subst (IsRead rules) e (any-valid v xs h)

@@ -10,7 +10,7 @@ use Rattle.tm_tool.specs.declared.fault.CheckpointFault.{CheckpointFault}
 use Rattle.tm_output.specs.declared.command.Ending.{Ending}
 use Rattle.tm_output.specs.declared.command.Ending.TheVariants.{Close, StopAfter}
 use Rattle.tm_tool.specs.Checkpoints.{IsWork, checkpoint_of, resumed}
-use Rattle.tm_tool.specs.Jobs.{JobState, begun}
+use Rattle.tm_tool.specs.Jobs.{JobState, new_job}
 use Rattle.tm_output.specs.Outputs.{Piece}
 use Rattle.tm_output.specs.Pieces.{Texts}
 use Rattle.tm_tool.specs.RecordingPieces.{Work, chosen, end_pieces, further, pieces, record_pieces, worked}
@@ -164,7 +164,7 @@ front-octets (rs ∷ done) more all = (all.0, front-octets done more all.1)
 
 pub front-work : (settings : Rules) (last : List ℕ) → length settings.channels ≡ 8 → IsLimit settings.max_packet → AllOctets (records (record_length_of settings.layout) last)
     → length (records (record_length_of settings.layout) last) < 2 ^ 32
-    → (done more : List (List ℕ)) → records (record_length_of settings.layout) last ≡ done ++ more → IsWork (worked (begun settings).work done)
+    → (done more : List (List ℕ)) → records (record_length_of settings.layout) last ≡ done ++ more → IsWork (worked (new_job settings).work done)
 front-work settings last eight range octets few done more is =
     let count : length done ≤ length (records (record_length_of settings.layout) last) = omega (arith, ap (λ (l : List (List ℕ)). length l) is, length-append done more) in
-    worked-work (begun settings).work done (begun-work settings eight range) (front-octets done more (subst AllOctets is octets)) (omega (arith, count, few))
+    worked-work (new_job settings).work done (begun-work settings eight range) (front-octets done more (subst AllOctets is octets)) (omega (arith, count, few))

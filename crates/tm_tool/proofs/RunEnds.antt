@@ -9,7 +9,7 @@ use Rattle.tm_output.specs.Outputs.{Piece, View, Took, Stopped, Way}
 use Rattle.tm_output.specs.Pieces.{Entries, Texts, noted_all, pieces_of, unclosed_pieces}
 use Rattle.tm_tool.specs.RecordingPieces.{Work, worked, record_pieces, closing_pieces, end_pieces}
 use Rattle.tm_tool.specs.Runs.{StopsAtEnd, IsStoppedAt, behind, kept_of}
-use Rattle.tm_tool.specs.Stepping.{IsRun, HasStepped}
+use Rattle.tm_tool.specs.code.Stepping.{IsRun, HasStepped}
 use Rattle.tm_output.proofs.PieceLemmas.{took_took, took_stopped, took_failed, stopped_more}
 use Rattle.tm_tool.proofs.Running.{behind-counted}
 

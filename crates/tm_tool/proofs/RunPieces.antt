@@ -16,11 +16,11 @@ use Rattle.tm_output.specs.Outputs.{Piece, View, AppendsCut, Took, RefusesPut, W
 use Rattle.tm_output.specs.Pieces.{Texts}
 use Rattle.tm_tool.specs.RecordingPieces.{Work, chosen, further, worked, record_pieces, end_pieces, pieces_after, pieces}
 use Rattle.tm_output.specs.Records.{AreRecords, record_count, records, rest_of}
-use Rattle.tm_tool.specs.Runs.{HasRead, HasReadAll, HasEnded, IsEnough, GoesOn, Suffices, Outcome, Ran, StopsAtRead, StopsAtRecord, StopsAtEnd, IsStoppedAt, behind, kept_of}
+use Rattle.tm_tool.specs.Runs.{HasRead, HasReadAll, HasEnded, IsEnough, WantsFurther, Suffices, Outcome, Ran, StopsAtRead, StopsAtRecord, StopsAtEnd, IsStoppedAt, behind, kept_of}
 use Rattle.tm_output.proofs.ListingLemmas.{AreRecords-append, concat-one}
 use Rattle.tm_output.proofs.PieceLemmas.{cut_all, cut_more, cut_none, took_took, took_stopped, stopped_more}
 use Rattle.tm_output.proofs.RecordLemmas.{records_counted, records_front, records_sized, records_whole, rest_front, rest_small, count_front, count_short, records_short, rest_short}
-use Rattle.tm_tool.specs.Stepping.{IsRun, Reached}
+use Rattle.tm_tool.specs.code.Stepping.{IsRun, Reached}
 use Rattle.tm_tool.proofs.Running.{IsValid, behind-more, behind-none, records-append, wanted_reached, more_reached}
 
 -- a refusal has one fault
@@ -132,7 +132,7 @@ module _ {A K : Type 0} (grows : K → K → List A → Type 0) (grows-nil : (k 
 
   -- and then those of the record that follows them
   pieces_next : (read : List (List ℕ)) (one more : List ℕ) → AreRecords (record_length_of w.rules.layout) read → length one ≡ record_length_of w.rules.layout
-      → w.state.records ≤ length read → GoesOn ending w.state.records (length read)
+      → w.state.records ≤ length read → WantsFurther ending w.state.records (length read)
       → (others : List (Piece A)) × (pieces text ending w ((concat read ++ one) ++ more) ≡ (record_pieces text w (behind w read) ++ record_pieces text (worked w (behind w read)) (one ∷ [])) ++ others)
   pieces_next read one more sized exact passed wanted =
       let count = length-append read (one ∷ []) in
@@ -176,7 +176,7 @@ module _ {A K : Type 0} (grows : K → K → List A → Type 0) (grows-nil : (k 
         let count : record_count n (concat read ++ rest) ≡ length read = count_front n some read rest sized ∙ omega (arith, count_short n rest short) in
         rw count (
           passed,
-          ⊎_elim (λ (h : HasReadAll n first next read rest × GoesOn ending w.state.records (length read)). inl (h.0.ended, h.1))
+          ⊎_elim (λ (h : HasReadAll n first next read rest × WantsFurther ending w.state.records (length read)). inl (h.0.ended, h.1))
               (λ (h : HasRead n first next read [] × (rest ≡ []) × Suffices ending w.state.records (length read)). inr (rest_front n some read rest sized ∙ rest_short n rest short ∙ h.1, h.2)) ended,
         )
 
@@ -232,14 +232,14 @@ module _ {A K : Type 0} (grows : K → K → List A → Type 0) (grows-nil : (k 
 
       ended_by : HasEnded ending w first next its_records its_rest
       ended_by = ⊎_elim
-          (λ (e : IsAtEnd next × GoesOn ending w.state.records (record_count (record_length_of w.rules.layout) h.read)).
+          (λ (e : IsAtEnd next × WantsFurther ending w.state.records (record_count (record_length_of w.rules.layout) h.read)).
           inl (
             record {
               octets = record { sized = records_sized (record_length_of w.rules.layout) some h.read; octets = its_octets };
               short = rest_small (record_length_of w.rules.layout) some h.read;
               ended = e.0;
             },
-            subst (GoesOn ending w.state.records) (sym counted) e.1,
+            subst (WantsFurther ending w.state.records) (sym counted) e.1,
           ))
           (λ (e : (its_rest ≡ []) × Suffices ending w.state.records (record_count (record_length_of w.rules.layout) h.read)).
           inr (
@@ -298,7 +298,7 @@ module _ {A K : Type 0} (grows : K → K → List A → Type 0) (grows-nil : (k 
     read_cut : StopsAtRead grows way text ending w first next old new → IfSome first (λ octets. AppendsCut grows old new (pieces text ending w octets))
     read_cut h = some_cut h.read h.part h.octets (reached h.wanted) h.took
       where
-        reached : ((length h.read < w.state.records) ⊎ GoesOn ending w.state.records (length h.read)) → w.state.records ≤ length h.read → Reached ending w.state.records (length h.read)
+        reached : ((length h.read < w.state.records) ⊎ WantsFurther ending w.state.records (length h.read)) → w.state.records ≤ length h.read → Reached ending w.state.records (length h.read)
         reached (inl few) passed = absurd (omega (arith, few, passed))
         reached (inr wanted) passed = wanted_reached ending w.state.records (length h.read) wanted
 

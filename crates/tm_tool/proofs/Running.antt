@@ -5,7 +5,7 @@ use Rattle.std.proofs.Math.ListN.{drop_of_length-le}
 use Rattle.std.specs.List.{concat}
 use Rattle.std.specs.Io.KnownBytes.{Consumes, IsAtEnd}
 use Rattle.std.proofs.KnownBytes.{Consumes-trans}
-use Rattle.tm_frame.specs.Fault.{reading_of}
+use Rattle.tm_frame.specs.Fault.{frame_reading_of}
 use Rattle.tm_frame.specs.Layout.{record_length_of}
 use Rattle.tm_items.specs.Item.{Item}
 use Rattle.tm_reassembly.specs.Items.{empty}
@@ -14,7 +14,7 @@ use Rattle.tm_rules.specs.Rules.{Rules, IsLimit, chooses}
 use Rattle.tm_reassembly.specs.State.{State}
 use Rattle.tm_bits.specs.Bits.{AreOctets}
 use Rattle.tm_reassembly.specs.Steps.{Progress, most_records, stepped, step_items}
-use Rattle.tm_reassembly.specs.Valid.{IsState}
+use Rattle.tm_reassembly.specs.Valid.{IsValidState}
 use Rattle.tm_reassembly.proofs.OneStep.{after-nil}
 use Rattle.tm_reassembly.proofs.Raw.{items-join, states-join}
 use Rattle.tm_reassembly.proofs.States.{empty-valid, record-valid}
@@ -25,12 +25,12 @@ use Rattle.tm_output.specs.declared.command.Ending.TheVariants.{StopAfter}
 use Rattle.tm_output.specs.Outputs.{Piece, View, Took, Stopped, Way}
 use Rattle.tm_output.specs.Pieces.{Entries, Texts, noted, noted_all, piece_of, pieces_of}
 use Rattle.tm_tool.specs.RecordingPieces.{Work, items_of, worked, record_pieces}
-use Rattle.tm_tool.specs.Runs.{HasRead, GoesOn, Suffices, StopsAtRecord, IsStoppedAt, behind}
-use Rattle.tm_tool.specs.Stepping.{Enough, HasTaken, HasStepped, HasPassed, PassingStopped, Reached, StepStopped, work_of}
+use Rattle.tm_tool.specs.Runs.{HasRead, WantsFurther, Suffices, StopsAtRecord, IsStoppedAt, behind}
+use Rattle.tm_tool.specs.code.Stepping.{Enough, HasTaken, HasStepped, HasPassed, PassingStopped, Reached, StepStopped, work_of}
 use Rattle.tm_output.proofs.ListingLemmas.{AreRecords-append, concat-one}
 use Rattle.tm_output.proofs.PieceLemmas.{took_none, took_took}
 
-pub none_valid : (rules : Rules) → IsLimit rules.max_packet → IsState rules empty
+pub none_valid : (rules : Rules) → IsLimit rules.max_packet → IsValidState rules empty
 none_valid = empty-valid
 
 -- the work after a step: the state that it leaves, and the entries
@@ -39,10 +39,10 @@ pub stepped_work : (p q : Progress) (e e' : Entries) (octets : List ℕ) → q �
 stepped_work p q e e' octets left noted = ap (λ (x : Progress). work_of x e') left ∙ ap (λ (x : Entries). work_of (stepped p octets) x) noted
 
 -- and its state is a valid one
-pub stepped_valid : (p q : Progress) (octets : List ℕ) → IsState p.rules p.state → AreOctets octets → p.state.records < most_records
-    → q ≡ stepped p octets → IsState q.rules q.state
+pub stepped_valid : (p q : Progress) (octets : List ℕ) → IsValidState p.rules p.state → AreOctets octets → p.state.records < most_records
+    → q ≡ stepped p octets → IsValidState q.rules q.state
 stepped_valid p q octets valid are few left =
-    subst (λ (x : Progress). IsState x.rules x.state) (sym left)
+    subst (λ (x : Progress). IsValidState x.rules x.state) (sym left)
     (record-valid p.rules p.state octets valid are (omega (arith, few)))
 
 -- a fault of writing is a fault of stepping
@@ -65,7 +65,7 @@ pieces-append text e [] ys = refl
 pieces-append {A} text e (x ∷ xs) ys = ap (λ (l : List (Piece A)). piece_of text e x ∷ l) (pieces-append text (noted e x) xs ys)
 
 abbrev pub IsValid : Work → Type 0
-IsValid w = IsState w.rules w.state
+IsValid w = IsValidState w.rules w.state
 
 module _ (w : Work) (valid : IsValid w) where
   pub worked-none : worked w [] ≡ w
@@ -84,15 +84,15 @@ module _ (w : Work) (valid : IsValid w) where
 -- the number of records that are done
 pub records-counted : (w : Work) (rs : List (List ℕ)) → (worked w rs).state.records ≡ w.state.records + length rs
 unfolding after
-records-counted w rs = ap (λ (n : ℕ). w.state.records + n) (length-map rs (reading_of w.rules.layout))
+records-counted w rs = ap (λ (n : ℕ). w.state.records + n) (length-map rs (frame_reading_of w.rules.layout))
 
 -- ---- how many records are wanted
 
-pub wanted_reached : (ending : Ending) (done count : ℕ) → GoesOn ending done count → Reached ending done count
+pub wanted_reached : (ending : Ending) (done count : ℕ) → WantsFurther ending done count → Reached ending done count
 wanted_reached (StopAfter n) done count h = omega (arith, h)
 wanted_reached _ done count h = tt
 
-pub more_reached : (ending : Ending) (done count more : ℕ) → GoesOn ending done count → more ≡ count + 1 → Reached ending done more
+pub more_reached : (ending : Ending) (done count more : ℕ) → WantsFurther ending done count → more ≡ count + 1 → Reached ending done more
 more_reached (StopAfter n) done count more h e = omega (arith, h, e)
 more_reached _ done count more h e = tt
 
@@ -179,9 +179,9 @@ module _ {A K : Type 0} (grows : K → K → List A → Type 0) (grows-nil : (k 
     counted : work.state.records ≡ length taken.read
     counted = ap (λ (x : Work). x.state.records) taken.work ∙ behind-counted w taken.read taken.passed
 
-    module _ (wanted : GoesOn ending w.state.records work.state.records) where
-      goes_on : GoesOn ending w.state.records (length taken.read)
-      goes_on = subst (GoesOn ending w.state.records) counted wanted
+    module _ (wanted : WantsFurther ending w.state.records work.state.records) where
+      goes_on : WantsFurther ending w.state.records (length taken.read)
+      goes_on = subst (WantsFurther ending w.state.records) counted wanted
 
       at_record : (way : Way) (fault : RunFault) → length octets ≡ record_length_of w.rules.layout → Stopped grows way now new (record_pieces text work (octets ∷ [])) fault
           → StopsAtRecord grows way text ending w first next old new fault

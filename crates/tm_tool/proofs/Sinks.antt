@@ -6,7 +6,7 @@ use Rattle.tm_output.specs.declared.fault.RunFault.{RunFault}
 use Rattle.tm_output.specs.Outputs.{View, Piece, Took, Stopped, Way}
 use Rattle.tm_output.specs.Pieces.{Entries, Texts, piece_of, noted, noted_all, pieces_of}
 use Rattle.tm_output.specs.Seen.{Fixture}
-use Rattle.tm_output.specs.Sinking.{Takes, Refuses}
+use Rattle.tm_output.specs.code.Sinking.{Takes, Refuses}
 use Rattle.tm_output.proofs.PieceLemmas.{took_none, took_took, took_stopped, stopped_more}
 
 -- with the same fixture the same texts are given

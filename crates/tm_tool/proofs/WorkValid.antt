@@ -11,20 +11,20 @@ use Rattle.tm_reassembly.specs.Valid.{AllOctets}
 use Rattle.tm_reassembly.proofs.ItemChannels.{item-channel}
 use Rattle.tm_reassembly.proofs.States.{empty-valid, records-valid}
 use Rattle.tm_tool.specs.Checkpoints.{IsWork}
-use Rattle.tm_tool.specs.Jobs.{begun}
+use Rattle.tm_tool.specs.Jobs.{new_job}
 use Rattle.tm_output.specs.Pieces.{Entries, sent, noted, noted_all}
 use Rattle.tm_tool.specs.RecordingPieces.{Work, items_of, worked}
 
 -- an item whose channel is one of eight leaves the entries valid
-pub noted-valid : (entries : Entries) (x : Item) → valid.IsState entries → ((c : ℕ) → is_of c x ≡ true → c < 8) → valid.IsState (noted entries x)
+pub noted-valid : (entries : Entries) (x : Item) → valid.AreValidEntries entries → ((c : ℕ) → is_of c x ≡ true → c < 8) → valid.AreValidEntries (noted entries x)
 unfolding noted
 noted-valid entries (Packet seen channel first place octets) v h =
     after-valid entries (sent channel octets) v (header-fits channel octets (h channel (eq-eqb channel channel refl))) (header-range octets).count
 noted-valid entries _ v h = v
 
 -- and so do items
-pub noted_all-valid : (entries : Entries) (xs : List Item) → valid.IsState entries
-    → ((c : ℕ) (x : Item) → is_of c x ≡ true → Among x xs → c < 8) → valid.IsState (noted_all entries xs)
+pub noted_all-valid : (entries : Entries) (xs : List Item) → valid.AreValidEntries entries
+    → ((c : ℕ) (x : Item) → is_of c x ≡ true → Among x xs → c < 8) → valid.AreValidEntries (noted_all entries xs)
 noted_all-valid entries [] v h = v
 noted_all-valid entries (x ∷ xs) v h =
     noted_all-valid (noted entries x) xs (noted-valid entries x v (λ c own. h c x own (inl refl))) (λ c y own a. h c y own (inr a))
@@ -39,5 +39,5 @@ worked-work w rs v octets most = record {
 }
 
 -- the work of a new job
-pub begun-work : (rules : Rules) → length rules.channels ≡ 8 → IsLimit rules.max_packet → IsWork (begun rules).work
+pub begun-work : (rules : Rules) → length rules.channels ≡ 8 → IsLimit rules.max_packet → IsWork (new_job rules).work
 begun-work rules h range = record { eight = h; state = empty-valid rules range; entries = valid-none }

@@ -10,11 +10,11 @@ use Rattle.tm_packet.specs.Valid as valid
 use Rattle.tm_reassembly.specs.declared.fault.StateFault.{StateFault}
 use Rattle.tm_rules.specs.Channels.{mask_of}
 use Rattle.tm_reassembly.specs.Checkpoint as reassembly
-use Rattle.tm_reassembly.specs.Checkpoint.{two, two_at}
+use Rattle.tm_bits.specs.Bits.{two_octets, two_at}
 use Rattle.tm_reassembly.specs.OlderForms as forgotten
 use Rattle.tm_rules.specs.Rules.{Rules}
 use Rattle.tm_reassembly.specs.State.{State}
-use Rattle.tm_reassembly.specs.Valid.{IsState}
+use Rattle.tm_reassembly.specs.Valid.{IsValidState}
 use Rattle.tm_tool.specs.declared.fault.CheckpointFault.{CheckpointFault}
 use Rattle.tm_tool.specs.declared.fault.CheckpointFault.TheVariants as fault
 use Rattle.tm_tool.specs.declared.version.Form.{Form}
@@ -27,8 +27,8 @@ use Rattle.tm_tool.specs.RecordingPieces.{Work}
 -- a work that a job may have: eight channels, and a state and entries that are valid
 pub record IsWork (w : Work) : Type 0 where
   pub eight : length w.rules.channels ≡ 8
-  pub state : IsState w.rules w.state
-  pub entries : valid.IsState w.entries
+  pub state : IsValidState w.rules w.state
+  pub entries : valid.AreValidEntries w.entries
 
 -- ---- versions
 
@@ -40,8 +40,8 @@ form_of Two = record { octet = 2; settings = 15; least = 36; with_master = false
 form_of Three = record { octet = 3; settings = 15; least = 37; with_master = true }
 
 -- the version that an octet names
-abbrev pub version_of : ℕ → Option Version
-version_of octet = if octet == 1 then Some One else if octet == 2 then Some Two else if octet == 3 then Some Three else None
+abbrev pub version_named : ℕ → Option Version
+version_named octet = if octet == 1 then Some One else if octet == 2 then Some Two else if octet == 3 then Some Three else None
 
 -- The settings can be told in a version: in version 1, which has no limit on packets, only with the greatest.
 abbrev pub tells : Version → Rules → Bool
@@ -50,8 +50,8 @@ tells Two s = true
 tells Three s = true
 
 -- a work, the last master channel count of its state being forgotten
-abbrev pub without_master : Work → Work
-without_master w = record { rules = w.rules; state = forgotten.without_master w.state; entries = w.entries }
+abbrev pub work_without_master : Work → Work
+work_without_master w = record { rules = w.rules; state = forgotten.without_master w.state; entries = w.entries }
 
 -- what a version keeps of a state, and of a work: all, or all but the last master channel count
 abbrev pub kept_state : Version → State → State
@@ -73,12 +73,12 @@ presence_octet Never = 2
 
 -- a number in three octets
 abbrev pub three : ℕ → List ℕ
-three n = n / 65536 ∷ two (n % 65536)
+three n = n / 65536 ∷ two_octets (n % 65536)
 
 -- the settings in fifteen octets
 abbrev pub settings_octets : Rules → List ℕ
 settings_octets s =
-    two s.layout.spacecraft ++ two s.layout.frame_length ++ two s.layout.skip_before ++ two s.layout.skip_after
+    two_octets s.layout.spacecraft ++ two_octets s.layout.frame_length ++ two_octets s.layout.skip_before ++ two_octets s.layout.skip_after
     ++ presence_octet s.layout.secondary ∷ presence_octet s.layout.ocf ∷ (if s.layout.error_control then 1 else 0) ∷ mask_of s.channels
     ∷ three s.max_packet
 
@@ -92,15 +92,15 @@ head_octets v s = magic ++ (form_of v).octet ∷ settings_in v s
 
 -- the state
 abbrev pub state_octets : Version → State → List ℕ
-state_octets v s = if (form_of v).with_master then reassembly.spelling s else reassembly.old_spelling s
+state_octets v s = if (form_of v).with_master then reassembly.state_spelling s else reassembly.old_spelling s
 
 -- octets, and behind them their error control
 abbrev pub with_check : List ℕ → List ℕ
-with_check octets = octets ++ two (error_control_of octets)
+with_check octets = octets ++ two_octets (error_control_of octets)
 
 -- a work as it stands in a checkpoint of a version
 unfoldable pub spelled_in : Version → Work → List ℕ
-spelled_in v w = with_check (head_octets v w.rules ++ state_octets v w.state ++ sequence.spelling w.entries)
+spelled_in v w = with_check (head_octets v w.rules ++ state_octets v w.state ++ sequence.entries_spelling w.entries)
 
 -- the checkpoint of a work: version 3 is written
 abbrev pub checkpoint_of : Work → List ℕ
@@ -130,7 +130,7 @@ unfoldable pub framed : Rules → List ℕ → Result Version CheckpointFault
 framed s octets =
     if nat_lt (length octets) 33 then Err fault.Short
     else if not (bytes_eq (take 4 octets) magic) then Err fault.Magic
-    else framed_as s octets (version_of (slice_index octets 4))
+    else framed_as s octets (version_named (slice_index octets 4))
 
 -- the octets between the settings and the check
 abbrev pub inner : Version → List ℕ → List ℕ
@@ -141,19 +141,19 @@ abbrev pub job_of : Rules → State → Entries → JobState
 job_of s state entries = record { work = record { rules = s; state = state; entries = entries }; fresh = false }
 
 -- with the entries that are read of some octets, where none of these are left over
-abbrev pub with_entries : Rules → State → ℕ → Result sequence.Decoded TrackerFault → Result JobState CheckpointFault
+abbrev pub with_entries : Rules → State → ℕ → Result sequence.DecodedEntries TrackerFault → Result JobState CheckpointFault
 with_entries s state octets (Ok read) = if nat_lt read.octets octets then Err fault.Trailing else Ok (job_of s state read.entries)
 with_entries s state octets (Err found) = Err fault.State
 
 -- with the state that is read of the octets, and the entries that are read behind it
-abbrev pub with_state : Rules → List ℕ → Result reassembly.Decoded StateFault → Result JobState CheckpointFault
+abbrev pub with_state : Rules → List ℕ → Result reassembly.DecodedState StateFault → Result JobState CheckpointFault
 with_state s octets (Ok read) =
-    with_entries s read.state (length (drop read.octets octets)) (sequence.decoding_of (drop read.octets octets))
+    with_entries s read.state (length (drop read.octets octets)) (sequence.entries_decoding_of (drop read.octets octets))
 with_state s octets (Err found) = Err fault.State
 
 -- the state at the front of octets, in the form of a version
-abbrev pub state_in : Version → Rules → List ℕ → Result reassembly.Decoded StateFault
-state_in v s octets = if (form_of v).with_master then reassembly.decoding_of s octets else reassembly.old_decoding_of s octets
+abbrev pub state_in : Version → Rules → List ℕ → Result reassembly.DecodedState StateFault
+state_in v s octets = if (form_of v).with_master then reassembly.state_decoding_of s octets else reassembly.old_decoding_of s octets
 
 -- the job in the octets of a checkpoint of a version
 abbrev pub resumed_as : Rules → List ℕ → Result Version CheckpointFault → Result JobState CheckpointFault

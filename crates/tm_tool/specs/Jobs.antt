@@ -18,8 +18,8 @@ pub record JobState : Type 0 where
   pub fresh : Bool
 
 -- a job with these settings before any record
-abbrev pub begun : Rules → JobState
-begun rules = record {
+abbrev pub new_job : Rules → JobState
+new_job rules = record {
   work = record { rules = rules; state = empty; entries = no_entries };
   fresh = true;
 }

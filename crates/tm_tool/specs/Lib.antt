@@ -1,8 +1,8 @@
 pub mod RecordingPieces
 pub mod Jobs
 pub mod Runs
-pub mod Stepping
 pub mod Checkpoints
 pub mod Resuming
 pub mod OlderVersions
 pub mod NotesInAll
+pub mod code

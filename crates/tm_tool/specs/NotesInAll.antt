@@ -2,12 +2,12 @@
 use Rattle.std.specs.Prelude.{ℕ, List, [], ◌∷◌, ◌++◌, length, drop, slice_index_or}
 use Rattle.std.specs.List.{flat_map}
 use Rattle.tm_packet.specs.declared.notes.Note.{Note}
-use Rattle.tm_packet.specs.Header.{header_of}
+use Rattle.tm_packet.specs.Header.{packet_header_of}
 use Rattle.tm_packet.specs.Merge.{Sent}
 use Rattle.tm_items.specs.Item.{Item, Packet}
 use Rattle.tm_output.specs.Lines.{note_lines}
 use Rattle.tm_output.specs.Outputs.{Piece}
-use Rattle.tm_output.specs.Pieces.{Texts, line_of, sent}
+use Rattle.tm_output.specs.Pieces.{Texts, item_line, sent}
 
 -- the packet in an item, if it is one
 unfoldable pub sent_in : Item → List Sent
@@ -20,8 +20,8 @@ sent_among xs = flat_map sent_in xs
 
 -- what an item gives the report, if a packet has these notes
 unfoldable pub report_with : List Note → Item → List ℕ
-report_with notes (Packet seen channel first place octets) = note_lines seen channel (header_of octets).application notes
-report_with notes x = line_of x
+report_with notes (Packet seen channel first place octets) = note_lines seen channel (packet_header_of octets).application notes
+report_with notes x = item_line x
 
 module _ {A : Type 0} (text : Texts A) where
   -- the pieces of items, where the first packet has the first of these lists of notes, the next the next, and so on

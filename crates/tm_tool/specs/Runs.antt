@@ -3,7 +3,7 @@ use Rattle.std.specs.Prelude.{⊤, false, ◌≡◌, ◌≢◌, ◌⊎◌, ◌<�
 use Rattle.std.specs.List.{concat}
 use Rattle.std.specs.Io.KnownBytes.{Consumes, IsAtEnd}
 use Rattle.tm_frame.specs.Layout.{record_length_of}
-use Rattle.tm_reassembly.specs.Valid.{IsState}
+use Rattle.tm_reassembly.specs.Valid.{IsValidState}
 use Rattle.tm_output.specs.declared.fault.RunFault.{RunFault}
 use Rattle.tm_output.specs.declared.fault.RunFault.TheVariants.{Read, Write, Report, ShortRecording, TooMany, NoMemory}
 use Rattle.tm_output.specs.declared.command.Ending.{Ending}
@@ -25,10 +25,10 @@ pub record HasReadAll (size : ℕ) (left_old left_new : Option (List ℕ)) (read
   pub ended : IsAtEnd left_new
 
 -- Of a job of which so many records were done: after a count of records in all a further one is wanted.
-abbrev pub GoesOn : Ending → ℕ → ℕ → Type 0
-GoesOn Close done count = ⊤
-GoesOn Keep done count = ⊤
-GoesOn (StopAfter n) done count = count < done + n
+abbrev pub WantsFurther : Ending → ℕ → ℕ → Type 0
+WantsFurther Close done count = ⊤
+WantsFurther Keep done count = ⊤
+WantsFurther (StopAfter n) done count = count < done + n
 
 -- or none is
 abbrev pub Suffices : Ending → ℕ → ℕ → Type 0
@@ -49,18 +49,18 @@ behind w read = drop w.state.records read
 -- what an ending reads: all, down to less than a record; or just as many records as it wants
 abbrev pub HasEnded : Ending → Work → Option (List ℕ) → Option (List ℕ) → List (List ℕ) → List ℕ → Type 0
 HasEnded ending w left_old left_new read rest =
-    (HasReadAll (record_length_of w.rules.layout) left_old left_new read rest × GoesOn ending w.state.records (length read))
+    (HasReadAll (record_length_of w.rules.layout) left_old left_new read rest × WantsFurther ending w.state.records (length read))
     ⊎ (HasRead (record_length_of w.rules.layout) left_old left_new read [] × (rest ≡ []) × Suffices ending w.state.records (length read))
 
 -- of each job: its state is a valid one, and a record has an octet
-abbrev pub IsSound : Work → Type 0
-IsSound w = IsState w.rules w.state × (0 < record_length_of w.rules.layout)
+abbrev pub IsSoundWork : Work → Type 0
+IsSoundWork w = IsValidState w.rules w.state × (0 < record_length_of w.rules.layout)
 
 -- An ending reads the records that are done, and then either all that follows, down to the recording's end; or just as many whole records as it wants.
 abbrev pub IsEnough : Ending → Work → Option (List ℕ) → List ℕ → Type 0
 IsEnough ending w left read =
     (w.state.records ≤ record_count (record_length_of w.rules.layout) read)
-    × ((IsAtEnd left × GoesOn ending w.state.records (record_count (record_length_of w.rules.layout) read))
+    × ((IsAtEnd left × WantsFurther ending w.state.records (record_count (record_length_of w.rules.layout) read))
     ⊎ ((rest_of (record_length_of w.rules.layout) read ≡ []) × Suffices ending w.state.records (record_count (record_length_of w.rules.layout) read)))
 
 -- Records and what the ending has are written one after the other, from where the job has got. The recording is read from its beginning:
@@ -89,7 +89,7 @@ module _ {A K : Type 0} (grows : K → K → List A → Type 0) (way : Way) (tex
     pub part : List ℕ
     pub octets : HasRead (record_length_of w.rules.layout) left_old left_new read part
     pub short : length part < record_length_of w.rules.layout
-    pub wanted : (length read < w.state.records) ⊎ GoesOn ending w.state.records (length read)
+    pub wanted : (length read < w.state.records) ⊎ WantsFurther ending w.state.records (length read)
     pub took : Took grows old new (record_pieces text w (behind w read))
 
   -- the recording has fewer whole records than are done: nothing is written
@@ -107,7 +107,7 @@ module _ {A K : Type 0} (grows : K → K → List A → Type 0) (way : Way) (tex
     pub octets : HasRead (record_length_of w.rules.layout) left_old left_new read one
     pub exact : length one ≡ record_length_of w.rules.layout
     pub most : length read ≡ 2 ^ 32 - 1
-    pub wanted : GoesOn ending w.state.records (length read)
+    pub wanted : WantsFurther ending w.state.records (length read)
     pub took : Took grows old new (record_pieces text w (behind w read))
 
   -- writing stopped at a piece of the record that was read last: nothing was read past it, and all pieces before it are written
@@ -117,7 +117,7 @@ module _ {A K : Type 0} (grows : K → K → List A → Type 0) (way : Way) (tex
     pub octets : HasRead (record_length_of w.rules.layout) left_old left_new read one
     pub exact : length one ≡ record_length_of w.rules.layout
     pub passed : w.state.records ≤ length read
-    pub wanted : GoesOn ending w.state.records (length read)
+    pub wanted : WantsFurther ending w.state.records (length read)
     pub mid : View K
     pub took : Took grows old mid (record_pieces text w (behind w read))
     pub stopped : Stopped grows way mid new (record_pieces text (worked w (behind w read)) (one ∷ [])) fault

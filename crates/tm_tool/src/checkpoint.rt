@@ -7,7 +7,7 @@ ghost use Rattle.tm_reassembly.specs.declared.fault.StateFault.TheVariants as fo
 ghost use Rattle.tm_rules.specs.Rules.{IsLimit, Rules};
 ghost use Rattle.tm_reassembly.specs.State.{State};
 ghost use Rattle.tm_reassembly.specs.Steps.{progress_in};
-ghost use Rattle.tm_reassembly.specs.Valid.{IsState};
+ghost use Rattle.tm_reassembly.specs.Valid.{IsValidState};
 ghost use Rattle.tm_tool.specs.declared.version.Version.TheVariants as version;
 ghost use Rattle.tm_tool.specs.Checkpoints.{AsksMemory, IsWork, checkpoint_of, check_holds, form_of, framed, head_octets, inner, job_of, presence_octet, resumed, says_settings, settings_octets, state_in, tells, three, with_check, with_entries, with_state};
 
@@ -284,7 +284,7 @@ fn read_state(
 ) -> Result<(Reassembly, usize), CheckpointFault>
     ensures ok { IfOk result (λ read. state_in version settings.now octets.now ≡ Ok (record { state = read.0.state; octets = read.1 })) }
     ensures same { IfOk result (λ read. read.0 ≡ progress_in settings.now read.0.state) }
-    ensures valid { IfOk result (λ read. IsState read.0.rules read.0.state) }
+    ensures valid { IfOk result (λ read. IsValidState read.0.rules read.0.state) }
     ensures inside { IfOk result (λ read. read.1 ≤ length octets.now) }
     ensures refused { IfErr result (λ found. found ≢ CheckpointFault.NoMemory → with_state settings.now octets.now (state_in version settings.now octets.now) ≡ Err found) }
     ensures memory { IsErrOf result CheckpointFault.NoMemory → IsOk (state_in version settings.now octets.now) }
@@ -302,9 +302,9 @@ fn read_state(
 // The entries that these octets are.
 fn read_entries(alloc: Global, octets: &[u8]) -> Result<Tracker, CheckpointFault>
     ensures ok { IfOk result (λ entries. (settings : Rules) (state : State) →
-        with_entries settings state (length octets.now) (sequence.decoding_of octets.now) ≡ Ok (job_of settings state entries)) }
+        with_entries settings state (length octets.now) (sequence.entries_decoding_of octets.now) ≡ Ok (job_of settings state entries)) }
     ensures refused { IfErr result (λ found. found ≢ CheckpointFault.NoMemory → (settings : Rules) (state : State) →
-        with_entries settings state (length octets.now) (sequence.decoding_of octets.now) ≡ Err found) }
+        with_entries settings state (length octets.now) (sequence.entries_decoding_of octets.now) ≡ Err found) }
 {
     match Tracker::decode(alloc, octets) {
         Ok((tracker, read)) => {

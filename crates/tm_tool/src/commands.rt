@@ -5,12 +5,12 @@ ghost use Rattle.std.specs.Io.KnownBytes.{Appends, Keeps};
 ghost use Rattle.tm_output.specs.declared.command.Command.TheVariants.{Extract, Packets};
 ghost use Rattle.tm_output.specs.Faults.{RunCounted};
 ghost use Rattle.tm_tool.specs.Jobs.{head_pieces, head_text};
-ghost use Rattle.tm_output.specs.Outlets.{PutStopped};
+ghost use Rattle.tm_output.specs.code.Outlets.{PutStopped};
 ghost use Rattle.tm_output.specs.Outputs.{lines_way};
 ghost use Rattle.tm_output.specs.Pieces.{way_of, text_of};
-ghost use Rattle.tm_tool.specs.Runs.{IsSound, IsStoppedAt};
+ghost use Rattle.tm_tool.specs.Runs.{IsSoundWork, IsStoppedAt};
 ghost use Rattle.tm_output.specs.Shelves.{Shelves, shelf_text, shelf_way};
-ghost use Rattle.tm_tool.specs.Stepping.{IsRun};
+ghost use Rattle.tm_tool.specs.code.Stepping.{IsRun};
 ghost use Rattle.tm_output.specs.Seen.{both, shelf_both};
 
 use crate::recording::{Ended, run_to_end};
@@ -60,7 +60,7 @@ pub fn run_by<R: Source, W: Drain, V: Drain>(
     report: &mut V,
     ending: Ending,
 ) -> Result<Ended, RunFault>
-    ensures sound { IsSound work }
+    ensures sound { IsSoundWork work }
     ensures run { IfOk result (λ ended. IsRun Appends (way_of command.entry) (text_of command.entry) ending work
         (R.left recording.old) (R.left recording.new)
         (both W.Drain V.Drain out.old report.old)
@@ -109,7 +109,7 @@ pub fn run_split<R: Source, H: Shelf, V: Drain>(
     report: &mut V,
     ending: Ending,
 ) -> Result<Ended, RunFault>
-    ensures sound { IsSound work }
+    ensures sound { IsSoundWork work }
     ensures run { IfOk result (λ ended. IsRun Shelves shelf_way shelf_text ending work
         (R.left recording.old) (R.left recording.new)
         (shelf_both H.Shelf V.Drain shelf.old report.old)

@@ -3,9 +3,9 @@
 ghost use Rattle.std.specs.Prelude.{[], ◌≡◌, false, option_map, IfOk, IfErr, IfSome, OnOk};
 ghost use Rattle.std.specs.Io.KnownBytes.{Appends, Keeps};
 ghost use Rattle.tm_output.specs.Faults.{RunCounted};
-ghost use Rattle.tm_tool.specs.Jobs.{begun, head_pieces};
+ghost use Rattle.tm_tool.specs.Jobs.{new_job, head_pieces};
 ghost use Rattle.tm_output.specs.Pieces.{way_of, text_of};
-ghost use Rattle.tm_tool.specs.Runs.{IsSound, IsHeadedStop, IsStoppedAt, Ran};
+ghost use Rattle.tm_tool.specs.Runs.{IsSoundWork, IsHeadedStop, IsStoppedAt, Ran};
 ghost use Rattle.tm_output.specs.Shelves.{Shelves, shelf_text, shelf_way};
 ghost use Rattle.tm_output.specs.Seen.{both, shelf_both};
 
@@ -51,7 +51,7 @@ impl Job {
     /// `NoMemory` where that can't be had.
     #[tactic(auto, using(crate::proofs::Running::none_valid))]
     pub fn new(alloc: Global, settings: &Settings) -> Result<Job, NoMemory>
-        ensures { IfOk result (λ job. job ≡ begun settings.now) }
+        ensures { IfOk result (λ job. job ≡ new_job settings.now) }
     {
         let Ok(reassembly) = Reassembly::new(
             alloc,
@@ -117,7 +117,7 @@ pub fn run<R: Source, W: Drain, V: Drain>(
     report: &mut V,
     ending: Ending,
 ) -> Result<Done, RunFault>
-    ensures sound { IsSound job.work }
+    ensures sound { IsSoundWork job.work }
 
     // With Ok just the pieces of what was read were written, and passed on; and what was read is what the ending reads.
     ensures ran { IfOk result (λ done. Ran Appends (way_of command.entry) (text_of command.entry) ending job.work (head_pieces command.entry job.fresh) (R.left recording.old) (R.left recording.new)
@@ -161,7 +161,7 @@ pub fn split<R: Source, H: Shelf, V: Drain>(
     report: &mut V,
     ending: Ending,
 ) -> Result<Done, RunFault>
-    ensures sound { IsSound job.work }
+    ensures sound { IsSoundWork job.work }
 
     // With Ok just the pieces of what was read were written, and passed on; and what was read is what the ending reads.
     ensures ran { IfOk result (λ done. Ran Shelves shelf_way shelf_text ending job.work [] (R.left recording.old) (R.left recording.new)

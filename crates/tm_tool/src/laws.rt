@@ -7,13 +7,13 @@ ghost use Rattle.tm_frame.specs.Layout.{record_length_of};
 ghost use Rattle.tm_rules.specs.Rules.{IsLimit, Rules};
 ghost use Rattle.tm_packet.specs.Merge as sequence;
 ghost use Rattle.tm_reassembly.specs.Items.{closing};
-ghost use Rattle.tm_reassembly.specs.Valid.{AllOctets, IsState};
+ghost use Rattle.tm_reassembly.specs.Valid.{AllOctets, IsValidState};
 ghost use Rattle.tm_output.specs.declared.command.Command.{Command};
 ghost use Rattle.tm_output.specs.declared.command.Ending.{Ending};
-ghost use Rattle.tm_tool.specs.Checkpoints.{IsWork, checkpoint_of, kept_in, resumed, spelled_in, tells, without_master};
+ghost use Rattle.tm_tool.specs.Checkpoints.{IsWork, checkpoint_of, kept_in, resumed, spelled_in, tells, work_without_master};
 ghost use Rattle.tm_tool.specs.declared.version.Version.{Version};
 ghost use Rattle.tm_tool.specs.declared.version.Version.TheVariants as version;
-ghost use Rattle.tm_tool.specs.Jobs.{JobState, begun, head_pieces};
+ghost use Rattle.tm_tool.specs.Jobs.{JobState, new_job, head_pieces};
 ghost use Rattle.tm_tool.specs.NotesInAll.{pieces_with, sent_among};
 ghost use Rattle.tm_tool.specs.OlderVersions.{LacksGapLine};
 ghost use Rattle.tm_output.specs.declared.fault.RunFault.{RunFault};
@@ -23,7 +23,7 @@ ghost use Rattle.tm_tool.specs.RecordingPieces.{Work, items_of, pieces, record_p
 ghost use Rattle.tm_output.specs.Records.{records};
 ghost use Rattle.tm_tool.specs.Resuming.{Follows, Stop, done_in_all, in_one, no_head, resumed_pieces, run_pieces, then_pieces};
 ghost use Rattle.tm_output.specs.Shelves.{Shelved, Shelves, shelf_text, shelf_way};
-ghost use Rattle.tm_tool.specs.Runs.{IsSound, IsHeadedStop, IsStoppedAt, Outcome, Ran, StoppedIn};
+ghost use Rattle.tm_tool.specs.Runs.{IsSoundWork, IsHeadedStop, IsStoppedAt, Outcome, Ran, StoppedIn};
 
 /// Checkpoints: what is written is read again, with the same settings, as the same work, and the job isn't fresh. So it is for the older
 /// versions, as far as they can tell the settings, but that the last master channel count is lost. And octets that are read are the
@@ -51,29 +51,29 @@ pub fn checkpoints()
 /// be made in memory; a refused put leaves some octets of its packet out; there are more records than can be counted, or fewer than are done.
 pub fn whole_recordings()
     ensures ran { (command : Command) (ending : Ending) (job : JobState) (left_old left_new : Option (List ℕ)) (old new : View (Option (List ℕ)))
-        (count : ℕ) (kept : Option Work) → IsSound job.work →
+        (count : ℕ) (kept : Option Work) → IsSoundWork job.work →
         Ran Appends (way_of command) (text_of command) ending job.work (head_pieces command job.fresh) left_old left_new old new count kept →
         IfSome left_old (λ octets. Outcome Appends (way_of command) (text_of command) ending job.work (head_pieces command job.fresh) octets old new count kept) }
     ensures stopped { (command : Command) (ending : Ending) (job : JobState) (left_old left_new : Option (List ℕ)) (old new : View (Option (List ℕ)))
-        (fault : RunFault) → IsSound job.work →
+        (fault : RunFault) → IsSoundWork job.work →
         IsHeadedStop Appends (way_of command) (text_of command) ending job.work (head_pieces command job.fresh) left_old left_new old new fault →
         IfSome left_old (StoppedIn Appends (way_of command) (text_of command) ending job.work (head_pieces command job.fresh) old new fault) }
     ensures split_ran { (ending : Ending) (w : Work) (left_old left_new : Option (List ℕ)) (old new : View (Option (ℕ → List ℕ)))
-        (count : ℕ) (kept : Option Work) → IsSound w → Ran Shelves shelf_way shelf_text ending w [] left_old left_new old new count kept →
+        (count : ℕ) (kept : Option Work) → IsSoundWork w → Ran Shelves shelf_way shelf_text ending w [] left_old left_new old new count kept →
         IfSome left_old (λ octets. Outcome Shelves shelf_way shelf_text ending w [] octets old new count kept) }
     ensures split_stopped { (ending : Ending) (w : Work) (left_old left_new : Option (List ℕ)) (old new : View (Option (ℕ → List ℕ)))
-        (fault : RunFault) → IsSound w → IsStoppedAt Shelves shelf_way shelf_text ending w left_old left_new old new fault →
+        (fault : RunFault) → IsSoundWork w → IsStoppedAt Shelves shelf_way shelf_text ending w left_old left_new old new fault →
         IfSome left_old (StoppedIn Shelves shelf_way shelf_text ending w [] old new fault) }
 {}
 
 /// Joining: the pieces of records and more records are those of the first, and then those of the others from the work that the first leave;
 /// and so is the work that they leave.
 pub fn joining()
-    ensures pieces { (text : Texts ℕ) (w : Work) (a b : List (List ℕ)) → IsState w.rules w.state →
+    ensures pieces { (text : Texts ℕ) (w : Work) (a b : List (List ℕ)) → IsValidState w.rules w.state →
         record_pieces text w (a ++ b) ≡ record_pieces text w a ++ record_pieces text (worked w a) b }
-    ensures shelved { (text : Texts Shelved) (w : Work) (a b : List (List ℕ)) → IsState w.rules w.state →
+    ensures shelved { (text : Texts Shelved) (w : Work) (a b : List (List ℕ)) → IsValidState w.rules w.state →
         record_pieces text w (a ++ b) ≡ record_pieces text w a ++ record_pieces text (worked w a) b }
-    ensures work { (w : Work) (a b : List (List ℕ)) → IsState w.rules w.state → worked w (a ++ b) ≡ worked (worked w a) b }
+    ensures work { (w : Work) (a b : List (List ℕ)) → IsValidState w.rules w.state → worked w (a ++ b) ≡ worked (worked w a) b }
 {}
 
 /// Notes: of each packet the report has the notes that it has among the whole list of the headers of the packets of the records, in their order.
@@ -84,9 +84,9 @@ pub fn notes()
         record_pieces text w rs ≡ pieces_with text (sequence.notes w.entries (sent_among (items_of w rs))) (items_of w rs) }
     ensures shelved { (text : Texts Shelved) (w : Work) (rs : List (List ℕ)) → IsWork w →
         record_pieces text w rs ≡ pieces_with text (sequence.notes w.entries (sent_among (items_of w rs))) (items_of w rs) }
-    ensures entries { (w : Work) (rs : List (List ℕ)) → (worked w rs).entries ≡ sequence.after w.entries (sent_among (items_of w rs)) }
+    ensures entries { (w : Work) (rs : List (List ℕ)) → (worked w rs).entries ≡ sequence.entries_after w.entries (sent_among (items_of w rs)) }
     ensures open { (w : Work) (rs : List (List ℕ)) (rest : ℕ) →
-        noted_all (worked w rs).entries (closing (worked w rs).state rest) ≡ sequence.after w.entries (sent_among (items_of w rs)) }
+        noted_all (worked w rs).entries (closing (worked w rs).state rest) ≡ sequence.entries_after w.entries (sent_among (items_of w rs)) }
 {}
 
 /// Resumption: a new job that is stopped any number of times, at the recording's end or after so many records, and each time written as a
@@ -98,13 +98,13 @@ pub fn resumption()
     ensures run { (command : Command) (ending : Ending) (last : List ℕ) (settings : Rules) (stops : List Stop) →
         length settings.channels ≡ 8 → IsLimit settings.max_packet → AllOctets (records (record_length_of settings.layout) last) → length (records (record_length_of settings.layout) last) < 2 ^ 32 →
         Follows (record_length_of settings.layout) last [] stops →
-        resumed_pieces (head_pieces command) (text_of command) ending last settings (begun settings) stops
-        ≡ run_pieces (head_pieces command) (text_of command) (in_one ending (done_in_all (record_length_of settings.layout) ending last 0 stops)) (begun settings) last }
+        resumed_pieces (head_pieces command) (text_of command) ending last settings (new_job settings) stops
+        ≡ run_pieces (head_pieces command) (text_of command) (in_one ending (done_in_all (record_length_of settings.layout) ending last 0 stops)) (new_job settings) last }
     ensures split { (ending : Ending) (last : List ℕ) (settings : Rules) (stops : List Stop) →
         length settings.channels ≡ 8 → IsLimit settings.max_packet → AllOctets (records (record_length_of settings.layout) last) → length (records (record_length_of settings.layout) last) < 2 ^ 32 →
         Follows (record_length_of settings.layout) last [] stops →
-        resumed_pieces no_head shelf_text ending last settings (begun settings) stops
-        ≡ run_pieces no_head shelf_text (in_one ending (done_in_all (record_length_of settings.layout) ending last 0 stops)) (begun settings) last }
+        resumed_pieces no_head shelf_text ending last settings (new_job settings) stops
+        ≡ run_pieces no_head shelf_text (in_one ending (done_in_all (record_length_of settings.layout) ending last 0 stops)) (new_job settings) last }
 {}
 
 /// Older versions: from an older checkpoint a job gives, in this and all further runs, what the job of the same work gives without its last
@@ -117,9 +117,9 @@ pub fn older_versions()
     ensures split { (v : Version) (w : Work) (ending : Ending) (last : List ℕ) (stops : List Stop) → IsWork w → tells v w.rules ≡ true →
         then_pieces (resumed w.rules (spelled_in v w)) (λ job. resumed_pieces no_head shelf_text ending last w.rules job stops)
         ≡ resumed_pieces no_head shelf_text ending last w.rules (record { work = kept_in v w; fresh = false }) stops }
-    ensures kept { (w : Work) → (kept_in version.One w ≡ without_master w) × (kept_in version.Two w ≡ without_master w) × (kept_in version.Three w ≡ w) }
-    ensures one_gap { (command : Command) (ending : Ending) (w : Work) (recording : List ℕ) → IsState w.rules w.state →
-        LacksGapLine (pieces (text_of command) ending w recording) (pieces (text_of command) ending (without_master w) recording) }
-    ensures shelved_gap { (ending : Ending) (w : Work) (recording : List ℕ) → IsState w.rules w.state →
-        LacksGapLine (pieces shelf_text ending w recording) (pieces shelf_text ending (without_master w) recording) }
+    ensures kept { (w : Work) → (kept_in version.One w ≡ work_without_master w) × (kept_in version.Two w ≡ work_without_master w) × (kept_in version.Three w ≡ w) }
+    ensures one_gap { (command : Command) (ending : Ending) (w : Work) (recording : List ℕ) → IsValidState w.rules w.state →
+        LacksGapLine (pieces (text_of command) ending w recording) (pieces (text_of command) ending (work_without_master w) recording) }
+    ensures shelved_gap { (ending : Ending) (w : Work) (recording : List ℕ) → IsValidState w.rules w.state →
+        LacksGapLine (pieces shelf_text ending w recording) (pieces shelf_text ending (work_without_master w) recording) }
 {}

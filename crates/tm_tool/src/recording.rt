@@ -9,8 +9,8 @@ ghost use Rattle.tm_output.specs.Faults.{RunCounted};
 ghost use Rattle.tm_output.specs.Outputs.{Written};
 ghost use Rattle.tm_tool.specs.RecordingPieces.{closing_pieces, end_pieces, record_pieces, worked};
 ghost use Rattle.tm_output.specs.Pieces.{noted_all, pieces_of};
-ghost use Rattle.tm_tool.specs.Runs.{IsSound, GoesOn, IsStoppedAt, kept_of};
-ghost use Rattle.tm_tool.specs.Stepping.{IsRun, Enough, HasPassed, IsGoing, HasStepped, PassCounted, PassingStopped, StepWritten, work_of};
+ghost use Rattle.tm_tool.specs.Runs.{IsSoundWork, WantsFurther, IsStoppedAt, kept_of};
+ghost use Rattle.tm_tool.specs.code.Stepping.{IsRun, Enough, HasPassed, IsGoing, HasStepped, PassCounted, PassingStopped, StepWritten, work_of};
 ghost use Rattle.tm_output.specs.Seen.{fixture, outlet_both, output_both};
 
 use crate::work::Work;
@@ -83,7 +83,7 @@ fn skip_records<R: Source>(count: u32, buffer: &mut [u8], recording: &mut R) -> 
 
 // The ending wants a further record, of which so many were done and so many are.
 fn wants_more(ending: Ending, done: u32, records: u32) -> bool
-    ensures wanted { result ≡ true → GoesOn ending done records }
+    ensures wanted { result ≡ true → WantsFurther ending done records }
     ensures enough { result ≡ false → Enough ending done records }
 {
     match ending {
@@ -325,7 +325,7 @@ pub fn run_to_end<R: Source, O: Outlet, V: Drain>(
     report: &mut V,
     ending: Ending,
 ) -> Result<Ended, RunFault>
-    ensures sound { IsSound work }
+    ensures sound { IsSoundWork work }
     ensures run { IfOk result (λ ended. IsRun O.grows O.way (O.text (O.fixed outlet.old)) ending work
         (R.left recording.old) (R.left recording.new)
         (outlet_both O.Outlet V.Drain outlet.old report.old)

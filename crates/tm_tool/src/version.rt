@@ -24,11 +24,11 @@ pub struct Form {
 }
 
 impl Version {
-    ghost use Rattle.tm_tool.specs.Checkpoints.{form_of, version_of};
+    ghost use Rattle.tm_tool.specs.Checkpoints.{form_of, version_named};
 
     /// The version that an octet names.
     pub fn of(octet: u8) -> Option<Version>
-        ensures { result ≡ version_of octet }
+        ensures { result ≡ version_named octet }
     {
         match octet {
             1 => Some(Version::One),

@@ -1,7 +1,7 @@
 -- Worked examples: what the definitions say of known words.
 use Rattle.std.proofs.Common.{◌≡◌, true, List, [], ◌∷◌, Some, None, option_map, refl, codes}
 use Rattle.clap.specs.Words.{Text}
-use Rattle.clap.specs.declared.error.kind.ErrorKind.TheVariants.{MissingRequiredArgument, UnknownArgument, ValueValidation}
+use Rattle.clap.specs.declared.error.kind.ErrorKind.TheVariants.{DisplayHelp, DisplayVersion, MissingRequiredArgument, UnknownArgument, ValueValidation}
 use Rattle.clap.proofs.OnLiterals.{clap_on_literals}
 use Rattle.tm_words.specs.declared.request.Action.TheVariants.{Frames, Packets, Extract, Split, Fields}
 use Rattle.tm_words.specs.CommandLine.{faults_of, is_taken, lacks_checkpoint, matches_of, plan_of}
@@ -81,3 +81,15 @@ stop_at_none = refl
 stop_of_frames : faults_of (codes "frames" ∷ codes "--settings" ∷ codes "s" ∷ codes "--stop-after" ∷ codes "3" ∷ []) ≡ UnknownArgument ∷ []
 unfolding clap_on_literals faults_of
 stop_of_frames = refl
+
+help_asked : faults_of (codes "fields" ∷ codes "--help" ∷ []) ≡ DisplayHelp ∷ []
+unfolding clap_on_literals faults_of
+help_asked = refl
+
+version_asked : faults_of (codes "--version" ∷ []) ≡ DisplayVersion ∷ []
+unfolding clap_on_literals faults_of
+version_asked = refl
+
+version_of_packets : faults_of (codes "packets" ∷ codes "--version" ∷ []) ≡ UnknownArgument ∷ []
+unfolding clap_on_literals faults_of
+version_of_packets = refl

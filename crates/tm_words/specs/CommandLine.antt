@@ -1,5 +1,5 @@
 -- The command line: the command as `clap` reads it, and the plan that its matches of the words make.
-use Rattle.std.specs.Prelude.{⊤, ◌≡◌, ◌≤◌, ◌&&◌, ◌^◌, ℕ, Bool, List, Option, Some, None, pos, true, not, codes, length, nat_lt, is_some, if◌then◌else◌, option_map, option_and_then, IfSome, IsSome}
+use Rattle.std.specs.Prelude.{⊤, ◌≡◌, ◌≤◌, ◌&&◌, ◌^◌, ℕ, Bool, List, [], ◌∷◌, fold, Option, Some, None, pos, true, not, codes, length, nat_lt, is_some, if◌then◌else◌, option_map, option_and_then, IfSome, IsSome}
 use Rattle.std.specs.Char.{digit_value}
 use Rattle.std.specs.List.{list_all}
 use Rattle.std.specs.Str.{bytes_eq}
@@ -29,10 +29,6 @@ required_rule name = record (option_rule name) { required = true }
 abbrev pub recording_rule : Rule
 recording_rule = record (new_rule (codes "recording")) { value_names = 1 }
 
--- `frames --settings FILE [RECORDING]`
-abbrev pub frames_app : App
-frames_app = with_rule (with_rule (new_app (codes "frames")) (required_rule (codes "settings"))) recording_rule
-
 -- the numbers from one to another
 abbrev pub numbers : ℕ → ℕ → ValueParser
 numbers least most = parser.Signed (pos least) (pos most)
@@ -41,45 +37,39 @@ numbers least most = parser.Signed (pos least) (pos most)
 abbrev pub stop_rule : Rule
 stop_rule = record (option_rule (codes "stop-after")) { parser = Some (numbers 1 4294967295) }
 
--- with `[--checkpoint FILE] [--stop-after N] [--resume FILE]`
-abbrev pub kept_app : App → App
-kept_app a = with_rule (with_rule (with_rule a (option_rule (codes "checkpoint"))) stop_rule) (option_rule (codes "resume"))
-
--- with `[--report FILE] [--checkpoint FILE] [--stop-after N] [--resume FILE] [RECORDING]`
-abbrev pub job_app : App → App
-job_app a = with_rule (kept_app (with_rule a (option_rule (codes "report")))) recording_rule
-
--- `NAME --settings FILE`, with what a job takes
-abbrev pub reported_app : Text → App
-reported_app name = job_app (with_rule (new_app name) (required_rule (codes "settings")))
-
--- `split --settings FILE --dir DIR`, with what a job takes
-abbrev pub split_app : App
-split_app = job_app (with_rule (with_rule (new_app (codes "split")) (required_rule (codes "settings"))) (required_rule (codes "dir")))
-
 -- `--apid N`, with N from 0 to 2047
 abbrev pub apid_rule : Rule
 apid_rule = record (required_rule (codes "apid")) { parser = Some (numbers 0 2047) }
 
--- `fields --settings FILE --definition FILE --apid N`
-abbrev pub fields_start : App
-fields_start = with_rule (with_rule (with_rule (new_app (codes "fields")) (required_rule (codes "settings"))) (required_rule (codes "definition"))) apid_rule
+-- `--settings FILE`, which every subcommand needs
+abbrev pub settings_rule : Rule
+settings_rule = required_rule (codes "settings")
 
--- `fields --settings FILE --definition FILE --apid N`, with what a job takes
-abbrev pub fields_app : App
-fields_app = job_app fields_start
+-- `[--report FILE] [--checkpoint FILE] [--stop-after N] [--resume FILE] [RECORDING]`: what a job takes
+abbrev pub job_rules : List Rule
+job_rules = option_rule (codes "report") ∷ option_rule (codes "checkpoint") ∷ stop_rule ∷ option_rule (codes "resume") ∷ recording_rule ∷ []
 
--- without a subcommand, of the words after the program's name
+-- a subcommand of this name, with these rules
+abbrev pub app_with : Text → List Rule → App
+app_with name rules = fold with_rule (new_app name) rules
+
+-- the subcommands
+abbrev pub subcommands : List App
+subcommands =
+    app_with (codes "frames") (settings_rule ∷ recording_rule ∷ [])
+    ∷ app_with (codes "packets") (settings_rule ∷ job_rules)
+    ∷ app_with (codes "extract") (settings_rule ∷ job_rules)
+    ∷ app_with (codes "split") (settings_rule ∷ required_rule (codes "dir") ∷ job_rules)
+    ∷ app_with (codes "fields") (settings_rule ∷ required_rule (codes "definition") ∷ apid_rule ∷ job_rules)
+    ∷ []
+
+-- without a subcommand, of the words after the program's name; it has a version
 abbrev pub bare : App
-bare = on_top (λ s. record s { no_binary_name = true; disable_help_subcommand = true; subcommand_required = true }) (new_app (codes "tmx"))
-
--- with the subcommands that print lines
-abbrev pub of_lines : App
-of_lines = with_subcommand (with_subcommand bare frames_app.top) (reported_app (codes "packets")).top
+bare = on_top (λ s. record s { no_binary_name = true; disable_help_subcommand = true; subcommand_required = true; has_version = true }) (new_app (codes "tmx"))
 
 -- the whole command, one of whose subcommands has to be there
 abbrev pub tmx : App
-tmx = with_subcommand (with_subcommand (with_subcommand of_lines (reported_app (codes "extract")).top) split_app.top) fields_app.top
+tmx = fold (λ a s. with_subcommand a s.top) bare subcommands
 
 -- ---- what `clap` makes of the words
 
@@ -152,12 +142,12 @@ abbrev pub HasRequired : Plan → Type 0
 HasRequired p = IsSome p.settings × HasNeeds p.action p
 
 -- the text behind `--stop-after`
-abbrev pub stop_of : List Text → Option Text
-stop_of words = option_and_then (λ found. one_of (codes "stop-after") found.1) (matches_of words)
+abbrev pub stop_text_of : List Text → Option Text
+stop_text_of words = option_and_then (λ found. one_of (codes "stop-after") found.1) (matches_of words)
 
 -- where `--stop-after` is among the words, its number is there, in its range
 abbrev pub HasStop : List Text → Plan → Type 0
-HasStop words p = IfSome (stop_of words) (λ text. IsBetween 1 4294967295 p.stop_after)
+HasStop words p = IfSome (stop_text_of words) (λ text. IsBetween 1 4294967295 p.stop_after)
 
 -- `--stop-after` stands without `--checkpoint`
 abbrev pub lacks_checkpoint : Plan → Bool

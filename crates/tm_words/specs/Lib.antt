@@ -1,3 +1,3 @@
 pub mod CommandLine
-pub mod Table
 pub mod Refusals
+pub mod code

@@ -4,9 +4,9 @@ ghost use Rattle.std.specs.Prelude.{◌≡◌, IfOk, false, fold};
 ghost use Rattle.clap.specs.Words.{app_of, rule_of};
 ghost use Rattle.clap.specs.declared.builder.command.Command.TheViews.{out-Command as fields_of};
 ghost use Rattle.tm_words.specs.CommandLine.{bare, tmx};
-ghost use Rattle.tm_words.specs.Table.{app_for, rule_for, with_described};
+ghost use Rattle.tm_words.specs.code.Table.{app_for, rule_for, with_described};
 
-use crate::table::{Form, SUBCOMMANDS, Subcommand, Word};
+use crate::table::{Form, PAGES, SUBCOMMANDS, Subcommand, VERSION, Word};
 use clap::builder::ValueParser;
 use clap::{Arg, Command};
 use std::alloc::{AllocError, Global};
@@ -34,7 +34,9 @@ fn command_of<'a>(alloc: Global, described: &Subcommand) -> Result<Command<'a>, 
     ensures app { IfOk result (λ c. app_of c ≡ app_for described.now) }
     ensures local { IfOk result (λ c. (fields_of c).has_globals ≡ false) }
 {
-    let mut command = Command::new(alloc, described.name).about(described.about);
+    let mut command = Command::new(alloc, described.name)
+        .about(described.about)
+        .after_help(described.example);
     for word in described.words {
         command = command.arg(arg_of(alloc, word))?;
     }
@@ -48,6 +50,8 @@ fn bare_command<'a>(alloc: Global) -> Result<Command<'a>, AllocError>
 {
     Command::new(alloc, "tmx")
         .about("Reads recordings of TM transfer frames (CCSDS 132.0-B-3)")
+        .version(VERSION)
+        .after_help(PAGES)
         .no_binary_name(true)
         .disable_help_subcommand(true)
         .subcommand_required(true)

@@ -48,7 +48,7 @@ pub enum UsageFault {
     Usage(Octets),
     /// The words stop a run after some records, and name no file for its checkpoint.
     StopAfter,
-    /// The words ask for this help.
+    /// The words ask for this text: help, or the version.
     Help(Octets),
     /// Memory ran out.
     NoMemory,

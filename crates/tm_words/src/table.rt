@@ -1,4 +1,11 @@
-//! The words that each subcommand takes.
+//! The words that each subcommand takes, and what help says of them.
+
+/// The version of the program, which `--version` prints.
+pub(crate) const VERSION: &str = "0.1.0";
+
+/// What help says behind all commands.
+pub(crate) const PAGES: &str =
+    "tmx COMMAND --help says what a command takes, and has an example.\n\nPages, in the folder docs:\n  tmx.1       the manual page: man -l docs/tmx.1\n  FORMATS.md  settings, lines, definitions, faults and statuses\n  FRAMES.md   how frames are read\n  RUNS.md     which packets are whole, and what is lost\n  PACKETS.md  headers of packets, counts and groups";
 
 /// What a word is.
 #[derive(Clone, Copy)]
@@ -27,6 +34,7 @@ pub(crate) struct Subcommand {
     pub(crate) name: &'static str,
     pub(crate) about: &'static str,
     pub(crate) words: &'static [Word],
+    pub(crate) example: &'static str,
 }
 
 const SETTINGS: Word = Word {
@@ -56,7 +64,7 @@ const REPORT: Word = Word {
 const CHECKPOINT: Word = Word {
     name: "checkpoint",
     value: "FILE",
-    help: "The checkpoint, written after the run, from which another run can go on",
+    help: "The checkpoint written after the run; if left out the recording is closed",
     required: false,
     form: Form::Text,
 };
@@ -64,7 +72,7 @@ const CHECKPOINT: Word = Word {
 const STOP_AFTER: Word = Word {
     name: "stop-after",
     value: "N",
-    help: "Records to stop after, a number from 1 to 4294967295; needs --checkpoint",
+    help: "Records to stop after, 1 to 4294967295; needs --checkpoint; all if left out",
     required: false,
     form: Form::Number(1, 4_294_967_295),
 };
@@ -72,7 +80,7 @@ const STOP_AFTER: Word = Word {
 const RESUME: Word = Word {
     name: "resume",
     value: "FILE",
-    help: "The checkpoint of an earlier run, to go on from there",
+    help: "The checkpoint to go on from; the recording's beginning if it is left out",
     required: false,
     form: Form::Text,
 };
@@ -118,25 +126,30 @@ pub(crate) const SUBCOMMANDS: [Subcommand; 5] = [
         name: "frames",
         about: "Lists the frames: one line for each record of the recording",
         words: &FRAMES_WORDS,
+        example: "Example:\n  tmx frames --settings s.toml pass.rec",
     },
     Subcommand {
         name: "packets",
         about: "Lists the packets of the chosen channels: one line for each",
         words: &REPORTED_WORDS,
+        example: "Example:\n  tmx packets --settings s.toml --report report.txt pass.rec",
     },
     Subcommand {
         name: "extract",
         about: "Extracts the packets of the chosen channels: their octets, with nothing between them",
         words: &REPORTED_WORDS,
+        example: "Example:\n  zcat pass.rec.gz | tmx extract --settings s.toml --report report.txt > pass.pkt",
     },
     Subcommand {
         name: "split",
         about: "Extracts the packets of the chosen channels to a file for each application",
         words: &SPLIT_WORDS,
+        example: "Example:\n  tmx split --settings s.toml --dir packets --report report.txt pass.rec",
     },
     Subcommand {
         name: "fields",
         about: "Reads the fields of an application's packets: a row of CSV for each packet",
         words: &FIELDS_WORDS,
+        example: "Example:\n  tmx fields --settings s.toml --definition fields.csv --apid 101 pass.rec > rows.csv",
     },
 ];

@@ -1,5 +1,5 @@
 use Rattle.std.proofs.Common.{ℕ, List, ◌≡◌, ◌/◌, ◌%◌, ◌^◌, ◌∙◌, ap, arith}
-use Rattle.tm_frame.specs.Folding.{words_remainder}
+use Rattle.tm_frame.specs.code.Folding.{words_remainder}
 use Rattle.tm_frame.proofs.FoldWords.{with_added, added_at, added_across}
 use Rattle.tm_frame.proofs.control.add_at.Goals as goal
 

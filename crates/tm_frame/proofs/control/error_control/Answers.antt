@@ -1,7 +1,7 @@
 use Rattle.std.proofs.Common.{◌≡◌, ℕ, List, [], ◌%◌, length, take, refl, ◌∙◌, ap, sym, arith}
 use Rattle.std.proofs.lemmas.List.{take_all}
 use Rattle.tm_bits.specs.Bits.{bits_of}
-use Rattle.tm_frame.specs.Folding.{remainder_from, bits_of_words, words_remainder}
+use Rattle.tm_frame.specs.code.Folding.{remainder_from, bits_of_words, words_remainder}
 use Rattle.tm_frame.proofs.Division.{octets_apart, error_control_of-remainder, remainder_from-nil, remainder_from-lt}
 use Rattle.tm_frame.proofs.control.error_control.Goals as goal
 

@@ -1,6 +1,6 @@
 use Rattle.std.proofs.Common.{◌≡◌, ◌%◌, length}
 use Rattle.tm_bits.specs.Bits.{bits_of}
-use Rattle.tm_frame.specs.Folding.{remainder_from, words_remainder}
+use Rattle.tm_frame.specs.code.Folding.{remainder_from, words_remainder}
 use Rattle.tm_frame.proofs.control.error_control.Given as goal
 
 -- what the words held and the blocks that are left will give

@@ -2,7 +2,7 @@ use Rattle.std.proofs.Common.{◌*◌, ◌-◌, length, drop, refl, ap, ◌∙�
 use Rattle.std.proofs.lemmas.List.{take_all}
 use Rattle.byteorder.specs.Endian.{big_number}
 use Rattle.tm_bits.specs.Bits.{AreOctets, bits_of}
-use Rattle.tm_frame.specs.Folding.{bits_of_words}
+use Rattle.tm_frame.specs.code.Folding.{bits_of_words}
 use Rattle.tm_frame.proofs.FoldWords.{fill_step}
 use Rattle.tm_frame.proofs.control.fill.Goals as goal
 

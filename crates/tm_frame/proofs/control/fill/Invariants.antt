@@ -1,6 +1,6 @@
 use Rattle.std.proofs.Common.{◌≡◌, ◌*◌, take}
 use Rattle.tm_bits.specs.Bits.{bits_of}
-use Rattle.tm_frame.specs.Folding.{bits_of_words}
+use Rattle.tm_frame.specs.code.Folding.{bits_of_words}
 use Rattle.tm_frame.proofs.control.fill.Given as goal
 
 -- the words so far are the octets so far

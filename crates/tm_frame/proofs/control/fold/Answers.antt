@@ -1,7 +1,7 @@
 use Rattle.std.proofs.Common.{ℕ, List, ◌≡◌, ◌∷◌, suc, ◌+◌, ◌<◌, ◌++◌, length, drop, get_or, ap, sym, ◌∙◌, arith, drop-cons}
 use Rattle.std.proofs.lemmas.List.{get_or-take}
 use Rattle.std.proofs.Math.Seq.{drop-append_seam}
-use Rattle.tm_frame.specs.Folding.{words_remainder}
+use Rattle.tm_frame.specs.code.Folding.{words_remainder}
 use Rattle.tm_frame.proofs.control.fold.Goals as goal
 
 pub loop-i-preserved : goal.loop-i-preserved

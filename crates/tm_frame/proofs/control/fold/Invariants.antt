@@ -1,5 +1,5 @@
 use Rattle.std.proofs.Common.{◌≡◌, drop}
-use Rattle.tm_frame.specs.Folding.{words_remainder}
+use Rattle.tm_frame.specs.code.Folding.{words_remainder}
 use Rattle.tm_frame.proofs.control.fold.Given as goal
 
 -- the words up to this one are taken away

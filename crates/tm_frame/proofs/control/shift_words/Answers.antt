@@ -1,7 +1,7 @@
 use Rattle.std.proofs.Common.{arith, sym}
 use Rattle.tm_frame.proofs.Linear.{remainder_from-zeros}
 use Rattle.tm_frame.proofs.FoldWords.{words_step, words_done}
-use Rattle.tm_frame.specs.Folding.{bits_of_words}
+use Rattle.tm_frame.specs.code.Folding.{bits_of_words}
 use Rattle.tm_frame.proofs.control.shift_words.Goals as goal
 
 pub loop-word-init : goal.loop-word-init

@@ -1,7 +1,7 @@
 use Rattle.std.proofs.Common.{ℕ, List, ◌≡◌, ◌≤◌, ◌-◌, ◌++◌, length, drop, ap, ◌∙◌, arith, length-append, length-drop}
 use Rattle.std.proofs.lemmas.List.{take_all}
 use Rattle.tm_bits.specs.Bits.{bits_of}
-use Rattle.tm_frame.specs.Folding.{remainder_from, bits_of_words, words_remainder}
+use Rattle.tm_frame.specs.code.Folding.{remainder_from, bits_of_words, words_remainder}
 use Rattle.tm_frame.proofs.Division.{remainder_from-append}
 use Rattle.tm_frame.proofs.Fold.{folds_64}
 use Rattle.tm_frame.proofs.FoldWords.{bits_of_words-append}

@@ -1,6 +1,6 @@
 use Rattle.std.proofs.Common.{drop}
 use Rattle.tm_reassembly.specs.Items.{close_channels}
-use Rattle.tm_reassembly.specs.Kept.{lasts}
+use Rattle.tm_reassembly.specs.code.Kept.{lasts}
 use Rattle.tm_reassembly.proofs.ReadField.{Leads}
 use Rattle.tm_reassembly.proofs.reassembly.close_channels.Given as goal
 

@@ -2,7 +2,7 @@ use Rattle.std.proofs.Common.{◌≡◌, ℕ, List, ◌+◌, ◌++◌, length, d
 use Rattle.std.specs.Prelude.{slice_index_or}
 use Rattle.std.specs.List.{flat_map}
 use Rattle.tm_reassembly.specs.Checkpoint.{block}
-use Rattle.tm_reassembly.specs.Kept.{lasts}
+use Rattle.tm_reassembly.specs.code.Kept.{lasts}
 use Rattle.tm_reassembly.proofs.Slots.{spelled_rest}
 use Rattle.tm_reassembly.proofs.reassembly.push_channels.Goals as goal
 

@@ -2,7 +2,7 @@ use Rattle.std.proofs.Common.{◌≡◌, ◌+◌, ◌≤◌, ◌++◌, length, d
 use Rattle.std.specs.Prelude.{vec_len, vec_capacity}
 use Rattle.std.specs.List.{flat_map}
 use Rattle.tm_reassembly.specs.Checkpoint.{block}
-use Rattle.tm_reassembly.specs.Kept.{lasts}
+use Rattle.tm_reassembly.specs.code.Kept.{lasts}
 use Rattle.tm_reassembly.proofs.reassembly.push_channels.Given as goal
 
 abbrev pub invariant-loop-channel : goal.invariant-loop-channel

@@ -1,7 +1,7 @@
 use Rattle.std.proofs.Common.{Option, Ok, refl, sym, ap, ◌∙◌, arith}
 use Rattle.std.proofs.lemmas.List.{length-set}
 use Rattle.tm_reassembly.specs.State.{Last}
-use Rattle.tm_reassembly.specs.Kept.{lasts}
+use Rattle.tm_reassembly.specs.code.Kept.{lasts}
 use Rattle.tm_reassembly.proofs.Blocks.{kept_more, kept_all}
 use Rattle.tm_reassembly.proofs.Slots.{lasts_set, lasts_length, limit_at, limit_set}
 use Rattle.tm_reassembly.proofs.reassembly.restore.Goals as goal

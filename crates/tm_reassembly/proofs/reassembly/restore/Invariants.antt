@@ -1,5 +1,5 @@
 use Rattle.std.proofs.Common.{◌≡◌, length, take}
-use Rattle.tm_reassembly.specs.Kept.{HaveLimit, lasts}
+use Rattle.tm_reassembly.specs.code.Kept.{HaveLimit, lasts}
 use Rattle.tm_reassembly.proofs.Blocks.{ReadsTo}
 use Rattle.tm_reassembly.proofs.reassembly.restore.Given as goal
 

@@ -1,5 +1,5 @@
 use Rattle.std.proofs.Common.{ℕ, false, ap, arith}
-use Rattle.tm_reassembly.specs.Kept.{lasts}
+use Rattle.tm_reassembly.specs.code.Kept.{lasts}
 use Rattle.tm_reassembly.specs.State.{State}
 use Rattle.tm_reassembly.proofs.Decoding.{blocks_valid}
 use Rattle.tm_reassembly.proofs.Slots.{rooms_of_eight}

@@ -1,7 +1,7 @@
 use Rattle.std.proofs.Common.{◌≡◌, ◌*◌, ◌≤◌, length, take}
 use Rattle.std.specs.List.{flat_map}
 use Rattle.tm_reassembly.specs.Checkpoint.{block}
-use Rattle.tm_reassembly.specs.Kept.{lasts}
+use Rattle.tm_reassembly.specs.code.Kept.{lasts}
 use Rattle.tm_reassembly.proofs.reassembly.spelled_length.Given as goal
 
 abbrev pub invariant-loop-channel : goal.invariant-loop-channel

@@ -1,7 +1,7 @@
 -- So many applications have their place, and nothing is held of them.
 use Rattle.std.proofs.Common.{◌≡◌}
 use Rattle.std.specs.Prelude.{vec_len}
-use Rattle.tm_shelf.specs.Buffers.{AreEmptyOf}
+use Rattle.tm_shelf.specs.code.Buffers.{AreEmptyOf}
 use Rattle.tm_shelf.proofs.files.none_held.Given as goal
 
 abbrev pub invariant-loop-application : goal.invariant-loop-application

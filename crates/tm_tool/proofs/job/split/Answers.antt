@@ -1,5 +1,5 @@
 use Rattle.tm_output.specs.Shelves.{Shelves}
-use Rattle.tm_output.specs.ShelfLaws.{shelves_nil, shelves_trans}
+use Rattle.tm_output.specs.code.ShelfLaws.{shelves_nil, shelves_trans}
 use Rattle.tm_output.proofs.PieceLemmas.{took_none}
 use Rattle.tm_tool.proofs.RunPieces.{ran_behind}
 use Rattle.tm_tool.proofs.job.split.Goals as goal

@@ -1,7 +1,7 @@
 use Rattle.std.proofs.Common.{◌≡◌, [], false, refl}
 use Rattle.tm_output.specs.declared.command.Command.{Command}
 use Rattle.tm_output.specs.declared.command.Command.TheVariants.{Extract, Packets, Fields}
-use Rattle.tm_tool.specs.Jobs.{begun, head_pieces}
+use Rattle.tm_tool.specs.Jobs.{new_job, head_pieces}
 use Rattle.tm_output.specs.Pieces.{text_of}
 use Rattle.tm_tool.specs.Resuming.{no_head}
 use Rattle.tm_output.specs.Shelves.{shelf_text}
@@ -16,8 +16,8 @@ no_later_head (Fields definition application) = refl
 
 pub returns-clause-run : goal.returns-clause-run
 returns-clause-run c command ending last settings stops eight range octets few follows =
-    joined (head_pieces command) (no_later_head command) (text_of command) ending last (begun settings).work refl (front-work settings last eight range octets few) (none_valid _ range) _ stops follows
+    joined (head_pieces command) (no_later_head command) (text_of command) ending last (new_job settings).work refl (front-work settings last eight range octets few) (none_valid _ range) _ stops follows
 
 pub returns-clause-split : goal.returns-clause-split
 returns-clause-split c ending last settings stops eight range octets few follows =
-    joined no_head refl shelf_text ending last (begun settings).work refl (front-work settings last eight range octets few) (none_valid _ range) _ stops follows
+    joined no_head refl shelf_text ending last (new_job settings).work refl (front-work settings last eight range octets few) (none_valid _ range) _ stops follows

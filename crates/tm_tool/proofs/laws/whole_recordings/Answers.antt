@@ -2,7 +2,7 @@ use Rattle.std.proofs.Common.{[], inr}
 use Rattle.std.specs.Io.KnownBytes.{Appends}
 use Rattle.std.proofs.KnownBytes.{Appends-nil, Appends-trans}
 use Rattle.tm_output.specs.Shelves.{Shelves}
-use Rattle.tm_output.specs.ShelfLaws.{shelves_nil, shelves_trans}
+use Rattle.tm_output.specs.code.ShelfLaws.{shelves_nil, shelves_trans}
 use Rattle.tm_output.proofs.PieceLemmas.{took_none}
 use Rattle.tm_tool.proofs.HeadedRuns.{stop_told}
 use Rattle.tm_tool.proofs.RunPieces.{ran_told}

@@ -1,6 +1,6 @@
 -- So many records were passed over, and no call failed.
 use Rattle.std.proofs.Common.{◌≡◌, length}
-use Rattle.tm_tool.specs.Stepping.{HasPassed}
+use Rattle.tm_tool.specs.code.Stepping.{HasPassed}
 use Rattle.tm_tool.proofs.recording.skip_records.Given as goal
 
 abbrev pub invariant-loop-passed : goal.invariant-loop-passed

@@ -3,8 +3,8 @@ use Rattle.std.specs.Io.KnownBytes.{Consumes}
 use Rattle.tm_frame.specs.Layout.{record_length_of}
 use Rattle.tm_output.specs.Seen.{output_both}
 use Rattle.tm_tool.specs.RecordingPieces.{Work}
-use Rattle.tm_tool.specs.Runs.{GoesOn}
-use Rattle.tm_tool.specs.Stepping.{Enough, HasPassed, PassingStopped, work_of}
+use Rattle.tm_tool.specs.Runs.{WantsFurther}
+use Rattle.tm_tool.specs.code.Stepping.{Enough, HasPassed, PassingStopped, work_of}
 use Rattle.tm_tool.proofs.Running.{records-counted, first_reached, more_reached, just_enough, passing_stopped, taken_first, taken_more, taken_stopped, taken_read, taken_all, taken_enough}
 use Rattle.tm_tool.proofs.Sinks.{same_texts}
 use Rattle.tm_tool.proofs.recording.step_records.Goals as goal
@@ -45,7 +45,7 @@ returns-then-not-wants_more-clause-stepped g c =
 pub returns-in_default-fill-clause-stopped : goal.returns-in_default-fill-clause-stopped
 returns-in_default-fill-clause-stopped g c =
     let inv = c.loop-ending.invariant in
-    let wanted : GoesOn c.args.ending c.args.reassembly.now.state.records c.loop-ending.reassembly.state.records =
+    let wanted : WantsFurther c.args.ending c.args.reassembly.now.state.records c.loop-ending.reassembly.state.records =
     rw (inv.done, c.records.ensures) at (c.wants_more.ensures.wanted (search rules)) in
     let (part, got, short) = c.in_default-fill.ensures.part in
     taken_read g.O.Outlet.grows g.met.O.Outlet.grows_nil g.met.O.Outlet.grows_trans (g.O.Outlet.text (g.O.Outlet.fixed c.args.output.now.outlet.now)) c.args.ending (work_of c.args.reassembly.now c.args.output.now.tracker.now) c.requires.going.1 (g.R.Source.left c.args.recording.now) (g.R.Source.left c.loop-ending.recording) (g.R.Source.left c.fill.new.source) (output_both g.O.Outlet g.V.Drain c.args.output.now)
@@ -56,7 +56,7 @@ returns-in_default-fill-clause-stopped g c =
 pub returns-then-octets-buffer-clause-stepped : goal.returns-then-octets-buffer-clause-stepped
 returns-then-octets-buffer-clause-stepped g c =
     let inv = c.loop-ending.invariant in
-    let wanted : GoesOn c.args.ending c.args.reassembly.now.state.records c.loop-ending.reassembly.state.records =
+    let wanted : WantsFurther c.args.ending c.args.reassembly.now.state.records c.loop-ending.reassembly.state.records =
     rw (inv.done, c.records.ensures) at (c.wants_more.ensures.wanted (search rules)) in
     let size : length (take c.in-Ok.octets c.fill.new.buffer) ≡ c.in-Ok.octets = length-take-le c.in-Ok.octets c.fill.new.buffer c.in-Ok.ensures.bound in
     taken_all g.O.Outlet.grows g.met.O.Outlet.grows_nil g.met.O.Outlet.grows_trans (g.O.Outlet.text (g.O.Outlet.fixed c.args.output.now.outlet.now)) c.args.ending (work_of c.args.reassembly.now c.args.output.now.tracker.now) c.requires.going.1 (g.R.Source.left c.args.recording.now) (g.R.Source.left c.loop-ending.recording) (g.R.Source.left c.fill.new.source) (output_both g.O.Outlet g.V.Drain c.args.output.now)
@@ -67,7 +67,7 @@ returns-then-octets-buffer-clause-stepped g c =
 pub returns-in-Err-step_into-clause-stopped : goal.returns-in-Err-step_into-clause-stopped
 returns-in-Err-step_into-clause-stopped g c =
     let inv = c.loop-ending.invariant in
-    let wanted : GoesOn c.args.ending c.args.reassembly.now.state.records c.loop-ending.reassembly.state.records =
+    let wanted : WantsFurther c.args.ending c.args.reassembly.now.state.records c.loop-ending.reassembly.state.records =
     rw (inv.done, c.records.ensures) at (c.wants_more.ensures.wanted (search rules)) in
     let exact : length c.fill.new.buffer ≡ record_length_of c.args.reassembly.now.rules.layout = omega (arith, inv.exact) in
     let got = subst (Consumes (g.R.Source.left c.loop-ending.recording) (g.R.Source.left c.fill.new.source)) (take_all c.in-Ok.octets c.fill.new.buffer (omega arith)) c.in-Ok.ensures.octets in

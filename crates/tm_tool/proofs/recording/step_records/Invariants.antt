@@ -2,7 +2,7 @@
 use Rattle.std.proofs.Common.{◌≡◌, ◌-◌, ◌^◌, ◌<◌, length}
 use Rattle.tm_frame.specs.Layout.{record_length_of}
 use Rattle.tm_output.specs.Seen.{fixture, output_both}
-use Rattle.tm_tool.specs.Stepping.{HasTaken, IsGoing, Reached, work_of}
+use Rattle.tm_tool.specs.code.Stepping.{HasTaken, IsGoing, Reached, work_of}
 use Rattle.tm_tool.proofs.recording.step_records.Given as goal
 
 abbrev pub invariant-loop-ending : goal.invariant-loop-ending

@@ -1,7 +1,7 @@
 use Rattle.std.proofs.Common.{ap, ◌∙◌, option_map}
 use Rattle.tm_reassembly.specs.Steps.{Progress}
 use Rattle.tm_output.specs.Pieces.{Entries}
-use Rattle.tm_tool.specs.Stepping.{work_of}
+use Rattle.tm_tool.specs.code.Stepping.{work_of}
 use Rattle.tm_tool.proofs.RunEnds.{end_stopped, stopped_flush, has_run}
 use Rattle.tm_tool.proofs.Sinks.{same_texts}
 use Rattle.tm_tool.proofs.recording.take_all.Goals as goal

@@ -3,7 +3,7 @@ use Rattle.std.specs.Prelude.{fold}
 use Rattle.std.proofs.lemmas.List.Sums.{fold_more}
 use Rattle.clap.specs.Words.{App, Rule, with_rule}
 use Rattle.tm_words.specs.declared.table.Word.{Word}
-use Rattle.tm_words.specs.Table.{rule_for, with_word}
+use Rattle.tm_words.specs.code.Table.{rule_for, with_word}
 use Rattle.tm_words.proofs.command.command_of.Goals as goal
 
 -- a rule added to the words so far is one word more

@@ -2,7 +2,7 @@ use Rattle.std.proofs.Common.{◌≡◌, take, false}
 use Rattle.std.specs.Prelude.{fold}
 use Rattle.clap.specs.Words.{app_of}
 use Rattle.clap.specs.declared.builder.command.Command.TheViews.{out-Command as fields_of}
-use Rattle.tm_words.specs.Table.{with_word}
+use Rattle.tm_words.specs.code.Table.{with_word}
 use Rattle.tm_words.proofs.command.command_of.Given as goal
 
 abbrev pub invariant-loop-word : goal.invariant-loop-word

@@ -3,7 +3,7 @@ use Rattle.std.specs.Prelude.{fold}
 use Rattle.std.proofs.lemmas.List.Sums.{fold_more}
 use Rattle.clap.specs.Words.{App, with_subcommand}
 use Rattle.tm_words.specs.declared.table.Subcommand.{Subcommand}
-use Rattle.tm_words.specs.Table.{app_for, with_described}
+use Rattle.tm_words.specs.code.Table.{app_for, with_described}
 use Rattle.tm_words.proofs.command.with_subcommands.Goals as goal
 
 -- a subcommand added to those so far is one more

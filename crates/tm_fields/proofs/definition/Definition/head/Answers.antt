@@ -1,7 +1,7 @@
 use Rattle.std.proofs.Common.{◌≡◌, ℕ, ◌++◌, take, Some, List, subst, ◌∙◌, arith, length-append}
 use Rattle.std.proofs.lemmas.List.{take_all}
 use Rattle.std.specs.List.{flat_map}
-use Rattle.tm_fields.specs.Line.{HasValues}
+use Rattle.tm_fields.specs.code.Line.{HasValues}
 use Rattle.tm_fields.specs.Rows.{lead_names, named}
 use Rattle.std.proofs.lemmas.Option.{same_Some}
 use Rattle.tm_fields.proofs.RowLemmas.{texts_more}

@@ -1,6 +1,6 @@
 use Rattle.std.proofs.Common.{◌++◌, take, Some}
 use Rattle.std.specs.List.{flat_map}
-use Rattle.tm_fields.specs.Line.{HasValues}
+use Rattle.tm_fields.specs.code.Line.{HasValues}
 use Rattle.tm_fields.specs.Rows.{lead_names, named}
 use Rattle.tm_fields.proofs.definition.Definition.head.Given as goal
 

@@ -1,7 +1,7 @@
 use Rattle.std.proofs.Common.{◌≡◌, ℕ, ◌≤◌, ◌++◌, List, Some, take, subst, arith, sym, ◌∙◌, length-append}
 use Rattle.std.proofs.lemmas.List.{take_all}
 use Rattle.std.specs.List.{flat_map}
-use Rattle.tm_fields.specs.Line.{HasValues}
+use Rattle.tm_fields.specs.code.Line.{HasValues}
 use Rattle.tm_fields.specs.Reading.{end_of}
 use Rattle.tm_fields.specs.Rows.{bits_needed, lead_texts, printed}
 use Rattle.std.proofs.lemmas.Option.{same_Some}

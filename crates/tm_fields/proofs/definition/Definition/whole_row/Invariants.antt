@@ -1,6 +1,6 @@
 use Rattle.std.proofs.Common.{◌++◌, take, Some}
 use Rattle.std.specs.List.{flat_map}
-use Rattle.tm_fields.specs.Line.{HasValues}
+use Rattle.tm_fields.specs.code.Line.{HasValues}
 use Rattle.tm_fields.specs.Rows.{lead_texts, printed}
 use Rattle.tm_fields.proofs.definition.Definition.whole_row.Given as goal
 

@@ -7,16 +7,16 @@ use Rattle.tm_output.proofs.outlet.PacketRowsOutlet.put.Goals as goal
 
 pub returns-in-Ok-clause-stopped : goal.returns-in-Ok-clause-stopped
 returns-in-Ok-clause-stopped g c =
-    let wanted : (c.args.header.now.application == c.args.self.now.application) ≡ true = search rules in
+    let wanted : (c.args.packet.now.header.application == c.args.self.now.application) ≡ true = search rules in
     let row =
-    tabled_is c.args.self.now.definition.now c.args.self.now.application c.args.seen c.args.channel c.args._first c.args._place _ _ c.args.octets.now c.in-Ok.row.items c.args.header.now
+    tabled_is c.args.self.now.definition.now c.args.self.now.application c.args.packet.now.seen c.args.packet.now.channel c.args.packet.now.first c.args.packet.now.place _ _ c.args.packet.now.octets.now c.in-Ok.row.items c.args.packet.now.header
     c.requires wanted c.application.ensures.value c.count.ensures.value c.in-Ok.ensures.ok in
     (c.in-Err.ensures.counts, subst (AppendsFront (g.W.Drain.written c.args.self.now.out.now) (g.W.Drain.written c.put_all.new.out)) (c.as_slice.ensures.value ∙ sym row) c.in-Err.ensures.front)
 
 pub returns-clause-stopped : goal.returns-clause-stopped
 returns-clause-stopped g c =
-    let wanted : (c.args.header.now.application == c.args.self.now.application) ≡ true = search rules in
+    let wanted : (c.args.packet.now.header.application == c.args.self.now.application) ≡ true = search rules in
     let some =
-    some_tabled c.args.self.now.definition.now c.args.self.now.application c.args.seen c.args.channel c.args._first c.args._place c.args.octets.now c.args.header.now
+    some_tabled c.args.self.now.definition.now c.args.self.now.application c.args.packet.now.seen c.args.packet.now.channel c.args.packet.now.first c.args.packet.now.place c.args.packet.now.octets.now c.args.packet.now.header
     c.requires wanted (λ less. cc (c.row.ensures.short less)) in
     (refl, some, refl, Appends-nil _)

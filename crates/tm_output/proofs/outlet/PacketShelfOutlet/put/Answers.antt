@@ -9,5 +9,5 @@ pub returns-in-Err-clause-stopped : goal.returns-in-Err-clause-stopped
 unfolding shelved_of
 returns-in-Err-clause-stopped g c =
     let application = c.application.ensures.value ∙ ap (λ (h : Fields). h.application) c.requires in
-    let front = subst (λ n. PutsFront (g.H.Shelf.kept c.args.self.now.shelf.now) (g.H.Shelf.kept c.put.new.self) n c.args.octets.now) application c.in-Err.ensures.front in
+    let front = subst (λ n. PutsFront (g.H.Shelf.kept c.args.self.now.shelf.now) (g.H.Shelf.kept c.put.new.self) n c.args.packet.now.octets.now) application c.in-Err.ensures.front in
     shelf_stopped shelf_way _ _ _ _ _ _ front c.in-Err.ensures.counts

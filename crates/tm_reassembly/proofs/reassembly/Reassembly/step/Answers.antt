@@ -1,9 +1,9 @@
 use Rattle.std.proofs.Common.{◌≡◌, ◌+◌, ℕ, Bool, false, sym, ap, subst, ◌∙◌, arith, rules}
 use Rattle.tm_bits.specs.Bits.{AreOctets}
-use Rattle.tm_reassembly.specs.Kept.{lasts, rooms}
+use Rattle.tm_reassembly.specs.code.Kept.{lasts, rooms}
 use Rattle.tm_reassembly.specs.State.{State}
 use Rattle.tm_reassembly.specs.Steps.{Progress, stepped}
-use Rattle.tm_reassembly.specs.Valid.{IsState}
+use Rattle.tm_reassembly.specs.Valid.{IsValidState}
 use Rattle.tm_reassembly.proofs.Slots.{rooms_of_eight}
 use Rattle.tm_reassembly.proofs.States.{record-valid}
 use Rattle.tm_reassembly.proofs.reassembly.Reassembly.step.Goals as goal
@@ -11,7 +11,7 @@ use Rattle.tm_reassembly.proofs.reassembly.Reassembly.step.Goals as goal
 pub invariant_of-self : goal.invariant_of-self
 invariant_of-self g c = λ failed.
     let octets : AreOctets c.args.octets.now = record { below = λ i. omega (arith, c.type_inv.octets i) } in (
-      subst (IsState c.self.inside.rules) (sym c.in-Ok.ensures.left)
+      subst (IsValidState c.self.inside.rules) (sym c.in-Ok.ensures.left)
           (record-valid c.self.inside.rules _ c.args.octets.now (c.self.invariant failed).0 octets (omega (arith, c.if-self.false))),
       c.in-Ok.ensures.limit,
     )
@@ -21,7 +21,7 @@ returns-in-Ok-clause-left g c =
     let going : c.self.inside.failed ≡ false = search rules in
     let old = c.self.invariant going in
     let octets : AreOctets c.args.octets.now = record { below = λ i. omega (arith, c.type_inv.octets i) } in
-    let new = subst (IsState c.self.inside.rules) (sym c.in-Ok.ensures.left) (record-valid c.self.inside.rules _ c.args.octets.now old.0 octets (omega (arith, c.if-self.false))) in
+    let new = subst (IsValidState c.self.inside.rules) (sym c.in-Ok.ensures.left) (record-valid c.self.inside.rules _ c.args.octets.now old.0 octets (omega (arith, c.if-self.false))) in
     let room : rooms c.take_record.new.kept ≡ rooms c.self.inside.kept =
     rooms_of_eight c.self.inside.rules.max_packet c.take_record.new.kept c.in-Ok.ensures.limit new.shape.eight_channels
     ∙ sym (rooms_of_eight c.self.inside.rules.max_packet c.self.inside.kept old.1 old.0.shape.eight_channels) in

@@ -1,6 +1,6 @@
 -- Of the applications so far nothing is held, unless one couldn't be written.
 use Rattle.std.specs.Prelude.{OnOk}
-use Rattle.tm_shelf.specs.Buffers.{AreEmptyOf}
+use Rattle.tm_shelf.specs.code.Buffers.{AreEmptyOf}
 use Rattle.tm_shelf.proofs.files.Folder.write_all.Given as goal
 
 abbrev pub invariant-loop-application : goal.invariant-loop-application

@@ -5,7 +5,7 @@ use Rattle.tm_tool.specs.declared.version.Version.{Version}
 use Rattle.tm_tool.specs.Checkpoints.{framed, job_of}
 use Rattle.tm_tool.specs.Jobs.{JobState}
 use Rattle.tm_tool.specs.RecordingPieces.{Work}
-use Rattle.tm_tool.specs.Stepping.{work_of}
+use Rattle.tm_tool.specs.code.Stepping.{work_of}
 use Rattle.tm_tool.proofs.CheckpointLemmas.{refused_around, resumed_in, resumed_behind}
 use Rattle.tm_tool.proofs.job.Job.resume.Goals as goal
 

@@ -2,7 +2,7 @@ use Rattle.std.proofs.Common.{◌≡◌}
 use Rattle.tm_tool.specs.declared.version.Version.TheVariants.{Three}
 use Rattle.tm_tool.specs.Checkpoints.{head_octets}
 use Rattle.tm_tool.specs.RecordingPieces.{Work}
-use Rattle.tm_tool.specs.Stepping.{work_of}
+use Rattle.tm_tool.specs.code.Stepping.{work_of}
 use Rattle.tm_tool.proofs.CheckpointLemmas.{joined}
 use Rattle.tm_tool.proofs.work.Work.checkpoint.Goals as goal
 

@@ -1,0 +1,74 @@
+-- Where packets go: what is known of it, and how it grows.
+use Rattle.std.specs.Prelude.{◌≡◌, ◌≢◌, refl, ℕ, true, List, []}
+use Rattle.tm_fields.specs.declared.field.Field.{Field}
+use Rattle.tm_items.specs.Item.{Item, Bad, MasterGap, Gap, Vca, Dropped, Packet, Short}
+use Rattle.tm_devices.specs.Devices.{raised}
+use Rattle.tm_output.specs.declared.command.Command.{Command}
+use Rattle.tm_output.specs.declared.command.Command.TheVariants.{Extract, Packets, Fields}
+use Rattle.tm_output.specs.FieldRows.{tabled, too_short}
+use Rattle.tm_output.specs.Outputs.{PutsPart, Way}
+use Rattle.tm_output.specs.Pieces.{HasLine, Texts, listed, packet_octets, rows_text, text_of}
+use Rattle.tm_output.specs.declared.fault.RunFault.{RunFault}
+use Rattle.tm_output.specs.declared.fault.RunFault.TheVariants.{Read, Write, Report, ShortRecording, TooMany, NoMemory}
+
+-- writing stopped in what belongs there: a call of it failed after a part of that, or there was no memory to make it, where there is any
+abbrev pub PutStopped : {A K : Type 0} → (K → K → List A → Type 0) → Way → K → K → ℕ → ℕ → List A → RunFault → Type 0
+PutStopped grows way old new failures_old failures_new text Read = ⊥
+PutStopped grows way old new failures_old failures_new text Write = (failures_new ≡ raised failures_old) × PutsPart grows old new text
+PutStopped grows way old new failures_old failures_new text Report = ⊥
+PutStopped grows way old new failures_old failures_new text ShortRecording = ⊥
+PutStopped grows way old new failures_old failures_new text TooMany = ⊥
+PutStopped grows way old new failures_old failures_new text NoMemory =
+    (way.memory ≡ true) × (text ≢ []) × (failures_new ≡ failures_old) × grows old new []
+
+-- of an item that has a line nothing belongs to a drain, and nothing more to the report
+abbrev pub GivesNone : {A : Type 0} → Texts A → Item → Type 0
+GivesNone text x = (text.out x ≡ []) × (text.remark x ≡ [])
+
+octets_none : (x : Item) → HasLine x → packet_octets x ≡ []
+unfolding packet_octets
+octets_none (Bad seen fault) has = refl
+octets_none (MasterGap seen expected found missing) has = refl
+octets_none (Gap seen channel expected found missing) has = refl
+octets_none (Vca seen channel) has = refl
+octets_none (Dropped seen channel first place octets reason) has = refl
+octets_none (Packet seen channel first place octets) has = absurd has
+octets_none (Short seen octets) has = refl
+
+listed_none : (x : Item) → HasLine x → listed x ≡ []
+unfolding listed
+listed_none (Bad seen fault) has = refl
+listed_none (MasterGap seen expected found missing) has = refl
+listed_none (Gap seen channel expected found missing) has = refl
+listed_none (Vca seen channel) has = refl
+listed_none (Dropped seen channel first place octets reason) has = refl
+listed_none (Packet seen channel first place octets) has = absurd has
+listed_none (Short seen octets) has = refl
+
+tabled_none : (fields : List Field) (application : ℕ) (x : Item) → HasLine x → tabled fields application x ≡ []
+unfolding tabled
+tabled_none fields application (Bad seen fault) has = refl
+tabled_none fields application (MasterGap seen expected found missing) has = refl
+tabled_none fields application (Gap seen channel expected found missing) has = refl
+tabled_none fields application (Vca seen channel) has = refl
+tabled_none fields application (Dropped seen channel first place octets reason) has = refl
+tabled_none fields application (Packet seen channel first place octets) has = absurd has
+tabled_none fields application (Short seen octets) has = refl
+
+too_short_none : (fields : List Field) (application : ℕ) (x : Item) → HasLine x → too_short fields application x ≡ []
+unfolding too_short
+too_short_none fields application (Bad seen fault) has = refl
+too_short_none fields application (MasterGap seen expected found missing) has = refl
+too_short_none fields application (Gap seen channel expected found missing) has = refl
+too_short_none fields application (Vca seen channel) has = refl
+too_short_none fields application (Dropped seen channel first place octets reason) has = refl
+too_short_none fields application (Packet seen channel first place octets) has = absurd has
+too_short_none fields application (Short seen octets) has = refl
+
+pub no_row : (fields : List Field) (application : ℕ) (x : Item) → HasLine x → GivesNone (rows_text fields application) x
+no_row fields application x has = (tabled_none fields application x has, too_short_none fields application x has)
+
+pub no_text : (command : Command) (x : Item) → HasLine x → GivesNone (text_of command) x
+no_text Extract x has = (octets_none x has, refl)
+no_text Packets x has = (listed_none x has, refl)
+no_text (Fields definition application) x has = no_row definition.now application x has

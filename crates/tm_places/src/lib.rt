@@ -1,0 +1,8 @@
+//! Which names stand for one file, and which files of a run are in each other's way.
+#![tactic(auto)]
+
+mod place;
+mod places;
+
+pub use place::{Place, is_any, place_of, place_of_file};
+pub use places::Places;

@@ -1,0 +1,4 @@
+pub mod Decisions
+pub mod Endings
+pub mod Files
+pub mod Reports

@@ -1,0 +1,33 @@
+-- Where the run of a plan ends, and what is done then.
+use Rattle.std.specs.Prelude.{◌≡◌, ◌+◌, ℕ, List, length, Option, Some, None}
+use Rattle.tm_tool.specs.RecordingPieces.{Work, chosen, further, worked}
+use Rattle.tm_tool.specs.Jobs.{JobState, new_job}
+use Rattle.tm_tool.specs.Runs.{IsEnough, kept_of}
+use Rattle.tm_settings.specs.Settings.{Rules}
+use Rattle.tm_output.specs.declared.command.Ending.{Ending}
+use Rattle.tm_output.specs.declared.command.Ending.TheVariants.{Close, Keep, StopAfter}
+use Rattle.tm_words.specs.declared.request.Plan.{Plan}
+
+-- with a file for the checkpoint or none, and a number of records or none
+abbrev pub ending_with : Option (List ℕ) → Option ℕ → Ending
+ending_with None stop = Close
+ending_with (Some name) None = Keep
+ending_with (Some name) (Some records) = StopAfter records
+
+abbrev pub ending_of : Plan → Ending
+ending_of p = ending_with p.checkpoint p.stop_after
+
+-- So many records are done by a run from this work, whatever its source tells: there are octets that the ending reads, the records that are done among
+-- them; and where the ending keeps a job it is the one after those of their records that it takes.
+abbrev pub IsDone : Ending → Work → ℕ → Option Work → Type 0
+IsDone ending w records kept = (read : List ℕ) × IsEnough ending w None read
+    × (records ≡ w.state.records + length (chosen ending (further w read))) × (kept ≡ kept_of ending (worked w (chosen ending (further w read))))
+
+-- the work of the job that is gone on with, or else of a new one
+abbrev pub work_from : Rules → Option JobState → Work
+work_from settings None = (new_job settings).work
+work_from settings (Some job) = job.work
+
+-- So much is done by a run of the plan with these settings, from this job where there is one.
+abbrev pub HasDone : Plan → Rules → Option JobState → ℕ → Option Work → Type 0
+HasDone p settings resumed records kept = IsDone (ending_of p) (work_from settings resumed) records kept

@@ -1,0 +1,41 @@
+-- What a sink that counts does with a packet, and with another item.
+use Rattle.std.proofs.Common.{◌≡◌, ℕ, List, [], ◌∷◌, length, refl}
+use Rattle.tm_packet.specs.declared.notes.Note.{Note}
+use Rattle.tm_packet.specs.Header.{Fields, packet_header_of}
+use Rattle.tm_packet.specs.Merge as sequence
+use Rattle.tm_items.specs.Item.{Item, Bad, MasterGap, Gap, Vca, Dropped, Packet, Short}
+use Rattle.tm_output.specs.Pieces.{Entries, HasLine, noted, notes_of}
+use Rattle.tm_output.proofs.PacketLemmas.{notes_one}
+use Rattle.tm_summary.specs.Adding.{with_item, with_packet}
+use Rattle.tm_summary.specs.Kinds.{pair_key}
+use Rattle.tm_summary.specs.Numbers.{Numbers}
+use Rattle.tm_summary.specs.Tallies.{with_given, noted_numbers}
+
+pub packet_given : (n m r : Numbers) (e : Entries) (seen channel application size key : ℕ) (octets : List ℕ) (h : Fields) (notes : List Note)
+    → h ≡ packet_header_of octets → application ≡ h.application → size ≡ length octets → key ≡ pair_key channel application
+    → m ≡ with_packet n seen channel application size → sequence.notes e (record { channel = channel; header = h } ∷ []) ≡ notes ∷ []
+    → r ≡ noted_numbers m key notes → r ≡ with_given e n (Packet seen channel 0 0 octets)
+unfolding with_given with_item
+packet_given n m r e seen channel application size key octets h notes is of long at counted noted all =
+    let given : notes ≡ notes_of e (record { channel = channel; header = h }) = notes_one e (record { channel = channel; header = h }) notes noted in
+    rw (all, counted, given, at, long, of, is) refl
+
+pub line_given : (e : Entries) (n : Numbers) (x : Item) → HasLine x → with_given e n x ≡ with_item n x
+unfolding with_given
+line_given e n (Bad seen fault) has = refl
+line_given e n (MasterGap seen expected found missing) has = refl
+line_given e n (Gap seen channel expected found missing) has = refl
+line_given e n (Vca seen channel) has = refl
+line_given e n (Dropped seen channel first place octets reason) has = refl
+line_given e n (Packet seen channel first place octets) has = absurd has
+line_given e n (Short seen octets) has = refl
+
+pub line_noted : (e : Entries) (x : Item) → HasLine x → noted e x ≡ e
+unfolding noted
+line_noted e (Bad seen fault) has = refl
+line_noted e (MasterGap seen expected found missing) has = refl
+line_noted e (Gap seen channel expected found missing) has = refl
+line_noted e (Vca seen channel) has = refl
+line_noted e (Dropped seen channel first place octets reason) has = refl
+line_noted e (Packet seen channel first place octets) has = absurd has
+line_noted e (Short seen octets) has = refl

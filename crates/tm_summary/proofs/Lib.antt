@@ -1,0 +1,9 @@
+pub mod Tables
+pub mod OneMore
+pub mod WithOne
+pub mod LineLemmas
+pub mod WritingLemmas
+pub mod Examples
+pub mod OpenCounted
+pub mod Tallied
+pub mod GivenLemmas

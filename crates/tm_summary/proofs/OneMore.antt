@@ -1,0 +1,199 @@
+-- The numbers of lists with one more in them.
+use Rattle.std.proofs.Common.{◌≡◌, ◌≢◌, ℕ, ◌+◌, ◌<◌, Bool, true, false, List, [], ◌∷◌, ◌++◌, length, refl, sym, ap, ◌∙◌, arith, append-nil, ne_eqb, eq-eqb}
+use Rattle.std.specs.Prelude.{◌==◌, filter, if◌then◌else◌}
+use Rattle.std.proofs.lemmas.List.Elements.{filter-append}
+use Rattle.std.proofs.lemmas.List.Sums.{sum_by_push, sum_by-cons, fold_push}
+use Rattle.tm_frame.specs.Frame.{GoodFrame}
+use Rattle.tm_packet.specs.declared.notes.Note.{Note}
+use Rattle.tm_packet.specs.declared.notes.Note.TheVariants as note
+use Rattle.tm_items.specs.declared.items.Reason.{Reason}
+use Rattle.tm_items.specs.declared.items.Reason.TheVariants as why
+use Rattle.tm_items.specs.Item.{Item, Gap, Vca, Dropped, Packet, seen_of}
+use Rattle.tm_summary.specs.declared.channel.Loss.{Loss}
+use Rattle.tm_summary.specs.Adding.{drop_more, frame_more, gap_more, loss_more, no_loss, note_more, packet_more, whole_more}
+use Rattle.tm_summary.specs.Kinds.{is_idle_kind, is_vca, is_gap, gap_missing, is_packet_item, packet_length, is_drop, drop_octets, has_reason, place_of, is_sequence_gap, sequence_missing, is_whole, is_broken, is_stray}
+use Rattle.tm_summary.specs.Numbers.{application_of, capped, channel_counts, count_capped, first_seen, how_many, in_all, loss_of, for_numbers}
+use Rattle.tm_summary.proofs.Tables.{table-more, table-same}
+
+-- ---- sums and filters
+
+module _ {A : Type 0} where
+  pub in_all_more : (part : A → ℕ) (xs : List A) (x : A) → in_all part (xs ++ x ∷ []) ≡ capped (in_all part xs + part x)
+  unfolding in_all
+  in_all_more part xs x = rw (sum_by_push part xs x) (omega arith)
+
+  pub in_all_same : (part : A → ℕ) (xs : List A) (x : A) → part x ≡ 0 → in_all part (xs ++ x ∷ []) ≡ in_all part xs
+  unfolding in_all
+  in_all_same part xs x none = rw (sum_by_push part xs x, none) (omega arith)
+
+  pub filter_yes : (test : A → Bool) (xs : List A) (x : A) → test x ≡ true → filter test (xs ++ x ∷ []) ≡ filter test xs ++ x ∷ []
+  filter_yes test xs x passes = filter-append test xs (x ∷ []) ∙ rw passes refl
+
+  pub filter_no : (test : A → Bool) (xs : List A) (x : A) → test x ≡ false → filter test (xs ++ x ∷ []) ≡ filter test xs
+  filter_no test xs x fails = filter-append test xs (x ∷ []) ∙ rw fails (append-nil (filter test xs))
+
+  how_many_by : (test : A → Bool) (xs : List A) (x : A) (b : Bool) → test x ≡ b
+      → how_many test (xs ++ x ∷ []) ≡ (if b then capped (how_many test xs + 1) else how_many test xs)
+  how_many_by test xs x true is = in_all_more (λ y. if test y then 1 else 0) xs x ∙ rw is refl
+  how_many_by test xs x false is = in_all_same (λ y. if test y then 1 else 0) xs x (rw is refl)
+
+  pub how_many_more : (test : A → Bool) (xs : List A) (x : A)
+      → how_many test (xs ++ x ∷ []) ≡ (if test x then capped (how_many test xs + 1) else how_many test xs)
+  how_many_more test xs x = how_many_by test xs x (test x) refl
+
+  pub counted_more : (xs : List A) (x : A) → count_capped (xs ++ x ∷ []) ≡ capped (count_capped xs + 1)
+  counted_more xs x = in_all_more (λ y. 1) xs x
+
+  -- something is counted
+  some_counted : (x : A) (xs : List A) → 0 < count_capped (x ∷ xs)
+  unfolding in_all
+  some_counted x xs = rw (sum_by-cons (λ y. 1) x xs) (omega arith)
+
+-- ---- records of numbers, part by part
+
+abbrev loss : ℕ → ℕ → Loss
+loss parts octets = record { parts = parts; octets = octets }
+
+loss_is : {parts parts' octets octets' : ℕ} → parts ≡ parts' → octets ≡ octets' → loss parts octets ≡ loss parts' octets'
+loss_is a b = rw (a, b) refl
+
+place_below : (reason : Reason) → place_of reason < 7
+place_below why.Pointer = omega arith
+place_below why.Gap = omega arith
+place_below why.Vca = omega arith
+place_below why.Close = omega arith
+place_below why.NoStart = omega arith
+place_below why.Version = omega arith
+place_below why.Length = omega arith
+
+-- ---- a channel with one frame or item more
+
+module _ (frames : List GoodFrame) (items : List Item) where
+  pub channel_frame : (f : GoodFrame) → channel_counts (frames ++ f ∷ []) items ≡ frame_more (channel_counts frames items) f.kind
+  channel_frame f =
+      rw (counted_more frames f, how_many_more (λ (g : GoodFrame). is_idle_kind g.kind) frames f, how_many_more (λ (g : GoodFrame). is_vca g.kind) frames f) refl
+
+  -- where no part is lost, none is lost for any reason
+  losses-same : (x : Item) → ((n : ℕ) → has_reason n x ≡ false) → for_numbers 7 (loss_of (items ++ x ∷ [])) ≡ for_numbers 7 (loss_of items)
+  losses-same x none =
+      table-same 7 (loss_of (items ++ x ∷ [])) (loss_of items)
+      (λ n. loss_is (in_all_same (λ y. if has_reason n y then 1 else 0) items x (rw (none n) refl)) (ap (in_all drop_octets) (filter_no (has_reason n) items x (none n))))
+
+  pub channel_gap : (seen channel expected found missing : ℕ)
+      → channel_counts frames (items ++ Gap seen channel expected found missing ∷ []) ≡ gap_more (channel_counts frames items) missing
+  channel_gap seen channel expected found missing =
+      rw (
+        how_many_more is_gap items (Gap seen channel expected found missing),
+        in_all_more gap_missing items (Gap seen channel expected found missing),
+        how_many_more is_packet_item items (Gap seen channel expected found missing),
+        in_all_same packet_length items (Gap seen channel expected found missing) refl,
+        how_many_more is_drop items (Gap seen channel expected found missing),
+        in_all_same drop_octets items (Gap seen channel expected found missing) refl,
+        losses-same (Gap seen channel expected found missing) (λ n. refl),
+      ) refl
+
+  pub channel_vca : (seen channel : ℕ) → channel_counts frames (items ++ Vca seen channel ∷ []) ≡ channel_counts frames items
+  channel_vca seen channel =
+      rw (
+        how_many_more is_gap items (Vca seen channel),
+        in_all_same gap_missing items (Vca seen channel) refl,
+        how_many_more is_packet_item items (Vca seen channel),
+        in_all_same packet_length items (Vca seen channel) refl,
+        how_many_more is_drop items (Vca seen channel),
+        in_all_same drop_octets items (Vca seen channel) refl,
+        losses-same (Vca seen channel) (λ n. refl),
+      ) refl
+
+  pub channel_packet : (seen channel first place : ℕ) (octets : List ℕ)
+      → channel_counts frames (items ++ Packet seen channel first place octets ∷ []) ≡ packet_more (channel_counts frames items) (length octets)
+  channel_packet seen channel first place octets =
+      rw (
+        how_many_more is_gap items (Packet seen channel first place octets),
+        in_all_same gap_missing items (Packet seen channel first place octets) refl,
+        how_many_more is_packet_item items (Packet seen channel first place octets),
+        in_all_more packet_length items (Packet seen channel first place octets),
+        how_many_more is_drop items (Packet seen channel first place octets),
+        in_all_same drop_octets items (Packet seen channel first place octets) refl,
+        losses-same (Packet seen channel first place octets) (λ n. refl),
+      ) refl
+
+  module _ (seen channel first place octets : ℕ) (reason : Reason) where
+    abbrev dropped : Item
+    dropped = Dropped seen channel first place octets reason
+
+    other_loss : (j : ℕ) → j ≢ place_of reason → loss_of (items ++ dropped ∷ []) j ≡ loss_of items j
+    other_loss j other =
+        let differs : (place_of reason == j) ≡ false = ne_eqb (place_of reason) j (λ e. other (sym e)) in
+        loss_is (in_all_same (λ y. if has_reason j y then 1 else 0) items dropped (rw differs refl)) (ap (in_all drop_octets) (filter_no (has_reason j) items dropped differs))
+
+    own_loss : loss_of (items ++ dropped ∷ []) (place_of reason) ≡ loss_more (loss_of items (place_of reason)) octets
+    own_loss =
+        let same : (place_of reason == place_of reason) ≡ true = eq-eqb (place_of reason) (place_of reason) refl in
+        loss_is
+        (in_all_more (λ y. if has_reason (place_of reason) y then 1 else 0) items dropped ∙ rw same refl)
+        (ap (in_all drop_octets) (filter_yes (has_reason (place_of reason)) items dropped same) ∙ in_all_more drop_octets (filter (has_reason (place_of reason)) items) dropped)
+
+    pub channel_drop : channel_counts frames (items ++ dropped ∷ []) ≡ drop_more (channel_counts frames items) octets reason
+    channel_drop =
+        rw (
+          how_many_more is_gap items dropped,
+          in_all_same gap_missing items dropped refl,
+          how_many_more is_packet_item items dropped,
+          in_all_same packet_length items dropped refl,
+          how_many_more is_drop items dropped,
+          in_all_more drop_octets items dropped,
+          table-more 7 (place_of reason) (loss_of (items ++ dropped ∷ [])) (loss_of items) no_loss (λ l. loss_more l octets) other_loss (place_below reason) own_loss,
+        ) refl
+
+-- ---- a channel and application with one packet or note more
+
+first_more : (packets : List Item) (x : Item) → first_seen (packets ++ x ∷ []) ≡ (if count_capped packets == 0 then seen_of x else first_seen packets)
+unfolding in_all
+first_more [] x = refl
+first_more (p ∷ ps) x =
+    let some : (count_capped (p ∷ ps) == 0) ≡ false = ne_eqb (count_capped (p ∷ ps)) 0 (λ e. omega (arith, some_counted p ps, e)) in rw some refl
+
+pub application_packet : (packets : List Item) (notes : List Note) (seen channel first place : ℕ) (octets : List ℕ)
+    → application_of (packets ++ Packet seen channel first place octets ∷ []) notes ≡ whole_more (application_of packets notes) seen (length octets)
+application_packet packets notes seen channel first place octets =
+    rw (
+      counted_more packets (Packet seen channel first place octets),
+      in_all_more packet_length packets (Packet seen channel first place octets),
+      first_more packets (Packet seen channel first place octets),
+      fold_push (λ (before : ℕ) (x : Item). seen_of x) 0 packets (Packet seen channel first place octets),
+    ) refl
+
+module _ (packets : List Item) (notes : List Note) where
+  pub notes_more : (n : Note) → application_of packets (notes ++ n ∷ []) ≡ note_more (application_of packets notes) n
+  notes_more (note.Gap expected found missing) =
+      rw (
+        how_many_more is_sequence_gap notes (note.Gap expected found missing),
+        in_all_more sequence_missing notes (note.Gap expected found missing),
+        how_many_more is_whole notes (note.Gap expected found missing),
+        how_many_more is_broken notes (note.Gap expected found missing),
+        how_many_more is_stray notes (note.Gap expected found missing),
+      ) refl
+  notes_more (note.Broken first last why) =
+      rw (
+        how_many_more is_sequence_gap notes (note.Broken first last why),
+        in_all_same sequence_missing notes (note.Broken first last why) refl,
+        how_many_more is_whole notes (note.Broken first last why),
+        how_many_more is_broken notes (note.Broken first last why),
+        how_many_more is_stray notes (note.Broken first last why),
+      ) refl
+  notes_more (note.Whole first last) =
+      rw (
+        how_many_more is_sequence_gap notes (note.Whole first last),
+        in_all_same sequence_missing notes (note.Whole first last) refl,
+        how_many_more is_whole notes (note.Whole first last),
+        how_many_more is_broken notes (note.Whole first last),
+        how_many_more is_stray notes (note.Whole first last),
+      ) refl
+  notes_more (note.Stray count flags) =
+      rw (
+        how_many_more is_sequence_gap notes (note.Stray count flags),
+        in_all_same sequence_missing notes (note.Stray count flags) refl,
+        how_many_more is_whole notes (note.Stray count flags),
+        how_many_more is_broken notes (note.Stray count flags),
+        how_many_more is_stray notes (note.Stray count flags),
+      ) refl

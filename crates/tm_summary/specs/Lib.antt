@@ -1,0 +1,6 @@
+pub mod Kinds
+pub mod Numbers
+pub mod Adding
+pub mod Lines
+pub mod Pieces
+pub mod Tallies

@@ -1,0 +1,148 @@
+-- The lines of a summary. Each ends with one line feed; numbers are decimal, without leading zeros.
+use Rattle.std.specs.Prelude.{ℕ, zero, suc, ◌/◌, ◌%◌, ◌&&◌, nat_lt, Bool, List, [], ◌∷◌, ◌++◌, codes, slice_index_or, if◌then◌else◌}
+use Rattle.std.specs.Fmt.{decimal}
+use Rattle.std.specs.List.{concat, flat_map}
+use Rattle.tm_frame.specs.declared.fault.FrameFault.{FrameFault}
+use Rattle.tm_frame.specs.declared.fault.FrameFault.TheVariants as fault
+use Rattle.tm_frame.specs.FaultWords as fault_word
+use Rattle.tm_items.specs.declared.items.Reason.{Reason}
+use Rattle.tm_items.specs.declared.items.Reason.TheVariants as why
+use Rattle.tm_items.specs.Reasons as reason
+use Rattle.tm_rules.specs.Channels.{is_chosen}
+use Rattle.tm_summary.specs.declared.application.ApplicationCounts.{ApplicationCounts}
+use Rattle.tm_summary.specs.declared.channel.ChannelCounts.{ChannelCounts}
+use Rattle.tm_summary.specs.declared.channel.Loss.{Loss}
+use Rattle.tm_summary.specs.Adding.{no_application, no_channel, no_loss}
+use Rattle.tm_summary.specs.Numbers.{Numbers, below}
+
+-- the whole records, those that are good frames, those that are bad, and the octets that are left
+unfoldable pub recording_line : (records good bad rest : ℕ) → List ℕ
+recording_line records good bad rest =
+    concat (codes "recording records=" ∷ decimal records
+    ∷ codes " good=" ∷ decimal good
+    ∷ codes " bad=" ∷ decimal bad
+    ∷ codes " rest=" ∷ decimal rest
+    ∷ codes "\n" ∷ [])
+
+-- the bad frames with a fault
+unfoldable pub fault_line : FrameFault → ℕ → List ℕ
+fault_line fault records =
+    concat (codes "fault word=" ∷ fault_word.fault_word fault
+    ∷ codes " records=" ∷ decimal records
+    ∷ codes "\n" ∷ [])
+
+-- the gaps of the master channel, and what is missing there
+unfoldable pub master_line : (gaps missing : ℕ) → List ℕ
+master_line gaps missing =
+    concat (codes "master gaps=" ∷ decimal gaps
+    ∷ codes " missing=" ∷ decimal missing
+    ∷ codes "\n" ∷ [])
+
+unfoldable pub channel_line : ℕ → ChannelCounts → List ℕ
+channel_line channel c =
+    concat (codes "channel channel=" ∷ decimal channel
+    ∷ codes " frames=" ∷ decimal c.frames
+    ∷ codes " idle=" ∷ decimal c.idle
+    ∷ codes " vca=" ∷ decimal c.vca
+    ∷ codes " gaps=" ∷ decimal c.gaps
+    ∷ codes " missing=" ∷ decimal c.missing
+    ∷ codes " packets=" ∷ decimal c.packets
+    ∷ codes " octets=" ∷ decimal c.octets
+    ∷ codes " dropped=" ∷ decimal c.dropped
+    ∷ codes " lost=" ∷ decimal c.lost
+    ∷ codes "\n" ∷ [])
+
+-- what is lost of a channel for a reason
+unfoldable pub loss_line : ℕ → Reason → Loss → List ℕ
+loss_line channel why l =
+    concat (codes "loss channel=" ∷ decimal channel
+    ∷ codes " reason=" ∷ reason.reason_word why
+    ∷ codes " parts=" ∷ decimal l.parts
+    ∷ codes " octets=" ∷ decimal l.octets
+    ∷ codes "\n" ∷ [])
+
+unfoldable pub application_line : (channel application : ℕ) → ApplicationCounts → List ℕ
+application_line channel application a =
+    concat (codes "application channel=" ∷ decimal channel
+    ∷ codes " apid=" ∷ decimal application
+    ∷ codes " packets=" ∷ decimal a.packets
+    ∷ codes " octets=" ∷ decimal a.octets
+    ∷ codes " first=" ∷ decimal a.first
+    ∷ codes " last=" ∷ decimal a.last
+    ∷ codes " gaps=" ∷ decimal a.gaps
+    ∷ codes " missing=" ∷ decimal a.missing
+    ∷ codes " groups=" ∷ decimal a.groups
+    ∷ codes " broken=" ∷ decimal a.broken
+    ∷ codes " strays=" ∷ decimal a.strays
+    ∷ codes "\n" ∷ [])
+
+-- the fault of a number that is less by one
+abbrev pub fault_at : ℕ → FrameFault
+fault_at zero = fault.Crc
+fault_at (suc zero) = fault.Version
+fault_at (suc (suc zero)) = fault.Spacecraft
+fault_at (suc (suc (suc zero))) = fault.SecondaryFlag
+fault_at (suc (suc (suc (suc zero)))) = fault.OcfFlag
+fault_at (suc (suc (suc (suc (suc zero))))) = fault.SecondaryVersion
+fault_at (suc (suc (suc (suc (suc (suc zero)))))) = fault.Layout
+fault_at (suc (suc (suc (suc (suc (suc (suc n))))))) = fault.Pointer
+
+-- the reason of a number
+abbrev pub numbered_reason : ℕ → Reason
+numbered_reason zero = why.Pointer
+numbered_reason (suc zero) = why.Gap
+numbered_reason (suc (suc zero)) = why.Vca
+numbered_reason (suc (suc (suc zero))) = why.Close
+numbered_reason (suc (suc (suc (suc zero)))) = why.NoStart
+numbered_reason (suc (suc (suc (suc (suc zero))))) = why.Version
+numbered_reason (suc (suc (suc (suc (suc (suc n)))))) = why.Length
+
+-- a line where there is something of it
+abbrev pub line_if : Bool → List ℕ → List (List ℕ)
+line_if b line = if b then line ∷ [] else []
+
+-- the line of a fault that came
+abbrev pub fault_lines_at : List ℕ → ℕ → List (List ℕ)
+fault_lines_at faults n = line_if (nat_lt 0 (slice_index_or faults n 0)) (fault_line (fault_at n) (slice_index_or faults n 0))
+
+-- that of a reason that came
+abbrev pub loss_lines_at : ℕ → List Loss → ℕ → List (List ℕ)
+loss_lines_at channel losses n =
+    line_if (nat_lt 0 (slice_index_or losses n no_loss).parts) (loss_line channel (numbered_reason n) (slice_index_or losses n no_loss))
+
+unfoldable pub loss_lines : ℕ → List Loss → List (List ℕ)
+loss_lines channel losses = flat_map (loss_lines_at channel losses) (below 7)
+
+-- those of a channel that is chosen and had a good frame
+abbrev pub channel_lines_of : List Bool → ℕ → ChannelCounts → List (List ℕ)
+channel_lines_of chosen channel c =
+    if is_chosen chosen channel && nat_lt 0 c.frames then channel_line channel c ∷ loss_lines channel c.losses else []
+
+abbrev pub channel_lines_at : List Bool → List ChannelCounts → ℕ → List (List ℕ)
+channel_lines_at chosen channels channel = channel_lines_of chosen channel (slice_index_or channels channel no_channel)
+
+-- that of a channel and application that had a whole packet
+abbrev pub application_lines_of : ℕ → ApplicationCounts → List (List ℕ)
+application_lines_of key a = line_if (nat_lt 0 a.packets) (application_line (key / 2048) (key % 2048) a)
+
+abbrev pub application_lines_at : List ApplicationCounts → ℕ → List (List ℕ)
+application_lines_at applications key = application_lines_of key (slice_index_or applications key no_application)
+
+-- all of faults, of channels and of applications
+unfoldable pub fault_lines : List ℕ → List (List ℕ)
+fault_lines faults = flat_map (fault_lines_at faults) (below 8)
+
+unfoldable pub channel_lines : List Bool → List ChannelCounts → List (List ℕ)
+channel_lines chosen channels = flat_map (channel_lines_at chosen channels) (below 8)
+
+unfoldable pub application_lines : List ApplicationCounts → List (List ℕ)
+application_lines applications = flat_map (application_lines_at applications) (below 16384)
+
+-- all lines, where these channels are chosen and there are so many records
+abbrev pub summary_lines : List Bool → ℕ → Numbers → List (List ℕ)
+summary_lines chosen records n =
+    (recording_line records n.good n.bad n.rest ∷ [])
+    ++ (fault_lines n.faults
+    ++ ((master_line n.master_gaps n.master_missing ∷ [])
+    ++ (channel_lines chosen n.channels
+    ++ application_lines n.applications)))

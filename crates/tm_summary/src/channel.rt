@@ -1,0 +1,121 @@
+//! What is counted of a channel.
+
+ghost use Rattle.std.specs.Prelude.{◌≡◌, ◌<◌, []};
+ghost use Rattle.tm_summary.specs.Adding.{drop_more, frame_more, gap_more, loss_more, packet_more};
+ghost use Rattle.tm_summary.specs.Kinds.{place_of};
+ghost use Rattle.tm_summary.specs.Numbers.{channel_counts};
+
+use tm_frame::Kind;
+use tm_items::Reason;
+
+/// What is lost of a channel for one reason: how many parts, and their octets.
+#[derive(Clone, Copy, Debug, PartialEq, Eq)]
+pub struct Loss {
+    pub parts: u64,
+    pub octets: u64,
+}
+
+impl Loss {
+    // A part more, of so many octets.
+    fn add(&mut self, octets: u32)
+        ensures { self.new ≡ loss_more self.old octets }
+    {
+        self.parts = self.parts.saturating_add(1);
+        self.octets = self.octets.saturating_add(u64::from(octets));
+    }
+}
+
+/// What is counted of a channel: its good frames, the idle-only and VCA frames among them, the gaps of its counts and what is missing
+/// there, its whole packets and their octets, its dropped parts and their octets, and what is lost for each reason, in the order of
+/// `Reason`.
+#[derive(Clone, Copy, Debug, PartialEq, Eq)]
+pub struct ChannelCounts {
+    pub frames: u64,
+    pub idle: u64,
+    pub vca: u64,
+    pub gaps: u64,
+    pub missing: u64,
+    pub packets: u64,
+    pub octets: u64,
+    pub dropped: u64,
+    pub lost: u64,
+    pub losses: [Loss; 7],
+}
+
+// The place of a reason among the losses.
+fn place_of(reason: Reason) -> usize
+    ensures place { result ≡ place_of reason }
+    ensures below { result < 7 }
+{
+    match reason {
+        Reason::Pointer => 0,
+        Reason::Gap => 1,
+        Reason::Vca => 2,
+        Reason::Close => 3,
+        Reason::NoStart => 4,
+        Reason::Version => 5,
+        Reason::Length => 6,
+    }
+}
+
+impl ChannelCounts {
+    // Of a channel of which nothing came.
+    #[tactic(auto, unfolding(crate::specs::Numbers::in_all, crate::specs::Numbers::for_numbers))]
+    pub(crate) fn none() -> ChannelCounts
+        ensures { result ≡ channel_counts [] [] }
+    {
+        let none = Loss {
+            parts: 0,
+            octets: 0,
+        };
+        ChannelCounts {
+            frames: 0,
+            idle: 0,
+            vca: 0,
+            gaps: 0,
+            missing: 0,
+            packets: 0,
+            octets: 0,
+            dropped: 0,
+            lost: 0,
+            losses: [none; 7],
+        }
+    }
+
+    // A good frame more, of which this is known of what it holds.
+    pub(crate) fn add_frame(&mut self, kind: Kind)
+        ensures { self.new ≡ frame_more self.old kind }
+    {
+        self.frames = self.frames.saturating_add(1);
+        match kind {
+            Kind::Idle => self.idle = self.idle.saturating_add(1),
+            Kind::Vca => self.vca = self.vca.saturating_add(1),
+            Kind::Packets(_) | Kind::NoStart => {}
+        }
+    }
+
+    // A gap more, of so many missing frames.
+    pub(crate) fn add_gap(&mut self, missing: u8)
+        ensures { self.new ≡ gap_more self.old missing }
+    {
+        self.gaps = self.gaps.saturating_add(1);
+        self.missing = self.missing.saturating_add(u64::from(missing));
+    }
+
+    // A whole packet more, of so many octets.
+    pub(crate) fn add_packet(&mut self, octets: u64)
+        ensures { self.new ≡ packet_more self.old octets }
+    {
+        self.packets = self.packets.saturating_add(1);
+        self.octets = self.octets.saturating_add(octets);
+    }
+
+    // A dropped part more, of so many octets.
+    pub(crate) fn add_drop(&mut self, octets: u32, reason: Reason)
+        ensures { self.new ≡ drop_more self.old octets reason }
+    {
+        self.dropped = self.dropped.saturating_add(1);
+        self.lost = self.lost.saturating_add(u64::from(octets));
+        self.losses[place_of(reason)].add(octets);
+    }
+}

@@ -1,0 +1,169 @@
+//! What is counted of a recording.
+
+ghost use Rattle.std.specs.Prelude.{◌≡◌, ◌<◌, ◌-◌, ◌∷◌, [], length, IfOk};
+ghost use Rattle.tm_frame.specs.FaultWords.{fault_number};
+ghost use Rattle.tm_packet.specs.Header.{packet_header_of};
+ghost use Rattle.tm_items.specs.Item as value;
+ghost use Rattle.tm_items.specs.Sinks.{item_of, ItemFits};
+ghost use Rattle.tm_summary.specs.Adding.{no_applications, with_bad, with_frame, with_item, with_note, with_packet};
+ghost use Rattle.tm_summary.specs.Numbers.{numbers_of, nothing};
+ghost use Rattle.tm_output.specs.Pieces.{HasLine};
+
+use crate::application::ApplicationCounts;
+use crate::channel::ChannelCounts;
+use std::alloc::{AllocError, Global};
+use std::marker::Model;
+use tm_frame::{FrameFault, Kind};
+use tm_items::Item;
+use tm_packet::Note;
+
+// A place for each channel and application.
+const PLACES: usize = 16384;
+
+/// What is counted of a recording. The room for all channels and applications is made at the beginning.
+#[derive(Drop)]
+pub struct Counts {
+    pub(crate) good: u64,
+    pub(crate) bad: u64,
+    pub(crate) rest: u64,
+    pub(crate) faults: [u64; 8],
+    pub(crate) master_gaps: u64,
+    pub(crate) master_missing: u64,
+    pub(crate) channels: [ChannelCounts; 8],
+    pub(crate) applications: Vec<ApplicationCounts>,
+}
+
+impl Model for Counts {
+    ghost use Rattle.std.specs.Prelude.{◌≡◌, length};
+    ghost use Rattle.tm_summary.specs.Numbers.{Numbers};
+
+    ghost Value = { Numbers };
+
+    ghost view = { λ c. record {
+      good = c.good;
+      bad = c.bad;
+      rest = c.rest;
+      faults = c.faults;
+      master_gaps = c.master_gaps;
+      master_missing = c.master_missing;
+      channels = c.channels;
+      applications = c.applications.items;
+    } };
+
+    ghost invariant = { λ c. (length c.faults ≡ 8) × (length c.channels ≡ 8) × (length c.applications.items ≡ 16384) };
+}
+
+// A place for each channel and application, of which nothing came.
+#[tactic(auto, using(crate::proofs::Tables::filled))]
+fn places(alloc: Global) -> Result<Vec<ApplicationCounts>, AllocError>
+    ensures { IfOk result (λ places. places.items ≡ no_applications) }
+{
+    let mut places = Vec::with_capacity(alloc, PLACES)?;
+    places.resize(PLACES, ApplicationCounts::none())?;
+    Ok(places)
+}
+
+// The place of a fault among the faults.
+fn place_of_fault(fault: FrameFault) -> usize
+    ensures place { result ≡ fault_number fault - 1 }
+    ensures below { result < 8 }
+{
+    match fault {
+        FrameFault::Crc => 0,
+        FrameFault::Version => 1,
+        FrameFault::Spacecraft => 2,
+        FrameFault::SecondaryFlag => 3,
+        FrameFault::OcfFlag => 4,
+        FrameFault::SecondaryVersion => 5,
+        FrameFault::Layout => 6,
+        FrameFault::Pointer => 7,
+    }
+}
+
+impl Counts {
+    /// Nothing yet. No later call takes memory.
+    pub fn new(alloc: Global) -> Result<Counts, AllocError>
+        ensures { IfOk result (λ counts. counts ≡ numbers_of nothing) }
+    {
+        let applications = places(alloc)?;
+        Ok(Counts {
+            good: 0,
+            bad: 0,
+            rest: 0,
+            faults: [0; 8],
+            master_gaps: 0,
+            master_missing: 0,
+            channels: [ChannelCounts::none(); 8],
+            applications,
+        })
+    }
+
+    /// A good frame more, of this channel, which holds this.
+    #[tactic(auto, unfolding(crate::specs::Adding::with_frame))]
+    pub fn add_frame(&mut self, channel: u8, kind: Kind)
+        requires { channel < 8 }
+        ensures { self.new ≡ with_frame self.old channel kind }
+    {
+        self.good = self.good.saturating_add(1);
+        self.channels[usize::from(channel)].add_frame(kind);
+    }
+
+    // A bad frame more.
+    fn add_bad(&mut self, fault: FrameFault)
+        ensures { self.new ≡ with_bad self.old fault }
+    {
+        self.bad = self.bad.saturating_add(1);
+        let place = place_of_fault(fault);
+        self.faults[place] = self.faults[place].saturating_add(1);
+    }
+
+    /// A whole packet more, which this record completed, of this channel and application and of so many octets.
+    pub fn add_packet(&mut self, seen: u32, channel: u8, application: u16, octets: u64)
+        requires channel { channel < 8 }
+        requires application { application < 2048 }
+        ensures { self.new ≡ with_packet self.old seen channel application octets }
+    {
+        self.channels[usize::from(channel)].add_packet(octets);
+        let key = 2048 * usize::from(channel) + usize::from(application);
+        self.applications[key].add_packet(seen, octets);
+    }
+
+    /// An item more that is no packet.
+    #[tactic(auto, unfolding(crate::specs::Adding::with_item))]
+    pub fn add_item(&mut self, item: Item<'_>)
+        requires fits { ItemFits (item_of item) }
+        requires line { HasLine (item_of item) }
+        ensures { self.new ≡ with_item self.old (item_of item.entry) }
+    {
+        match item {
+            Item::Bad { fault, .. } => self.add_bad(fault),
+            Item::MasterGap { missing, .. } => {
+                self.master_gaps = self.master_gaps.saturating_add(1);
+                self.master_missing = self.master_missing.saturating_add(u64::from(missing));
+            }
+            Item::Gap {
+                channel,
+                missing,
+                ..
+            } => self.channels[usize::from(channel)].add_gap(missing),
+            Item::Vca { .. } => {}
+            Item::Dropped {
+                channel,
+                octets,
+                reason,
+                ..
+            } => self.channels[usize::from(channel)].add_drop(octets, reason),
+            Item::Packet { .. } => unreachable!(),
+            Item::Short { octets, .. } => self.rest = self.rest.saturating_add(u64::from(octets)),
+        }
+    }
+
+    /// A note more on the sequence counts of the channel and application of this key, `2048 * channel + application`.
+    #[tactic(auto, unfolding(crate::specs::Adding::with_note))]
+    pub fn add_note(&mut self, key: u16, note: Note)
+        requires { key < 16384 }
+        ensures { self.new ≡ with_note self.old key note }
+    {
+        self.applications[usize::from(key)].add_note(note);
+    }
+}

@@ -1,0 +1,606 @@
+#!/usr/bin/env python3
+"""Draws what was lost of a recording: where, on which channel, and why.  One SVG that stands alone.
+
+    tmx frames --settings SETTINGS RECORDING > frames.txt
+    tmx extract --settings SETTINGS --report report.txt RECORDING > packets.pkt
+    python3 loss_map.py [--title TEXT] frames.txt report.txt > map.svg
+
+Either file may be `-`, which is standard input.  The report may be that of any command.  Python 3.10 or later and its
+standard library are all that is needed.
+
+From left to right are the records.  From above to below come, for each channel that has a good frame,
+
+  - the parts that were dropped, as bars: how high says how many octets, the colour says for which reason;
+  - a band of its frames.  Records of other channels leave it white.
+
+and below all channels the bad frames, and the gaps of the master channel, as bars of so many frames.
+
+Nothing is known of a bad frame, not even its channel.  It stands in the band of each channel that misses frames around
+it: that of the good frames before and after it which have a gap between them.  It may be one of those.  `Missing`
+stands at the first good frame behind the gap.  All else stands at the record that the report names.
+
+A long recording has several records in a column.  A band's column then shows the worst of them: missing frames, else a
+bad one, else a VCA frame, else a good one, else an idle one.  A browser shows the figures on hover.
+
+Lines that are not of `tmx`, and a report of another recording, are refused with a line that names file and line.  The
+status is 1 then, and nothing is written to standard output.
+"""
+
+import argparse
+import re
+import sys
+from collections import Counter, defaultdict
+from html import escape
+
+# What the lines say.
+
+FAULTS = ("crc", "version", "spacecraft", "secondary-flag", "ocf-flag", "secondary-version", "layout", "pointer")
+KINDS = ("packets", "nostart", "idle", "vca")
+
+# Reasons and their colours, those of Okabe and Ito, which the colour-blind tell apart.
+REASONS = {
+    "gap": "#d55e00",
+    "no-start": "#e69f00",
+    "pointer": "#0072b2",
+    "version": "#009e73",
+    "length": "#cc79a7",
+    "vca": "#56b4e9",
+    "end": "#000000",
+}
+
+FRAME_LINES = {
+    "frame": "record channel master count kind place secondary ocf order segment octets",
+    "bad": "record fault",
+    "short": "record octets",
+}
+REPORT_LINES = {
+    "bad": "record fault",
+    "mastergap": "record expected found missing",
+    "gap": "record channel expected found missing",
+    "vca": "record channel",
+    "drop": "record channel from at octets reason",
+    "short": "record octets",
+    "seqgap": "record channel apid expected found missing",
+    "broken": "record channel apid first last reason",
+    "group": "record channel apid first last",
+    "stray": "record channel apid count flag",
+    "shortpacket": "record channel from at needed found",
+}
+NUMBER = "0|[1-9][0-9]{0,9}"
+COUNT = "[1-9]?[0-9]|1[0-9][0-9]|2[0-4][0-9]|25[0-5]"
+VALUES = {
+    "channel": "[0-7]",
+    "frame count": COUNT,
+    "frame master": COUNT,
+    "kind": "|".join(KINDS),
+    "place": f"-|{NUMBER}",
+    "ocf": "yes|no",
+    "fault": "|".join(FAULTS),
+    "flag": "continuation|last",
+    "drop reason": "|".join(REASONS),
+    "broken reason": "gap|first|unsegmented|end",
+}
+
+
+def patterns(lines):
+    """For each first word of a line a pattern of what follows it, with a group for each value."""
+    found = {}
+    for word, keys in lines.items():
+        values = ((key, VALUES.get(f"{word} {key}") or VALUES.get(key, NUMBER)) for key in keys.split())
+        found[word] = re.compile(" ".join(f"{key}=(?P<{key}>{value})" for key, value in values) + "\n?")
+    return found
+
+
+class Refused(Exception):
+    """Input that can't be drawn.  The text is the line that says so."""
+
+
+class Source:
+    """A file of lines, the number of the line that was read last, and how to refuse it."""
+
+    def __init__(self, name):
+        self.name = "standard input" if name == "-" else name
+        self.number = 0
+        try:
+            self.file = open(0 if name == "-" else name, encoding="ascii", errors="replace")
+        except OSError as error:
+            raise Refused(f"{name}: {error.strerror}") from None
+
+    def read(self, lines, what):
+        """Each line as its first word and its values."""
+        known = patterns(lines)
+        with self.file:
+            for line in self.file:
+                self.number += 1
+                word, _, rest = line.partition(" ")
+                said = known[word].fullmatch(rest) if word in known else None
+                if said is None:
+                    self.refuse(f"no line of {what}")
+                yield word, said
+
+    def refuse(self, why):
+        raise Refused(f"{self.name}, line {self.number}: {why}")
+
+
+# The recording.
+
+GOOD, IDLE, VCA, BAD, MISSING = STATES = ("good", "idle", "vca", "bad", "missing")
+STATE_OF_KIND = {"packets": GOOD, "nostart": GOOD, "idle": IDLE, "vca": VCA}
+WORST_FIRST = (MISSING, BAD, VCA, GOOD, IDLE)
+NO_CHANNEL = 8  # of a bad frame
+MASTER = "master"
+
+
+class Recording:
+    """What `tmx frames` says.  Of each record an octet in each of four lists, so that long recordings find room."""
+
+    def __init__(self):
+        self.channels = bytearray()  # NO_CHANNEL where the frame is bad
+        self.kinds = bytearray()  # a place in STATES, of a bad frame one in FAULTS
+        self.missing = bytearray()  # how many frames of the channel are missing before this one
+        self.master_missing = bytearray()  # the same of the master channel
+        self.rest = 0  # the octets that are left at the end
+        self.bad = []  # the records of bad frames
+        self.suspects = defaultdict(list)  # of each channel the bad records that may be its own
+        self.last_counts = {}
+        self.bad_before = {}  # of each channel how many bad frames there were at its last good one
+
+    def __len__(self):
+        return len(self.kinds)
+
+    def add_bad(self, fault):
+        self.bad.append(len(self))
+        self.channels.append(NO_CHANNEL)
+        self.missing.append(0)
+        self.master_missing.append(0)
+        self.kinds.append(FAULTS.index(fault))
+
+    def add_good(self, channel, kind, count, master):
+        missing = self.step(channel, count)
+        if missing:
+            self.suspects[channel] += self.bad[self.bad_before[channel] :]
+        self.bad_before[channel] = len(self.bad)
+        self.channels.append(channel)
+        self.missing.append(missing)
+        self.master_missing.append(self.step(MASTER, master))
+        self.kinds.append(STATES.index(STATE_OF_KIND[kind]))
+
+    def step(self, name, count):
+        """How many frames are missing before this count."""
+        missing = (count - self.last_counts.get(name, count - 1) - 1) % 256
+        self.last_counts[name] = count
+        return missing
+
+
+def read_frames(source):
+    recording, ended = Recording(), False
+    for word, said in source.read(FRAME_LINES, "`tmx frames`"):
+        if int(said["record"]) != len(recording) or ended:
+            source.refuse(f"record {said['record']} is not the next one")
+        if word == "frame":
+            recording.add_good(int(said["channel"]), said["kind"], int(said["count"]), int(said["master"]))
+        elif word == "bad":
+            recording.add_bad(said["fault"])
+        else:
+            recording.rest, ended = int(said["octets"]), True
+    return recording
+
+
+# The columns of the picture.
+
+MOST_COLUMNS = 400
+
+
+class Columns:
+    """So many records are in each column, but fewer in the last."""
+
+    def __init__(self, records):
+        self.records = records
+        self.each = max(1, -(-records // MOST_COLUMNS))
+        self.number = -(-records // self.each)
+
+    def of(self, record):
+        """The column of a record.  What is known at the recording's end stands in its last column."""
+        return min(record, self.records - 1) // self.each
+
+    def ends(self, column):
+        """The first record of the column, and that behind its last."""
+        return column * self.each, min((column + 1) * self.each, self.records)
+
+
+def tally_frames(recording, columns):
+    """For each channel and column how many frames are in each state; for NO_CHANNEL how many have each fault."""
+    tallies = defaultdict(Counter)
+    for column in range(columns.number):
+        first, end = columns.ends(column)
+        here = zip(recording.channels[first:end], recording.kinds[first:end])
+        for (channel, kind), number in Counter(here).items():
+            words = FAULTS if channel == NO_CHANNEL else STATES
+            tallies[channel, column][words[kind]] += number
+    for record, missing in enumerate(recording.missing):
+        if missing:
+            tallies[recording.channels[record], columns.of(record)][MISSING] += missing
+    for channel, records in recording.suspects.items():
+        for record in records:
+            tallies[channel, columns.of(record)][BAD] += 1
+    return tallies
+
+
+class Report:
+    """What the report says, by column."""
+
+    def __init__(self):
+        self.dropped = defaultdict(Counter)  # for each channel and column, octets by reason
+        self.parts = Counter()  # for each channel and column, how many parts
+        self.master_gaps = defaultdict(list)  # for each column, how many are missing in each gap
+
+
+def check_line(source, word, said, recording):
+    """Refuses a line that doesn't agree with the frames."""
+    record = int(said["record"])
+    at_end = word == "short" or said.groupdict().get("reason") == "end"
+    if record >= len(recording) + at_end:
+        source.refuse(f"the frames have no record {record}")
+    agrees = True
+    if word == "bad":
+        agrees = recording.channels[record] == NO_CHANNEL and FAULTS[recording.kinds[record]] == said["fault"]
+    elif word == "mastergap":
+        agrees = recording.master_missing[record] == int(said["missing"])
+    elif word == "gap":
+        agrees = (recording.channels[record], recording.missing[record]) == (int(said["channel"]), int(said["missing"]))
+    elif word == "vca":
+        agrees = (recording.channels[record], recording.kinds[record]) == (int(said["channel"]), STATES.index(VCA))
+    elif word == "drop" and not at_end:
+        agrees = recording.channels[record] == int(said["channel"])
+    elif word == "drop":
+        agrees = int(said["channel"]) in recording.last_counts
+    if not agrees:
+        source.refuse(f"the frames say otherwise of record {record}")
+
+
+def read_report(source, recording, columns):
+    report = Report()
+    for word, said in source.read(REPORT_LINES, "a report"):
+        check_line(source, word, said, recording)
+        column = columns.of(int(said["record"]))
+        if word == "drop":
+            place = int(said["channel"]), column
+            report.dropped[place][said["reason"]] += int(said["octets"])
+            report.parts[place] += 1
+        elif word == "mastergap":
+            report.master_gaps[column].append(int(said["missing"]))
+    return report
+
+
+# Texts.
+
+
+def figure(number):
+    return f"{number:,}"
+
+
+def counted(number, word):
+    return f"{figure(number)} {word}{'' if number == 1 else 's'}"
+
+
+def where(columns, column, last=None):
+    """The records of a column, or of all columns from one to another."""
+    first, end = columns.ends(column)[0], columns.ends(column if last is None else last)[1]
+    return f"record {figure(first)}" if end - first == 1 else f"records {figure(first)} to {figure(end - 1)}"
+
+
+def frames_text(tally):
+    words = {GOOD: "good", IDLE: "idle", VCA: "with a VCA_SDU", BAD: "bad, of no known channel", MISSING: "missing"}
+    said = [f"{figure(tally[state])} {words[state]}" for state in STATES if tally[state]]
+    note = " (255 missing may be a frame that was recorded twice)" if tally[MISSING] == 255 else ""
+    return ", ".join(said) + note
+
+
+def dropped_text(parts, octets):
+    reasons = ", ".join(f"{counted(number, 'octet')} by {reason}" for reason, number in octets.most_common())
+    return f"{counted(parts, 'part')} dropped: {reasons}"
+
+
+# Drawing.
+
+LEFT, PLOT, RIGHT = 176, 800, 38
+BAR, BAND, BETWEEN = 26, 18, 20  # heights
+LEAST_BAR = 3
+STATE_COLOURS = {GOOD: "#8fbbdb", IDLE: "#a9aeb3", VCA: "#f0e442", BAD: "#000000", MISSING: "#d55e00"}
+STATE_WORDS = {
+    GOOD: "good",
+    IDLE: "idle",
+    VCA: "VCA",
+    BAD: "bad, perhaps of this channel",
+    MISSING: "missing before here",
+}
+STYLE = """
+text { font: 12px "DejaVu Sans", Verdana, Arial, sans-serif; fill: #222 }
+.head { font-size: 16px; font-weight: bold }
+.name { font-weight: bold }
+.small { font-size: 11px; fill: #555 }
+.middle { text-anchor: middle }
+.end { text-anchor: end }
+.line { stroke: #999; stroke-width: 1 }
+.grid { stroke: #e8e8e8; stroke-width: 1 }
+.frame { fill: #fff; stroke: #bbb; stroke-width: 1 }
+.master { fill: #5b3a8e }
+.faults { fill: #000 }
+g:hover > rect, rect.hover:hover { stroke: #222; stroke-width: 1 }
+"""
+
+
+def text(x, y, words, kind=""):
+    return f'<text class="{kind}" x="{x:.6g}" y="{y:.6g}">{escape(words)}</text>'
+
+
+def line(kind, x1, y1, x2, y2):
+    return f'<line class="{kind}" x1="{x1:.6g}" y1="{y1:.6g}" x2="{x2:.6g}" y2="{y2:.6g}"/>'
+
+
+def rectangle(kind, x, y, width, height, title=""):
+    box = f'<rect class="{kind}" x="{x:.6g}" y="{y:.6g}" width="{width:.6g}" height="{height:.6g}"'
+    return f"{box}><title>{escape(title)}</title></rect>" if title else f"{box}/>"
+
+
+class Picture:
+    """Elements of the SVG, drawn from above to below.  `y` is where the next one goes."""
+
+    def __init__(self, recording, columns, report):
+        self.recording, self.columns, self.report = recording, columns, report
+        self.tallies = tally_frames(recording, columns)
+        self.channels = sorted({channel for channel, _ in self.tallies if channel != NO_CHANNEL})
+        self.greatest_drop = max((tally.total() for tally in report.dropped.values()), default=0)
+        self.marks = []
+        self.y = 0
+
+    def add(self, *marks):
+        self.marks += marks
+
+    def left(self, record):
+        return LEFT + PLOT * record / max(1, self.columns.records)
+
+    def span(self, column, last=None):
+        """The left border and the width of a column, or of all from one to another."""
+        first, end = self.columns.ends(column)[0], self.columns.ends(column if last is None else last)[1]
+        return self.left(first), self.left(end) - self.left(first)
+
+    def of_channel(self, tallies, channel):
+        """The tallies of a channel by column, rising."""
+        return {column: tallies[at, column] for at, column in sorted(tallies) if at == channel}
+
+
+def total(tallies):
+    """The sum of tallies."""
+    found = Counter()
+    for tally in tallies:
+        found.update(tally)
+    return found
+
+
+def draw_head(picture, title):
+    picture.add(text(16, 28, title, "head"), text(16, 48, head_text(picture)))
+    picture.y = 74
+    dropped = total(picture.report.dropped.values())
+    with_vca = any(tally[VCA] for tally in picture.tallies.values())
+    states = [(f"s-{state}", STATE_WORDS[state]) for state in STATES if state != VCA or with_vca]
+    reasons = [(f"r-{reason}", reason) for reason in REASONS if dropped[reason]]
+    draw_legend(picture, "Frames", [*states, ("s-none", "none of this channel")])
+    draw_legend(picture, "Dropped, by reason", reasons or [("", "nothing")])
+    picture.y += 6
+
+
+def head_text(picture):
+    recording, missing = picture.recording, sum(picture.recording.missing)
+    octets = total(picture.report.dropped.values()).total()
+    said = f"{counted(len(recording), 'record')}: {figure(len(recording) - len(recording.bad))} good,"
+    said += f" {figure(len(recording.bad))} bad. {counted(missing, 'frame')} missing by the channels' counts."
+    said += f" {counted(picture.report.parts.total(), 'part')} of {counted(octets, 'octet')} dropped."
+    if recording.rest:
+        said += f" {counted(recording.rest, 'octet')} left over at the end."
+    return said
+
+
+def draw_legend(picture, name, entries):
+    picture.add(text(16, picture.y, name, "name"))
+    x = LEFT
+    for kind, words in entries:
+        if kind:
+            picture.add(rectangle(kind, x, picture.y - 10, 12, 12), rectangle("edge", x, picture.y - 10, 12, 12))
+        picture.add(text(x + 18 * bool(kind), picture.y, words))
+        x += 40 + 7 * len(words)
+    picture.y += 22
+
+
+def draw_channel(picture, channel):
+    frames = picture.of_channel(picture.tallies, channel)
+    dropped = picture.of_channel(picture.report.dropped, channel)
+    all_frames, octets = total(frames.values()), total(dropped.values()).total()
+    sent = sum(all_frames[state] for state in (GOOD, IDLE, VCA))
+    picture.y += BETWEEN
+    said = [counted(sent, "frame"), f"{figure(all_frames[MISSING])} missing", f"{counted(octets, 'octet')} dropped"]
+    draw_name(picture, f"Channel {channel}", said)
+    for column, tally in dropped.items():
+        draw_dropped(picture, channel, column, tally)
+    picture.y += BAR + 1
+    picture.add(rectangle("frame", LEFT, picture.y, PLOT, BAND))
+    for first, last in runs(frames):
+        draw_run(picture, channel, frames, first, last)
+    picture.y += BAND
+
+
+def draw_name(picture, name, said):
+    picture.add(text(LEFT - 10, picture.y + 4, name, "name end"))
+    for number, words in enumerate(said):
+        picture.add(text(LEFT - 10, picture.y + 18 + 13 * number, words, "small end"))
+
+
+def height(number, greatest):
+    """How high a bar is, by the square root, so that small ones are seen beside great ones."""
+    return max(LEAST_BAR, BAR * (number / greatest) ** 0.5)
+
+
+def draw_dropped(picture, channel, column, tally):
+    """A bar for the octets that a column drops, in parts by their reasons."""
+    x, width = picture.span(column)
+    high, base = height(tally.total(), picture.greatest_drop), picture.y + BAR
+    words = dropped_text(picture.report.parts[channel, column], tally)
+    picture.add(f"<g><title>{escape(f'Channel {channel}, {where(picture.columns, column)}: {words}')}</title>")
+    for reason in REASONS:
+        if tally[reason]:
+            part = high * tally[reason] / tally.total()
+            base -= part
+            picture.add(rectangle(f"r-{reason}", x, base, width, part))
+    picture.add("</g>")
+
+
+def worst(tally):
+    return next(state for state in WORST_FIRST if tally[state])
+
+
+def runs(frames):
+    """Stretches of columns side by side whose worst is the same, by first and last.  Losses stand alone."""
+    found = []
+    for column, tally in frames.items():
+        state = worst(tally)
+        before = found[-1][1] if found else None
+        if before == column - 1 and worst(frames[before]) == state and state not in (BAD, MISSING):
+            found[-1][1] = column
+        else:
+            found.append([column, column])
+    return found
+
+
+def draw_run(picture, channel, frames, first, last):
+    tally = total(frames[column] for column in range(first, last + 1))
+    words = f"Channel {channel}, {where(picture.columns, first, last)}: {frames_text(tally)}"
+    x, width = picture.span(first, last)
+    state = worst(tally)
+    low = BAND / 2 if state == IDLE else 1  # idle ones are half as high
+    picture.add(rectangle(f"hover s-{state}", x, picture.y + low, width, BAND - 1 - low, words))
+
+
+def draw_bars(picture, kind, name, said, bars):
+    """A row of bars of so many frames: their heights by column, and what is said of each on hover."""
+    picture.y += BETWEEN
+    draw_name(picture, name, said)
+    greatest = max((number for number, _ in bars.values()), default=1)
+    for column, (number, words) in bars.items():
+        x, width = picture.span(column)
+        high = height(number, greatest)
+        title = f"{where(picture.columns, column).capitalize()}: {words}"
+        picture.add(rectangle(f"hover {kind}", x, picture.y + BAR + 1 - high, width, high, title))
+    picture.y += BAR + 1
+    picture.add(line("line", LEFT, picture.y + 0.5, LEFT + PLOT, picture.y + 0.5))
+    picture.y += 6
+
+
+def draw_bad(picture):
+    bars = {}
+    for column, tally in picture.of_channel(picture.tallies, NO_CHANNEL).items():
+        faults = ", ".join(f"{figure(number)} by {fault}" for fault, number in tally.most_common())
+        bars[column] = tally.total(), f"{counted(tally.total(), 'bad frame')}: {faults}"
+    found = total(picture.of_channel(picture.tallies, NO_CHANNEL).values()).most_common()
+    said = [f"{figure(number)} {fault}" for fault, number in found[:2]] or ["none"]
+    draw_bars(picture, "faults", "Bad frames", said + ["and others"] * (len(found) > 2), bars)
+
+
+def draw_master(picture):
+    bars = {}
+    for column, gaps in picture.report.master_gaps.items():
+        words = f"{counted(len(gaps), 'gap')} of the master channel, {counted(sum(gaps), 'frame')} missing"
+        bars[column] = sum(gaps), words
+    missing = sum(number for number, _ in bars.values())
+    gaps = sum(len(it) for it in picture.report.master_gaps.values())
+    said = [f"{counted(gaps, 'gap')}, {figure(missing)} missing"] if gaps else ["no gap"]
+    draw_bars(picture, "master", "Master channel", said, bars)
+
+
+def tick_step(records):
+    """The least of 1, 2, 5, 10, 20, 50 and so on that gives at most ten ticks."""
+    step = 1
+    while records > 10 * step:
+        step = step * 5 // 2 if str(step)[0] == "2" else step * 2
+    return step
+
+
+def draw_axis(picture, top):
+    """Ticks below all, and at each a line behind all."""
+    records, grid = picture.columns.records, []
+    for record in range(0, records + 1, tick_step(records)):
+        x = picture.left(record)
+        grid.append(line("grid", x, top, x, picture.y))
+        picture.add(line("line", x, picture.y, x, picture.y + 5), text(x, picture.y + 18, figure(record), "middle"))
+    picture.add(line("line", LEFT, picture.y, LEFT + PLOT, picture.y), text(16, picture.y + 18, "Record, from 0"))
+    picture.marks[:0] = grid
+    picture.y += 40
+
+
+def draw_notes(picture):
+    notes = []
+    if picture.columns.each > 1:
+        each = figure(picture.columns.each)
+        notes.append(f"A column is {each} records. A band shows the worst: {', '.join(WORST_FIRST)}, in this order.")
+    if picture.report.parts:
+        octets = counted(picture.greatest_drop, "octet")
+        notes.append(f"The highest bar of dropped parts is {octets}. Bars go by the square root.")
+    for words in notes:
+        picture.add(text(LEFT, picture.y, words, "small"))
+        picture.y += 16
+
+
+def draw(recording, columns, report, title):
+    picture = Picture(recording, columns, report)
+    draw_head(picture, title)
+    top = picture.y
+    for channel in picture.channels:
+        draw_channel(picture, channel)
+    if not picture.channels:
+        picture.y += BETWEEN
+        words = "No frame is good." if len(recording) else "The recording has no whole record."
+        picture.add(text(LEFT + PLOT / 2, picture.y + 20, words, "middle"))
+        picture.y += 30
+    draw_bad(picture)
+    draw_master(picture)
+    draw_axis(picture, top)
+    draw_notes(picture)
+    return document(picture, title)
+
+
+def document(picture, title):
+    wide, high = LEFT + PLOT + RIGHT, round(picture.y)
+    size = f'width="{wide}" height="{high}"'
+    fills = [f".s-{state} {{ fill: {colour} }}" for state, colour in STATE_COLOURS.items()]
+    fills += [f".r-{reason} {{ fill: {colour} }}" for reason, colour in REASONS.items()]
+    fills += [".s-none { fill: #fff }", ".edge { fill: none; stroke: #888 }"]
+    return "\n".join(
+        [
+            f'<svg xmlns="http://www.w3.org/2000/svg" viewBox="0 0 {wide} {high}" {size} role="img">',
+            f"<title>{escape(title)}</title>",
+            "<style>" + STYLE + "\n".join(fills) + "</style>",
+            f'<rect width="{wide}" height="{high}" fill="#fff"/>',
+            *picture.marks,
+            "</svg>\n",
+        ]
+    )
+
+
+def main():
+    parser = argparse.ArgumentParser(description="Draws what was lost of a recording.")
+    parser.add_argument("--title", default="What was lost", help="the picture's heading")
+    parser.add_argument("frames", help="what `tmx frames` prints; - is standard input")
+    parser.add_argument("report", help="a report of tmx; - is standard input")
+    words = parser.parse_args()
+    if words.frames == words.report == "-":
+        parser.error("only one of the files can be standard input")
+    try:
+        recording = read_frames(Source(words.frames))
+        columns = Columns(len(recording))
+        report = read_report(Source(words.report), recording, columns)
+    except Refused as refused:
+        sys.exit(f"loss_map.py: {refused}")
+    sys.stdout.write(draw(recording, columns, report, words.title))
+
+
+if __name__ == "__main__":
+    main()

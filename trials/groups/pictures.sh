@@ -1,0 +1,22 @@
+# shellcheck shell=bash disable=SC2154
+# Group `pictures`: what example/loss_map.py draws, and what it refuses.
+
+# The picture in docs/ is that of the example, drawn from what the program prints.
+picture_of_docs() {
+    "$tmx" frames --settings "$s" "$rec" >frames.txt
+    "$tmx" extract --settings "$s" --report report.txt "$rec" >packets.pkt
+    python3 "$example/loss_map.py" --title "The example recording" frames.txt report.txt | cmp - "$example/../docs/loss_map.svg" 2>&1
+}
+
+pictures() {
+    local line
+    names
+    tell "the picture in docs" "$(picture_of_docs)"
+    gives "a picture of a file that is missing" 1 "loss_map.py: none: No such file or directory" "python3 $example/loss_map.py none none"
+    while read -r line; do
+        case $line in
+        "ok "*) ok "${line#ok }" ;;
+        *) no "${line#FAILED: }" ;;
+        esac
+    done < <(python3 "$here/pictures.py" "$PICTURED" 2>&1)
+}

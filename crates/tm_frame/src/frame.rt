@@ -1,10 +1,10 @@
 //! A good frame.
 
-ghost use Rattle.std.specs.Prelude.{◌≡◌, ◌≤◌, ◌<◌, length};
+ghost use Rattle.std.specs.Prelude.{◌≡◌, ◌≤◌, ◌<◌, IsOk, Ok, length};
 ghost use Rattle.tm_frame.specs.Fault.{fault_of, frame_reading_of};
-ghost use Rattle.tm_frame.specs.Frame.{IsPlaceBelow, good_frame, kind_from};
+ghost use Rattle.tm_frame.specs.Frame.{IsPlaceBelow, frame_of, good_frame, kind_from};
 ghost use Rattle.tm_frame.specs.Header.{frame_header_of};
-ghost use Rattle.tm_frame.specs.Layout.{record_length_of};
+ghost use Rattle.tm_frame.specs.Layout.{IsInRange, record_length_of};
 
 use crate::checks::fault_in;
 use crate::header::{Header, IDLE, NO_START, field_end, field_start, secondary_length};
@@ -138,6 +138,17 @@ impl<'r> Frame<'r> {
     }
 }
 
+// The frame of a record, without the octets that are skipped.
+fn frame_in<'r>(parts: &LayoutParts, octets: &'r [u8]) -> &'r [u8]
+    requires range { IsInRange parts.now }
+    requires exact { length octets.now ≡ record_length_of parts.now }
+    ensures frame { result.now ≡ frame_of parts.now octets.now }
+    ensures long { length result.now ≡ parts.now.frame_length }
+{
+    let start = parts.skip_before as usize;
+    &octets[start..start + parts.frame_length as usize]
+}
+
 /// Reads a record of one record's length: the good frame, or the first fault that applies. Nothing of
 /// a bad frame is given.
 pub fn read<'r>(layout: &Layout, octets: &'r [u8]) -> Result<Frame<'r>, FrameFault>
@@ -145,13 +156,23 @@ pub fn read<'r>(layout: &Layout, octets: &'r [u8]) -> Result<Frame<'r>, FrameFau
     ensures { result ≡ frame_reading_of layout.now octets.now }
 {
     let parts = layout.parts();
-    let start = parts.skip_before as usize;
-    let frame = &octets[start..start + parts.frame_length as usize];
+    let frame = frame_in(&parts, octets);
     let header = Header::read(frame);
     match fault_in(&parts, frame, &header) {
         Some(fault) => Err(fault),
         None => Ok(good_frame(&parts, frame, &header)),
     }
+}
+
+/// The frame of a record that is known to hold a good one, as `read` gives it. No fault is looked for again.
+pub fn read_good<'r>(layout: &Layout, octets: &'r [u8]) -> Frame<'r>
+    requires exact { length octets.now ≡ record_length_of layout.now }
+    requires good { IsOk (frame_reading_of layout.now octets.now) }
+    ensures { frame_reading_of layout.now octets.now ≡ Ok result }
+{
+    let parts = layout.parts();
+    let frame = frame_in(&parts, octets);
+    good_frame(&parts, frame, &Header::read(frame))
 }
 
 // The frame, in which no fault was found.

@@ -11,5 +11,5 @@ mod layout;
 
 pub use control::error_control;
 pub use fault::FrameFault;
-pub use frame::{Frame, Kind, read};
+pub use frame::{Frame, Kind, read, read_good};
 pub use layout::{Layout, LayoutFault, LayoutParts, Presence};

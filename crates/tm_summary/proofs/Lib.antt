@@ -6,4 +6,5 @@ pub mod WritingLemmas
 pub mod Examples
 pub mod OpenCounted
 pub mod Tallied
+pub mod Taken
 pub mod GivenLemmas

@@ -66,8 +66,9 @@ abbrev pub with_open : Numbers → List Unclosed → Numbers
 with_open n [] = n
 with_open n (u ∷ us) = with_open (with_note n u.key u.note) us
 
--- it takes an item: it is counted, and its packet noted
+-- it takes an item that fits: it is counted, and its packet noted
 pub record TakesTally (s : Counting) (x : Item) (t : Counting) : Type 0 where
+  pub fits : ItemFits x
   pub same_tracker : t.tracker.ghost_name ≡ s.tracker.ghost_name
   pub same_counts : t.counts.ghost_name ≡ s.counts.ghost_name
   pub noted_is : t.tracker.now ≡ noted s.tracker.now x

@@ -17,3 +17,6 @@ pub mod CheckpointExamples
 pub mod WorkValid
 pub mod ForgottenCount
 pub mod NoteLemmas
+pub mod RecordCounted
+pub mod SummaryLemmas
+pub mod SummaryEnds

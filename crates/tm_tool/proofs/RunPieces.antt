@@ -60,7 +60,7 @@ end_none text (StopAfter n) done count w rest h = refl
 end_none text _ done count w rest h = absurd h
 
 -- what is said of a recording of which these octets were read: nothing is left at its end
-told : (P : List ℕ → Type 0) (octets : List ℕ) (old new : Option (List ℕ)) → Consumes old new octets
+pub told : (P : List ℕ → Type 0) (octets : List ℕ) (old new : Option (List ℕ)) → Consumes old new octets
     → ((left : List ℕ) → (IsAtEnd new → left ≡ []) → P (octets ++ left)) → IfSome old P
 told P octets None new c h = tt
 told P octets (Some all) None c h = absurd c

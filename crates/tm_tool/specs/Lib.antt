@@ -5,4 +5,5 @@ pub mod Checkpoints
 pub mod Resuming
 pub mod OlderVersions
 pub mod NotesInAll
+pub mod Summaries
 pub mod code

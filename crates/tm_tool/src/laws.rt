@@ -1,5 +1,6 @@
 //! Laws of the definitions. These functions make no calls: their contracts are the laws.
 
+ghost use Rattle.std.specs.List.{concat};
 ghost use Rattle.std.specs.Io.KnownBytes.{Appends};
 ghost use Rattle.std.specs.Prelude.{◌≡◌, ◌<◌, ◌≤◌, ◌+◌, ◌*◌, ◌^◌, ℕ, true, false, Ok, List, [], ◌++◌, length, Option, IfSome};
 ghost use Rattle.tm_bits.specs.Bits.{AreOctets};
@@ -20,9 +21,10 @@ ghost use Rattle.tm_output.specs.declared.fault.RunFault.{RunFault};
 ghost use Rattle.tm_output.specs.Outputs.{View};
 ghost use Rattle.tm_output.specs.Pieces.{Texts, noted_all, text_of, way_of};
 ghost use Rattle.tm_tool.specs.RecordingPieces.{Work, items_of, pieces, record_pieces, worked};
-ghost use Rattle.tm_output.specs.Records.{records};
+ghost use Rattle.tm_output.specs.Records.{record_count, records};
 ghost use Rattle.tm_tool.specs.Resuming.{Follows, Stop, done_in_all, in_one, no_head, resumed_pieces, run_pieces, then_pieces};
 ghost use Rattle.tm_output.specs.Shelves.{Shelved, Shelves, shelf_text, shelf_way};
+ghost use Rattle.tm_tool.specs.Summaries.{IsSummarized, IsSummaryStop, SummaryStopped, summary};
 ghost use Rattle.tm_tool.specs.Runs.{IsSoundWork, IsHeadedStop, IsStoppedAt, Outcome, Ran, StoppedIn};
 
 /// Checkpoints: what is written is read again, with the same settings, as the same work, and the job isn't fresh. So it is for the older
@@ -122,4 +124,14 @@ pub fn older_versions()
         LacksGapLine (pieces (text_of command) ending w recording) (pieces (text_of command) ending (work_without_master w) recording) }
     ensures shelved_gap { (ending : Ending) (w : Work) (recording : List ℕ) → IsValidState w.rules w.state →
         LacksGapLine (pieces shelf_text ending w recording) (pieces shelf_text ending (work_without_master w) recording) }
+{}
+
+/// Summaries of recordings that tell their octets: what `summarize` says of the octets that were read holds of the whole recording. With `Ok` just the
+/// lines of its summary were written, and the answer is the number of its whole records. After a fault there is one place up to which they were
+/// written. `NoMemory` comes before all, or where a line was to be made.
+pub fn summaries()
+    ensures summarized { (rules : Rules) (left_old left_new old new : Option (List ℕ)) (count : ℕ) → IsSummarized rules left_old left_new old new count →
+        IfSome left_old (λ octets. Appends old new (concat (summary rules octets)) × (count ≡ record_count (record_length_of rules.layout) octets)) }
+    ensures stopped { (rules : Rules) (left_old left_new : Option (List ℕ)) (old new : View (Option (List ℕ))) (fault : RunFault) → 0 < record_length_of rules.layout →
+        IsSummaryStop rules left_old left_new old new fault → IfSome left_old (SummaryStopped rules old new fault) }
 {}

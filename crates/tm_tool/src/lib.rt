@@ -7,11 +7,13 @@ mod fault;
 mod job;
 pub mod laws;
 mod recording;
+mod summary;
 mod version;
 mod work;
 
 pub use fault::{CheckpointFault, NoMemory};
 pub use job::{Done, Job, run, split};
+pub use summary::summarize;
 pub use tm_devices::{DeviceFailed, Drain, Reading, Shelf, Source, Writing};
 pub use tm_fields::Octets;
 pub use tm_output::{Command, Ending, RunFault, list_frames};

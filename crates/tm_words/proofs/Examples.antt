@@ -3,7 +3,7 @@ use Rattle.std.proofs.Common.{◌≡◌, true, List, [], ◌∷◌, Some, None, 
 use Rattle.clap.specs.Words.{Text}
 use Rattle.clap.specs.declared.error.kind.ErrorKind.TheVariants.{DisplayHelp, DisplayVersion, MissingRequiredArgument, UnknownArgument, ValueValidation}
 use Rattle.clap.proofs.OnLiterals.{clap_on_literals}
-use Rattle.tm_words.specs.declared.request.Action.TheVariants.{Frames, Packets, Extract, Split, Fields}
+use Rattle.tm_words.specs.declared.request.Action.TheVariants.{Frames, Packets, Extract, Split, Fields, Summary}
 use Rattle.tm_words.specs.CommandLine.{faults_of, is_taken, lacks_checkpoint, matches_of, plan_of}
 
 words : List Text
@@ -60,6 +60,15 @@ fields_planned = refl
 apid_beyond : faults_of (codes "fields" ∷ codes "--settings" ∷ codes "s" ∷ codes "--definition" ∷ codes "d" ∷ codes "--apid" ∷ codes "2048" ∷ []) ≡ ValueValidation ∷ []
 unfolding clap_on_literals faults_of
 apid_beyond = refl
+
+summary_planned : plan_of (codes "summary" ∷ codes "--settings" ∷ codes "s" ∷ codes "r" ∷ [])
+    ≡ Some (record { action = Summary; recording = Some (codes "r"); settings = Some (codes "s"); report = None; checkpoint = None; stop_after = None; resume = None; dir = None; definition = None; apid = None })
+unfolding clap_on_literals matches_of
+summary_planned = refl
+
+report_of_summary : faults_of (codes "summary" ∷ codes "--settings" ∷ codes "s" ∷ codes "--report" ∷ codes "x" ∷ []) ≡ UnknownArgument ∷ []
+unfolding clap_on_literals faults_of
+report_of_summary = refl
 
 definition_missing : faults_of (codes "fields" ∷ codes "--settings" ∷ codes "s" ∷ codes "--apid" ∷ codes "200" ∷ []) ≡ MissingRequiredArgument ∷ []
 unfolding clap_on_literals faults_of

@@ -16,7 +16,7 @@ use Rattle.clap.specs.Takes.{is_given}
 use Rattle.clap.specs.Faults.{check_fault, entered_fault, level_fault}
 use Rattle.clap.proofs.OnLiterals.{clap_on_literals}
 use Rattle.tm_words.specs.declared.request.Action.{Action}
-use Rattle.tm_words.specs.declared.request.Action.TheVariants.{Frames, Packets, Extract, Split, Fields}
+use Rattle.tm_words.specs.declared.request.Action.TheVariants.{Frames, Packets, Extract, Split, Fields, Summary}
 use Rattle.tm_words.specs.declared.request.Plan.{Plan}
 use Rattle.tm_words.specs.declared.request.UsageFault.{UsageFault}
 use Rattle.tm_words.specs.declared.request.UsageFault.TheVariants.{NoMemory}
@@ -62,6 +62,7 @@ GivenFor Packets rows = ⊤
 GivenFor Extract rows = ⊤
 GivenFor Split rows = HasValue (codes "dir") rows
 GivenFor Fields rows = HasValue (codes "definition") rows × IsBetween 0 2047 (option_and_then (decimal 16) (one_of (codes "apid") rows))
+GivenFor Summary rows = ⊤
 
 -- where `--stop-after` has a text, it has a number in its range
 abbrev GivenStop : List Row → Type 0
@@ -192,6 +193,10 @@ frames_ruled : AllByRecursion IsRuled (rules_at 0)
 unfolding range_of
 frames_ruled = plain (rules_at 0) refl
 
+summary_ruled : AllByRecursion IsRuled (rules_at 5)
+unfolding range_of
+summary_ruled = plain (rules_at 5) refl
+
 subcommands_ask : AllByRecursion IsAsking tmx_built.subs
 subcommands_ask = (
   (frames_ruled, Frames, refl, λ rows f e. (settings_given rows f e, tt)),
@@ -199,7 +204,13 @@ subcommands_ask = (
     (packets_ruled, Packets, refl, λ rows f e. (settings_given rows f e, tt)),
     (
       (extract_ruled, Extract, refl, λ rows f e. (settings_given rows f e, tt)),
-      ((split_ruled, Split, refl, λ rows f e. split_given rows f e), ((fields_ruled, Fields, refl, λ rows f e. fields_given rows f e), tt)),
+      (
+        (split_ruled, Split, refl, λ rows f e. split_given rows f e),
+        (
+          (fields_ruled, Fields, refl, λ rows f e. fields_given rows f e),
+          ((summary_ruled, Summary, refl, λ rows f e. (settings_given rows f e, tt)), tt),
+        ),
+      ),
     ),
   ),
 )

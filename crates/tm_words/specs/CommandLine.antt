@@ -12,7 +12,7 @@ use Rattle.clap.specs.Kinds.{Kinds}
 use Rattle.clap.specs.declared.builder.ValueParser.{ValueParser}
 use Rattle.clap.specs.declared.builder.ValueParser.TheVariants as parser
 use Rattle.tm_words.specs.declared.request.Action.{Action}
-use Rattle.tm_words.specs.declared.request.Action.TheVariants.{Frames, Packets, Extract, Split, Fields}
+use Rattle.tm_words.specs.declared.request.Action.TheVariants.{Frames, Packets, Extract, Split, Fields, Summary}
 use Rattle.tm_words.specs.declared.request.Plan.{Plan}
 
 -- ---- the command
@@ -61,6 +61,7 @@ subcommands =
     ∷ app_with (codes "extract") (settings_rule ∷ job_rules)
     ∷ app_with (codes "split") (settings_rule ∷ required_rule (codes "dir") ∷ job_rules)
     ∷ app_with (codes "fields") (settings_rule ∷ required_rule (codes "definition") ∷ apid_rule ∷ job_rules)
+    ∷ app_with (codes "summary") (settings_rule ∷ recording_rule ∷ [])
     ∷ []
 
 -- without a subcommand, of the words after the program's name; it has a version
@@ -93,7 +94,8 @@ action_named word =
     else (if bytes_eq word (codes "packets") then Some Packets
     else (if bytes_eq word (codes "extract") then Some Extract
     else (if bytes_eq word (codes "split") then Some Split
-    else (if bytes_eq word (codes "fields") then Some Fields else None))))
+    else (if bytes_eq word (codes "fields") then Some Fields
+    else (if bytes_eq word (codes "summary") then Some Summary else None)))))
 
 -- the number that a text spells in decimal, where it is one of so many bits
 abbrev pub decimal : ℕ → Text → Option ℕ
@@ -136,6 +138,7 @@ HasNeeds Packets p = ⊤
 HasNeeds Extract p = ⊤
 HasNeeds Split p = IsSome p.dir
 HasNeeds Fields p = IsSome p.definition × IsBetween 0 2047 p.apid
+HasNeeds Summary p = ⊤
 
 -- what its action needs is there
 abbrev pub HasRequired : Plan → Type 0

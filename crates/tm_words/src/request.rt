@@ -15,6 +15,8 @@ pub enum Action {
     Split,
     /// Read the fields of an application's packets.
     Fields,
+    /// Sum up what came and what was lost.
+    Summary,
 }
 
 /// What the words ask for. Texts are the octets of their UTF-8.

@@ -109,7 +109,7 @@ const APID: Word = Word {
     form: Form::Number(0, 2047),
 };
 
-const FRAMES_WORDS: [Word; 2] = [SETTINGS, RECORDING];
+const LISTED_WORDS: [Word; 2] = [SETTINGS, RECORDING];
 
 const REPORTED_WORDS: [Word; 6] = [SETTINGS, REPORT, CHECKPOINT, STOP_AFTER, RESUME, RECORDING];
 
@@ -121,11 +121,11 @@ const FIELDS_WORDS: [Word; 8] = [
     SETTINGS, DEFINITION, APID, REPORT, CHECKPOINT, STOP_AFTER, RESUME, RECORDING,
 ];
 
-pub(crate) const SUBCOMMANDS: [Subcommand; 5] = [
+pub(crate) const SUBCOMMANDS: [Subcommand; 6] = [
     Subcommand {
         name: "frames",
         about: "Lists the frames: one line for each record of the recording",
-        words: &FRAMES_WORDS,
+        words: &LISTED_WORDS,
         example: "Example:\n  tmx frames --settings s.toml pass.rec",
     },
     Subcommand {
@@ -151,5 +151,11 @@ pub(crate) const SUBCOMMANDS: [Subcommand; 5] = [
         about: "Reads the fields of an application's packets: a row of CSV for each packet",
         words: &FIELDS_WORDS,
         example: "Example:\n  tmx fields --settings s.toml --definition fields.csv --apid 101 pass.rec > rows.csv",
+    },
+    Subcommand {
+        name: "summary",
+        about: "Sums up the recording: what came of each channel and application, and what was lost",
+        words: &LISTED_WORDS,
+        example: "Example:\n  tmx summary --settings s.toml pass.rec",
     },
 ];

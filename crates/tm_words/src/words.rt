@@ -53,6 +53,7 @@ fn action_by_name(name: &str) -> Option<Action>
         "extract" => Some(Action::Extract),
         "split" => Some(Action::Split),
         "fields" => Some(Action::Fields),
+        "summary" => Some(Action::Summary),
         _ => None,
     }
 }
@@ -158,7 +159,7 @@ fn lacks_checkpoint(plan: &Plan) -> bool
     plan.stop_after.is_some() && plan.checkpoint.is_none()
 }
 
-/// What the words after the program's name ask for: `frames --settings FILE [RECORDING]`, or `packets` or `extract` with
+/// What the words after the program's name ask for: `frames --settings FILE [RECORDING]`, or `summary` with the same, or `packets` or `extract` with
 /// `--settings FILE [--report FILE] [--checkpoint FILE] [--stop-after N] [--resume FILE] [RECORDING]`, or `split` with
 /// `--dir DIR` as well, or `fields` with `--definition FILE --apid N` as well. The N of `--stop-after` is from 1 to 4294967295, that of
 /// `--apid` from 0 to 2047. `--stop-after` without `--checkpoint` is `StopAfter`. Other words are `Usage`, `--help` is `Help`,

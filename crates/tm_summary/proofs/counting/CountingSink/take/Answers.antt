@@ -7,6 +7,7 @@ pub returns-in-Packet-clause-taken : goal.returns-in-Packet-clause-taken
 unfolding noted with_given with_item
 returns-in-Packet-clause-taken c =
     rw c.in-Packet.is (record {
+      fits = rw c.in-Packet.is at c.requires.fits;
       same_tracker = c.add_packet.ensures.same.0;
       same_counts = c.add_packet.ensures.same.1;
       noted_is = c.add_packet.ensures.noted;

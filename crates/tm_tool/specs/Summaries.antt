@@ -1,0 +1,104 @@
+-- A summary of a recording: what it counts, its lines, and what was read and written when it ended.
+use Rattle.std.specs.Prelude.{◌≡◌, ◌⊎◌, ◌<◌, ◌-◌, ◌^◌, ℕ, List, [], ◌∷◌, ◌++◌, length, Option, Result, Ok, Err}
+use Rattle.std.specs.List.{concat, flat_map}
+use Rattle.std.specs.Io.KnownBytes.{Appends, Consumes, IsAtEnd}
+use Rattle.tm_frame.specs.declared.fault.FrameFault.{FrameFault}
+use Rattle.tm_frame.specs.declared.layout.LayoutParts.{LayoutParts}
+use Rattle.tm_frame.specs.Fault.{frame_reading_of}
+use Rattle.tm_frame.specs.Frame.{GoodFrame}
+use Rattle.tm_frame.specs.Layout.{record_length_of}
+use Rattle.tm_packet.specs.Merge as sequence
+use Rattle.tm_rules.specs.Rules.{Rules}
+use Rattle.tm_items.specs.Item.{Item}
+use Rattle.tm_reassembly.specs.Items.{closing}
+use Rattle.tm_output.specs.declared.fault.RunFault.{RunFault}
+use Rattle.tm_output.specs.declared.fault.RunFault.TheVariants.{Read, Write, Report, ShortRecording, TooMany, NoMemory}
+use Rattle.tm_output.specs.Outputs.{AppendsCut, Stopped, View, WantsMemory, lines_way}
+use Rattle.tm_output.specs.Pieces.{noted_all}
+use Rattle.tm_output.specs.Records.{record_count, records, rest_of}
+use Rattle.tm_summary.specs.Lines.{summary_lines}
+use Rattle.tm_summary.specs.Numbers.{Tally, numbers_of}
+use Rattle.tm_summary.specs.Pieces.{line_pieces}
+use Rattle.tm_summary.specs.Tallies.{notes_among, open_notes}
+use Rattle.tm_tool.specs.Jobs.{new_job}
+use Rattle.tm_tool.specs.RecordingPieces.{Work, items_of, worked}
+use Rattle.tm_tool.specs.Runs.{HasRead, HasReadAll}
+
+-- the good frame that a record reads as, if it is one
+abbrev pub frames_in : Result GoodFrame FrameFault → List GoodFrame
+frames_in (Ok frame) = frame ∷ []
+frames_in (Err fault) = []
+
+-- the good frames of records, of all channels
+abbrev pub good_frames : LayoutParts → List (List ℕ) → List GoodFrame
+good_frames layout rs = flat_map (λ octets. frames_in (frame_reading_of layout octets)) rs
+
+-- the items of records and of the closed end behind them, where so many octets are left
+abbrev pub closed_items : Work → List (List ℕ) → ℕ → List Item
+closed_items w rs rest = items_of w rs ++ closing (worked w rs).state rest
+
+-- what a summary counts: the good frames, the items, and the notes, of the packets and of the groups that are open at the closed end
+abbrev pub tally_of : Work → List (List ℕ) → ℕ → Tally
+tally_of w rs rest = record {
+  frames = good_frames w.rules.layout rs;
+  items = closed_items w rs rest;
+  notes = notes_among w.entries (closed_items w rs rest) ++ open_notes (sequence.unclosed 0 (noted_all w.entries (closed_items w rs rest)));
+}
+
+-- the lines of a summary of records, as a new job sees them
+abbrev pub lines_after : Rules → List (List ℕ) → ℕ → List (List ℕ)
+lines_after rules rs rest = summary_lines rules.channels (length rs) (numbers_of (tally_of (new_job rules).work rs rest))
+
+-- and of a recording
+unfoldable pub summary : Rules → List ℕ → List (List ℕ)
+summary rules recording =
+    lines_after rules (records (record_length_of rules.layout) recording) (length (rest_of (record_length_of rules.layout) recording))
+
+-- ---- what was read and written when a summary ended; of devices that don't tell their octets nothing is said
+
+module _ (rules : Rules) (left_old left_new : Option (List ℕ)) where
+  -- all was read, these octets; just the lines of their summary were written; and so many are their records
+  pub record IsSummarized (old new : Option (List ℕ)) (count : ℕ) : Type 0 where
+    pub read : List ℕ
+    pub octets : Consumes left_old left_new read
+    pub ended : IsAtEnd left_new
+    pub written : Appends old new (concat (summary rules read))
+    pub count_is : count ≡ record_count (record_length_of rules.layout) read
+
+  -- a read failed in a record
+  pub record StopsInReading : Type 0 where
+    pub read : List (List ℕ)
+    pub part : List ℕ
+    pub octets : HasRead (record_length_of rules.layout) left_old left_new read part
+    pub short : length part < record_length_of rules.layout
+
+  -- a whole record followed the greatest number of records
+  pub record StopsAtMost : Type 0 where
+    pub read : List (List ℕ)
+    pub one : List ℕ
+    pub octets : HasRead (record_length_of rules.layout) left_old left_new read one
+    pub exact : length one ≡ record_length_of rules.layout
+    pub most : length read ≡ 2 ^ 32 - 1
+
+  -- all was read, and writing stopped at one place of the lines, or a flush failed behind them
+  pub record StopsInLines (old new : View (Option (List ℕ))) (fault : RunFault) : Type 0 where
+    pub read : List (List ℕ)
+    pub rest : List ℕ
+    pub all : HasReadAll (record_length_of rules.layout) left_old left_new read rest
+    pub stopped : Stopped Appends lines_way old new (line_pieces (lines_after rules read (length rest))) fault
+
+  -- where a fault leaves the devices: nothing is written before all is read, and without memory for what is counted nothing is read
+  abbrev pub IsSummaryStop : View (Option (List ℕ)) → View (Option (List ℕ)) → RunFault → Type 0
+  IsSummaryStop old new Read = StopsInReading × (new ≡ old)
+  IsSummaryStop old new Write = StopsInLines old new Write
+  IsSummaryStop old new Report = ⊥
+  IsSummaryStop old new ShortRecording = ⊥
+  IsSummaryStop old new TooMany = StopsAtMost × (new ≡ old)
+  IsSummaryStop old new NoMemory = ((left_new ≡ left_old) × (new ≡ old)) ⊎ StopsInLines old new NoMemory
+
+-- What a fault says of a recording that tells its octets: there is one place up to which the lines of its summary were written; without memory
+-- nothing was written of the next line; and it has more records than can be counted.
+pub record SummaryStopped (rules : Rules) (old new : View (Option (List ℕ))) (fault : RunFault) (octets : List ℕ) : Type 0 where
+  pub cut : AppendsCut Appends old new (line_pieces (summary rules octets))
+  pub memory : fault ≡ NoMemory → (new ≡ old) ⊎ WantsMemory Appends lines_way old new (line_pieces (summary rules octets))
+  pub too_many : fault ≡ TooMany → 2 ^ 32 - 1 < record_count (record_length_of rules.layout) octets

@@ -28,8 +28,9 @@ report_clashes s = is_input s s.report || is_streamed s s.report || is_one s.rep
 abbrev pub output_clashes : Places → Bool
 output_clashes s = is_input s s.output || is_one s.output s.resumed
 
-abbrev pub errors_clashes : Places → Bool
-errors_clashes s = is_input s s.errors || is_one s.errors s.resumed
+-- standard error, to which the line of a fault goes whether or not the run writes there
+abbrev pub faults_clash : Places → Bool
+faults_clash s = is_input s s.faults || is_one s.faults s.resumed
 
 -- a file of the run
 abbrev pub has : Places → Place → Bool

@@ -1,7 +1,7 @@
 //! The files of a run, and which of them are in each other's way.
 
 ghost use Rattle.std.specs.Prelude.{◌≡◌};
-ghost use Rattle.tm_places.specs.Places.{beside_clashes, checkpoint_clashes, errors_clashes, has, is_input, is_streamed, output_clashes, report_clashes};
+ghost use Rattle.tm_places.specs.Places.{beside_clashes, checkpoint_clashes, faults_clash, has, is_input, is_streamed, output_clashes, report_clashes};
 
 use crate::place::Place;
 
@@ -20,6 +20,8 @@ pub struct Places {
     /// Standard output and standard error, where the run writes to them.
     pub output: Place,
     pub errors: Place,
+    /// Standard error in any case: the line of a fault goes there.
+    pub faults: Place,
 }
 
 impl Places {
@@ -74,11 +76,11 @@ impl Places {
         self.is_input(&self.output) || self.output.is_one(&self.resumed)
     }
 
-    /// Standard error is a file that is read.
-    pub fn errors_clashes(&self) -> bool
-        ensures { result ≡ errors_clashes self.now }
+    /// Standard error is a file that is read: the line of a fault would be written there.
+    pub fn faults_clash(&self) -> bool
+        ensures { result ≡ faults_clash self.now }
     {
-        self.is_input(&self.errors) || self.errors.is_one(&self.resumed)
+        self.is_input(&self.faults) || self.faults.is_one(&self.resumed)
     }
 
     /// The place is one of these files.

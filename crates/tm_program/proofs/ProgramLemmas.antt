@@ -4,7 +4,7 @@ use Rattle.std.proofs.lemmas.Option.{same_Some}
 use Rattle.tm_shelf.specs.Names.{file_in}
 use Rattle.tm_program.specs.Clashes.{first_clash}
 use Rattle.tm_program.specs.code.Files.{IsFaultOf, IsFileFault}
-use Rattle.tm_program.specs.Program.{HasFault, HasFolderFault, HasReadFault, IsAsked, IsFolderFault, IsInFolder, IsNamed, IsNoMemory, IsOfDefinition, IsOfErrors, IsOfFolder, IsOfOutputs, IsOfPut, IsOfResumed, IsOfSettings, IsOfStreams, IsReadWhole, IsRunFault, MayCome, MayEnd}
+use Rattle.tm_program.specs.Program.{HasFault, HasFolderFault, HasReadFault, IsAsked, IsFolderFault, IsInFolder, IsNamed, IsNoMemory, IsOfDefinition, IsOfFolder, IsOfOutputs, IsOfPut, IsOfResumed, IsOfSettings, IsOfStreams, IsReadWhole, IsRunFault, MayCome, MayEnd}
 use Rattle.tm_output.specs.declared.fault.RunFault.TheVariants.{NoMemory, Read, Report, ShortRecording, TooMany, Write}
 use Rattle.tm_program.specs.declared.fault.ToolFault.{ToolFault}
 use Rattle.tm_program.specs.declared.fault.ToolFault.TheVariants as tool
@@ -109,35 +109,26 @@ folder_of_comes : (p : Plan) (o : Option (List ℕ)) (fault : ToolFault) → p.d
 folder_of_comes p None fault is h = absurd h
 folder_of_comes p (Some dir) fault is h = folder_comes p dir fault is h
 
--- standard error, which takes the report, is a file that is read
-errors_come : (p : Plan) (fault : ToolFault) → IsOfErrors p fault → MayCome p fault
-errors_come p (tool.Usage f) h = absurd h
-errors_come p (tool.Settings f) h = absurd h
-errors_come p (tool.Definition f) h = absurd h
-errors_come p (tool.Checkpoint f) h = absurd h
-errors_come p (tool.File given) h = absurd h
-errors_come p (tool.TooLong given) h = absurd h
-errors_come p tool.Errors h = h
-errors_come p (tool.Run f) h = absurd h
+-- standard error is a file that is read
+pub errors_come : (p : Plan) (fault : ToolFault) → fault ≡ tool.Errors → MayCome p fault
+errors_come p fault is = rw is tt
 
 pub outputs_come : (p : Plan) (fault : ToolFault) → IsOfOutputs p fault → MayCome p fault
 outputs_come p fault (inl h) = run_comes p fault h
 outputs_come p fault (inr (inl h)) = file_of_comes p p.report fault (λ name is. inr (inr (inl is))) h
 outputs_come p fault (inr (inr (inl h))) = file_of_comes p p.checkpoint fault (λ name is. inr (inr (inr (inl is)))) h
-outputs_come p fault (inr (inr (inr (inl h)))) = errors_come p fault h
-outputs_come p fault (inr (inr (inr (inr h)))) = folder_of_comes p p.dir fault refl h
+outputs_come p fault (inr (inr (inr h))) = folder_of_comes p p.dir fault refl h
 
--- the names of the checkpoint and of the report are checked, and the standard streams
-pub names_come : (p : Plan) (fault : ToolFault) → HasFault p.report fault ⊎ HasFault p.checkpoint fault ⊎ IsRunFault fault ⊎ IsOfErrors p fault → IsOfOutputs p fault
+-- the names of the checkpoint and of the report are checked, and standard output
+pub names_come : (p : Plan) (fault : ToolFault) → HasFault p.report fault ⊎ HasFault p.checkpoint fault ⊎ IsRunFault fault → IsOfOutputs p fault
 names_come p fault (inl h) = inr (inl h)
 names_come p fault (inr (inl h)) = inr (inr (inl h))
-names_come p fault (inr (inr (inl h))) = inl h
-names_come p fault (inr (inr (inr h))) = inr (inr (inr (inl h)))
+names_come p fault (inr (inr h)) = inl h
 
 -- a run and its folder may end it
 pub run_ends : (p : Plan) (fault : ToolFault) → IsRunFault fault ⊎ HasFolderFault p.dir fault → IsOfOutputs p fault
 run_ends p fault (inl h) = inl h
-run_ends p fault (inr h) = inr (inr (inr (inr h)))
+run_ends p fault (inr h) = inr (inr (inr h))
 
 -- the fault of a folder is one of what splitting writes
 folder_fault : (dir : List ℕ) (fault : ToolFault) → IsFileFault dir fault → IsFolderFault dir fault

@@ -1,9 +1,9 @@
 -- The fault of the first of a plan's files that would be written over another file of the plan: by their names, and by what these stand for.
 use Rattle.std.specs.Prelude.{◌&&◌, ◌||◌, ℕ, List, Option, Some, None, if◌then◌else◌}
 use Rattle.tm_output.specs.declared.fault.RunFault.TheVariants as run
-use Rattle.tm_places.specs.Places.{beside_clashes, checkpoint_clashes, errors_clashes, output_clashes, report_clashes}
+use Rattle.tm_places.specs.Places.{beside_clashes, checkpoint_clashes, output_clashes, report_clashes}
 use Rattle.tm_places.specs.declared.places.Places.{Places}
-use Rattle.tm_program.specs.code.Decisions.{writes_errors, writes_output}
+use Rattle.tm_program.specs.code.Decisions.{writes_output}
 use Rattle.tm_program.specs.Program.{is_checkpoint, is_in_the_way, is_read}
 use Rattle.tm_program.specs.declared.fault.ToolFault.{ToolFault}
 use Rattle.tm_program.specs.declared.fault.ToolFault.TheVariants as tool
@@ -19,11 +19,9 @@ abbrev pub report_clash : Plan → Places → Option (List ℕ) → Option ToolF
 report_clash p s None = None
 report_clash p s (Some name) = if is_read p name || is_checkpoint p name || report_clashes s then Some (tool.File name) else None
 
--- that of the standard streams to which the plan writes
-abbrev pub stream_clash : Plan → Places → Option ToolFault
-stream_clash p s =
-    if writes_output p.action && output_clashes s then Some (tool.Run run.Write)
-    else (if writes_errors p.action p.report && errors_clashes s then Some tool.Errors else None)
+-- that of standard output, where the plan writes to it
+abbrev pub output_clash : Plan → Places → Option ToolFault
+output_clash p s = if writes_output p.action && output_clashes s then Some (tool.Run run.Write) else None
 
 -- the first of two
 abbrev pub first_clash : Option ToolFault → Option ToolFault → Option ToolFault
@@ -31,4 +29,4 @@ first_clash None next = next
 first_clash (Some fault) next = Some fault
 
 abbrev pub clash_of : Plan → Places → Option ToolFault
-clash_of p s = first_clash (checkpoint_clash p s p.checkpoint) (first_clash (report_clash p s p.report) (stream_clash p s))
+clash_of p s = first_clash (checkpoint_clash p s p.checkpoint) (first_clash (report_clash p s p.report) (output_clash p s))

@@ -6,15 +6,21 @@ use Rattle.tm_tool.specs.Jobs.{JobState}
 use Rattle.tm_settings.specs.Settings.{Rules}
 use Rattle.tm_output.specs.declared.fault.RunFault.TheVariants.{NoMemory, Report, Write}
 use Rattle.tm_words.specs.CommandLine.{HasRequired, faults_of, is_taken, lacks_checkpoint, plan_of}
-use Rattle.tm_program.specs.code.Decisions.{writes_errors}
 use Rattle.tm_program.specs.code.Files.{IsFaultOf, IsFileFault}
 use Rattle.tm_shelf.specs.Names.{file_in}
 use Rattle.tm_program.specs.declared.fault.ToolFault.{ToolFault}
 use Rattle.tm_program.specs.declared.fault.ToolFault.TheVariants as tool
-use Rattle.tm_words.specs.declared.request.Action.TheVariants.{Frames, Split}
+use Rattle.tm_words.specs.declared.request.Action.{Action}
+use Rattle.tm_words.specs.declared.request.Action.TheVariants.{Frames, Split, Summary}
 use Rattle.tm_words.specs.declared.request.Plan.{Plan}
 use Rattle.tm_words.specs.declared.request.UsageFault.{UsageFault}
 use Rattle.tm_words.specs.declared.request.UsageFault.TheVariants as usage
+
+-- an action of a job, which has a report: all but a list of frames and a summary
+abbrev pub is_job : Action → Bool
+is_job Frames = false
+is_job Summary = false
+is_job _ = true
 
 -- ---- the files of a plan
 
@@ -70,7 +76,7 @@ MayCome p (tool.Definition fault) = IsSome p.definition
 MayCome p (tool.Checkpoint fault) = IsSome p.resume
 MayCome p (tool.File name) = IsNamed p name
 MayCome p (tool.TooLong name) = IsReadWhole p name
-MayCome p tool.Errors = writes_errors p.action p.report ≡ true
+MayCome p tool.Errors = ⊤
 MayCome p (tool.Run fault) = ⊤
 
 -- there is such a file, and it can't be opened, made or written
@@ -88,11 +94,6 @@ IsFolderFault dir _ = ⊥
 abbrev pub HasFolderFault : Option (List ℕ) → ToolFault → Type 0
 HasFolderFault None fault = ⊥
 HasFolderFault (Some dir) fault = IsFolderFault dir fault
-
--- standard error, which takes the report, is a file that is read
-abbrev pub IsOfErrors : Plan → ToolFault → Type 0
-IsOfErrors p tool.Errors = writes_errors p.action p.report ≡ true
-IsOfErrors p _ = ⊥
 
 -- there is such a file, and it can't be read whole
 abbrev pub HasReadFault : Option (List ℕ) → ToolFault → Type 0
@@ -132,12 +133,12 @@ IsOfPut taken fault = IsRunFault fault
 -- a standard stream is closed to which the plan writes: standard output, or standard error where that takes the report
 abbrev pub IsOfStreams : Plan → ToolFault → Type 0
 IsOfStreams p (tool.Run Write) = p.action ≢ Split
-IsOfStreams p (tool.Run Report) = (p.action ≢ Frames) × (p.report ≡ None)
+IsOfStreams p (tool.Run Report) = (is_job p.action ≡ true) × (p.report ≡ None)
 IsOfStreams p _ = ⊥
 
 -- the run ended before its end, a file or the folder that it writes can't be opened, made or written, or one of these or a stream is another file of the run
 abbrev pub IsOfOutputs : Plan → ToolFault → Type 0
-IsOfOutputs p fault = IsRunFault fault ⊎ HasFault p.report fault ⊎ HasFault p.checkpoint fault ⊎ IsOfErrors p fault ⊎ HasFolderFault p.dir fault
+IsOfOutputs p fault = IsRunFault fault ⊎ HasFault p.report fault ⊎ HasFault p.checkpoint fault ⊎ HasFolderFault p.dir fault
 
 -- a job that a checkpoint of these settings says
 abbrev pub IsResumed : Rules → JobState → Type 0

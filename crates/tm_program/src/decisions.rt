@@ -1,6 +1,7 @@
 //! What a plan decides of files and streams, before any is opened. The steps carry it out.
 
 ghost use Rattle.std.specs.Prelude.{◌≡◌};
+ghost use Rattle.tm_program.specs.Program.{is_job};
 ghost use Rattle.tm_program.specs.code.Decisions.{IsDestination, IsOpening, IsRecording, stream_fault_of, writes_errors, writes_output};
 
 use crate::fault::ToolFault;
@@ -87,15 +88,18 @@ pub fn writes_output(plan: &Plan) -> bool
     }
 }
 
+/// The action is that of a job, which has a report: neither a list of frames nor a summary.
+pub fn is_job(action: Action) -> bool
+    ensures { result ≡ is_job action }
+{
+    !matches!(action, Action::Frames | Action::Summary)
+}
+
 /// The plan writes its report to standard error.
 pub fn writes_errors(plan: &Plan) -> bool
     ensures { result ≡ writes_errors plan.now.action plan.now.report }
 {
-    match (plan.action, &plan.report) {
-        (Action::Frames, _) => false,
-        (_, None) => true,
-        (_, Some(_)) => false,
-    }
+    plan.report.is_none() && is_job(plan.action)
 }
 
 /// The fault of a stream that can't be written.

@@ -1,10 +1,11 @@
 //! Which files of a plan are in each other's way, by their names and by what these stand for.
 
-ghost use Rattle.std.specs.Prelude.{◌≡◌, ◌⊎◌, None, Some, false, IfErr, IfOk, IfSome, OnOk};
-ghost use Rattle.tm_program.specs.Clashes.{checkpoint_clash, clash_of, report_clash, stream_clash};
-ghost use Rattle.tm_program.specs.Program.{AreClear, HasFault, IsNoMemory, IsOfErrors, IsRunFault, beside, has_name, is_checkpoint, is_in_the_way, is_read};
+ghost use Rattle.std.specs.Prelude.{◌≡◌, ◌⊎◌, None, Some, false, true, IfErr, IfOk, IfSome, OnOk};
+ghost use Rattle.tm_places.specs.Places.{faults_clash};
+ghost use Rattle.tm_program.specs.Clashes.{checkpoint_clash, clash_of, output_clash, report_clash};
+ghost use Rattle.tm_program.specs.Program.{AreClear, HasFault, IsNoMemory, IsRunFault, beside, has_name, is_checkpoint, is_in_the_way, is_read};
 
-use crate::decisions::{Stream, stream_fault, writes_errors, writes_output};
+use crate::decisions::{Stream, stream_fault, writes_output};
 use crate::fault::ToolFault;
 use crate::files::file_fault;
 use std::alloc::Global;
@@ -105,32 +106,40 @@ fn check_report(alloc: Global, plan: &Plan, places: &Places) -> Result<(), ToolF
     Ok(())
 }
 
-// The standard streams to which the plan writes must not be files that are read.
-fn check_stream_files(plan: &Plan, places: &Places) -> Result<(), ToolFault>
-    ensures refused { IfErr result (λ fault. IsRunFault fault ⊎ IsOfErrors plan.now fault) }
-    ensures clear { OnOk result (stream_clash plan.now places.now ≡ None) }
-    ensures clash { IfErr result (λ fault. stream_clash plan.now places.now ≡ Some fault) }
+// Standard output, where the plan writes to it, must not be a file that is read.
+fn check_output(plan: &Plan, places: &Places) -> Result<(), ToolFault>
+    ensures refused { IfErr result IsRunFault }
+    ensures clear { OnOk result (output_clash plan.now places.now ≡ None) }
+    ensures clash { IfErr result (λ fault. output_clash plan.now places.now ≡ Some fault) }
 {
     if writes_output(plan) && places.output_clashes() {
         return Err(stream_fault(Stream::Output));
     }
-    if writes_errors(plan) && places.errors_clashes() {
+    Ok(())
+}
+
+/// Standard error must not be a file that is read, whatever the plan writes there: the line of a fault would be written to that file.
+pub fn check_errors(places: &Places) -> Result<(), ToolFault>
+    ensures clear { OnOk result (faults_clash places.now ≡ false) }
+    ensures clash { IfErr result (λ fault. (fault ≡ ToolFault.Errors) × (faults_clash places.now ≡ true)) }
+{
+    if places.faults_clash() {
         return Err(ToolFault::Errors);
     }
     Ok(())
 }
 
-/// What the run writes must not take the place of what is read, nor of one another: first the checkpoint, then the report, then the standard streams.
+/// What the run writes must not take the place of what is read, nor of one another: first the checkpoint, then the report, then standard output.
 /// Two names are one file where they are the same, and where they stand for the same places.
 #[tactic(auto, using(crate::proofs::ProgramLemmas::first_none, crate::proofs::ProgramLemmas::first_then, crate::proofs::ProgramLemmas::first_here))]
 pub fn check_names(alloc: Global, plan: &Plan, places: &Places) -> Result<Checked, ToolFault>
     ensures ok { OnOk result (AreClear plan.now) }
-    ensures refused { IfErr result (λ fault. HasFault plan.now.report fault ⊎ HasFault plan.now.checkpoint fault ⊎ IsRunFault fault ⊎ IsOfErrors plan.now fault) }
+    ensures refused { IfErr result (λ fault. HasFault plan.now.report fault ⊎ HasFault plan.now.checkpoint fault ⊎ IsRunFault fault) }
     ensures clear { OnOk result (clash_of plan.now places.now ≡ None) }
     ensures clash { IfErr result (λ fault. IsNoMemory fault ⊎ (clash_of plan.now places.now ≡ Some fault)) }
 {
     check_checkpoint(alloc, plan, places)?;
     check_report(alloc, plan, places)?;
-    check_stream_files(plan, places)?;
+    check_output(plan, places)?;
     Ok(Checked(()))
 }

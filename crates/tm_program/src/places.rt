@@ -94,5 +94,6 @@ pub fn places_by<R: Files + AllocGlobal>(rt: &R, plan: &Plan) -> Result<Places, 
         beside: beside_by(rt, plan)?,
         output: stream_by(rt, Stream::Output, writes_output(plan))?,
         errors: stream_by(rt, Stream::Errors, writes_errors(plan))?,
+        faults: stream_by(rt, Stream::Errors, true)?,
     })
 }

@@ -1,24 +1,24 @@
 //! The order of steps: command line, settings, definition, checkpoint, recording, report, run, checkpoint of the run.
 
-ghost use Rattle.std.specs.Prelude.{◌≡◌, ◌≢◌, ◌⊎◌, [], None, Ok, Some, IfErr, IfOk, IfSome, IsSome, MatchOption, OnOk, is_some, map, option_map, string_bytes};
+ghost use Rattle.std.specs.Prelude.{◌≡◌, ◌≢◌, ◌⊎◌, false, [], None, Ok, Some, IfErr, IfOk, IfSome, IsSome, MatchOption, OnOk, is_some, map, option_map, string_bytes};
 ghost use Rattle.tm_output.specs.Faults.{RunCounted};
 ghost use Rattle.tm_output.specs.Seen.{both, shelf_both};
 ghost use Rattle.tm_shelf.specs.Names.{file_in};
 ghost use Rattle.tm_shelf.specs.Shelves.{HoldsNone};
 ghost use Rattle.tm_program.specs.code.Decisions.{IsBlamed, IsBlamedOf, put_fault_of, split_end_of, stream_fault_of};
-ghost use Rattle.tm_program.specs.code.Endings.{HasDone, IsDone, ending_of};
+ghost use Rattle.tm_program.specs.code.Endings.{HasDone, HasShown, IsDone, ending_of};
 ghost use Rattle.tm_program.specs.code.Files.{IsFileFault};
 ghost use Rattle.tm_program.specs.code.Reports.{is_file};
-ghost use Rattle.tm_program.specs.Program.{AreClear, HasFault, HasFolderFault, IsAsked, IsFolderFault, IsNoMemory, IsOfDefinition, IsOfOutputs, IsOfPut, IsOfResumed, IsOfSettings, IsOfStreams, IsResumed, IsRunFault, MayCome, MayEnd};
+ghost use Rattle.tm_program.specs.Program.{AreClear, HasFault, HasFolderFault, is_job, IsAsked, IsFolderFault, IsNoMemory, IsOfDefinition, IsOfOutputs, IsOfPut, IsOfResumed, IsOfSettings, IsOfStreams, IsResumed, IsRunFault, MayCome, MayEnd};
 
 use crate::decisions::{
-    Destination, Opening, Recording, Stream, destination_by, opening_by, recording_by,
+    Destination, Opening, Recording, Stream, destination_by, is_job, opening_by, recording_by,
     stream_fault, writes_errors, writes_output,
 };
 use crate::fault::ToolFault;
 use crate::files::{append, create, file_fault, open, read_file};
 use crate::kept::{ending_by, job_by, keep, resumed_by};
-use crate::names::{Checked, check_names};
+use crate::names::{Checked, check_errors, check_names};
 use crate::places::places_by;
 use crate::report::Report;
 use std::alloc::Global;
@@ -29,7 +29,7 @@ use tm_places::Places;
 use tm_shelf::{FileShelf, ShelfFault, name_in};
 use tm_tool::{
     Command, Done, Drain, Ending, Job, Octets, Reading, RunFault, Settings, Shelf, Source, Writing,
-    list_frames, run as run_job, split,
+    list_frames, run as run_job, split, summarize,
 };
 use tm_words::{Action, Plan, plan};
 
@@ -70,26 +70,33 @@ fn drain<W: Write + Drop>(alloc: Global, writer: W) -> Result<Writing<BufWriter<
     }
 }
 
-// Lists the frames of a recording.
+// Lists the frames of a recording, or sums it up.
 fn list_to<S: Source, W: Drain>(
     alloc: Global,
+    action: Action,
     settings: &Settings,
     source: &mut S,
     out: &mut W,
 ) -> Result<(), ToolFault>
+    ensures listed { OnOk result (HasShown action settings.now (S.left source.old) (S.left source.new) (W.written out.old) (W.written out.new)) }
     ensures blamed { IfErr result (IsBlamed (S.failures source.old) (S.failures source.new) (W.failures out.old) (W.failures out.new)) }
     ensures refused { IfErr result IsRunFault }
 {
-    match list_frames(alloc, settings, source, out) {
+    let listed = match action {
+        Action::Summary => summarize(alloc, settings, source, out),
+        _ => list_frames(alloc, settings, source, out),
+    };
+    match listed {
         Ok(_) => Ok(()),
         Err(fault) => Err(ToolFault::Run(fault)),
     }
 }
 
-// Lists the frames of a recording on standard output.
+// Lists the frames of a recording, or sums it up, on standard output.
 #[tactic(auto, using(crate::proofs::ProgramLemmas::starved_run))]
 fn list<R: Print + AllocGlobal, S: Read + Drop>(
     rt: &R,
+    action: Action,
     settings: &Settings,
     recording: S,
 ) -> Result<(), ToolFault>
@@ -98,7 +105,7 @@ fn list<R: Print + AllocGlobal, S: Read + Drop>(
     let alloc = rt.alloc();
     let mut source = source(alloc, recording)?;
     let mut out = drain(alloc, io::writer(rt))?;
-    list_to(alloc, settings, &mut source, &mut out)
+    list_to(alloc, action, settings, &mut source, &mut out)
 }
 
 // The devices of every run of a job: the recording, and the report.
@@ -398,7 +405,7 @@ fn go_on<R: Files + Print + AllocGlobal, S: Read + Drop, V: Write + Drop>(
     }
 }
 
-// Does what the plan asks for with the recording, once the names of its files were checked, and answers what was done, but for a list of frames. Names are
+// Does what the plan asks for with the recording, once the names of its files were checked, and answers what its job has done, if it has one. Names are
 // looked up anew once the report is made: before, it may have been none.
 #[tactic(auto, using(crate::proofs::ProgramLemmas::starved_run, crate::proofs::ProgramLemmas::run_ends, crate::proofs::EndingLemmas::done_from))]
 fn run_on<R: Files + Print + AllocGlobal, S: Read + Drop, E: Write + Drop>(
@@ -409,12 +416,12 @@ fn run_on<R: Files + Print + AllocGlobal, S: Read + Drop, E: Write + Drop>(
     errors: E,
     checked: Checked,
 ) -> Result<Option<Done>, ToolFault>
-    ensures done { IfOk result (λ found. MatchOption found (plan.now.action ≡ Action.Frames)
+    ensures done { IfOk result (λ found. MatchOption found (is_job plan.now.action ≡ false)
         (λ done. HasDone plan.now inputs.settings inputs.resumed done.records (option_map (λ kept. kept.work) done.kept))) }
     ensures refused { IfErr result (IsOfOutputs plan.now) }
 {
-    if plan.action == Action::Frames {
-        list(rt, &inputs.settings, recording)?;
+    if !is_job(plan.action) {
+        list(rt, plan.action, &inputs.settings, recording)?;
         return Ok(None);
     }
     let Inputs {
@@ -448,7 +455,7 @@ fn check_and_run<R: Files + Print + AllocGlobal, S: Read + Drop, E: Write + Drop
     errors: E,
 ) -> Result<Option<Done>, ToolFault>
     ensures ok { OnOk result (AreClear plan.now) }
-    ensures done { IfOk result (λ found. MatchOption found (plan.now.action ≡ Action.Frames)
+    ensures done { IfOk result (λ found. MatchOption found (is_job plan.now.action ≡ false)
         (λ done. HasDone plan.now inputs.settings inputs.resumed done.records (option_map (λ kept. kept.work) done.kept))) }
     ensures refused { IfErr result (IsOfOutputs plan.now) }
 {
@@ -500,7 +507,7 @@ fn check_streams<R: Print, E: Write>(rt: &R, plan: &Plan, errors: &mut E) -> Res
 }
 
 // Does what the plan asks for.
-#[tactic(auto, using(crate::proofs::ProgramLemmas::definition_comes, crate::proofs::ProgramLemmas::file_comes, crate::proofs::ProgramLemmas::outputs_come, crate::proofs::ProgramLemmas::resumed_comes, crate::proofs::ProgramLemmas::run_comes, crate::proofs::ProgramLemmas::settings_come, crate::proofs::ProgramLemmas::streams_come))]
+#[tactic(auto, using(crate::proofs::ProgramLemmas::definition_comes, crate::proofs::ProgramLemmas::errors_come, crate::proofs::ProgramLemmas::file_comes, crate::proofs::ProgramLemmas::outputs_come, crate::proofs::ProgramLemmas::resumed_comes, crate::proofs::ProgramLemmas::run_comes, crate::proofs::ProgramLemmas::settings_come, crate::proofs::ProgramLemmas::streams_come))]
 fn run_plan<R: Files + Input + Print + AllocGlobal, E: Write + Drop>(
     rt: &R,
     plan: &Plan,
@@ -511,6 +518,7 @@ fn run_plan<R: Files + Input + Print + AllocGlobal, E: Write + Drop>(
     ensures refused { IfErr result (MayCome plan.now) }
 {
     check_streams(rt, plan, &mut errors)?;
+    check_errors(&places_by(rt, plan)?)?;
     let inputs = inputs_by(rt, plan)?;
     let done = match recording_by(plan) {
         Recording::File(name) => check_and_run(rt, plan, inputs, open(rt, name)?, errors),

@@ -12,12 +12,13 @@ use Rattle.tm_program.specs.declared.decisions.Recording.{Recording}
 use Rattle.tm_program.specs.declared.decisions.Recording.TheVariants as recording
 use Rattle.tm_program.specs.declared.decisions.Stream.{Stream}
 use Rattle.tm_program.specs.declared.decisions.Stream.TheVariants as stream
+use Rattle.tm_program.specs.Program.{is_job}
 use Rattle.tm_program.specs.declared.fault.ToolFault.{ToolFault}
 use Rattle.tm_program.specs.declared.fault.ToolFault.TheVariants as tool
 use Rattle.tm_shelf.specs.declared.files.ShelfFault.{ShelfFault}
 use Rattle.tm_shelf.specs.declared.files.ShelfFault.TheVariants as shelf
 use Rattle.tm_words.specs.declared.request.Action.{Action}
-use Rattle.tm_words.specs.declared.request.Action.TheVariants.{Frames, Split}
+use Rattle.tm_words.specs.declared.request.Action.TheVariants.{Split}
 use Rattle.tm_words.specs.declared.request.Plan.{Plan}
 
 -- the recording comes from the file of exactly the name that the plan has, and from standard input exactly where it has none
@@ -43,9 +44,8 @@ writes_output _ = true
 
 -- the report goes to standard error
 abbrev pub writes_errors : Action → Option (List ℕ) → Bool
-writes_errors Frames report = false
-writes_errors _ None = true
-writes_errors _ (Some name) = false
+writes_errors action None = is_job action
+writes_errors action (Some name) = false
 
 -- the fault of a standard stream that can't be written
 abbrev pub stream_fault_of : Stream → ToolFault

@@ -6,6 +6,10 @@ use Rattle.tm_tool.specs.Runs.{IsEnough, kept_of}
 use Rattle.tm_settings.specs.Settings.{Rules}
 use Rattle.tm_output.specs.declared.command.Ending.{Ending}
 use Rattle.tm_output.specs.declared.command.Ending.TheVariants.{Close, Keep, StopAfter}
+use Rattle.tm_output.specs.Listing.{IsListed}
+use Rattle.tm_tool.specs.Summaries.{IsSummarized}
+use Rattle.tm_words.specs.declared.request.Action.{Action}
+use Rattle.tm_words.specs.declared.request.Action.TheVariants.{Summary}
 use Rattle.tm_words.specs.declared.request.Plan.{Plan}
 
 -- with a file for the checkpoint or none, and a number of records or none
@@ -31,3 +35,8 @@ work_from settings (Some job) = job.work
 -- So much is done by a run of the plan with these settings, from this job where there is one.
 abbrev pub HasDone : Plan → Rules → Option JobState → ℕ → Option Work → Type 0
 HasDone p settings resumed records kept = IsDone (ending_of p) (work_from settings resumed) records kept
+
+-- a summary of what was read was written, or a list of its frames
+abbrev pub HasShown : Action → Rules → (left_old left_new out_old out_new : Option (List ℕ)) → Type 0
+HasShown Summary rules left_old left_new out_old out_new = (count : ℕ) × IsSummarized rules left_old left_new out_old out_new count
+HasShown _ rules left_old left_new out_old out_new = (count : ℕ) × IsListed rules.layout left_old left_new out_old out_new count

@@ -56,10 +56,9 @@ def text_of(lines):
 
 
 def wanted(reader, application):
-    """Standard output and report of each command."""
+    """Standard output and report of each command that can be stopped."""
     report = text_of(reader.report_of(None))
     return {
-        "frames": (text_of(reader.frames), b""),
         "packets": (text_of(it[2] for it in reader.packets), report),
         "extract": (b"".join(it[1] for it in reader.packets), report),
         "fields": (text_of(reference.rows(reader.packets, application)), text_of(reader.report_of(application))),
@@ -94,27 +93,34 @@ def run_in_steps(words, kept):
     return status, out + found[0], report + found[1]
 
 
+def compare_whole(tmx, settings, reader, octets):
+    """How many runs of the commands that can't be stopped were compared, and which of them differ."""
+    whole = {
+        "frames": text_of(reader.frames),
+        "summary": text_of(reference.summary(settings, reader, *divmod(octets, settings.record))),
+    }
+    return len(whole), [it for it in whole if run([tmx, it, "--settings", "settings"]) != (0, whole[it], b"")]
+
+
 def compare(tmx, definition, seed):
     """How many runs were compared, and the commands that differ."""
     chance = random.Random(seed)
     settings = make_settings(chance)
     recording = make_recording(chance, seed, settings)
-    application, number, wrong = chance.choice((0, 5, 100, 2046, 2047)), 0, []
+    application = chance.choice((0, 5, 100, 2046, 2047))
     stops = make_stops(chance, settings, len(recording) // settings.record)
     reader, _ = reference.read_recording(settings, recording)
     stopped, kept = reference.read_recording(settings, recording, stops)
     in_steps = wanted(stopped, application)
+    number, wrong = compare_whole(tmx, settings, reader, len(recording))
     for command, both in wanted(reader, application).items():
         words = [tmx, command, "--settings", "settings"]
         if command == "fields":
             words += ["--definition", definition, "--apid", str(application)]
-        differs = run(words) != (0, *both)
-        if command != "frames":
-            differs |= run_in_steps(words, kept) != (0, *in_steps[command])
-        number += 1 if command == "frames" else 2
-        if differs:
-            wrong.append(f"seed {seed}: {command}")
-    return number, wrong
+        number += 2
+        if run(words) != (0, *both) or run_in_steps(words, kept) != (0, *in_steps[command]):
+            wrong.append(command)
+    return number, [f"seed {seed}: {command}" for command in wrong]
 
 
 def main(tmx, definition, seconds, seed):

@@ -18,6 +18,7 @@ import sys
 import tomllib
 from binascii import crc_hqx
 from collections import Counter
+from itertools import chain
 
 IDLE_DATA_ONLY, NO_PACKET_STARTS = 2046, 2047
 LONGEST_PACKET = 65542
@@ -394,81 +395,94 @@ def rows(packets, wanted):
             yield ",".join([start] + [in_csv(value_of(octets, *it[1:])) for it in fields])
 
 
-# The summary, from the lines of frames, of packets and of the report.
+# The summary, counted from the lines of frames, of packets and of the report.
 
 REASONS = ("pointer", "gap", "vca", "end", "no-start", "version", "length")
 FAULTS = ("crc", "version", "spacecraft", "secondary-flag", "ocf-flag", "secondary-version", "layout", "pointer")
 
 
-def parts_of(lines):
-    """Each line's word, and what stands behind it by name."""
-    return [(line.split(" ")[0], dict(it.split("=") for it in line.split(" ")[1:])) for line in lines]
+def added(word, said):
+    """What a line adds to the summary: names of numbers, and how much."""
+    channel, key = said.get("channel"), (said.get("channel"), said.get("apid"))
+    match word:
+        case "frame":
+            kinds = [((said["kind"], channel), 1)] if said["kind"] in ("idle", "vca") else []
+            return [("good", 1), (("frames", channel), 1), *kinds]
+        case "bad":
+            return [("bad", 1), (("fault", said["fault"]), 1)]
+        case "mastergap":
+            return [("gaps", 1), ("missing", int(said["missing"]))]
+        case "gap":
+            return [(("gaps", channel), 1), (("missing", channel), int(said["missing"]))]
+        case "drop":
+            octets, reason = int(said["octets"]), said["reason"]
+            return [
+                (("dropped", channel), 1),
+                (("lost", channel), octets),
+                (("parts", channel, reason), 1),
+                (("octets", channel, reason), octets),
+            ]
+        case "packet":
+            octets = int(said["octets"])
+            return [
+                (("packets", channel), 1),
+                (("octets", channel), octets),
+                (("packets", *key), 1),
+                (("octets", *key), octets),
+            ]
+        case "seqgap":
+            return [(("gaps", *key), 1), (("missing", *key), int(said["missing"]))]
+        case "group" | "broken" | "stray":
+            return [((word, *key), 1)]
+    return []
 
 
-def pick(lines, kind, **values):
-    return [it for found, it in lines if found == kind and all(it[key] == str(value) for key, value in values.items())]
-
-
-def total(lines, name):
-    return sum(int(it[name]) for it in lines)
-
-
-def summary_line(kind, **values):
-    return " ".join([kind] + [f"{key}={value}" for key, value in values.items()])
+def totals(reader):
+    """The numbers of the summary, and for each channel and application the records of its packets."""
+    numbers, seen = Counter(), {}
+    notices = (it for it in reader.report_of(None) if not it.startswith("bad "))
+    for line in chain(reader.frames, (it[2] for it in reader.packets), notices):
+        word, *parts = line.split(" ")
+        said = dict(it.split("=") for it in parts)
+        for name, number in added(word, said):
+            numbers[name] += number
+        if word == "packet":
+            seen.setdefault((int(said["channel"]), int(said["apid"])), []).append(said["record"])
+    return numbers, seen
 
 
 def summary(settings, reader, records, rest):
-    frames, report = parts_of(reader.frames), parts_of(reader.report_of(None))
-    packets = parts_of(it[2] for it in reader.packets)
-    bad = pick(frames, "bad")
-    yield summary_line("recording", records=records, good=len(pick(frames, "frame")), bad=len(bad), rest=rest)
+    numbers, seen = totals(reader)
+    yield f"recording records={records} good={numbers['good']} bad={numbers['bad']} rest={rest}"
     for word in FAULTS:
-        if them := [it for it in bad if it["fault"] == word]:
-            yield summary_line("fault", word=word, records=len(them))
-    gaps = pick(report, "mastergap")
-    yield summary_line("master", gaps=len(gaps), missing=total(gaps, "missing"))
-    for name in settings.channels:
-        if pick(frames, "frame", channel=name):
-            yield from channel_summary(frames, packets, report, name)
-    for name, application in sorted({(int(it["channel"]), int(it["apid"])) for _, it in packets}):
-        yield application_summary(packets, report, dict(channel=name, apid=application))
+        if numbers["fault", word]:
+            yield f"fault word={word} records={numbers['fault', word]}"
+    yield f"master gaps={numbers['gaps']} missing={numbers['missing']}"
+    for name in map(str, settings.channels):
+        if numbers["frames", name]:
+            yield from channel_summary(numbers, name)
+    for key in sorted(seen):
+        yield application_summary(numbers, seen[key], *map(str, key))
 
 
-def channel_summary(frames, packets, report, name):
-    good, gaps = pick(frames, "frame", channel=name), pick(report, "gap", channel=name)
-    whole, drops = pick(packets, "packet", channel=name), pick(report, "drop", channel=name)
-    yield summary_line(
-        "channel",
-        channel=name,
-        frames=len(good),
-        idle=len([it for it in good if it["kind"] == "idle"]),
-        vca=len([it for it in good if it["kind"] == "vca"]),
-        gaps=len(gaps),
-        missing=total(gaps, "missing"),
-        packets=len(whole),
-        octets=total(whole, "octets"),
-        dropped=len(drops),
-        lost=total(drops, "octets"),
+def channel_summary(numbers, name):
+    said = " ".join(
+        f"{it}={numbers[it, name]}"
+        for it in ("frames", "idle", "vca", "gaps", "missing", "packets", "octets", "dropped", "lost")
     )
+    yield f"channel channel={name} {said}"
     for reason in REASONS:
-        if them := [it for it in drops if it["reason"] == reason]:
-            yield summary_line("loss", channel=name, reason=reason, parts=len(them), octets=total(them, "octets"))
+        if numbers["parts", name, reason]:
+            parts, octets = numbers["parts", name, reason], numbers["octets", name, reason]
+            yield f"loss channel={name} reason={reason} parts={parts} octets={octets}"
 
 
-def application_summary(packets, report, key):
-    whole, gaps = pick(packets, "packet", **key), pick(report, "seqgap", **key)
-    return summary_line(
-        "application",
-        **key,
-        packets=len(whole),
-        octets=total(whole, "octets"),
-        first=whole[0]["record"],
-        last=whole[-1]["record"],
-        gaps=len(gaps),
-        missing=total(gaps, "missing"),
-        groups=len(pick(report, "group", **key)),
-        broken=len(pick(report, "broken", **key)),
-        strays=len(pick(report, "stray", **key)),
+def application_summary(numbers, seen, *key):
+    names = ("packets", "octets", "gaps", "missing", "group", "broken", "stray")
+    packets, octets, gaps, missing, groups, broken, strays = (numbers[it, *key] for it in names)
+    return (
+        f"application channel={key[0]} apid={key[1]} packets={packets} octets={octets} first={seen[0]} last={seen[-1]}"
+        f" gaps={gaps} missing={missing} groups={groups} broken={broken} strays={strays}"
     )
 
 

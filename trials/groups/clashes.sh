@@ -89,7 +89,8 @@ checkpoint_clashes() {
 
 stream_clashes() {
     local command
-    for command in "$used --report own/r" "$tmx extract --settings own/s.toml --report own/r" "$rows --report own/r" "$tmx frames --settings own/s.toml"; do
+    for command in "$used --report own/r" "$tmx extract --settings own/s.toml --report own/r" "$rows --report own/r" \
+        "$tmx frames --settings own/s.toml" "$tmx summary --settings own/s.toml"; do
         set -- $command
         clash "$2 behind its recording" "tmx: write failed" "$command own/z.rec >>own/z.rec"
         clash "$2 behind its recording in standard input" "tmx: write failed" "$command <own/hard >>own/z.rec"

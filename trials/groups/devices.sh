@@ -30,6 +30,40 @@ checkpoint_stays() {
     tell "$1: the one before is as it was, and nothing is left beside it" "$(echo before | cmp - c 2>&1; ls c.new 2>/dev/null)"
 }
 
+# A recording that can't be read on: the call for it is one of a library of the trial's own, which gives 4096 octets at the most, and fails
+# behind 40,000 of them.
+reading_fails() {
+    local command
+    if ! command -v cc >/dev/null; then
+        echo "note without a C compiler no trial has a recording that can't be read on"
+        return
+    fi
+    cat >read.c <<'END'
+#define _GNU_SOURCE
+#include <dlfcn.h>
+#include <errno.h>
+#include <unistd.h>
+ssize_t read(int file, void *octets, size_t most) {
+    static size_t given;
+    ssize_t (*call)(int, void *, size_t) = (ssize_t (*)(int, void *, size_t))dlsym(RTLD_NEXT, "read");
+    if (given > 40000) { errno = EIO; return -1; }
+    ssize_t found = call(file, octets, most < 4096 ? most : 4096);
+    if (found > 0) given += found;
+    return found;
+}
+END
+    cc -shared -fPIC -o read.so read.c -ldl
+    for command in frames packets extract summary; do
+        gives "$command of a recording that can't be read on" 1 "tmx: read failed" \
+            "LD_PRELOAD=$PWD/read.so $tmx $command --settings $s $(plain_words $command) $rec"
+        if [ $command = summary ]; then
+            tell "$command of a recording that can't be read on: nothing is written" "$(cat out)"
+        else
+            tell "$command of a recording that can't be read on: a front is written" "$([ -s out ] && is_front out expected/$command || echo no)"
+        fi
+    done
+}
+
 # A disk that doesn't take a checkpoint: the call for it is one of a library of the trial's own, and fails.
 disk_fails() {
     if ! command -v cc >/dev/null; then
@@ -42,21 +76,28 @@ disk_fails() {
 }
 
 devices() {
-    local command
+    local command room
     names
-    for command in "$packets --report r" "$extract --report r" "$fields --report r" "$tmx frames --settings $s"; do
+    for command in "$packets --report r" "$extract --report r" "$fields --report r" "$tmx frames --settings $s" "$tmx summary --settings $s"; do
         set -- $command
+        room=8
+        [ "$2" != summary ] || room=1
         gives "$2 to a full device" 1 "tmx: write failed" "$command $rec >/dev/full"
         gives "$2 to a closed standard output" 1 "tmx: write failed" "$command $rec >&-"
         gives "$2 to a closed standard output, the recording in a pipe" 1 "tmx: write failed" "cat $rec | $command >&-"
         gives "$2 to a pipe that nobody reads" 1 "tmx: write failed" "set -o pipefail; (sleep 0.1; $command $rec) | true"
         gives "$2 to a pipe that nobody reads, its signal ignored" 1 "tmx: write failed" \
             "set -o pipefail; trap '' PIPE; (sleep 0.1; $command $rec) | true"
-        gives "$2 to a file with room for 8 KiB" 1 "tmx: write failed" "trap '' XFSZ; ulimit -f 8; $command $rec"
-        tell "$2 to a file with room for 8 KiB: it has a front of the output" \
+        gives "$2 to a file with room for $room KiB" 1 "tmx: write failed" "trap '' XFSZ; ulimit -f $room; $command $rec"
+        tell "$2 to a file with room for $room KiB: it has a front of the output" \
             "$(is_front out "expected/$2" || [ "$2" = fields ] || echo no)"
     done
-    for command in packets extract fields frames; do
+    for command in frames summary; do
+        gives "$command with closed standard input" 1 "tmx: read failed" "$tmx $command --settings $s <&-"
+        gives "$command with a closed standard error" 0 "" "$tmx $command --settings $s $rec 2>&-"
+        tell "$command with a closed standard error: all of it" "$(cmp out expected/$command 2>&1)"
+    done
+    for command in packets extract fields frames summary; do
         gives "$command with the recording in pieces of an octet" 0 "" \
             "dd if=$rec bs=1 status=none | $tmx $command --settings $s $(plain_words $command)"
         tell "$command with the recording in pieces of an octet: all of it" "$([ $command = fields ] || cmp out expected/$command 2>&1)"
@@ -93,6 +134,7 @@ devices() {
     ln -s /dev/full c.new
     checkpoint_stays "a checkpoint on a full device" "$extract --report r --checkpoint c --stop-after 20 $rec"
     disk_fails
+    reading_fails
     wide_recording
     checkpoint_stays "a checkpoint of 40 KB with room for 8 KiB" \
         "trap '' XFSZ; ulimit -f 8; $tmx extract --settings wide.toml --report r --checkpoint c --stop-after 20 wide.rec"

@@ -57,6 +57,7 @@ own_files() {
 }
 
 usage_faults() {
+    local words
     gives "help" 0 "" "$tmx --help"
     gives "help of split" 0 "" "$tmx split --help"
     gives "version" 0 "" "$tmx --version"
@@ -77,6 +78,11 @@ usage_faults() {
     usage "stop after 0" "$packets --checkpoint c --stop-after 0 $rec"
     usage "stop after 2^32" "$packets --checkpoint c --stop-after 4294967296 $rec"
     usage "words that are not UTF-8" "$packets \$'\\xff'"
+    for words in "frames --report r" "summary --report r" "summary --checkpoint c" "summary --resume c" "summary --stop-after 5"; do
+        usage "a word that the command doesn't take: $words" "$tmx $words --settings $s $rec"
+    done
+    usage "a summary without settings" "$tmx summary $rec"
+    usage "a summary of two recordings" "$tmx summary --settings $s $rec $rec"
     gives "stop after without a checkpoint" 2 "tmx: --stop-after needs --checkpoint" "$packets --stop-after 5 $rec"
 }
 
@@ -215,13 +221,22 @@ order_of_faults() {
 }
 
 run_faults() {
-    local used
+    local used command
     gives "a folder as the recording" 1 "tmx: read failed" "$packets --report r split"
     gives "a folder as standard input" 1 "tmx: read failed" "$packets --report r <split"
     gives "a recording that is missing" 1 "tmx: missing.rec: failed" "$packets missing.rec"
     gives "an empty name of a recording" 1 "tmx: : failed" "$packets ''"
     gives "a recording with a long name" 1 "tmx: $(printf 'a%.0s' $(seq 5000)): failed" "$packets $(printf 'a%.0s' $(seq 5000))"
     cp "$rec" ./-
+    for command in frames summary; do
+        gives "$command of a folder" 1 "tmx: read failed" "$tmx $command --settings $s split"
+        tell "$command of a folder: nothing is written" "$(cat out)"
+        gives "$command of a recording that is missing" 1 "tmx: missing.rec: failed" "$tmx $command --settings $s missing.rec"
+        gives "$command by settings that are missing" 1 "tmx: missing.toml: failed" "$tmx $command --settings missing.toml missing.rec"
+    done
+    gives "summary of an empty recording" 0 "" "$tmx summary --settings $s"
+    printf '%s\n' "recording records=0 good=0 bad=0 rest=0" "master gaps=0 missing=0" >wanted
+    tell "summary of an empty recording: two lines" "$(cmp out wanted 2>&1)"
     gives "a recording named -" 0 "" "$packets --report r -"
     tell "a recording named -: all of it" "$(cmp out expected/packets 2>&1)"
     cp "$rec" $' n\xc3\xa9\n'
@@ -269,6 +284,7 @@ memory_faults() {
     filled settings.full "$s" 1048576
     little_memory frames "frames --settings $s" expected/frames
     little_memory "frames by settings of 1 MiB" "frames --settings settings.full" expected/frames
+    little_memory summary "summary --settings $s" expected/summary
     little_memory packets "packets --settings $s --report r" expected/packets
     little_memory extract "extract --settings $s --report r" expected/extract
     little_memory fields "fields --settings $s --definition $example/attitude.csv --apid 101 --report r" ""

@@ -51,7 +51,7 @@ judge_long() {
     *) [ "$lines" = "$(for_copies -l "$1")" ] || echo "$lines lines, not $(for_copies -l "$1"); " ;;
     esac
     [ "$1" != fields ] || report=fields.report
-    [ "$1" = frames ] || [ "$(wc -l <report)" = "$(for_copies -l $report)" ] || echo "$(wc -l <report) lines of the report; "
+    ! has_report "$1" || [ "$(wc -l <report)" = "$(for_copies -l $report)" ] || echo "$(wc -l <report) lines of the report; "
 }
 
 long() {
@@ -66,11 +66,11 @@ long() {
     rm -rf expected
     cp -r expected2 expected
     for _ in $(seq 200); do cat "$example/pass.rec"; done >copies
-    for command in frames packets extract split fields; do
+    for command in frames summary packets extract split fields; do
         rm -rf found
         mkdir -p found/split
         words="$command --settings $example/settings.toml $(words_of $command found)"
-        [ $command = frames ] || words+=" --report report"
+        ! has_report $command || words+=" --report report"
         begun=$(date +%s%N)
         # shellcheck disable=SC2086
         run_limited $words

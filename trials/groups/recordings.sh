@@ -14,6 +14,12 @@ report_line+="|short record=$number octets=$number|seqgap $at apid=$number expec
 report_line+="|broken $at apid=$number first=$number last=$number reason=(gap|first|unsegmented|end)"
 report_line+="|group $at apid=$number first=$number last=$number|stray $at apid=$number count=$number flag=(continuation|last)"
 report_line+="|shortpacket $at from=$number at=$number needed=$number found=$number)\$"
+summary_line="^(recording records=$number good=$number bad=$number rest=$number|fault word=$fault records=$number"
+summary_line+="|master gaps=$number missing=$number|channel channel=[0-7] frames=$number idle=$number vca=$number gaps=$number"
+summary_line+=" missing=$number packets=$number octets=$number dropped=$number lost=$number"
+summary_line+="|loss channel=[0-7] reason=(pointer|gap|vca|end|no-start|version|length) parts=$number octets=$number"
+summary_line+="|application channel=[0-7] apid=$number packets=$number octets=$number first=$number last=$number gaps=$number"
+summary_line+=" missing=$number groups=$number broken=$number strays=$number)\$"
 
 # Further words of a command. The files of `split` go to a folder in the folder that is given.
 words_of() {
@@ -23,10 +29,15 @@ words_of() {
     esac
 }
 
+# Whether a command gives a report.
+has_report() {
+    [ "$1" != frames ] && [ "$1" != summary ]
+}
+
 # Runs each command over a recording, by its name; the reports go to standard error.
 run_by_name() {
     local command
-    for command in frames packets extract split fields; do
+    for command in frames summary packets extract split fields; do
         # shellcheck disable=SC2046
         "$tmx" $command --settings "$1" $(words_of $command found) "$2" >found/$command.out 2>found/$command.report </dev/null ||
             echo "status of $command; "
@@ -36,9 +47,9 @@ run_by_name() {
 # The same with the recording in a pipe; the reports go to files.
 run_in_pipe() {
     local command report
-    for command in frames packets extract split fields; do
+    for command in frames summary packets extract split fields; do
         report="--report found/$command.report"
-        [ $command != frames ] || report=""
+        has_report $command || report=""
         # shellcheck disable=SC2046,SC2086
         cat "$2" | "$tmx" $command --settings "$1" $report $(words_of $command found) >found/$command.out 2>found/errors ||
             echo "status of $command in a pipe; "
@@ -49,8 +60,11 @@ run_in_pipe() {
 # What is wrong with what was found, beside what the reference says.
 judge() {
     local command
-    for command in frames packets extract fields; do
+    for command in frames summary packets extract fields; do
         cmp -s found/$command.out expected/$command || echo "output of $command; "
+    done
+    for command in frames summary; do
+        ! [ -s found/$command.report ] || echo "a report of $command; "
     done
     for command in packets extract split; do
         cmp -s found/$command.report expected/report || echo "report of $command; "
@@ -60,14 +74,25 @@ judge() {
     diff -rq found/split expected/split >/dev/null || echo "files of split; "
 }
 
+# The sum of a number of the summary, over its lines of a kind.
+in_all() {
+    grep "^$1 " found/summary.out | sed "s/.* $2=//; s/ .*//" | awk '{ s += $1 } END { printf "%d", s }'
+}
+
 # What is wrong with what was found, by itself: lines of no known form, and octets that don't add up.
 judge_sums() {
     local octets
     ! grep -qvE "$frame_line" found/frames.out || echo "a line of frames; "
+    ! grep -qvE "$summary_line" found/summary.out || echo "a line of the summary; "
     ! grep -qvE "$report_line" found/fields.report || echo "a line of the report; "
     octets=$(sed 's/.* octets=//' found/packets.out | awk '{ s += $1 } END { printf "%d", s }')
     [ "$octets" = "$(stat -c %s found/extract.out)" ] || echo "octets of extract; "
     [ "$octets" = "$(find found/split -type f -exec cat {} + | wc -c)" ] || echo "octets of split; "
+    [ "$octets" = "$(in_all channel octets)" ] || echo "octets of the channels in the summary; "
+    [ "$octets" = "$(in_all application octets)" ] || echo "octets of the applications in the summary; "
+    [ "$(in_all recording bad)" = "$(in_all fault records)" ] || echo "bad frames of the summary; "
+    [ "$(in_all channel dropped)" = "$(in_all loss parts)" ] || echo "dropped parts of the summary; "
+    [ "$(in_all channel lost)" = "$(in_all loss octets)" ] || echo "dropped octets of the summary; "
     python3 "$here/reference.py" tiles "$1" found/frames.out found/packets.out found/packets.report ||
         echo "octets are lost or given twice; "
 }
@@ -121,6 +146,7 @@ random() {
             done
         done
     done
+    trial "the example" "$example/settings.toml" "$example/pass.rec"
     head -c "$LARGEST" /dev/urandom >recording
     trial "$LARGEST octets of /dev/urandom" s24 recording
     [ "$LARGEST" -lt 1048576 ] || damaged_lengths

@@ -101,6 +101,26 @@ pub fn header_in(octets: &[u8]) -> Header
     }
 }
 
+// Takes note of a packet, and makes the lines of its notes behind others. It stands apart: most packets have no notes.
+#[inline(never)]
+#[tactic(auto, using(crate::proofs::PacketLemmas::notes_one))]
+fn push_packet_notes(
+    tracker: &mut Tracker,
+    lines: &mut String,
+    seen: u32,
+    channel: u8,
+    header: Header,
+) -> Result<(), AllocError>
+    requires { channel < 8 }
+    ensures noted { tracker.new ≡ sequence.entries_after tracker.old (record { channel = channel; header = header } ∷ []) }
+    ensures lines { OnOk result (string_bytes lines.new ≡ string_bytes lines.old
+        ++ note_lines seen channel header.application (notes_of tracker.old (record { channel = channel; header = header }))) }
+    ensures memory { OnErr result (note_lines seen channel header.application (notes_of tracker.old (record { channel = channel; header = header })) ≢ []) }
+{
+    let notes = tracker.take(channel, header);
+    push_notes(lines, seen, channel, header.application(), &notes)
+}
+
 // Takes note of a packet, and makes the lines of its notes.
 #[tactic(auto, using(crate::proofs::PacketLemmas::notes_one))]
 fn note_packet(
@@ -117,8 +137,10 @@ fn note_packet(
     ensures memory { OnErr result (note_lines seen channel header.application (notes_of tracker.old (record { channel = channel; header = header })) ≢ []) }
 {
     lines.clear();
-    let notes = tracker.take(channel, header);
-    push_notes(lines, seen, channel, header.application(), &notes)
+    if tracker.take_without_notes(channel, header) {
+        return Ok(());
+    }
+    push_packet_notes(tracker, lines, seen, channel, header)
 }
 
 impl<O: Outlet, V: Drain> Output<'_, O, V> {

@@ -1,20 +1,14 @@
 -- How a listing stands while it goes on, and what follows at its end.
-use Rattle.std.specs.Prelude.{◌≢◌, ◌==◌, Result, Ok, Err}
-use Rattle.std.proofs.lemmas.Bool.{cases_Bool, eqb-true}
 use Rattle.std.proofs.Common.{◌≡◌, ◌<◌, ◌+◌, ◌-◌, ◌^◌, ℕ, List, [], ◌∷◌, ◌++◌, length, refl, sym, ap, subst, ◌∙◌, append_assoc, append-nil, length-append, add-zero, arith, Option, inl, inr}
 use Rattle.std.specs.List.{concat}
 use Rattle.std.specs.Io.KnownBytes.{Appends, Consumes, IsAtEnd, Keeps}
 use Rattle.std.proofs.KnownBytes.{Appends-nil, Appends-trans, Appends-kept, Consumes-nil, Consumes-trans}
 use Rattle.tm_frame.specs.declared.layout.LayoutParts.{LayoutParts}
-use Rattle.tm_frame.specs.declared.fault.FrameFault.{FrameFault}
-use Rattle.tm_frame.specs.Fault.{frame_reading_of}
-use Rattle.tm_frame.specs.Frame.{GoodFrame}
 use Rattle.tm_frame.specs.Layout.{record_length_of}
-use Rattle.tm_output.specs.Lines.{bad_line, frame_line, short_line}
 use Rattle.tm_output.specs.declared.fault.RunFault.{RunFault}
 use Rattle.tm_output.specs.declared.fault.RunFault.TheVariants.{Read, Write, Report, ShortRecording, TooMany, NoMemory}
 use Rattle.tm_output.specs.Records.{AreRecords}
-use Rattle.tm_output.specs.Listing.{reading_line, record_line, record_lines, rest_lines, lines_of, StopsIn, LineStopped, HasListed, IsStopped}
+use Rattle.tm_output.specs.Listing.{record_line, record_lines, rest_lines, lines_of, StopsIn, LineStopped, HasListed, IsStopped}
 
 pub concat-append : (xs ys : List (List ℕ)) → concat (xs ++ ys) ≡ concat xs ++ concat ys
 concat-append [] ys = refl
@@ -22,27 +16,6 @@ concat-append (x ∷ xs) ys = ap (λ (l : List ℕ). x ++ l) (concat-append xs y
 
 pub concat-one : (xs : List (List ℕ)) (x : List ℕ) → concat (xs ++ x ∷ []) ≡ concat xs ++ x
 concat-one xs x = concat-append xs (x ∷ []) ∙ ap (λ (l : List ℕ). concat xs ++ l) (append-nil x)
-
--- no line is empty
-some_reading_line : (seen : ℕ) (reading : Result GoodFrame FrameFault) → reading_line seen reading ≢ []
-unfolding frame_line bad_line
-some_reading_line seen (Ok frame) e = cc
-some_reading_line seen (Err fault) e = cc
-
-pub some_record_line : (layout : LayoutParts) (seen : ℕ) (octets : List ℕ) → record_line layout seen octets ≢ []
-unfolding record_line
-some_record_line layout seen octets = some_reading_line seen (frame_reading_of layout octets)
-
-some_short_line : (seen octets : ℕ) → short_line seen octets ++ [] ≢ []
-unfolding short_line
-some_short_line seen octets e = cc
-
-pub some_rest_line : (seen octets : ℕ) → 0 < octets → concat (rest_lines seen octets) ≢ []
-some_rest_line seen octets some e =
-    elim (cases_Bool (octets == 0)) [
-      | inl none ↦ absurd (omega (arith, eqb-true octets 0 none))
-      | inr left ↦ some_short_line seen octets (rw left at e)
-    ]
 
 pub AreRecords-append : (size : ℕ) (a b : List (List ℕ)) → AreRecords size a → AreRecords size b → AreRecords size (a ++ b)
 AreRecords-append size [] b h k = k

@@ -69,11 +69,7 @@ line_alone entries (Short seen octets) has = refl
 pub line_report : (entries : Entries) (x : Item) (more : List ℕ) → HasLine x → more ≡ [] → item_line x ≡ report_of entries x ++ more
 line_report entries x more has none = line_alone entries x has ∙ sym (ap (λ (l : List ℕ). report_of entries x ++ l) none ∙ append-nil (report_of entries x))
 
--- a line in front makes a report
-pub some_line : (entries : Entries) (x : Item) (more : List ℕ) → HasLine x → more ≡ [] → item_line x ≢ [] → report_of entries x ++ more ≢ []
-some_line entries x more has none some e = some (line_report entries x more has none ∙ e)
-
--- and so does what is said behind notes
+-- what is said behind notes makes a report
 pub some_back : (xs ys : List ℕ) → ys ≢ [] → xs ++ ys ≢ []
 some_back [] ys some e = some e
 some_back (x ∷ xs) ys some e = cc

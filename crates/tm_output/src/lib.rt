@@ -9,6 +9,7 @@ mod listing;
 mod outlet;
 mod output;
 mod packet;
+mod room;
 
 pub use command::{Command, Ending};
 pub use fault::RunFault;

@@ -1,233 +1,268 @@
-//! The printed lines. Each is written after what the text holds.
+//! The printed lines. Those of records and packets are made in a room, those of notes are written after what a text holds.
 
-ghost use Rattle.std.specs.Prelude.{◌≡◌, ◌++◌, ◌∷◌, [], Some, OnOk, codes, string_bytes};
-ghost use Rattle.std.specs.List.{concat};
+ghost use Rattle.std.specs.Prelude.{◌≡◌, ◌+◌, ◌≤◌, ◌++◌, drop, length, OnOk, string_bytes};
 ghost use Rattle.tm_output.specs.Lines.{bad_line, bit_text, drop_line, flags_word, frame_line, gap_line, kind_word, master_gap_line, note_line, packet_line, place_text, short_line, short_packet_line, type_word, vca_line, why_word, yes_or_no};
 
-use itoa::{Buffer, Integer};
+use crate::Packet;
+use crate::room::{ROOM, end_line, put_long_number, put_number, put_text, put_word};
 use std::alloc::AllocError;
-use std::fmt::{self, Write};
+use std::fmt::Write;
 use tm_frame::{Frame, FrameFault, Kind};
 use tm_items::Reason;
-use tm_packet::{Flags, Header, Note, Why};
+use tm_packet::{Flags, Note, Why};
 
 // The word of what a data field holds.
-fn kind_word(kind: Kind) -> &'static str
-    ensures { result.now ≡ kind_word kind }
+#[inline(always)]
+fn put_kind(room: &mut [u8; ROOM], end: usize, kind: Kind) -> usize
+    requires enough { 7 ≤ end }
+    requires within { end ≤ 192 }
+    ensures before { result ≤ end }
+    ensures most { end ≤ result + 7 }
+    ensures text { drop result room.new ≡ kind_word kind ++ drop end room.old }
 {
     match kind {
-        Kind::Packets(_) => "packets",
-        Kind::NoStart => "nostart",
-        Kind::Idle => "idle",
-        Kind::Vca => "vca",
+        Kind::Packets(_) => put_text(room, end, b"packets"),
+        Kind::NoStart => put_text(room, end, b"nostart"),
+        Kind::Idle => put_text(room, end, b"idle"),
+        Kind::Vca => put_text(room, end, b"vca"),
     }
 }
 
 // The place of the first packet, or a dash.
-#[derive(Clone, Copy)]
-struct Place(Kind);
-
-impl fmt::Display for Place {
-    ghost output = { λ p. Some (place_text p.0) };
-
-    fn fmt<W: fmt::Write>(&self, f: &mut fmt::Formatter<W>) -> fmt::Result {
-        match self.0 {
-            Kind::Packets(place) => write!(f, "{place}"),
-            _ => write!(f, "-"),
-        }
+#[inline(always)]
+fn put_place(room: &mut [u8; ROOM], end: usize, kind: Kind) -> usize
+    requires enough { 10 ≤ end }
+    requires within { end ≤ 192 }
+    ensures before { result ≤ end }
+    ensures most { end ≤ result + 10 }
+    ensures text { drop result room.new ≡ place_text kind ++ drop end room.old }
+{
+    match kind {
+        Kind::Packets(place) => put_number(room, end, u32::from(place)),
+        Kind::NoStart => put_text(room, end, b"-"),
+        Kind::Idle => put_text(room, end, b"-"),
+        Kind::Vca => put_text(room, end, b"-"),
     }
 }
 
-fn yes_or_no(b: bool) -> &'static str
-    ensures { result.now ≡ yes_or_no b }
+#[inline(always)]
+fn put_yes_or_no(room: &mut [u8; ROOM], end: usize, b: bool) -> usize
+    requires enough { 3 ≤ end }
+    requires within { end ≤ 192 }
+    ensures before { result ≤ end }
+    ensures most { end ≤ result + 3 }
+    ensures text { drop result room.new ≡ yes_or_no b ++ drop end room.old }
 {
-    if b { "yes" } else { "no" }
+    if b {
+        put_text(room, end, b"yes")
+    } else {
+        put_text(room, end, b"no")
+    }
 }
 
-fn bit_text(b: bool) -> &'static str
+fn bit_text(b: bool) -> &'static [u8; 1]
     ensures { result.now ≡ bit_text b }
 {
-    if b { "1" } else { "0" }
+    if b { b"1" } else { b"0" }
 }
 
 /// The line of a good frame.
-#[tactic(auto, unfolding(crate::specs::Lines::frame_line))]
-pub fn push_frame(text: &mut String, seen: u32, frame: &Frame<'_>) -> Result<(), AllocError>
-    ensures { OnOk result (string_bytes text.new ≡ string_bytes text.old ++ frame_line seen frame.now) }
+pub fn put_frame(room: &mut [u8; ROOM], seen: u32, frame: &Frame<'_>) -> usize
+    ensures within { result ≤ 192 }
+    ensures line { drop result room.new ≡ frame_line seen frame.now }
 {
-    let channel = frame.channel();
-    let master = frame.master_count();
-    let count = frame.count();
-    let kind = kind_word(frame.kind());
-    let place = Place(frame.kind());
-    let secondary = frame.secondary_length();
-    let ocf = yes_or_no(frame.has_ocf());
-    let order = bit_text(frame.order_flag());
-    let segment = frame.segment();
-    let octets = frame.field().len();
-    write!(
-        text,
-        "frame record={seen} channel={channel} master={master} count={count} kind={kind} place={place} secondary={secondary} ocf={ocf} order={order} segment={segment} octets={octets}\n"
-    )
+    let at = end_line(room);
+    let at = put_long_number(room, at, frame.field().len() as u64);
+    let at = put_text(room, at, b" octets=");
+    let at = put_number(room, at, u32::from(frame.segment()));
+    let at = put_text(room, at, b" segment=");
+    let at = put_text(room, at, bit_text(frame.order_flag()));
+    let at = put_text(room, at, b" order=");
+    let at = put_yes_or_no(room, at, frame.has_ocf());
+    let at = put_text(room, at, b" ocf=");
+    let at = put_number(room, at, u32::from(frame.secondary_length()));
+    let at = put_text(room, at, b" secondary=");
+    let at = put_place(room, at, frame.kind());
+    let at = put_text(room, at, b" place=");
+    let at = put_kind(room, at, frame.kind());
+    let at = put_text(room, at, b" kind=");
+    let at = put_number(room, at, u32::from(frame.count()));
+    let at = put_text(room, at, b" count=");
+    let at = put_number(room, at, u32::from(frame.master_count()));
+    let at = put_text(room, at, b" master=");
+    let at = put_number(room, at, u32::from(frame.channel()));
+    let at = put_text(room, at, b" channel=");
+    let at = put_number(room, at, seen);
+    put_text(room, at, b"frame record=")
 }
 
 /// The line of a bad frame.
-#[tactic(auto, unfolding(crate::specs::Lines::bad_line))]
-pub fn push_bad(text: &mut String, seen: u32, fault: FrameFault) -> Result<(), AllocError>
-    ensures { OnOk result (string_bytes text.new ≡ string_bytes text.old ++ bad_line seen fault) }
+#[tactic(auto, using(crate::proofs::RoomLemmas::short_fault_word))]
+pub fn put_bad(room: &mut [u8; ROOM], seen: u32, fault: FrameFault) -> usize
+    ensures within { result ≤ 192 }
+    ensures line { drop result room.new ≡ bad_line seen fault }
 {
-    let word = fault.word();
-    write!(text, "bad record={seen} fault={word}\n")
+    let at = end_line(room);
+    let at = put_word(room, at, fault.word());
+    let at = put_text(room, at, b" fault=");
+    let at = put_number(room, at, seen);
+    put_text(room, at, b"bad record=")
 }
 
 /// The line of octets that are left after `seen` records.
-#[tactic(auto, unfolding(crate::specs::Lines::short_line))]
-pub fn push_short(text: &mut String, seen: u32, octets: usize) -> Result<(), AllocError>
-    ensures { OnOk result (string_bytes text.new ≡ string_bytes text.old ++ short_line seen octets) }
+pub fn put_short(room: &mut [u8; ROOM], seen: u32, octets: usize) -> usize
+    ensures within { result ≤ 192 }
+    ensures line { drop result room.new ≡ short_line seen octets }
 {
-    write!(text, "short record={seen} octets={octets}\n")
+    let at = end_line(room);
+    let at = put_long_number(room, at, octets as u64);
+    let at = put_text(room, at, b" octets=");
+    let at = put_number(room, at, seen);
+    put_text(room, at, b"short record=")
 }
 
 // ---- packets
 
-fn flags_word(flags: Flags) -> &'static str
-    ensures { result.now ≡ flags_word flags }
+fn type_word(telecommand: bool) -> &'static [u8; 2]
+    ensures { result.now ≡ type_word telecommand }
 {
-    match flags {
-        Flags::Continuation => "continuation",
-        Flags::First => "first",
-        Flags::Last => "last",
-        Flags::Unsegmented => "unsegmented",
-    }
+    if telecommand { b"tc" } else { b"tm" }
 }
 
-// A number behind a text.
 #[inline(always)]
-fn push_number<I: Integer>(text: &mut String, before: &str, number: I) -> Result<(), AllocError>
-    ensures { OnOk result (string_bytes text.new ≡ string_bytes text.old ++ before.now ++ I.text number) }
-{
-    text.push_str(before)?;
-    text.push_str(Buffer::new().format(number))
-}
-
-// What stands between the place and the application.
-fn type_and_secondary(telecommand: bool, secondary: bool) -> &'static str
-    ensures { result.now ≡ concat (codes " type=" ∷ type_word telecommand ∷ codes " secondary=" ∷ yes_or_no secondary ∷ codes " apid=" ∷ []) }
-{
-    if telecommand {
-        if secondary {
-            " type=tc secondary=yes apid="
-        } else {
-            " type=tc secondary=no apid="
-        }
-    } else if secondary {
-        " type=tm secondary=yes apid="
-    } else {
-        " type=tm secondary=no apid="
-    }
-}
-
-// What stands between the application and the count.
-fn flags_before_count(flags: Flags) -> &'static str
-    ensures { result.now ≡ concat (codes " flags=" ∷ flags_word flags ∷ codes " count=" ∷ []) }
+fn put_flags(room: &mut [u8; ROOM], end: usize, flags: Flags) -> usize
+    requires enough { 12 ≤ end }
+    requires within { end ≤ 192 }
+    ensures before { result ≤ end }
+    ensures most { end ≤ result + 12 }
+    ensures text { drop result room.new ≡ flags_word flags ++ drop end room.old }
 {
     match flags {
-        Flags::Continuation => " flags=continuation count=",
-        Flags::First => " flags=first count=",
-        Flags::Last => " flags=last count=",
-        Flags::Unsegmented => " flags=unsegmented count=",
+        Flags::Continuation => put_text(room, end, b"continuation"),
+        Flags::First => put_text(room, end, b"first"),
+        Flags::Last => put_text(room, end, b"last"),
+        Flags::Unsegmented => put_text(room, end, b"unsegmented"),
     }
 }
 
-/// The line of a packet of so many octets that begins in the record `first`, at this place. It is put together from few pieces and without
-/// a formatter: most lines of a run are of packets.
-#[tactic(auto, unfolding(crate::specs::Lines::packet_line))]
-pub fn push_packet(
-    text: &mut String,
-    seen: u32,
-    channel: u8,
-    first: u32,
-    place: u16,
-    header: &Header,
-    octets: usize,
-) -> Result<(), AllocError>
-    ensures { OnOk result (string_bytes text.new ≡ string_bytes text.old ++ packet_line seen channel first place header.now octets) }
+/// The line of a packet.
+pub fn put_packet(room: &mut [u8; ROOM], packet: &Packet<'_>) -> usize
+    ensures within { result ≤ 192 }
+    ensures line { drop result room.new
+        ≡ packet_line packet.now.seen packet.now.channel packet.now.first packet.now.place packet.now.header (length packet.now.octets.now) }
 {
-    push_number(text, "packet record=", seen)?;
-    push_number(text, " channel=", channel)?;
-    push_number(text, " from=", first)?;
-    push_number(text, " at=", place)?;
-    let kind = type_and_secondary(header.telecommand(), header.secondary());
-    push_number(text, kind, header.application())?;
-    push_number(text, flags_before_count(header.flags()), header.count())?;
-    push_number(text, " octets=", octets)?;
-    text.push_str("\n")?;
-    Ok(())
+    let header = packet.header;
+    let at = end_line(room);
+    let at = put_long_number(room, at, packet.octets.len() as u64);
+    let at = put_text(room, at, b" octets=");
+    let at = put_number(room, at, u32::from(header.count()));
+    let at = put_text(room, at, b" count=");
+    let at = put_flags(room, at, header.flags());
+    let at = put_text(room, at, b" flags=");
+    let at = put_number(room, at, u32::from(header.application()));
+    let at = put_text(room, at, b" apid=");
+    let at = put_yes_or_no(room, at, header.secondary());
+    let at = put_text(room, at, b" secondary=");
+    let at = put_text(room, at, type_word(header.telecommand()));
+    let at = put_text(room, at, b" type=");
+    let at = put_number(room, at, u32::from(packet.place));
+    let at = put_text(room, at, b" at=");
+    let at = put_number(room, at, packet.first);
+    let at = put_text(room, at, b" from=");
+    let at = put_number(room, at, u32::from(packet.channel));
+    let at = put_text(room, at, b" channel=");
+    let at = put_number(room, at, packet.seen);
+    put_text(room, at, b"packet record=")
 }
 
 // ---- the report
 
 /// The line of a gap in the counts of a channel's frames.
-#[tactic(auto, unfolding(crate::specs::Lines::gap_line))]
-pub fn push_gap(
-    text: &mut String,
+pub fn put_gap(
+    room: &mut [u8; ROOM],
     seen: u32,
     channel: u8,
     expected: u8,
     found: u8,
     missing: u8,
-) -> Result<(), AllocError>
-    ensures { OnOk result (string_bytes text.new ≡ string_bytes text.old ++ gap_line seen channel expected found missing) }
+) -> usize
+    ensures within { result ≤ 192 }
+    ensures line { drop result room.new ≡ gap_line seen channel expected found missing }
 {
-    write!(
-        text,
-        "gap record={seen} channel={channel} expected={expected} found={found} missing={missing}\n"
-    )
+    let at = end_line(room);
+    let at = put_number(room, at, u32::from(missing));
+    let at = put_text(room, at, b" missing=");
+    let at = put_number(room, at, u32::from(found));
+    let at = put_text(room, at, b" found=");
+    let at = put_number(room, at, u32::from(expected));
+    let at = put_text(room, at, b" expected=");
+    let at = put_number(room, at, u32::from(channel));
+    let at = put_text(room, at, b" channel=");
+    let at = put_number(room, at, seen);
+    put_text(room, at, b"gap record=")
 }
 
 /// The line of a gap in the counts of the master channel, over the good frames of all channels.
-#[tactic(auto, unfolding(crate::specs::Lines::master_gap_line))]
-pub fn push_master_gap(
-    text: &mut String,
+pub fn put_master_gap(
+    room: &mut [u8; ROOM],
     seen: u32,
     expected: u8,
     found: u8,
     missing: u8,
-) -> Result<(), AllocError>
-    ensures { OnOk result (string_bytes text.new ≡ string_bytes text.old ++ master_gap_line seen expected found missing) }
+) -> usize
+    ensures within { result ≤ 192 }
+    ensures line { drop result room.new ≡ master_gap_line seen expected found missing }
 {
-    write!(
-        text,
-        "mastergap record={seen} expected={expected} found={found} missing={missing}\n"
-    )
+    let at = end_line(room);
+    let at = put_number(room, at, u32::from(missing));
+    let at = put_text(room, at, b" missing=");
+    let at = put_number(room, at, u32::from(found));
+    let at = put_text(room, at, b" found=");
+    let at = put_number(room, at, u32::from(expected));
+    let at = put_text(room, at, b" expected=");
+    let at = put_number(room, at, seen);
+    put_text(room, at, b"mastergap record=")
 }
 
 /// The line of a VCA frame.
-#[tactic(auto, unfolding(crate::specs::Lines::vca_line))]
-pub fn push_vca(text: &mut String, seen: u32, channel: u8) -> Result<(), AllocError>
-    ensures { OnOk result (string_bytes text.new ≡ string_bytes text.old ++ vca_line seen channel) }
+pub fn put_vca(room: &mut [u8; ROOM], seen: u32, channel: u8) -> usize
+    ensures within { result ≤ 192 }
+    ensures line { drop result room.new ≡ vca_line seen channel }
 {
-    write!(text, "vca record={seen} channel={channel}\n")
+    let at = end_line(room);
+    let at = put_number(room, at, u32::from(channel));
+    let at = put_text(room, at, b" channel=");
+    let at = put_number(room, at, seen);
+    put_text(room, at, b"vca record=")
 }
 
 /// The line of a dropped part of so many octets.
-#[tactic(auto, unfolding(crate::specs::Lines::drop_line))]
-pub fn push_drop(
-    text: &mut String,
+#[tactic(auto, using(crate::proofs::RoomLemmas::short_reason_word))]
+pub fn put_drop(
+    room: &mut [u8; ROOM],
     seen: u32,
     channel: u8,
     first: u32,
     place: u16,
     octets: u32,
     reason: Reason,
-) -> Result<(), AllocError>
-    ensures { OnOk result (string_bytes text.new ≡ string_bytes text.old ++ drop_line seen channel first place octets reason) }
+) -> usize
+    ensures within { result ≤ 192 }
+    ensures line { drop result room.new ≡ drop_line seen channel first place octets reason }
 {
-    let word = reason.word();
-    write!(
-        text,
-        "drop record={seen} channel={channel} from={first} at={place} octets={octets} reason={word}\n"
-    )
+    let at = end_line(room);
+    let at = put_word(room, at, reason.word());
+    let at = put_text(room, at, b" reason=");
+    let at = put_number(room, at, octets);
+    let at = put_text(room, at, b" octets=");
+    let at = put_number(room, at, u32::from(place));
+    let at = put_text(room, at, b" at=");
+    let at = put_number(room, at, first);
+    let at = put_text(room, at, b" from=");
+    let at = put_number(room, at, u32::from(channel));
+    let at = put_text(room, at, b" channel=");
+    let at = put_number(room, at, seen);
+    put_text(room, at, b"drop record=")
 }
 
 /// The line of a packet of too few bits for its fields.
@@ -247,6 +282,17 @@ pub fn push_short_packet(
         text,
         "shortpacket record={seen} channel={channel} from={first} at={place} needed={needed} found={found}\n"
     )
+}
+
+fn flags_word(flags: Flags) -> &'static str
+    ensures { result.now ≡ flags_word flags }
+{
+    match flags {
+        Flags::Continuation => "continuation",
+        Flags::First => "first",
+        Flags::Last => "last",
+        Flags::Unsegmented => "unsegmented",
+    }
 }
 
 fn why_word(why: Why) -> &'static str

@@ -1,6 +1,6 @@
 //! A line for each frame of a recording.
 
-ghost use Rattle.std.specs.Prelude.{◌≡◌, ◌<◌, ◌++◌, length, IfOk, IfErr, OnOk, string_bytes};
+ghost use Rattle.std.specs.Prelude.{◌≡◌, ◌<◌, ◌≤◌, drop, length, IfOk, IfErr, OnOk};
 ghost use Rattle.std.specs.List.{concat};
 ghost use Rattle.std.specs.Io.KnownBytes.{Appends, Keeps};
 ghost use Rattle.tm_frame.specs.Layout.{record_length_of};
@@ -8,33 +8,29 @@ ghost use Rattle.tm_output.specs.Faults.{FaultsCounted, WritesCounted};
 ghost use Rattle.tm_output.specs.Listing.{HasListed, IsListed, IsStopped, LineStopped, record_line, rest_lines};
 
 use crate::RunFault;
-use crate::lines::{push_bad, push_frame, push_short};
-use std::alloc::{AllocError, Global};
+use crate::lines::{put_bad, put_frame, put_short};
+use crate::room::{ROOM, line_in};
+use std::alloc::Global;
 use tm_devices::{Drain, Source, fill, put_all};
 use tm_frame::{Layout, read};
 use tm_settings::Settings;
 
-// Makes the line of a record.
+// Makes the line of a record at the end of the room, and answers where it begins.
 #[tactic(auto, unfolding(crate::specs::Listing::record_line))]
-fn push_record(
-    line: &mut String,
-    layout: &Layout,
-    seen: u32,
-    octets: &[u8],
-) -> Result<(), AllocError>
+fn make_record_line(room: &mut [u8; ROOM], layout: &Layout, seen: u32, octets: &[u8]) -> usize
     requires { length octets.now ≡ record_length_of layout.now }
-    ensures { OnOk result (string_bytes line.new ≡ string_bytes line.old ++ record_line layout.now seen octets.now) }
+    ensures within { result ≤ 192 }
+    ensures line { drop result room.new ≡ record_line layout.now seen octets.now }
 {
     match read(layout, octets) {
-        Ok(frame) => push_frame(line, seen, &frame),
-        Err(fault) => push_bad(line, seen, fault),
+        Ok(frame) => put_frame(room, seen, &frame),
+        Err(fault) => put_bad(room, seen, fault),
     }
 }
 
 // Writes the line of a record.
-#[tactic(auto, using(crate::proofs::ListingLemmas::some_record_line))]
 fn put_record<W: Drain>(
-    line: &mut String,
+    room: &mut [u8; ROOM],
     layout: &Layout,
     seen: u32,
     octets: &[u8],
@@ -45,15 +41,13 @@ fn put_record<W: Drain>(
     ensures stopped { IfErr result (LineStopped (W.written out.old) (W.written out.new) (record_line layout.now seen octets.now)) }
     ensures counts { WritesCounted (W.failures out.old) (W.failures out.new) result }
 {
-    line.clear();
-    push_record(line, layout, seen, octets)?;
-    put_all(out, line.as_bytes()).map_err(|_| RunFault::Write)
+    let begin = make_record_line(room, layout, seen, octets);
+    put_all(out, line_in(room, begin)).map_err(|_| RunFault::Write)
 }
 
 // Writes the line of a rest, if there is one, and flushes.
-#[tactic(auto, using(crate::proofs::ListingLemmas::some_rest_line))]
 fn put_end<W: Drain>(
-    line: &mut String,
+    room: &mut [u8; ROOM],
     seen: u32,
     octets: usize,
     out: &mut W,
@@ -64,16 +58,14 @@ fn put_end<W: Drain>(
     ensures counts { WritesCounted (W.failures out.old) (W.failures out.new) result }
 {
     if octets > 0 {
-        line.clear();
-        push_short(line, seen, octets)?;
-        put_all(out, line.as_bytes()).map_err(|_| RunFault::Write)?;
+        let begin = put_short(room, seen, octets);
+        put_all(out, line_in(room, begin)).map_err(|_| RunFault::Write)?;
     }
     out.flush().map_err(|_| RunFault::Write)
 }
 
 // Lists records that are read one at a time into this buffer.
 fn list_records<R: Source, W: Drain>(
-    alloc: Global,
     layout: &Layout,
     buffer: &mut [u8],
     recording: &mut R,
@@ -86,20 +78,20 @@ fn list_records<R: Source, W: Drain>(
     ensures stopped { IfErr result (IsStopped layout.now (R.left recording.old) (R.left recording.new) (W.written out.old) (W.written out.new)) }
     ensures counts { FaultsCounted (R.failures recording.old) (R.failures recording.new) (W.failures out.old) (W.failures out.new) result }
 {
-    let mut line = String::new(alloc);
+    let mut room = [0; ROOM];
     let mut seen = 0u32;
     loop {
         let Ok(octets) = fill(recording, buffer) else {
             return Err(RunFault::Read);
         };
         if octets < buffer.len() {
-            put_end(&mut line, seen, octets, out)?;
+            put_end(&mut room, seen, octets, out)?;
             return Ok(seen);
         }
         if seen == u32::MAX {
             return Err(RunFault::TooMany);
         }
-        put_record(&mut line, layout, seen, buffer, out)?;
+        put_record(&mut room, layout, seen, buffer, out)?;
         seen += 1;
     }
 }
@@ -124,5 +116,5 @@ pub fn list_frames<R: Source, W: Drain>(
 {
     let layout = settings.layout();
     let mut record = vec![in alloc; 0u8; layout.record_length()]?;
-    list_records(alloc, &layout, record.as_mut_slice(), recording, out)
+    list_records(&layout, record.as_mut_slice(), recording, out)
 }

@@ -12,7 +12,8 @@ ghost use Rattle.tm_output.specs.Pieces.{HasLine, Texts, text_of};
 ghost use Rattle.tm_output.specs.code.ShelfLaws.{no_shelf, shelves_nil, shelves_trans};
 ghost use Rattle.tm_output.specs.Shelves.{Shelved, Shelves, shelf_text, shelf_way};
 
-use crate::lines::{push_packet, push_short_packet};
+use crate::lines::{push_short_packet, put_packet};
+use crate::room::{ROOM, line_in};
 use crate::{Packet, RunFault};
 use std::alloc::{AllocError, Global};
 use tm_devices::{DeviceFailed, Drain, Shelf, put_all};
@@ -176,20 +177,9 @@ impl<W: Drain> Outlet for PacketLines<'_, W> {
 
     #[tactic(auto, unfolding(crate::specs::Pieces::listed))]
     fn put(&mut self, packet: &Packet<'_>) -> Result<(), RunFault> {
-        self.line.clear();
-        let Packet {
-            seen,
-            channel,
-            first,
-            place,
-            header,
-            octets,
-        } = packet;
-        let length = octets.len();
-        if let Err(_) = push_packet(self.line, *seen, *channel, *first, *place, header, length) {
-            return Err(RunFault::NoMemory);
-        }
-        match put_all(self.out, self.line.as_bytes()) {
+        let mut room = [0; ROOM];
+        let begin = put_packet(&mut room, packet);
+        match put_all(self.out, line_in(&room, begin)) {
             Ok(()) => Ok(()),
             Err(_) => Err(RunFault::Write),
         }

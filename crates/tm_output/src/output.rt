@@ -1,6 +1,6 @@
 //! Where the texts of items go.
 
-ghost use Rattle.std.specs.Prelude.{◌≡◌, ◌≢◌, ◌<◌, ◌++◌, ◌∷◌, [], OnOk, OnErr, string_bytes};
+ghost use Rattle.std.specs.Prelude.{◌≡◌, ◌≢◌, ◌<◌, ◌≤◌, ◌++◌, ◌∷◌, [], drop, OnOk, OnErr, string_bytes};
 ghost use Rattle.std.specs.Io.KnownBytes.{Keeps};
 ghost use Rattle.tm_packet.specs.Merge as sequence;
 ghost use Rattle.tm_items.specs.Item as value;
@@ -13,10 +13,9 @@ ghost use Rattle.tm_output.specs.Pieces.{HasLine, item_line, noted, notes_of, pi
 ghost use Rattle.tm_output.specs.code.Sinking.{Refuses, Takes};
 ghost use Rattle.tm_output.specs.Seen.{fixture, output_both};
 
-use crate::lines::{
-    push_bad, push_drop, push_gap, push_master_gap, push_note, push_short, push_vca,
-};
+use crate::lines::{push_note, put_bad, put_drop, put_gap, put_master_gap, put_short, put_vca};
 use crate::outlet::Outlet;
+use crate::room::{ROOM, line_in};
 use crate::{Packet, RunFault};
 use std::alloc::AllocError;
 use tm_devices::{Drain, put_all};
@@ -54,28 +53,28 @@ fn push_notes(
     Ok(())
 }
 
-// Makes the line of an item, none of a packet.
-#[tactic(auto, using(crate::proofs::LineLemmas::some_bad, crate::proofs::LineLemmas::some_master_gap, crate::proofs::LineLemmas::some_gap, crate::proofs::LineLemmas::some_vca, crate::proofs::LineLemmas::some_drop, crate::proofs::LineLemmas::some_short), unfolding(crate::specs::Pieces::item_line))]
-fn push_item(text: &mut String, item: Item<'_>) -> Result<(), AllocError>
-    ensures line { OnOk result (string_bytes text.new ≡ string_bytes text.old ++ item_line (item_of item.entry)) }
-    ensures memory { OnErr result (item_line (item_of item.entry) ≢ []) }
+// Makes the line of an item at the end of the room, none of a packet, and answers where it begins.
+#[tactic(auto, unfolding(crate::specs::Pieces::item_line))]
+fn make_line(room: &mut [u8; ROOM], item: Item<'_>) -> usize
+    ensures within { result ≤ 192 }
+    ensures line { drop result room.new ≡ item_line (item_of item.entry) }
 {
     match item {
-        Item::Bad { seen, fault } => push_bad(text, seen, fault),
+        Item::Bad { seen, fault } => put_bad(room, seen, fault),
         Item::MasterGap {
             seen,
             expected,
             found,
             missing,
-        } => push_master_gap(text, seen, expected, found, missing),
+        } => put_master_gap(room, seen, expected, found, missing),
         Item::Gap {
             seen,
             channel,
             expected,
             found,
             missing,
-        } => push_gap(text, seen, channel, expected, found, missing),
-        Item::Vca { seen, channel } => push_vca(text, seen, channel),
+        } => put_gap(room, seen, channel, expected, found, missing),
+        Item::Vca { seen, channel } => put_vca(room, seen, channel),
         Item::Dropped {
             seen,
             channel,
@@ -83,9 +82,9 @@ fn push_item(text: &mut String, item: Item<'_>) -> Result<(), AllocError>
             place,
             octets,
             reason,
-        } => push_drop(text, seen, channel, first, place, octets, reason),
-        Item::Packet { .. } => Ok(()),
-        Item::Short { seen, octets } => push_short(text, seen, octets as usize),
+        } => put_drop(room, seen, channel, first, place, octets, reason),
+        Item::Packet { .. } => ROOM,
+        Item::Short { seen, octets } => put_short(room, seen, octets as usize),
     }
 }
 
@@ -99,6 +98,26 @@ pub fn header_in(octets: &[u8]) -> Header
         Ok(header) => header,
         Err(_) => unreachable!(),
     }
+}
+
+// Takes note of a packet, and makes the lines of its notes behind others. It stands apart: most packets have no notes.
+#[inline(never)]
+#[tactic(auto, using(crate::proofs::PacketLemmas::notes_one))]
+fn push_packet_notes(
+    tracker: &mut Tracker,
+    lines: &mut String,
+    seen: u32,
+    channel: u8,
+    header: Header,
+) -> Result<(), AllocError>
+    requires { channel < 8 }
+    ensures noted { tracker.new ≡ sequence.entries_after tracker.old (record { channel = channel; header = header } ∷ []) }
+    ensures lines { OnOk result (string_bytes lines.new ≡ string_bytes lines.old
+        ++ note_lines seen channel header.application (notes_of tracker.old (record { channel = channel; header = header }))) }
+    ensures memory { OnErr result (note_lines seen channel header.application (notes_of tracker.old (record { channel = channel; header = header })) ≢ []) }
+{
+    let notes = tracker.take(channel, header);
+    push_notes(lines, seen, channel, header.application(), &notes)
 }
 
 // Takes note of a packet, and makes the lines of its notes.
@@ -117,8 +136,10 @@ fn note_packet(
     ensures memory { OnErr result (note_lines seen channel header.application (notes_of tracker.old (record { channel = channel; header = header })) ≢ []) }
 {
     lines.clear();
-    let notes = tracker.take(channel, header);
-    push_notes(lines, seen, channel, header.application(), &notes)
+    if tracker.take_without_notes(channel, header) {
+        return Ok(());
+    }
+    push_packet_notes(tracker, lines, seen, channel, header)
 }
 
 impl<O: Outlet, V: Drain> Output<'_, O, V> {
@@ -172,11 +193,9 @@ impl<O: Outlet, V: Drain> Output<'_, O, V> {
         ensures written { Written O.grows O.way (output_both O.Outlet V.Drain self.old) (output_both O.Outlet V.Drain self.new)
             (piece_of (O.text (O.fixed self.old.outlet.now)) self.old.tracker.now (item_of item.entry) ∷ []) result }
     {
-        self.notes.clear();
-        if let Err(_) = push_item(self.notes, item) {
-            return Err(RunFault::NoMemory);
-        }
-        if let Err(_) = put_all(self.report, self.notes.as_bytes()) {
+        let mut room = [0; ROOM];
+        let begin = make_line(&mut room, item);
+        if let Err(_) = put_all(self.report, line_in(&room, begin)) {
             return Err(RunFault::Report);
         }
         Ok(())

@@ -40,6 +40,24 @@ fn first_kept(entry: Option<PairEntry>, count: u16) -> Option<u16>
     }
 }
 
+/// One more header has no notes, as most have none.
+pub fn gives_none(entry: Option<PairEntry>, header: &Header) -> bool
+    requires { EntryFits entry }
+    ensures { result ≡ (length (single_notes entry header.now) == 0) }
+{
+    let flags = header.flags();
+    let Some(last) = entry else {
+        return matches!(flags, Flags::First | Flags::Unsegmented);
+    };
+    if header.count() != (last.count + 1) % 16384 {
+        return false;
+    }
+    match last.first {
+        Some(_) => matches!(flags, Flags::Continuation),
+        None => matches!(flags, Flags::First | Flags::Unsegmented),
+    }
+}
+
 /// The notes of one more header.
 pub fn notes_after(entry: Option<PairEntry>, header: &Header) -> Notes
     requires { EntryFits entry }

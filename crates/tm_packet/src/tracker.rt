@@ -1,8 +1,8 @@
 //! The tracker of sequence counts and groups, and its spelling in octets.
 
-ghost use Rattle.std.specs.Prelude.{◌≡◌, ◌+◌, ◌*◌, ◌<◌, ◌≤◌, ◌⊎◌, IfOk, IfErr, IfSome, OnOk, OnErr, IsOk, Ok, Err, Some, None, true, [], ◌∷◌, ◌++◌, length, drop, slice_set, vec_len, vec_capacity};
+ghost use Rattle.std.specs.Prelude.{◌≡◌, ◌+◌, ◌*◌, ◌<◌, ◌≤◌, ◌⊎◌, IfOk, IfErr, IfSome, OnOk, OnErr, IsOk, Ok, Err, Some, None, Decides, true, false, [], ◌∷◌, ◌++◌, length, drop, slice_set, vec_len, vec_capacity};
 
-use crate::step::{kept_after, notes_after};
+use crate::step::{gives_none, kept_after, notes_after};
 use crate::{Header, Note, Notes, Why};
 use std::alloc::{AllocError, Global};
 use std::marker::Model;
@@ -113,6 +113,26 @@ impl Tracker {
         let entry = self.entries[key];
         self.entries[key] = Some(kept_after(entry, &header));
         notes_after(entry, &header)
+    }
+
+    /// Takes the next header of a channel if it has no notes, as most have none, and answers whether it has none. A header that has notes is
+    /// left to `take`.
+    pub fn take_without_notes(&mut self, channel: u8, header: Header) -> bool
+        requires { channel < 8 }
+        ensures none { Decides result (sequence.notes self.old (record { channel = channel; header = header } ∷ []) ≡ [] ∷ []) }
+        ensures taken { result ≡ true → self.new ≡ sequence.entries_after self.old (record { channel = channel; header = header } ∷ []) }
+        ensures left { result ≡ false → self.new ≡ self.old }
+    {
+        if header.is_idle() {
+            return true;
+        }
+        let key = 2048 * usize::from(channel) + usize::from(header.application());
+        let entry = self.entries[key];
+        if !gives_none(entry, &header) {
+            return false;
+        }
+        self.entries[key] = Some(kept_after(entry, &header));
+        true
     }
 
     /// The least key from `at` on whose group is open, with the note that the end breaks it. No memory is taken.

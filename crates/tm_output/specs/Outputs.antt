@@ -57,7 +57,7 @@ pub record Way : Type 0 where
   pub memory : Bool
   pub flush : Bool
 
--- octets go as they are, lines are made first, and both may wait
+-- octets go as they are, and a packet's line is made in a room of its own; rows and other lines are made in memory; all may wait
 abbrev pub octets_way : Way
 octets_way = record { memory = false; flush = true }
 

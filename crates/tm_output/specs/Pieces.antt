@@ -90,7 +90,7 @@ text_of (Fields definition application) = rows_text definition.now application
 -- how it is written
 abbrev pub way_of : Command → Way
 way_of Extract = octets_way
-way_of Packets = lines_way
+way_of Packets = octets_way
 way_of (Fields definition application) = lines_way
 
 -- ---- of items, by what is given of each

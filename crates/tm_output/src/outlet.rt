@@ -138,7 +138,6 @@ impl<W: Drain> Outlet for PacketOctets<'_, W> {
 /// A line for each packet into a drain.
 #[derive(Drop)]
 pub struct PacketLines<'a, W> {
-    pub line: &'a mut String,
     pub out: &'a mut W,
 }
 
@@ -161,7 +160,7 @@ impl<W: Drain> Outlet for PacketLines<'_, W> {
 
     ghost text = { λ _. text_of Packets };
 
-    ghost way = { lines_way };
+    ghost way = { octets_way };
 
     ghost passed = { λ o. Keeps (W.flushed o.out.now) (W.written o.out.now) };
 

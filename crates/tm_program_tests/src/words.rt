@@ -32,8 +32,8 @@ pub(crate) fn is_named(value: &Option<Octets>, text: &str) -> bool {
     }
 }
 
-fn is_frames(plan: &Plan) -> bool {
-    plan.action == Action::Frames
+fn is_listed(plan: &Plan, action: Action) -> bool {
+    plan.action == action
         && is_named(&plan.settings, "s")
         && is_named(&plan.recording, "r")
         && plan.report.is_none()
@@ -63,8 +63,10 @@ fn is_fields(plan: &Plan) -> bool {
 
 #[test]
 fn command_words(rt: HostRuntime) {
-    let frames = planned(rt.alloc(), &["frames", "--settings", "s", "r"]);
-    assert!(rt; frames.is_ok_and(|plan| is_frames(&plan)));
+    for (word, action) in [("frames", Action::Frames), ("summary", Action::Summary)] {
+        let listed = planned(rt.alloc(), &[word, "--settings", "s", "r"]);
+        assert!(rt; listed.is_ok_and(|plan| is_listed(&plan, action)), "{word}");
+    }
     let words = ["extract", "--settings", "s", "--report", "r", "x"];
     let extract = planned(rt.alloc(), &words);
     assert!(rt; extract.is_ok_and(|plan| is_extract(&plan)));
@@ -168,7 +170,7 @@ pub(crate) const USAGE: &str =
     "error: unexpected argument 'b' found\n\nUsage: tmx frames --settings <FILE> [RECORDING]\n\nFor more information, try '--help'.\n";
 
 const HELP: &str =
-    "Reads recordings of TM transfer frames (CCSDS 132.0-B-3)\n\nUsage: tmx <COMMAND>\n\nCommands:\n  frames   Lists the frames: one line for each record of the recording\n  packets  Lists the packets of the chosen channels: one line for each\n  extract  Extracts the packets of the chosen channels: their octets, with nothing between them\n  split    Extracts the packets of the chosen channels to a file for each application\n  fields   Reads the fields of an application's packets: a row of CSV for each packet\n\nOptions:\n  -h, --help     Print help\n  -V, --version  Print version\n\ntmx COMMAND --help says what a command takes, and has an example.\n\nPages, in the folder docs:\n  tmx.1       the manual page: man -l docs/tmx.1\n  FORMATS.md  settings, lines, definitions, faults and statuses\n  FRAMES.md   how frames are read\n  RUNS.md     which packets are whole, and what is lost\n  PACKETS.md  headers of packets, counts and groups\n";
+    "Reads recordings of TM transfer frames (CCSDS 132.0-B-3)\n\nUsage: tmx <COMMAND>\n\nCommands:\n  frames   Lists the frames: one line for each record of the recording\n  packets  Lists the packets of the chosen channels: one line for each\n  extract  Extracts the packets of the chosen channels: their octets, with nothing between them\n  split    Extracts the packets of the chosen channels to a file for each application\n  fields   Reads the fields of an application's packets: a row of CSV for each packet\n  summary  Sums up the recording: what came of each channel and application, and what was lost\n\nOptions:\n  -h, --help     Print help\n  -V, --version  Print version\n\ntmx COMMAND --help says what a command takes, and has an example.\n\nPages, in the folder docs:\n  tmx.1       the manual page: man -l docs/tmx.1\n  FORMATS.md  settings, lines, definitions, faults and statuses\n  FRAMES.md   how frames are read\n  RUNS.md     which packets are whole, and what is lost\n  PACKETS.md  headers of packets, counts and groups\n";
 
 const HELP_OF_FRAMES: &str =
     "Lists the frames: one line for each record of the recording\n\nUsage: tmx frames --settings <FILE> [RECORDING]\n\nArguments:\n  [RECORDING]  The recording; standard input if it is left out\n\nOptions:\n      --settings <FILE>  The settings of the recording: a TOML file\n  -h, --help             Print help\n\nExample:\n  tmx frames --settings s.toml pass.rec\n";
@@ -185,8 +187,11 @@ const HELP_OF_SPLIT: &str =
 const HELP_OF_FIELDS: &str =
     "Reads the fields of an application's packets: a row of CSV for each packet\n\nUsage: tmx fields [OPTIONS] --settings <FILE> --definition <FILE> --apid <N> [RECORDING]\n\nArguments:\n  [RECORDING]  The recording; standard input if it is left out\n\nOptions:\n      --settings <FILE>    The settings of the recording: a TOML file\n      --definition <FILE>  The definition of the fields: a CSV file\n      --apid <N>           The application whose packets are read: a number from 0 to 2047\n      --report <FILE>      The report of what is bad or lost; standard error if it is left out\n      --checkpoint <FILE>  The checkpoint written after the run; if left out the recording is closed\n      --stop-after <N>     Records to stop after, 1 to 4294967295; needs --checkpoint; all if left out\n      --resume <FILE>      The checkpoint to go on from; the recording's beginning if it is left out\n  -h, --help               Print help\n\nExample:\n  tmx fields --settings s.toml --definition fields.csv --apid 101 pass.rec > rows.csv\n";
 
+const HELP_OF_SUMMARY: &str =
+    "Sums up the recording: what came of each channel and application, and what was lost\n\nUsage: tmx summary --settings <FILE> [RECORDING]\n\nArguments:\n  [RECORDING]  The recording; standard input if it is left out\n\nOptions:\n      --settings <FILE>  The settings of the recording: a TOML file\n  -h, --help             Print help\n\nExample:\n  tmx summary --settings s.toml pass.rec\n";
+
 // Words that ask for a text, and the text.
-const HELPS: [(&[&str], &str); 8] = [
+const HELPS: [(&[&str], &str); 9] = [
     (&["--version"], "tmx 0.1.0\n"),
     (&["-V"], "tmx 0.1.0\n"),
     (&["--help"], HELP),
@@ -195,6 +200,7 @@ const HELPS: [(&[&str], &str); 8] = [
     (&["extract", "--help"], HELP_OF_EXTRACT),
     (&["split", "--help"], HELP_OF_SPLIT),
     (&["fields", "--help"], HELP_OF_FIELDS),
+    (&["summary", "--help"], HELP_OF_SUMMARY),
 ];
 
 #[test]

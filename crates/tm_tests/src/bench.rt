@@ -3,7 +3,7 @@
 use crate::runs::{octets_of, settings_of};
 use crate::{MemoryDrain, MemoryShelf, MemorySource};
 use std::alloc::Global;
-use tm_tool::{Command, Done, Ending, Job, RunFault, Settings, list_frames, run, split};
+use tm_tool::{Command, Done, Ending, Job, RunFault, Settings, list_frames, run, split, summarize};
 
 /// A device of a run: what is read, where the packets go, and the report.
 #[derive(Clone, Copy, PartialEq, Eq)]
@@ -96,6 +96,11 @@ impl Bench {
     /// Lists the frames from where the devices are.
     pub(crate) fn list(&mut self, alloc: Global) -> Result<u32, RunFault> {
         list_frames(alloc, &self.settings, &mut self.source, &mut self.out)
+    }
+
+    /// Sums up the recording from where the devices are.
+    pub(crate) fn summarize(&mut self, alloc: Global) -> Result<u32, RunFault> {
+        summarize(alloc, &self.settings, &mut self.source, &mut self.out)
     }
 
     /// Runs a job from where the devices are. Frames are listed without it.

@@ -39,3 +39,5 @@ mod runs;
 mod settings;
 #[cfg(test)]
 mod stops;
+#[cfg(test)]
+mod summaries;

@@ -10,6 +10,7 @@ use crate::runs::{
     BASE, FIELDS, FRAME_GAP, LONG_AT_ONCE, LONG_SPLIT_HEADER, POINTER_DROP_AND_SEQUENCE_GAP, Row,
     TWELVE, TWO_CHANNELS, octets_of, settings_of,
 };
+use crate::summaries::SUMMARY;
 use std::alloc::Global;
 use tm_fields::Definition;
 use tm_memory::{Answer, Held, made};
@@ -141,6 +142,7 @@ impl Shelf for Room {
 #[derive(Clone, Copy, PartialEq, Eq)]
 enum Way {
     Frames,
+    Summary,
     Extract,
     Packets,
     Fields,
@@ -155,6 +157,7 @@ const LINES: &[u8] =
 fn out_of(alloc: Global, row: &Row, way: Way) -> Option<Vec<u8>> {
     match way {
         Way::Frames => LINES.to_vec(alloc).ok(),
+        Way::Summary => SUMMARY.as_bytes().to_vec(alloc).ok(),
         Way::Extract | Way::Split => octets_of(alloc, row.octets),
         Way::Packets => row.lines.as_bytes().to_vec(alloc).ok(),
         Way::Fields => HEAD_AND_ROW.as_bytes().to_vec(alloc).ok(),
@@ -202,7 +205,7 @@ impl Devices {
         }
     }
 
-    // Runs a job once.
+    // Runs a job once. Frames are listed, and recordings summed up, without it.
     fn run(&mut self, alloc: Global, job: Job, way: Way) -> Result<u32, RunFault> {
         let Devices {
             definition,
@@ -212,7 +215,7 @@ impl Devices {
         } = self;
         let ending = Ending::Close;
         records_of(match way {
-            Way::Frames => bench.run(alloc, job, By::Frames, ending),
+            Way::Frames | Way::Summary => bench.run(alloc, job, By::Frames, ending),
             Way::Extract => bench.run(alloc, job, By::Run(Command::Extract), ending),
             Way::Packets => bench.run(alloc, job, By::Run(Command::Packets), ending),
             Way::Fields => {
@@ -226,14 +229,17 @@ impl Devices {
         })
     }
 
-    // Runs a job once, or lists frames without one. None where no job could be made.
+    // Runs a job once, or does without one what needs none. None where no job could be made.
     fn answer(&mut self, alloc: Global, way: Way) -> Option<Result<u32, RunFault>> {
         self.rewind();
-        if way == Way::Frames {
-            return Some(self.bench.list(alloc));
+        match way {
+            Way::Frames => Some(self.bench.list(alloc)),
+            Way::Summary => Some(self.bench.summarize(alloc)),
+            Way::Extract | Way::Packets | Way::Fields | Way::Split => {
+                let job = self.next_job(alloc)?;
+                Some(self.run(alloc, job, way))
+            }
         }
-        let job = self.next_job(alloc)?;
-        Some(self.run(alloc, job, way))
     }
 }
 
@@ -258,7 +264,10 @@ impl Running {
             records: row.records,
             out,
             lines: row.lines,
-            report: if way == Way::Frames { "" } else { row.report },
+            report: match way {
+                Way::Frames | Way::Summary => "",
+                Way::Extract | Way::Packets | Way::Fields | Way::Split => row.report,
+            },
         })
     }
 
@@ -314,6 +323,11 @@ fn listed_frames(rt: HostRuntime) {
     assert!(rt; passes_row(&rt, &POINTER_DROP_AND_SEQUENCE_GAP, Way::Frames));
 }
 
+#[test]
+fn summed_recording(rt: HostRuntime) {
+    assert!(rt; passes_row(&rt, &POINTER_DROP_AND_SEQUENCE_GAP, Way::Summary));
+}
+
 // Recordings with reports: in two of them packets are too long, and in one a frame is missing.
 fn reported_rows() -> [&'static Row; 4] {
     [
@@ -353,7 +367,8 @@ fn split_recordings(rt: HostRuntime) {
 // Devices for the two channels, whose packets have 72 octets and give no line in the report, with the job for the run.
 fn two_channels(alloc: Global, way: Way) -> Option<Running> {
     let running = Running::new(alloc, &TWO_CHANNELS, way)?;
-    if running.out.len() == 72 && running.devices.job.is_some() {
+    let is_known = way == Way::Packets || running.out.len() == 72;
+    if is_known && running.devices.job.is_some() {
         Some(running)
     } else {
         None
@@ -373,7 +388,7 @@ fn in_held_memory(rt: &HostRuntime, running: &mut Running) -> Answer {
 // A run whose report has no line takes no memory behind its job: with none left it closes the recording and gives all.
 #[test]
 fn closed_without_memory(rt: HostRuntime) {
-    for way in [Way::Extract, Way::Split] {
+    for way in [Way::Extract, Way::Packets, Way::Split] {
         let running = made(|| two_channels(rt.alloc(), way));
         let mut running = running.expect(&rt, "devices");
         let answer = in_held_memory(&rt, &mut running);

@@ -81,11 +81,7 @@ pub fn run_by<R: Source, W: Drain, V: Drain>(
             run_to_end(alloc, work, recording, &mut outlet, report, ending)
         }
         Command::Packets => {
-            let mut line = String::new(alloc);
-            let mut outlet = PacketLines {
-                line: &mut line,
-                out,
-            };
+            let mut outlet = PacketLines { out };
             run_to_end(alloc, work, recording, &mut outlet, report, ending)
         }
         Command::Fields(definition, application) => {

@@ -51,6 +51,7 @@ clashes() {
     report_clashes
     checkpoint_clashes
     stream_clashes
+    errors_clashes
     split_clashes
     no_clashes
 }
@@ -97,9 +98,24 @@ stream_clashes() {
     done
     clash "packets behind the settings" "tmx: write failed" "$used --report own/r own/z.rec >>own/s.hard"
     clash "packets behind the checkpoint to go on from" "tmx: write failed" "$used --report own/r --resume own/k own/z.rec >>own/k"
-    # A line would be written to the recording: there is none.
-    clash "the report on standard error behind the recording" "" "$used own/z.rec 2>>own/z.rec"
-    clash "the report of split on standard error behind the recording" "" "$tmx split --settings own/s.toml --dir own/d own/z.rec 2>>own/z.rec"
+}
+
+# Standard error is a file that is read: a fault's line would be written to it, so there is none.
+errors_clashes() {
+    local command
+    for command in "$used" "$used --report own/r" "$tmx frames --settings own/s.toml" "$tmx summary --settings own/s.toml" \
+        "$tmx split --settings own/s.toml --dir own/d"; do
+        set -- $command
+        clash "$2 ${*:5} with standard error behind the recording" "" "$command own/z.rec 2>>own/z.rec"
+        clash "$2 ${*:5} with both streams behind the recording" "" "$command own/z.rec >>own/z.rec 2>&1"
+        clash "$2 ${*:5} with standard error behind the settings" "" "$command own/z.rec 2>>own/s.hard"
+    done
+    clash "fields with standard error behind the definition" "" "$rows --report own/r own/z.rec 2>>own/f.link"
+    clash "a checkpoint over the recording, and standard error behind it" "" "$used --report own/r --checkpoint own/link own/z.rec 2>>own/z.rec"
+    clash "a report over the recording, and standard error behind it" "" "$used --report own/./z.rec own/z.rec 2>>own/hard"
+    clash "settings that are missing, and standard error behind the recording" "" "$tmx packets --settings own/none own/z.rec 2>>own/z.rec"
+    clash "a checkpoint that is missing, and standard error behind the settings" "" "$used --resume own/none own/z.rec 2>>own/s.toml"
+    clash "a checkpoint that is gone on with, and standard error behind it" "" "$used --report own/r --resume own/k own/z.rec 2>>own/k"
 }
 
 split_clashes() {

@@ -6,7 +6,11 @@ use std::alloc::Global;
 use tm_tool::RunFault;
 
 /// The lines of the summary of `POINTER_DROP_AND_SEQUENCE_GAP`.
-pub(crate) const SUMMARY: &str = SUMMARIES[8].1;
+pub(crate) const SUMMARY: &str = "recording records=2 good=2 bad=0 rest=0\n\
+    master gaps=0 missing=0\n\
+    channel channel=0 frames=2 idle=0 vca=0 gaps=0 missing=0 packets=2 octets=20 dropped=2 lost=16\n\
+    loss channel=0 reason=pointer parts=2 octets=16\n\
+    application channel=0 apid=100 packets=2 octets=20 first=0 last=1 gaps=1 missing=1 groups=0 broken=0 strays=0\n";
 
 // Each recording by its name, in their order, and the lines of its summary.
 const SUMMARIES: [(&str, &str); 27] = [
@@ -68,14 +72,7 @@ const SUMMARIES: [(&str, &str); 27] = [
         loss channel=0 reason=no-start parts=1 octets=18\n\
         application channel=0 apid=100 packets=1 octets=18 first=0 last=0 gaps=0 missing=0 groups=0 broken=0 strays=0\n",
     ),
-    (
-        "pointer-drop-and-sequence-gap",
-        "recording records=2 good=2 bad=0 rest=0\n\
-        master gaps=0 missing=0\n\
-        channel channel=0 frames=2 idle=0 vca=0 gaps=0 missing=0 packets=2 octets=20 dropped=2 lost=16\n\
-        loss channel=0 reason=pointer parts=2 octets=16\n\
-        application channel=0 apid=100 packets=2 octets=20 first=0 last=1 gaps=1 missing=1 groups=0 broken=0 strays=0\n",
-    ),
+    ("pointer-drop-and-sequence-gap", SUMMARY),
     (
         "frame-gap",
         "recording records=4 good=4 bad=0 rest=0\n\

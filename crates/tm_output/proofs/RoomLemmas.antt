@@ -1,7 +1,8 @@
--- How many octets numbers and words have, and the end of a room.
-use Rattle.std.proofs.Common.{◌≡◌, ℕ, ◌+◌, ◌<◌, ◌≤◌, ◌^◌, zero, suc, List, [], ◌∷◌, length, drop, set, refl, arith}
+-- How many octets numbers and words have, and what a room holds after it was written.
+use Rattle.std.proofs.Common.{◌≡◌, ℕ, ◌+◌, ◌<◌, ◌≤◌, ◌^◌, zero, suc, List, [], ◌∷◌, ◌++◌, length, take, drop, get_or, set, refl, sym, ap, ◌∙◌, arith, length-drop}
 use Rattle.std.specs.Fmt.{decimal}
 use Rattle.std.proofs.lemmas.Fmt.{length-decimal-le}
+use Rattle.std.proofs.lemmas.List.{drop-drop, drop-set-add}
 use Rattle.tm_frame.specs.declared.fault.FrameFault.{FrameFault}
 use Rattle.tm_frame.specs.declared.fault.FrameFault.TheVariants.{Crc, Version, Spacecraft, SecondaryFlag, OcfFlag, SecondaryVersion, Layout, Pointer}
 use Rattle.tm_frame.specs.FaultWords.{fault_word}
@@ -40,3 +41,23 @@ last_set [] last octet e = absurd (omega arith)
 last_set (x ∷ []) zero octet e = refl
 last_set (x ∷ y ∷ room) zero octet e = absurd (omega arith)
 last_set (x ∷ room) (suc last) octet e = last_set room last octet (omega arith)
+
+-- a further octet of a text in its place, before what was there
+put_step : (text old : List ℕ) (i : ℕ) → i < length text → i < length old
+    → set (take i text ++ drop i old) i (get_or text i 0) ≡ take (suc i) text ++ drop (suc i) old
+put_step [] old i h k = absurd (omega arith)
+put_step (t ∷ text) [] i h k = absurd (omega arith)
+put_step (t ∷ text) (o ∷ old) zero h k = refl
+put_step (t ∷ text) (o ∷ old) (suc i) h k = ap (λ (l : List ℕ). t ∷ l) (put_step text old i (omega arith) (omega arith))
+
+pub put_more : (room old text : List ℕ) (begin i : ℕ) → drop begin room ≡ take i text ++ drop (begin + i) old → i < length text → begin + i < length old
+    → drop begin (set room (begin + i) (get_or text i 0)) ≡ take (i + 1) text ++ drop (begin + (i + 1)) old
+put_more room old text begin i is h k =
+    let octet : ℕ = get_or text i 0 in
+    let long : i < length (drop begin old) = omega (arith, length-drop begin old) in
+    let next : i + 1 ≡ suc i = omega arith in
+    drop-set-add begin room i octet
+    ∙ ap (λ (l : List ℕ). set l i octet) (is ∙ ap (λ (l : List ℕ). take i text ++ l) (sym (drop-drop i begin old)))
+    ∙ put_step text (drop begin old) i h long
+    ∙ ap (λ (l : List ℕ). take (suc i) text ++ l) (drop-drop (suc i) begin old)
+    ∙ ap (λ (n : ℕ). take n text ++ drop (begin + n) old) (sym next)

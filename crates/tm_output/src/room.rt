@@ -18,7 +18,8 @@ pub fn end_line(room: &mut [u8; ROOM]) -> usize
     ROOM - 1
 }
 
-/// Puts a text before what begins at `end`, and answers where it begins.
+/// Puts a text before what begins at `end`, and answers where it begins. It goes octet by octet: of a text that is known the compiler makes a
+/// few stores of words.
 #[inline(always)]
 pub fn put_text<const N: usize>(room: &mut [u8; ROOM], end: usize, text: &[u8; N]) -> usize
     requires enough { N ≤ end }
@@ -27,7 +28,9 @@ pub fn put_text<const N: usize>(room: &mut [u8; ROOM], end: usize, text: &[u8; N
     ensures text { drop result room.new ≡ text.now ++ drop end room.old }
 {
     let begin = end - N;
-    room[begin..end].copy_from_slice(text);
+    for i in 0..N {
+        room[begin + i] = text[i];
+    }
     begin
 }
 

@@ -110,6 +110,7 @@ errors_clashes() {
         clash "$2 ${*:5} with both streams behind the recording" "" "$command own/z.rec >>own/z.rec 2>&1"
         clash "$2 ${*:5} with standard error behind the settings" "" "$command own/z.rec 2>>own/s.hard"
     done
+    clash "frames with standard output closed, and standard error behind the recording" "" "$tmx frames --settings own/s.toml own/z.rec >&- 2>>own/z.rec"
     clash "fields with standard error behind the definition" "" "$rows --report own/r own/z.rec 2>>own/f.link"
     clash "a checkpoint over the recording, and standard error behind it" "" "$used --report own/r --checkpoint own/link own/z.rec 2>>own/z.rec"
     clash "a report over the recording, and standard error behind it" "" "$used --report own/./z.rec own/z.rec 2>>own/hard"

@@ -517,8 +517,8 @@ fn run_plan<R: Files + Input + Print + AllocGlobal, E: Write + Drop>(
     ensures ok { OnOk result (AreClear plan.now) }
     ensures refused { IfErr result (MayCome plan.now) }
 {
-    check_streams(rt, plan, &mut errors)?;
     check_errors(&places_by(rt, plan)?)?;
+    check_streams(rt, plan, &mut errors)?;
     let inputs = inputs_by(rt, plan)?;
     let done = match recording_by(plan) {
         Recording::File(name) => check_and_run(rt, plan, inputs, open(rt, name)?, errors),

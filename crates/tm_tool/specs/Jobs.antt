@@ -39,7 +39,3 @@ abbrev pub head_text : Command → Bool → List ℕ
 head_text Extract fresh = []
 head_text Packets fresh = []
 head_text (Fields definition application) fresh = if fresh then head_of definition.now else []
-
--- all pieces of a recording, down to an ending
-abbrev pub all_pieces : Command → Ending → JobState → List ℕ → List (Piece ℕ)
-all_pieces command ending job recording = head_pieces command job.fresh ++ pieces (text_of command) ending job.work recording

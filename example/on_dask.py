@@ -100,12 +100,12 @@ def run_fed(line, folder, zeros, rest, recording):
     return (folder / "out").read_bytes()
 
 
-def read_next(words, before, recording, last):
+def read_next(words, job, recording, last):
     """The job that a piece of a stream leaves, and its rows.
 
-    A job is a checkpoint and the octets behind its last record.  `before` is what this gave of the piece before.
+    A job is a checkpoint and the octets behind its last record.  `job` is that of the piece before.
     """
-    checkpoint, rest = before[0] if before else (b"", b"")
+    checkpoint, rest = job or (b"", b"")
     done = octets_done(checkpoint) if checkpoint else 0
     with tempfile.TemporaryDirectory() as folder:
         old, new = Path(folder, "old"), Path(folder, "new")
@@ -143,7 +143,7 @@ def results(client, tasks):
         error = future.exception()  # where its worker has died since, this waits until another has done it
         if error is None:
             found[name] = future.result()
-            say(f"done {name}")
+            say(f"done {name} on {' '.join(*client.who_has(future).values())}")
         elif tries[name] < TRIES:
             say(f"failed {name}: {error}; tried again")
             tries[name] += 1
@@ -166,15 +166,14 @@ def summary(client, words, recordings):
 
 
 def stream(client, words, recordings):
-    """One task a recording, which takes what the task before it gave, from worker to worker."""
-    found, before = {}, None
+    """One task a recording, which takes the job that the task before it left, on whatever worker."""
+    found, job = {}, None
     for recording in recordings:
         last = recording == recordings[-1]
-        before = client.submit(read_next, words, before, recording, last, pure=False)
-        here, failed = results(client, {recording: before})
+        here, failed = results(client, {recording: client.submit(read_next, words, job, recording, last, pure=False)})
         if failed:
             return found, failed
-        found[recording] = here[recording][1]
+        job, found[recording] = here[recording]
     return found, []
 
 

@@ -1,10 +1,11 @@
 #!/usr/bin/env python3
 """Cuts outputs back to a checkpoint, when a run that went on from it was ended before it could write its own.
 
-    python3 cut_back.py CHECKPOINT FILE..
+    python3 cut_back.py CHECKPOINT [FILE..]
 
 The files are lists of `tmx packets`, rows of `tmx fields`, and reports.  Lines of records that the checkpoint doesn't
-have are taken off their ends, and so is a last line that isn't whole.  Says how many octets each file loses.
+have are taken off their ends, and so is a last line that isn't whole.  Says how many records the checkpoint has, and how
+many octets each file loses.
 """
 
 import os
@@ -19,7 +20,7 @@ def records_done(name):
     """How many records the checkpoint has.  The settings before this number are shorter in version 1."""
     with open(name, "rb") as file:
         octets = file.read(24)
-    if octets[:4] != b"TMXC":
+    if octets[:4] != b"TMXC" or len(octets) < 24:
         sys.exit(f"cut_back.py: {name}: no checkpoint")
     place = 17 if octets[4] == 1 else 20
     return int.from_bytes(octets[place : place + 4], "big")
@@ -40,7 +41,7 @@ def length_of(name, done):
 
 
 def main():
-    if len(sys.argv) < 3:
+    if len(sys.argv) < 2:
         sys.exit(__doc__)
     checkpoint, *names = sys.argv[1:]
     done = records_done(checkpoint)

@@ -22,14 +22,15 @@ stands at the first good frame behind the gap.  All else stands at the record th
 A long recording has several records in a column.  A band's column then shows the worst of them: missing frames, else a
 bad one, else a VCA frame, else a good one, else an idle one.  A browser shows the figures on hover.
 
-Lines that are not of `tmx`, and a report of another recording, are refused with a line that names file and line.  The
-status is 1 then, and nothing is written to standard output.
+Lines that are not of `tmx`, and a report that isn't the whole one of this recording, are refused with a line that names
+file and line.  The status is 1 then, and nothing is written to standard output.
 """
 
 import argparse
 import re
 import sys
 from collections import Counter, defaultdict
+from functools import partial
 from html import escape
 
 # What the lines say.
@@ -66,6 +67,7 @@ REPORT_LINES = {
     "stray": "record channel apid count flag",
     "shortpacket": "record channel from at needed found",
 }
+LONGEST_LINE = 400  # more than any line has
 NUMBER = "0|[1-9][0-9]{0,9}"
 COUNT = "[1-9]?[0-9]|1[0-9][0-9]|2[0-4][0-9]|25[0-5]"
 VALUES = {
@@ -87,12 +89,12 @@ def patterns(lines):
     found = {}
     for word, keys in lines.items():
         values = ((key, VALUES.get(f"{word} {key}") or VALUES.get(key, NUMBER)) for key in keys.split())
-        found[word] = re.compile(" ".join(f"{key}=(?P<{key}>{value})" for key, value in values) + "\n?")
+        found[word] = re.compile(" ".join(f"{key}=(?P<{key}>{value})" for key, value in values) + "\n")
     return found
 
 
 class Refused(Exception):
-    """Input that can't be drawn.  The text is the line that says so."""
+    """What can't be read, drawn or written.  The text is the line that says so."""
 
 
 class Source:
@@ -109,14 +111,21 @@ class Source:
     def read(self, lines, what):
         """Each line as its first word and its values."""
         known = patterns(lines)
+        for line in self.lines():
+            self.number += 1
+            word, _, rest = line.partition(" ")
+            said = known[word].fullmatch(rest) if word in known else None
+            if said is None:
+                self.refuse(f"no line of {what}")
+            yield word, said
+
+    def lines(self):
+        """The lines with their ends.  Of one that is too long only its beginning, so that it finds room."""
         with self.file:
-            for line in self.file:
-                self.number += 1
-                word, _, rest = line.partition(" ")
-                said = known[word].fullmatch(rest) if word in known else None
-                if said is None:
-                    self.refuse(f"no line of {what}")
-                yield word, said
+            try:
+                yield from iter(partial(self.file.readline, LONGEST_LINE), "")
+            except OSError as error:
+                raise Refused(f"{self.name}: {error.strerror}") from None
 
     def refuse(self, why):
         raise Refused(f"{self.name}, line {self.number}: {why}")
@@ -129,6 +138,7 @@ STATE_OF_KIND = {"packets": GOOD, "nostart": GOOD, "idle": IDLE, "vca": VCA}
 WORST_FIRST = (MISSING, BAD, VCA, GOOD, IDLE)
 NO_CHANNEL = 8  # of a bad frame
 MASTER = "master"
+TWICE = "twice"  # a gap of 255 frames, which may be one frame that was recorded twice
 
 
 class Recording:
@@ -219,7 +229,9 @@ def tally_frames(recording, columns):
             tallies[channel, column][words[kind]] += number
     for record, missing in enumerate(recording.missing):
         if missing:
-            tallies[recording.channels[record], columns.of(record)][MISSING] += missing
+            tally = tallies[recording.channels[record], columns.of(record)]
+            tally[MISSING] += missing
+            tally[TWICE] += missing == 255
     for channel, records in recording.suspects.items():
         for record in records:
             tallies[channel, columns.of(record)][BAD] += 1
@@ -258,10 +270,44 @@ def check_line(source, word, said, recording):
         source.refuse(f"the frames say otherwise of record {record}")
 
 
+class Order:
+    """The order of a report's lines."""
+
+    ONCE = ("bad", "mastergap", "gap", "vca", "short")  # of these a record has one at most
+
+    def __init__(self):
+        self.last = 0  # the record of the line before
+        self.last_of = {}  # the same by word, for those above
+        self.lines = Counter()
+
+    def take(self, source, word, record):
+        """Refuses a line of a record that is done, and a second one of a word that comes once."""
+        if record < self.last:
+            source.refuse(f"record {record} stands behind record {self.last}")
+        if self.last_of.get(word) == record:
+            source.refuse(f"a second `{word}` of record {record}")
+        if word in self.ONCE:
+            self.last_of[word] = record
+        self.last = record
+        self.lines[word] += 1
+
+    def end(self, source, recording):
+        """Refuses a report that lacks lines of the frames.
+
+        Behind a checkpoint of an older version one gap of the master channel isn't known.
+        """
+        source.number += 1
+        gaps = sum(map(bool, recording.master_missing))
+        for word, there, least in (("bad", len(recording.bad), len(recording.bad)), ("mastergap", gaps, gaps - 1)):
+            if self.lines[word] < least:
+                source.refuse(f"the report ends with {self.lines[word]} of {there} `{word}` lines")
+
+
 def read_report(source, recording, columns):
-    report = Report()
+    report, order = Report(), Order()
     for word, said in source.read(REPORT_LINES, "a report"):
         check_line(source, word, said, recording)
+        order.take(source, word, int(said["record"]))
         column = columns.of(int(said["record"]))
         if word == "drop":
             place = int(said["channel"]), column
@@ -269,6 +315,7 @@ def read_report(source, recording, columns):
             report.parts[place] += 1
         elif word == "mastergap":
             report.master_gaps[column].append(int(said["missing"]))
+    order.end(source, recording)
     return report
 
 
@@ -292,7 +339,7 @@ def where(columns, column, last=None):
 def frames_text(tally):
     words = {GOOD: "good", IDLE: "idle", VCA: "with a VCA_SDU", BAD: "bad, of no known channel", MISSING: "missing"}
     said = [f"{figure(tally[state])} {words[state]}" for state in STATES if tally[state]]
-    note = " (255 missing may be a frame that was recorded twice)" if tally[MISSING] == 255 else ""
+    note = f" ({counted(tally[TWICE], 'gap')} of 255: perhaps a frame recorded twice)" if tally[TWICE] else ""
     return ", ".join(said) + note
 
 
@@ -303,10 +350,10 @@ def dropped_text(parts, octets):
 
 # Drawing.
 
-LEFT, PLOT, RIGHT = 176, 800, 38
+LEFT, PLOT, RIGHT = 204, 800, 38
 BAR, BAND, BETWEEN = 26, 18, 20  # heights
-LEAST_BAR = 3
-STATE_COLOURS = {GOOD: "#8fbbdb", IDLE: "#a9aeb3", VCA: "#f0e442", BAD: "#000000", MISSING: "#d55e00"}
+LEAST_BAR, LEAST_PART = 3, 1.5
+STATE_COLOURS = {GOOD: "#8fbbdb", IDLE: "#8a8e92", VCA: "#f0e442", BAD: "#000000", MISSING: "#d55e00"}
 STATE_WORDS = {
     GOOD: "good",
     IDLE: "idle",
@@ -324,14 +371,17 @@ text { font: 12px "DejaVu Sans", Verdana, Arial, sans-serif; fill: #222 }
 .line { stroke: #999; stroke-width: 1 }
 .grid { stroke: #e8e8e8; stroke-width: 1 }
 .frame { fill: #fff; stroke: #bbb; stroke-width: 1 }
-.master { fill: #5b3a8e }
-.faults { fill: #000 }
 g:hover > rect, rect.hover:hover { stroke: #222; stroke-width: 1 }
 """
 
 
+def spelled(words):
+    """Words as XML has them.  Letters that it doesn't know become question marks."""
+    return escape(re.sub("[^\t\n\r -\ud7ff\ue000-\ufffd\U00010000-\U0010ffff]", "?", words))
+
+
 def text(x, y, words, kind=""):
-    return f'<text class="{kind}" x="{x:.6g}" y="{y:.6g}">{escape(words)}</text>'
+    return f'<text class="{kind}" x="{x:.6g}" y="{y:.6g}">{spelled(words)}</text>'
 
 
 def line(kind, x1, y1, x2, y2):
@@ -340,7 +390,7 @@ def line(kind, x1, y1, x2, y2):
 
 def rectangle(kind, x, y, width, height, title=""):
     box = f'<rect class="{kind}" x="{x:.6g}" y="{y:.6g}" width="{width:.6g}" height="{height:.6g}"'
-    return f"{box}><title>{escape(title)}</title></rect>" if title else f"{box}/>"
+    return f"{box}><title>{spelled(title)}</title></rect>" if title else f"{box}/>"
 
 
 class Picture:
@@ -350,7 +400,7 @@ class Picture:
         self.recording, self.columns, self.report = recording, columns, report
         self.tallies = tally_frames(recording, columns)
         self.channels = sorted({channel for channel, _ in self.tallies if channel != NO_CHANNEL})
-        self.greatest_drop = max((tally.total() for tally in report.dropped.values()), default=0)
+        self.greatest = {"dropped": max((tally.total() for tally in report.dropped.values()), default=0)}
         self.marks = []
         self.y = 0
 
@@ -379,8 +429,8 @@ def total(tallies):
 
 
 def draw_head(picture, title):
-    picture.add(text(16, 28, title, "head"), text(16, 48, head_text(picture)))
-    picture.y = 74
+    picture.add(text(16, 28, title, "head"), text(16, 48, records_text(picture)), text(16, 66, losses_text(picture)))
+    picture.y = 92
     dropped = total(picture.report.dropped.values())
     with_vca = any(tally[VCA] for tally in picture.tallies.values())
     states = [(f"s-{state}", STATE_WORDS[state]) for state in STATES if state != VCA or with_vca]
@@ -390,15 +440,17 @@ def draw_head(picture, title):
     picture.y += 6
 
 
-def head_text(picture):
-    recording, missing = picture.recording, sum(picture.recording.missing)
-    octets = total(picture.report.dropped.values()).total()
+def records_text(picture):
+    recording = picture.recording
     said = f"{counted(len(recording), 'record')}: {figure(len(recording) - len(recording.bad))} good,"
-    said += f" {figure(len(recording.bad))} bad. {counted(missing, 'frame')} missing by the channels' counts."
-    said += f" {counted(picture.report.parts.total(), 'part')} of {counted(octets, 'octet')} dropped."
-    if recording.rest:
-        said += f" {counted(recording.rest, 'octet')} left over at the end."
-    return said
+    said += f" {figure(len(recording.bad))} bad."
+    return said + (f" {counted(recording.rest, 'octet')} left over at the end." if recording.rest else "")
+
+
+def losses_text(picture):
+    octets = total(picture.report.dropped.values()).total()
+    said = f"{counted(sum(picture.recording.missing), 'frame')} missing by the channels' counts."
+    return said + f" {counted(picture.report.parts.total(), 'part')} of {counted(octets, 'octet')} dropped."
 
 
 def draw_legend(picture, name, entries):
@@ -443,12 +495,13 @@ def height(number, greatest):
 def draw_dropped(picture, channel, column, tally):
     """A bar for the octets that a column drops, in parts by their reasons."""
     x, width = picture.span(column)
-    high, base = height(tally.total(), picture.greatest_drop), picture.y + BAR
+    least = LEAST_PART * len(tally)  # each reason is seen
+    high, base = max(least, height(tally.total(), picture.greatest["dropped"])), picture.y + BAR
     words = dropped_text(picture.report.parts[channel, column], tally)
-    picture.add(f"<g><title>{escape(f'Channel {channel}, {where(picture.columns, column)}: {words}')}</title>")
+    picture.add(f"<g><title>{spelled(f'Channel {channel}, {where(picture.columns, column)}: {words}')}</title>")
     for reason in REASONS:
         if tally[reason]:
-            part = high * tally[reason] / tally.total()
+            part = LEAST_PART + (high - least) * tally[reason] / tally.total()
             base -= part
             picture.add(rectangle(f"r-{reason}", x, base, width, part))
     picture.add("</g>")
@@ -484,7 +537,8 @@ def draw_bars(picture, kind, name, said, bars):
     """A row of bars of so many frames: their heights by column, and what is said of each on hover."""
     picture.y += BETWEEN
     draw_name(picture, name, said)
-    greatest = max((number for number, _ in bars.values()), default=1)
+    greatest = max((number for number, _ in bars.values()), default=0)
+    picture.greatest[kind] = greatest
     for column, (number, words) in bars.items():
         x, width = picture.span(column)
         high = height(number, greatest)
@@ -501,8 +555,10 @@ def draw_bad(picture):
         faults = ", ".join(f"{figure(number)} by {fault}" for fault, number in tally.most_common())
         bars[column] = tally.total(), f"{counted(tally.total(), 'bad frame')}: {faults}"
     found = total(picture.of_channel(picture.tallies, NO_CHANNEL).values()).most_common()
-    said = [f"{figure(number)} {fault}" for fault, number in found[:2]] or ["none"]
-    draw_bars(picture, "faults", "Bad frames", said + ["and others"] * (len(found) > 2), bars)
+    if len(found) > 2:
+        found[1:] = [("others", sum(number for _, number in found[1:]))]
+    said = [f"{figure(number)} {fault}" for fault, number in found] or ["none"]
+    draw_bars(picture, "faults", "Bad frames", said, bars)
 
 
 def draw_master(picture):
@@ -512,7 +568,7 @@ def draw_master(picture):
         bars[column] = sum(gaps), words
     missing = sum(number for number, _ in bars.values())
     gaps = sum(len(it) for it in picture.report.master_gaps.values())
-    said = [f"{counted(gaps, 'gap')}, {figure(missing)} missing"] if gaps else ["no gap"]
+    said = [counted(gaps, "gap"), f"{figure(missing)} missing"] if gaps else ["no gap"]
     draw_bars(picture, "master", "Master channel", said, bars)
 
 
@@ -536,14 +592,18 @@ def draw_axis(picture, top):
     picture.y += 40
 
 
+BAR_WORDS = {"dropped": "dropped octet", "faults": "bad frame", "master": "missing frame"}
+
+
 def draw_notes(picture):
     notes = []
     if picture.columns.each > 1:
+        states = ", ".join(STATE_WORDS[state].split()[0].rstrip(",") for state in WORST_FIRST)
         each = figure(picture.columns.each)
-        notes.append(f"A column is {each} records. A band shows the worst: {', '.join(WORST_FIRST)}, in this order.")
-    if picture.report.parts:
-        octets = counted(picture.greatest_drop, "octet")
-        notes.append(f"The highest bar of dropped parts is {octets}. Bars go by the square root.")
+        notes.append(f"A column is {each} records. A band shows the worst: {states}, in this order.")
+    highest = [counted(number, BAR_WORDS[kind]) for kind, number in picture.greatest.items() if number]
+    if highest:
+        notes.append(f"The highest bars: {', '.join(highest)}. Bars go by the square root.")
     for words in notes:
         picture.add(text(LEFT, picture.y, words, "small"))
         picture.y += 16
@@ -570,19 +630,30 @@ def draw(recording, columns, report, title):
 def document(picture, title):
     wide, high = LEFT + PLOT + RIGHT, round(picture.y)
     size = f'width="{wide}" height="{high}"'
-    fills = [f".s-{state} {{ fill: {colour} }}" for state, colour in STATE_COLOURS.items()]
-    fills += [f".r-{reason} {{ fill: {colour} }}" for reason, colour in REASONS.items()]
+    colours = {f"s-{state}": colour for state, colour in STATE_COLOURS.items()}
+    colours |= {f"r-{reason}": colour for reason, colour in REASONS.items()} | {"faults": "#000000", "master": "#5b3a8e"}
+    # A thin stroke of the same colour closes the seams between neighbours.
+    fills = [f".{kind} {{ fill: {it}; stroke: {it}; stroke-width: 0.4 }}" for kind, it in colours.items()]
     fills += [".s-none { fill: #fff }", ".edge { fill: none; stroke: #888 }"]
     return "\n".join(
         [
             f'<svg xmlns="http://www.w3.org/2000/svg" viewBox="0 0 {wide} {high}" {size} role="img">',
-            f"<title>{escape(title)}</title>",
+            f"<title>{spelled(title)}</title>",
             "<style>" + STYLE + "\n".join(fills) + "</style>",
             f'<rect width="{wide}" height="{high}" fill="#fff"/>',
             *picture.marks,
             "</svg>\n",
         ]
     )
+
+
+def put(drawn):
+    """Writes to standard output."""
+    try:
+        with open(1, "wb", closefd=False) as out:
+            out.write(drawn.encode())
+    except OSError as error:
+        raise Refused(f"standard output: {error.strerror}") from None
 
 
 def main():
@@ -597,9 +668,9 @@ def main():
         recording = read_frames(Source(words.frames))
         columns = Columns(len(recording))
         report = read_report(Source(words.report), recording, columns)
+        put(draw(recording, columns, report, words.title))
     except Refused as refused:
         sys.exit(f"loss_map.py: {refused}")
-    sys.stdout.write(draw(recording, columns, report, words.title))
 
 
 if __name__ == "__main__":

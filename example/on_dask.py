@@ -1,17 +1,20 @@
 #!/usr/bin/env python3
-"""Reads many recordings on the workers of a Dask cluster, and gathers the rows of `tmx fields` in one table.
+"""Reads many recordings on the workers of a Dask cluster, and gathers what `tmx` prints of them in one table.
 
     on_dask.py SCHEDULER each SETTINGS DEFINITION APID TABLE RECORDING..
     on_dask.py SCHEDULER stream SETTINGS DEFINITION APID TABLE RECORDING..
+    on_dask.py SCHEDULER summary SETTINGS TABLE RECORDING..
 
-SCHEDULER is its address, as tcp://10.0.0.1:8786.  With `each` every recording stands by itself, and is a task by
-itself.  With `stream` the recordings are pieces of one spacecraft's stream, in the order in which they are named: a
-packet may begin in one and end in the next.  Each is then a task that takes the checkpoint of the one before, and hands
-on its own.
+SCHEDULER is its address, as tcp://10.0.0.1:8786, or the file that it was started with.  With `each` every recording stands by itself, and is a task by
+itself; the table has the rows of `tmx fields`.  With `stream` the recordings are pieces of one spacecraft's stream, in
+the order in which they are named: a packet may begin in one and end in the next.  Each is then a task that takes the
+checkpoint of the one before, and hands on its own.  With `summary` every recording is a task by itself too, and the
+table has the lines of `tmx summary`.
 
 Every worker needs `tmx` (TMX names it, else it is on the PATH), and the files under the same names.  Rows get the name
-of their recording in front.  A line on standard error says what became of each task.  One that failed is named, and is
-tried again, three times in all.  The status is 1 where one failed in the end.
+of their recording in front, and lines get it behind them, as ` recording=NAME`.  A line on standard error says what
+became of each task.  One that failed is named, and is tried again, three times in all.  The status is 1 where one failed
+in the end.
 """
 
 import os
@@ -33,10 +36,22 @@ PAUSE = 1  # seconds before the next try
 # What a worker does.
 
 
+def program():
+    return os.environ.get("TMX", "tmx")
+
+
 def line_of(words, more):
     settings, definition, application = words
-    line = [os.environ.get("TMX", "tmx"), "fields", "--settings", settings, "--definition", definition]
+    line = [program(), "fields", "--settings", settings, "--definition", definition]
     return [*line, "--apid", application, "--report", "/dev/null", *more]
+
+
+def printed(line):
+    """What tmx prints, or why it failed."""
+    ran = subprocess.run(line, capture_output=True, check=False)
+    if ran.returncode:
+        raise RuntimeError(ran.stderr.decode(errors="replace").strip())
+    return ran.stdout
 
 
 def named(recording, text):
@@ -48,10 +63,14 @@ def named(recording, text):
 
 def read_alone(words, recording):
     """The head and the rows of a recording that stands by itself."""
-    ran = subprocess.run(line_of(words, [recording]), capture_output=True, check=False)
-    if ran.returncode:
-        raise RuntimeError(ran.stderr.decode(errors="replace").strip())
-    return named(recording, ran.stdout)
+    return named(recording, printed(line_of(words, [recording])))
+
+
+def read_summary(words, recording):
+    """The lines of a recording's summary, which have no head."""
+    name = b" recording=" + Path(recording).name.encode() + b"\n"
+    lines = printed([program(), "summary", "--settings", *words, recording]).splitlines()
+    return b"", b"".join([line + name for line in lines])
 
 
 def octets_done(checkpoint):
@@ -81,12 +100,12 @@ def run_fed(line, folder, zeros, rest, recording):
     return (folder / "out").read_bytes()
 
 
-def read_next(words, before, recording, last):
+def read_next(words, job, recording, last):
     """The job that a piece of a stream leaves, and its rows.
 
-    A job is a checkpoint and the octets behind its last record.  `before` is what this gave of the piece before.
+    A job is a checkpoint and the octets behind its last record.  `job` is that of the piece before.
     """
-    checkpoint, rest = before[0] if before else (b"", b"")
+    checkpoint, rest = job or (b"", b"")
     done = octets_done(checkpoint) if checkpoint else 0
     with tempfile.TemporaryDirectory() as folder:
         old, new = Path(folder, "old"), Path(folder, "new")
@@ -124,7 +143,7 @@ def results(client, tasks):
         error = future.exception()  # where its worker has died since, this waits until another has done it
         if error is None:
             found[name] = future.result()
-            say(f"done {name}")
+            say(f"done {name} on {' '.join(*client.who_has(future).values())}")
         elif tries[name] < TRIES:
             say(f"failed {name}: {error}; tried again")
             tries[name] += 1
@@ -137,21 +156,24 @@ def results(client, tasks):
     return found, failed
 
 
-def each(client, words, recordings):
+def each(client, words, recordings, read=read_alone):
     """One task a recording."""
-    return results(client, {it: client.submit(read_alone, words, it, pure=False) for it in recordings})
+    return results(client, {it: client.submit(read, words, it, pure=False) for it in recordings})
+
+
+def summary(client, words, recordings):
+    return each(client, words, recordings, read_summary)
 
 
 def stream(client, words, recordings):
-    """One task a recording, which takes what the task before it gave, from worker to worker."""
-    found, before = {}, None
+    """One task a recording, which takes the job that the task before it left, on whatever worker."""
+    found, job = {}, None
     for recording in recordings:
         last = recording == recordings[-1]
-        before = client.submit(read_next, words, before, recording, last, pure=False)
-        here, failed = results(client, {recording: before})
+        here, failed = results(client, {recording: client.submit(read_next, words, job, recording, last, pure=False)})
         if failed:
             return found, failed
-        found[recording] = here[recording][1]
+        job, found[recording] = here[recording]
     return found, []
 
 
@@ -162,13 +184,18 @@ def write_table(name, found):
         table.writelines(rows for _, rows in found)
 
 
+# Each way of reading, and how many words it has before the table.
+WAYS = {"each": (each, 3), "stream": (stream, 3), "summary": (summary, 1)}
+
+
 def main():
-    if len(sys.argv) < 8 or sys.argv[2] not in ("each", "stream"):
+    given = sys.argv[1:]
+    read, number = WAYS.get(given[1] if len(given) > 1 else "", (None, 0))
+    if read is None or len(given) < number + 4:
         sys.exit(__doc__)
-    scheduler, how, *words = sys.argv[1:6]
-    table, recordings = sys.argv[6], sys.argv[7:]
-    with Client(scheduler) as client:
-        found, failed = (each if how == "each" else stream)(client, words, recordings)
+    scheduler, words, table, recordings = given[0], given[2 : number + 2], given[number + 2], given[number + 3 :]
+    with Client(**({"address": scheduler} if "://" in scheduler else {"scheduler_file": scheduler})) as client:
+        found, failed = read(client, words, recordings)
     write_table(table, [found[it] for it in recordings if it in found])
     say(f"{len(found)} recordings read, {len(failed)} failed")
     sys.exit(bool(failed))

@@ -3,9 +3,11 @@
 
     pictures.py RECORDS
 
-Draws the example, recordings of eight channels with damage, empty ones, noise, and one of so many records.  The figures
-that a picture says on hover are counted again from the lines.  Alters lines, and has each such input refused with one line
-that names file and line.  Prints a line `ok ..` or `FAILED: ..` for each.  Works in the current folder.
+Draws the example, recordings of eight channels with damage, empty ones, noise, and three of so many records.  The figures
+that a picture says on hover are counted again from the lines.  Each mark has to stand at the records that it names, and
+each part of a band has to show the worst of them.  Texts must not lie over each other.  The colour-blind have to tell the
+colours apart.  Alters lines, and has each such input refused with one line that names file and line.  Prints a line `ok ..`
+or `FAILED: ..` for each.  Works in the current folder.
 """
 
 import random
@@ -14,14 +16,21 @@ import subprocess
 import sys
 import xml.etree.ElementTree as tree
 from collections import Counter
+from itertools import combinations
 from pathlib import Path
 
+import colours
 import reference
 
 HERE = Path(__file__).resolve().parent
 LOSS_MAP = HERE.parent / "example" / "loss_map.py"
 SVG = "{http://www.w3.org/2000/svg}"
-MOST_OCTETS = 1000000  # of a picture
+MOST_OCTETS = 3000000  # of a picture
+LEAST_DISTANCE = 0.07  # of two colours
+
+sys.dont_write_bytecode = True
+sys.path.insert(0, str(LOSS_MAP.parent))
+import loss_map  # noqa: E402
 
 
 def tell(name, wrong):
@@ -62,6 +71,59 @@ def many_records(records, lines):
     kinds = re.findall(r"kind=\S+ place=\S+ .*", lines)
     count = "frame record={} channel=0 master={} count={} {}\n"
     return "".join(count.format(it, it % 256, it % 256, kinds[it % len(kinds)]) for it in range(records))
+
+
+class Damaged:
+    """Lines of frames of eight channels, and of a report, with damage that is more or less likely."""
+
+    def __init__(self, seed, likely):
+        self.chance, self.likely = random.Random(seed), likely
+        self.frames, self.report = [], []
+        self.counts = {}  # the last of each channel
+        self.master = 0  # the next one
+        self.last_master = None
+
+    def strikes(self):
+        return self.chance.random() < self.likely
+
+    def add(self, record):
+        if self.strikes():
+            self.frames.append(f"bad record={record} fault={self.chance.choice(reference.FAULTS)}\n")
+            self.report.append(self.frames[-1])
+            self.master += 1
+        else:
+            name = self.chance.randrange(8)
+            self.add_good(record, name, self.chance.randrange(1, 256) if name in self.counts and self.strikes() else 0)
+
+    def add_good(self, record, name, lost):
+        """A frame of a channel, and so many of its frames lost before it."""
+        self.counts[name] = (self.counts.get(name, -1) + 1 + lost) % 256
+        self.master += lost
+        said = f"record={record} channel={name}"
+        kind = self.chance.choice(("packets", "packets", "nostart", "idle", "vca"))
+        counts = f"master={self.master % 256} count={self.counts[name]}"
+        place = "0" if kind == "packets" else "-"
+        self.frames.append(
+            f"frame {said} {counts} kind={kind} place={place} secondary=0 ocf=no order=0 segment=3 octets=2040\n"
+        )
+        missing = 0 if self.last_master is None else (self.master - self.last_master - 1) % 256
+        if missing:
+            self.report.append(f"mastergap record={record} expected=0 found=0 missing={missing}\n")
+        if lost:
+            self.report.append(f"gap {said} expected=0 found=0 missing={lost}\n")
+            self.report += [f"drop {said} from=0 at=0 {it}\n" for it in self.lost_parts()]
+        self.last_master, self.master = self.master, self.master + 1
+
+    def lost_parts(self):
+        for reason in self.chance.sample(("pointer", "gap", "vca", "no-start", "version", "length"), 3):
+            yield f"octets={self.chance.randrange(1, 65542)} reason={reason}"
+
+
+def damaged_records(records, likely):
+    made = Damaged(records, likely)
+    for record in range(records):
+        made.add(record)
+    return "".join(made.frames), "".join(made.report)
 
 
 # Figures.
@@ -106,19 +168,80 @@ def found_figures(picture):
     return +found
 
 
+# Where marks and texts stand.
+
+WORST_FIRST = ("missing", "bad", "VCA", "good", "idle")
+
+
+def marks(picture):
+    """Each mark that says something on hover: its classes, its left border, its width, and what it says."""
+    for mark in (it for it in picture.iter() if it.find(f"{SVG}title") is not None and it is not picture):
+        box = mark if mark.tag == f"{SVG}rect" else mark.find(f"{SVG}rect")
+        yield box.get("class"), float(box.get("x")), float(box.get("width")), mark.find(f"{SVG}title").text
+
+
+def misplaced(picture, records):
+    """The first mark that doesn't stand at the records that it names, or doesn't show the worst of them."""
+    for kind, x, width, words in marks(picture):
+        place, said = words.replace(",", "").split(": ", 1)
+        ends = [int(it) for it in re.search(r"[Rr]ecords? (\d+)(?: to (\d+))?", place).groups() if it]
+        left = loss_map.LEFT + loss_map.PLOT * ends[0] / records
+        right = loss_map.LEFT + loss_map.PLOT * (ends[-1] + 1) / records
+        if abs(x - left) > 0.01 or abs(x + width - right) > 0.02:
+            return f"{words} stands from {x} to {x + width}; "
+        if kind.startswith("hover s-"):
+            found = re.findall(r"\d+ (?:with a )?(missing|bad|VCA|good|idle)", said)
+            if kind != f"hover s-{min(found, key=WORST_FIRST.index).lower()}":
+                return f"{words} is shown as {kind}; "
+    return ""
+
+
+def text_box(text):
+    """The borders of a text: left, right, above and below.  Letters are 0.6 of their height wide, which is ample."""
+    kind = text.get("class").split()
+    size = 16 if "head" in kind else 11 if "small" in kind else 12
+    x, y, width = float(text.get("x")), float(text.get("y")), 0.6 * size * len(text.text)
+    left = x - width if "end" in kind else x - width / 2 if "middle" in kind else x
+    return left, left + width, y - 0.75 * size, y + 0.2 * size
+
+
+def unreadable(picture):
+    """Texts that lie over each other, or not all in the picture."""
+    texts = [(it.text, text_box(it)) for it in picture.iter(f"{SVG}text")]
+    wide, high = float(picture.get("width")), float(picture.get("height"))
+    for words, (left, right, above, below) in texts:
+        if left < 0 or right > wide or above < 0 or below > high:
+            return f"{words} is cut off; "
+    for (one, here), (other, there) in combinations(texts, 2):
+        if here[0] < there[1] and there[0] < here[1] and here[2] < there[3] and there[2] < here[3]:
+            return f"{one} lies over {other}; "
+    return ""
+
+
+def too_like(kinds):
+    """Two of the colours, or one and the white behind them, that some can hardly tell apart."""
+    for (one, colour), (other, another) in combinations([*kinds.items(), ("white", "#ffffff")], 2):
+        for seen in colours.SEEN:
+            found = colours.distance(colour, another, seen)
+            if found < LEAST_DISTANCE:
+                return f"{one} and {other} are {found:.3f} apart with {seen}"
+    return ""
+
+
 def judge(frames, report, texts=()):
     """What is wrong with the picture of these lines."""
     ran = draw(frames, report)
     if ran.returncode or ran.stderr:
-        return f"status {ran.returncode}: {ran.stderr[:300]}"
+        return f"status {ran.returncode}: {ran.stderr[:300].strip()}"
     picture = tree.fromstring(ran.stdout)
     wanted, found = wanted_figures(frames, report), found_figures(picture)
     if wanted != found:
         return f"figures: wanted {wanted - found}, found {found - wanted}"
     if len(ran.stdout) > MOST_OCTETS:
         return f"{len(ran.stdout)} octets"
+    wrong = misplaced(picture, frames.count("record=") - frames.count("short ")) + unreadable(picture)
     there = {it.text for it in picture.iter(f"{SVG}text")}
-    return "".join(f"no text {it}; " for it in ("A < B & C", *texts) if it not in there)
+    return wrong + "".join(f"no text {it}; " for it in ("A < B & C", *texts) if it not in there)
 
 
 def pictures(settings, records):
@@ -134,14 +257,24 @@ def pictures(settings, records):
     noise = lines_of(settings, random.Random(1).randbytes(300 * 900 + 5))
     tell("noise", judge(*noise, ["No frame is good."]))
     tell(f"{records} records", judge(many_records(records, lines[0]), ""))
-    tell("the same size, however many records", same_size(lines[0]))
+    tell(f"{records} records of eight channels, damage here and there", judge(*damaged_records(records, 50 / records)))
+    tell(f"{records} records of eight channels, damage everywhere", judge(*damaged_records(records, 0.1)))
+    tell("the same size, however many records", same_size())
+    great = "drop record=193 channel=0 from=193 at=0 octets=9999999999 reason=length\n"
+    behind = lines[1].index("seqgap record=193")
+    greatest = lines[1][:behind] + 9 * great + lines[1][behind:]
+    tell("great figures", judge(lines[0], greatest, ["90,000,000,097 octets dropped"]))
+    unknown = lines[1].replace("mastergap record=155 expected=255 found=0 missing=1\n", "")
+    tell("a gap of the master channel that the report doesn't know", judge(lines[0], unknown))
+    tell("colours of frames", too_like(loss_map.STATE_COLOURS))
+    tell("colours of reasons", too_like(loss_map.REASONS))
     return lines
 
 
-def same_size(lines):
+def same_size():
     sizes = set()
     for records in (401, 5000, 40000):
-        picture = tree.fromstring(draw(many_records(records, lines), "").stdout)
+        picture = tree.fromstring(draw(*damaged_records(records, 20 / records)).stdout)
         sizes.add((picture.get("width"), picture.get("height")))
     return sizes if len(sizes) != 1 else ""
 
@@ -156,6 +289,8 @@ def refusals(frames, report):
     behind, above = frames + "short record=300 octets=5\n" * 2, report[: report.index("mastergap")].count("\n") + 1
     fault, reason = report.replace("fault=crc", "fault=layout"), report.replace("reason=no-start", "reason=why")
     channel = report.replace("\ngap record=155 channel=1", "\ngap record=155 channel=0")
+    ends = "the report ends with"
+    bad, no_gaps = "bad record=189 fault=crc\n", re.sub("mastergap .*\n", "", report)
     yield "files in the wrong order", report, frames, f"frames, line 1: {no_frame}"
     yield "a list of frames as the report", frames, frames, f"report, line 1: {no_report}"
     yield "a report of more", "".join(line[:150]), report, f"report, line {above}: the frames have no record 155"
@@ -171,6 +306,14 @@ def refusals(frames, report):
     yield "another reason", frames, reason, f"report, line 8: {no_report}"
     yield "an empty line", frames, report + "\n", f"report, line 24: {no_report}"
     yield "a report without frames", "", report, "report, line 1: the frames have no record 31"
+    yield "a last line without its end", frames, report[:-1], f"report, line 23: {no_report}"
+    yield "a last line that is cut in its number", frames[:-3], report, f"frames, line 300: {no_frame}"
+    yield "a line without end", "0" * 5000000, report, f"frames, line 1: {no_frame}"
+    yield "no report", frames, "", f"report, line 1: {ends} 0 of 1 `bad` lines"
+    yield "a report without its end", frames, report[: report.index("bad ")], f"report, line 15: {ends} 0 of 1 `bad` lines"
+    yield "a report without master gaps", frames, no_gaps, f"report, line 22: {ends} 0 of 2 `mastergap` lines"
+    yield "a report twice", frames, report * 2, "report, line 24: record 31 stands behind record 282"
+    yield "a bad frame twice", frames, report.replace(bad, bad * 2), "report, line 16: a second `bad` of record 189"
 
 
 def refused(name, frames, report, wanted):

@@ -5,7 +5,8 @@
 #
 # TMX is the program. With WORDs only those sections are run whose headings have one of them; the first one always is, since the others
 # begin with its files. Commands are the blocks `sh` of the page, and what they print, standard error too, is the block behind each.
-# Blocks of another kind are passed over. A section whose packages aren't there is left out and named. Nothing is installed.
+# Blocks of another kind are passed over. A section whose packages aren't there is left out and named, one that doesn't say what it
+# needs, or has no commands, is named as failed. Nothing is installed.
 #
 # Prints a line for each block, and a count at the end. The status is 0 where none failed. KEEP=1 keeps the folder in which they ran.
 set -u
@@ -93,6 +94,11 @@ run_block() {
 run_section() {
     local section=$1 name lack block
     name=$(cat "$folder/blocks/$section.heading")
+    if [ ! -e "$folder/blocks/$section.needs" ] || [ ! -e "$folder/blocks/$section-01.sh" ]; then
+        echo "FAILED: $name: the page doesn't say what it needs, or has no commands"
+        failed=$((failed + 1))
+        return
+    fi
     lack=$(missing "$folder/blocks/$section.needs")
     if [ -n "$lack" ]; then
         left_out+="left out: $name: no $lack"$'\n'
@@ -106,7 +112,7 @@ run_section() {
 cut_page
 for heading in "$folder"/blocks/*.heading; do
     section=$(basename "$heading" .heading)
-    ! wanted "$section" "$@" || [ ! -e "$folder/blocks/$section.needs" ] || run_section "$section"
+    ! wanted "$section" "$@" || run_section "$section"
 done
 printf '%s' "$left_out"
 [ -z "${KEEP:-}" ] || echo "note the files are in $folder"

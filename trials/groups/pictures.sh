@@ -9,10 +9,13 @@ picture_of_docs() {
 }
 
 pictures() {
-    local line
+    local line draw="python3 $example/loss_map.py"
     names
     tell "the picture in docs" "$(picture_of_docs)"
-    gives "a picture of a file that is missing" 1 "loss_map.py: none: No such file or directory" "python3 $example/loss_map.py none none"
+    gives "a picture of a file that is missing" 1 "loss_map.py: none: No such file or directory" "$draw none none"
+    gives "a picture of a folder" 1 "loss_map.py: .: Is a directory" "$draw . report.txt"
+    gives "a picture of zeros without end" 1 "loss_map.py: /dev/zero, line 1: no line of \`tmx frames\`" "$draw /dev/zero report.txt"
+    gives "a picture on a full device" 1 "loss_map.py: standard output: No space left on device" "$draw frames.txt report.txt >/dev/full"
     while read -r line; do
         case $line in
         "ok "*) ok "${line#ok }" ;;

@@ -1,12 +1,12 @@
 -- What a sink that counts has counted of the items that it took.
-use Rattle.std.proofs.Common.{◌≡◌, ◌||◌, Bool, true, false, List, [], ◌∷◌, ◌++◌, refl, sym, ap, subst, ◌∙◌, inl, inr}
+use Rattle.std.proofs.Common.{◌≡◌, ◌||◌, Bool, true, false, List, [], ◌∷◌, refl, sym, ap, subst, ◌∙◌, inl, inr}
 use Rattle.tm_items.specs.Item.{Item}
 use Rattle.tm_items.specs.Sinks.{RefusesOne, TakesAll}
 use Rattle.tm_output.specs.declared.fault.RunFault.{RunFault}
-use Rattle.tm_output.specs.Pieces.{Entries, noted, noted_all}
+use Rattle.tm_output.specs.Pieces.{Entries, noted_all}
 use Rattle.tm_summary.specs.declared.counting.Counting.{Counting}
 use Rattle.tm_summary.specs.Kinds.{is_bad}
-use Rattle.tm_summary.specs.Tallies.{AllFit, Refuses, TakesTally, with_all, with_given}
+use Rattle.tm_summary.specs.Tallies.{AllFit, Refuses, TakesTally, with_all}
 
 -- one of the items is a bad frame
 abbrev pub any_bad : List Item → Bool

@@ -1,5 +1,5 @@
 -- The entries that octets spell, one by one.
-use Rattle.std.proofs.Common.{◌≡◌, ℕ, zero, suc, ◌+◌, ◌-◌, ◌*◌, ◌%◌, ◌<◌, ◌≤◌, Bool, true, false, not, ◌||◌, ◌==◌, Option, Some, None, Ok, length, subst, List, [], ◌∷◌, drop, set, refl, sym, ap, ◌∙◌, arith}
+use Rattle.std.proofs.Common.{◌≡◌, ℕ, zero, suc, ◌+◌, ◌-◌, ◌*◌, ◌%◌, ◌<◌, ◌≤◌, Bool, true, false, ◌||◌, ◌==◌, Option, Some, None, Ok, length, subst, List, [], ◌∷◌, drop, set, refl, sym, ap, ◌∙◌, arith}
 use Rattle.std.specs.Prelude.{nat_lt, replicate, if◌then◌else◌}
 use Rattle.std.proofs.lemmas.Bool.{ne_eqb, not-true, and_parts, eq-eqb, ltb-true, ltb-false}
 use Rattle.std.proofs.lemmas.List.{drop-drop}
@@ -8,7 +8,7 @@ use Rattle.tm_packet.specs.declared.tracker.Numbers.{Numbers}
 use Rattle.tm_packet.specs.declared.tracker.TrackerFault.{TrackerFault}
 use Rattle.tm_packet.specs.declared.tracker.TrackerFault.TheVariants.{Order, Value}
 use Rattle.tm_packet.specs.Merge.{no_entries}
-use Rattle.tm_packet.specs.Spelling.{DecodedEntries, entries_decoding_of, decoding_with, raw_of, raws, has_values, rises, fault_after, first_count_of, entry_at_key, entries_at_keys, state_of}
+use Rattle.tm_packet.specs.Spelling.{DecodedEntries, entries_decoding_of, decoding_with, raw_of, raws, has_values, rises, fault_after, first_count_of, entries_at_keys, state_of}
 use Rattle.tm_bits.specs.Bits.{two_at}
 
 -- the entries from one on are it and those after it

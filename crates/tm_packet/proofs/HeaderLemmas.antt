@@ -1,14 +1,13 @@
 -- The parts of a header as quotients and remainders of words of 16 bits, and as the bits that are written.
-use Rattle.std.proofs.Common.{◌≡◌, ℕ, suc, ◌+◌, ◌-◌, ◌*◌, ◌/◌, ◌%◌, ◌^◌, ◌<◌, ◌≤◌, Bool, true, false, ◌==◌, List, [], ◌∷◌, ◌++◌, length, drop, get_or, refl, sym, ap, ◌∙◌, arith, length-drop, length-append, append_assoc}
+use Rattle.std.proofs.Common.{◌≡◌, ℕ, ◌+◌, ◌-◌, ◌*◌, ◌/◌, ◌%◌, ◌^◌, ◌<◌, ◌≤◌, Bool, true, false, ◌==◌, List, [], ◌∷◌, ◌++◌, length, drop, get_or, refl, sym, ap, ◌∙◌, arith, length-drop, length-append, append_assoc}
 use Rattle.std.proofs.lemmas.Bool.{eq-eqb, le-ltb}
 use Rattle.std.proofs.lemmas.List.{append-nil, get_or-drop}
-use Rattle.std.specs.Prelude.{slice_range, Ok, Err, if◌then◌else◌}
+use Rattle.std.specs.Prelude.{Ok}
 use Rattle.tm_bits.specs.Bits.{AreOctets, low_bits, bits_of, number, digit, part}
 use Rattle.tm_bits.proofs.BitLemmas.{length-low_bits, number-low_bits, number-append, low_bits-number, low_bits-cat, low_bits-split, bits_of-one}
 use Rattle.tm_bits.proofs.PartLemmas.{octets_behind, number-bits_of-cons, part-word, part-behind}
 use Rattle.tm_packet.specs.declared.header.Flags.{Flags}
 use Rattle.tm_packet.specs.declared.header.Flags.TheVariants as flag
-use Rattle.tm_packet.specs.declared.header.PacketFault.TheVariants.{Short, Version}
 use Rattle.tm_packet.specs.Header.{Fields, AreInRange, flags_of, flags_number, packet_version_of, packet_header_of, header_bits, header_reading_of}
 
 -- the number in two octets

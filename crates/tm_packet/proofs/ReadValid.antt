@@ -1,12 +1,9 @@
 -- What is read are valid entries.
-use Rattle.std.proofs.Common.{◌≡◌, ℕ, zero, suc, ◌+◌, ◌*◌, ◌%◌, Bool, true, false, ◌||◌, Ok, Err, Result, Option, Some, None, List, [], ◌∷◌, length, drop, get_or, refl, sym, ap, subst, ◌∙◌, arith, ltb, eqb}
-use Rattle.std.specs.Prelude.{if◌then◌else◌}
+use Rattle.std.proofs.Common.{◌≡◌, ℕ, zero, suc, ◌+◌, ◌*◌, ◌%◌, Bool, true, false, ◌||◌, Ok, Option, Some, None, List, [], ◌∷◌, length, get_or, refl, ap, arith, ltb, eqb}
 use Rattle.std.proofs.lemmas.Bool.{cond_both, ltb-true, eqb-true, eqb-false}
 use Rattle.tm_packet.specs.declared.tracker.PairEntry.{PairEntry}
 use Rattle.tm_packet.specs.declared.tracker.Numbers.{Numbers}
-use Rattle.tm_packet.specs.declared.tracker.TrackerFault.{TrackerFault}
-use Rattle.tm_packet.specs.declared.tracker.TrackerFault.TheVariants.{Order, Value}
-use Rattle.tm_packet.specs.Spelling.{DecodedEntries, has_values, rises, fault_after, first_count_of, entry_at_key, entries_at_keys, state_of, raws, unless, entry_count_of, decoding_with, entries_decoding_of}
+use Rattle.tm_packet.specs.Spelling.{DecodedEntries, fault_after, first_count_of, entry_at_key, entries_at_keys, state_of, entries_decoding_of}
 use Rattle.tm_packet.specs.Valid.{AreValidEntries, EntryFits, FirstFits}
 use Rattle.tm_packet.proofs.DecodingLemmas.{read_faultless, AreValues, values_of, all_right, last_in}
 

@@ -2,10 +2,9 @@
 use Rattle.std.proofs.Common.{◌≡◌, ℕ, zero, suc, ◌+◌, ◌-◌, ◌*◌, ◌^◌, ◌<◌, ◌≤◌, Bool, true, false, ◌==◌, List, [], ◌∷◌, ◌++◌, length, take, drop, refl, sym, ap, ◌∙◌, subst, arith, length-drop, length-append, append_assoc}
 use Rattle.std.proofs.lemmas.List.{take-append-drop, length-take-le, take-append-le, drop-append-le, take_all, drop-drop}
 use Rattle.std.proofs.Math.Seq.{drop-append_seam}
-use Rattle.std.specs.Prelude.{slice_range}
 use Rattle.tm_bits.specs.Bits.{AreOctets, low_bits, bits_of, number, part}
 use Rattle.tm_packet.specs.Header.{Fields, flags_of, flags_number, packet_version_of, packet_header_of, header_bits}
-use Rattle.tm_bits.proofs.BitLemmas.{length-low_bits, number-low_bits, number-lt, low_bits-number, length-bits_of, bits_of-append}
+use Rattle.tm_bits.proofs.BitLemmas.{length-low_bits, number-low_bits, number-lt, length-bits_of, bits_of-append}
 use Rattle.tm_bits.proofs.PartLemmas.{octets_after}
 use Rattle.tm_packet.proofs.HeaderLemmas.{bits_spelled}
 

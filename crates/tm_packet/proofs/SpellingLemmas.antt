@@ -1,14 +1,13 @@
 -- What is spelled is read again.
-use Rattle.std.proofs.Common.{◌≡◌, ℕ, zero, suc, ◌+◌, ◌*◌, ◌/◌, ◌%◌, ◌<◌, ◌≤◌, true, not, ◌&&◌, ◌||◌, ◌==◌, Option, Some, None, List, [], ◌∷◌, ◌++◌, length, map, drop, get_or, refl, sym, ap, ◌∙◌, arith, length-append, subst}
-use Rattle.std.specs.Prelude.{Ok, Err, nat_lt, if◌then◌else◌, Result}
+use Rattle.std.proofs.Common.{◌≡◌, ℕ, zero, suc, ◌+◌, ◌*◌, ◌/◌, ◌%◌, ◌<◌, ◌≤◌, true, ◌||◌, ◌==◌, Option, Some, None, List, [], ◌∷◌, ◌++◌, length, map, drop, get_or, refl, sym, ap, ◌∙◌, arith, length-append}
+use Rattle.std.specs.Prelude.{Ok, nat_lt, Result}
 use Rattle.std.proofs.lemmas.Bool.{ne_eqb, eq-eqb, lt-ltb, le-ltb, ltb-true}
 use Rattle.std.proofs.lemmas.List.{append-nil, nil_from_length}
 use Rattle.tm_packet.specs.declared.tracker.TrackerFault.{TrackerFault}
 use Rattle.tm_packet.specs.declared.tracker.PairEntry.{PairEntry}
 use Rattle.tm_packet.specs.declared.tracker.Numbers.{Numbers}
-use Rattle.tm_packet.specs.declared.tracker.TrackerFault.TheVariants.{Order, Value}
 use Rattle.tm_packet.specs.Valid.{AreValidEntries, IsEntry, EntryFits, FirstFits}
-use Rattle.tm_packet.specs.Spelling.{KeyedEntry, DecodedEntries, entry_count_of, decoding_with, first_number, entries_from, spelled, entries_spelling, raws, has_values, rises, fault_after, first_count_of, entry_at_key, entries_at_keys, state_of, unless, entries_decoding_of}
+use Rattle.tm_packet.specs.Spelling.{KeyedEntry, DecodedEntries, first_number, entries_from, spelled, entries_spelling, raws, has_values, rises, fault_after, first_count_of, entry_at_key, entries_at_keys, state_of, entries_decoding_of}
 use Rattle.tm_bits.specs.Bits.{two_at}
 
 abbrev raw : KeyedEntry → Numbers

@@ -43,7 +43,7 @@ faults() {
     begun_empty
     memory_faults
     long_words
-    full_shelf
+    repeated
     wide_recording
     wide_row
     wide_packet
@@ -340,10 +340,13 @@ END
     ); then ok "long words with little memory: $said"; else no "long words with little memory: $said"; fi
 }
 
-# Packets that there is no memory to hold.
-full_shelf() {
+# A recording 200 times over: packets that there is no memory to hold, and rows that aren't held.
+repeated() {
     for _ in $(seq 200); do cat "$rec"; done >many.rec
     gives "split with no memory to hold its packets" 3 "tmx: out of memory" "ulimit -v 8192; $split --report r many.rec"
+    gives "50,200 rows with 6 MiB" 0 "" \
+        "ulimit -v 6144; $tmx fields --settings $s --definition $example/attitude.csv --apid 100 --report r many.rec"
+    tell "50,200 rows with 6 MiB: all of them, behind the head" "$([ "$(wc -l <out)" = 50201 ] || wc out)"
     rm many.rec
 }
 
@@ -369,12 +372,17 @@ wide_packet() {
     tell "split of a packet of 65,542 octets: all of it" "$(diff -r wide/split split 2>&1)"
 }
 
-# A sparse recording of 2^32 records, by a checkpoint behind all of them but the last.
+# Sparse recordings of 38 GB. The records that are done are passed over, so that the last ones take no longer than the first.
 many() {
+    local head="544d5843 03 002a 0009 0000 0000 00 00 00 ff 010006" none="00 0000000000000000 0000"
     names
     settings nine 42 9 false
     truncate -s $((9 * 4294967296)) sparse
-    forged last "544d5843 03 002a 0009 0000 0000 00 00 00 ff 010006 ffffffff 00 0000000000000000 0000"
-    gives "2^32 records" 1 "tmx: too many records" "$tmx packets --settings nine --report r --resume last sparse"
+    forged last "$head ffffffff $none"
+    gives "2^32 records" 1 "tmx: too many records" "timeout 10 $tmx packets --settings nine --report r --resume last sparse"
+    truncate -s $((9 * 4294967295)) sparse
+    forged near "$head fffffff0 $none"
+    gives "the last of 2^32 - 1 records" 0 "" "timeout 10 $tmx packets --settings nine --report r --resume near sparse"
+    tell "the last of 2^32 - 1 records: a line for each" "$(seq 4294967280 4294967294 | sed 's/.*/bad record=& fault=spacecraft/' | diff - r)"
     rm sparse
 }

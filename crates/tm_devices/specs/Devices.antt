@@ -1,6 +1,6 @@
 -- What the calls of a device do to its octets and to its count of failures.
-use Rattle.std.specs.Prelude.{◌≡◌, ◌≢◌, ⊤, ◌+◌, ◌-◌, ◌^◌, ◌<◌, ◌≤◌, ◌==◌, ℕ, min, List, [], ◌++◌, Option, None, Some, Result, MatchResult, if◌then◌else◌}
-use Rattle.std.specs.Io.KnownBytes.{Appends}
+use Rattle.std.specs.Prelude.{◌≡◌, ◌≢◌, ⊤, ◌+◌, ◌-◌, ◌^◌, ◌<◌, ◌≤◌, ◌==◌, Bool, ℕ, min, List, [], ◌++◌, length, Option, None, Some, Result, Ok, Err, true, false, MatchResult, if◌then◌else◌}
+use Rattle.std.specs.Io.KnownBytes.{Appends, Consumes}
 
 -- the greatest count
 abbrev pub greatest : ℕ
@@ -17,6 +17,12 @@ Counts old new r = MatchResult r (λ _. new ≡ old) (λ _. new ≡ raised old)
 -- n octets of so many, at least one if there is one
 abbrev pub TakesSome : ℕ → ℕ → Type 0
 TakesSome n all = (n ≤ all) × (0 < all → 0 < n)
+
+-- so many known octets were passed over, or nothing changed
+abbrev pub PassesOver : {E : Type 0} → Option (List ℕ) → Option (List ℕ) → ℕ → Result Bool E → Type 0
+PassesOver old new n (Ok true) = (octets : List ℕ) × (length octets ≡ n) × Consumes old new octets
+PassesOver old new n (Ok false) = new ≡ old
+PassesOver old new n (Err e) = new ≡ old
 
 -- known octets grew by a front of these, by a proper one if there are any
 abbrev pub AppendsFront : Option (List ℕ) → Option (List ℕ) → List ℕ → Type 0

@@ -2,7 +2,7 @@
 
 ghost use Rattle.std.specs.Prelude.{◌≤◌, ℕ, List, length, Option, None, IfOk, OnOk, OnErr};
 ghost use Rattle.std.specs.Io.KnownBytes.{Keeps, ReadConsumes, WriteAppends};
-ghost use Rattle.tm_devices.specs.Devices.{Counts, Puts, PutsFront, TakesSome};
+ghost use Rattle.tm_devices.specs.Devices.{Counts, PassesOver, Puts, PutsFront, TakesSome};
 
 /// A call of a device failed.
 #[derive(Clone, Copy, Debug, PartialEq, Eq)]
@@ -22,6 +22,15 @@ pub trait Source {
         ensures bound { IfOk result (λ n. n ≤ length buffer.new) }
         ensures octets { ReadConsumes (left self.old) (left self.new) result buffer.new }
         ensures counts { Counts (failures self.old) (failures self.new) result };
+
+    /// Passes over so many octets in one step, where there are so many and the device can, and answers whether it did. If it did not, or the
+    /// call failed, none was passed over. A device that can't says so, and its octets are read.
+    fn pass_over(&mut self, _octets: u64) -> Result<bool, DeviceFailed>
+        ensures octets { PassesOver (left self.old) (left self.new) _octets result }
+        ensures counts { Counts (failures self.old) (failures self.new) result }
+    {
+        Ok(false)
+    }
 }
 
 /// Where octets go to.

@@ -1,9 +1,9 @@
 //! Readers and writers of std as devices.
 
-ghost use Rattle.std.specs.Prelude.{◌≡◌};
+ghost use Rattle.std.specs.Prelude.{◌≡◌, ◌+◌, Some, IfOk, IfSome, if◌then◌else◌};
 
 use crate::{DeviceFailed, Drain, Source};
-use std::io::{Read, Write};
+use std::io::{self, Read, Seek, SeekFrom, Write};
 
 /// A reader of std. Each error of it is a failure.
 #[derive(Drop)]
@@ -32,6 +32,63 @@ impl<R: Read> Source for Reading<R> {
             Ok(n) => Ok(n),
             Err(_) => {
                 self.failed = self.failed.saturating_add(1);
+                Err(DeviceFailed)
+            }
+        }
+    }
+}
+
+/// A reader of std that can be moved, as a file: what lies ahead is passed over by a seek.
+#[derive(Drop)]
+pub struct Seeking<R> {
+    reading: Reading<R>,
+}
+
+impl<R: Read + Seek> Seeking<R> {
+    /// A source over the reader, with no failure yet.
+    pub fn new(reader: R) -> Self
+        ensures { ⟦<Seeking<R> as Source>⟧.failures result ≡ 0 }
+    {
+        Seeking {
+            reading: Reading::new(reader),
+        }
+    }
+}
+
+// Moves a reader on by so many octets, if there are so many ahead, and answers whether there are. If it can't be moved, as a pipe, there are none.
+fn moved_on<R: Seek>(reader: &mut R, octets: u64) -> io::Result<bool>
+    ensures { IfSome (R.stream_position reader.old) (λ at. IfOk result (λ did. R.stream_position reader.new ≡ Some (if did then at + octets else at))) }
+{
+    let Ok(at) = reader.stream_position() else {
+        return Ok(false);
+    };
+    let Ok(end) = reader.seek(SeekFrom::End(0)) else {
+        return Ok(false);
+    };
+    match at.checked_add(octets) {
+        Some(to) if to <= end => {
+            reader.seek(SeekFrom::Start(to))?;
+            Ok(true)
+        }
+        _ => {
+            reader.seek(SeekFrom::Start(at))?;
+            Ok(false)
+        }
+    }
+}
+
+impl<R: Read + Seek> Source for Seeking<R> {
+    ghost failures = { λ s. s.reading.failed };
+
+    fn read(&mut self, buffer: &mut [u8]) -> Result<usize, DeviceFailed> {
+        self.reading.read(buffer)
+    }
+
+    fn pass_over(&mut self, octets: u64) -> Result<bool, DeviceFailed> {
+        match moved_on(&mut self.reading.reader, octets) {
+            Ok(did) => Ok(did),
+            Err(_) => {
+                self.reading.failed = self.reading.failed.saturating_add(1);
                 Err(DeviceFailed)
             }
         }

@@ -8,7 +8,7 @@ use Rattle.csv.specs.declared.parser.State.{State}
 use Rattle.csv.specs.declared.reader.Reader.{Reader}
 use Rattle.csv.specs.declared.error.ErrorKind.{ErrorKind}
 use Rattle.csv.specs.declared.error.ErrorKind.TheVariants as kind
-use Rattle.tm_fields.specs.Table.{fault_of_kind}
+use Rattle.tm_fields.specs.code.Reading.{fault_of_kind}
 use Rattle.tm_fields.specs.declared.faults.DefinitionFault.TheVariants.{Csv}
 
 -- the record that was read has another length than was expected

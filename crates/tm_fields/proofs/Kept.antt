@@ -1,11 +1,11 @@
 -- A definition is told by the records that are kept.
-use Rattle.std.proofs.Common.{◌≡◌, ℕ, zero, suc, ◌<◌, ◌≤◌, true, List, [], ◌∷◌, ◌++◌, length, take, refl, ap, ◌∙◌, arith, inl, inr, Ok, Err, length-take-le}
-use Rattle.std.specs.Prelude.{nat_lt}
+use Rattle.std.proofs.Common.{◌≡◌, ℕ, zero, suc, ◌≤◌, true, List, [], ◌∷◌, ◌++◌, length, take, refl, ap, ◌∙◌, arith, inl, inr, Ok, Err, length-take-le}
 use Rattle.std.proofs.lemmas.Bool.{cases_lt, lt-ltb}
 use Rattle.std.proofs.lemmas.List.{take_all, take-append-le}
 use Rattle.tm_fields.specs.Columns.{ReadOrFault, and_then_read, columns_of}
 use Rattle.tm_fields.specs.Reading.{definition_of, fields_in, fields_under}
-use Rattle.tm_fields.specs.Table.{kept, same_lengths, table}
+use Rattle.tm_fields.specs.Table.{same_lengths, table}
+use Rattle.tm_fields.specs.code.Reading.{kept}
 use Rattle.tm_fields.specs.declared.columns.Columns.{Columns}
 
 take_again : {A : Type 0} (n : ℕ) (xs : List A) (x : A) → take n (take n xs ++ (x ∷ [])) ≡ take n (xs ++ (x ∷ []))

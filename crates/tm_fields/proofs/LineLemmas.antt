@@ -1,7 +1,10 @@
 -- Lines, value by value.
-use Rattle.std.proofs.Common.{◌≡◌, ℕ, zero, suc, ◌-◌, ◌^◌, ◌≤◌, min, Bool, true, false, List, [], ◌∷◌, ◌++◌, length, refl, sym, ap, ◌∙◌, arith, None, Some}
+use Rattle.std.proofs.Common.{◌≡◌, ℕ, zero, suc, ◌-◌, ◌^◌, ◌≤◌, min, Bool, true, false, List, [], ◌∷◌, ◌++◌, length, drop, refl, sym, ap, ◌∙◌, append_assoc, arith, None, Some}
 use Rattle.std.specs.Prelude.{◌≢◌, Option}
-use Rattle.std.specs.Io.KnownBytes.{Appends}
+use Rattle.std.specs.Io.KnownBytes.{Appends, Keeps, append_known}
+use Rattle.std.proofs.lemmas.List.{append-nil}
+use Rattle.std.proofs.Math.Seq.{drop-append_seam}
+use Rattle.std.proofs.lemmas.Option.{none-some, same_Some}
 use Rattle.std.proofs.lemmas.Bool.{ne_eqb}
 use Rattle.csv.specs.Writing.{default_writer, end_text, field_text, is_blank, next_sep, row_body, row_text, tail_text}
 use Rattle.csv.proofs.WriteFacts.{row-more}
@@ -13,14 +16,14 @@ separator zero (suc count) e = absurd (omega (arith, e))
 separator (suc written) zero e = absurd (omega (arith, e))
 separator (suc written) (suc count) e = rw (ne_eqb (suc written) 0 (λ z. cc z), ne_eqb (suc count) 0 (λ z. cc z)) refl
 
-pub line_more : (old new : Option (List ℕ)) (values : List (List ℕ)) (value : List ℕ) (written : ℕ)
-    → old ≡ Some (row_body default_writer values) → written ≡ min (length values) (2 ^ 64 - 1)
+pub line_more : (old new : Option (List ℕ)) (lines : List ℕ) (values : List (List ℕ)) (value : List ℕ) (written : ℕ)
+    → old ≡ Some (lines ++ row_body default_writer values) → written ≡ min (length values) (2 ^ 64 - 1)
     → Appends old new (next_sep default_writer written ++ field_text default_writer value)
-    → new ≡ Some (row_body default_writer (values ++ value ∷ []))
-line_more old None values value written e n a = absurd (rw e at a)
-line_more old (Some y) values value written e n a =
-    let whole : y ≡ row_body default_writer values ++ (next_sep default_writer written ++ field_text default_writer value) = rw e at a in
-    rw (whole, separator written (length values) n, row-more default_writer values value) refl
+    → new ≡ Some (lines ++ row_body default_writer (values ++ value ∷ []))
+line_more old None lines values value written e n a = absurd (rw e at a)
+line_more old (Some y) lines values value written e n a =
+    let whole : y ≡ (lines ++ row_body default_writer values) ++ (next_sep default_writer written ++ field_text default_writer value) = rw e at a in
+    rw (whole, separator written (length values) n, row-more default_writer values value) (ap Some (append_assoc lines _ _))
 
 ended : (wrote : Bool) (written : ℕ) → 2 ≤ written → tail_text default_writer wrote written ≡ end_text default_writer.terminator
 ended wrote zero h = absurd (omega arith)
@@ -34,13 +37,31 @@ row_is [] h = absurd (omega arith)
 row_is (x ∷ []) h = absurd (omega arith)
 row_is (x ∷ y ∷ more) h = refl
 
-pub line_end : (old new : Option (List ℕ)) (values : List (List ℕ)) (wrote : Bool) (written : ℕ) → 2 ≤ length values
-    → old ≡ Some (row_body default_writer values) → written ≡ min (length values) (2 ^ 64 - 1)
-    → Appends old new (tail_text default_writer wrote written) → new ≡ Some (row_text default_writer values)
-line_end old None values wrote written h e n a = absurd (rw e at a)
-line_end old (Some y) values wrote written h e n a =
-    let whole : y ≡ row_body default_writer values ++ tail_text default_writer wrote written = rw e at a in
-    rw (whole, ended wrote written (omega arith), row_is values h) refl
+pub line_end : (old new : Option (List ℕ)) (lines : List ℕ) (values : List (List ℕ)) (wrote : Bool) (written : ℕ) → 2 ≤ length values
+    → old ≡ Some (lines ++ row_body default_writer values) → written ≡ min (length values) (2 ^ 64 - 1)
+    → Appends old new (tail_text default_writer wrote written) → new ≡ Some ((lines ++ row_text default_writer values) ++ [])
+line_end old None lines values wrote written h e n a = absurd (rw e at a)
+line_end old (Some y) lines values wrote written h e n a =
+    let whole : y ≡ (lines ++ row_body default_writer values) ++ tail_text default_writer wrote written = rw e at a in
+    let tail = ended wrote written (omega arith) in
+    rw (whole, tail, row_is values h, append-nil (lines ++ (row_body default_writer values ++ end_text default_writer.terminator))) (ap Some (append_assoc lines _ _))
+
+-- what was passed on is the text of whole lines
+pub lines_passed : (under : Option (List ℕ)) (lines pending : List ℕ) → append_known under pending ≡ Some (lines ++ []) → pending ≡ [] → under ≡ Some lines
+lines_passed None lines pending e none = absurd (none-some _ e)
+lines_passed (Some xs) lines pending e none = ap Some (sym (append-nil xs) ∙ ap (λ p. xs ++ p) (sym none) ∙ same_Some _ _ e ∙ append-nil lines)
+
+-- what is known of a text stays
+pub lines_kept : (old new : Option (List ℕ)) (lines : List ℕ) → old ≡ Some lines → Keeps old new → new ≡ Some lines
+lines_kept old None lines e k = absurd (rw e at k)
+lines_kept old (Some ys) lines e k = ap Some (rw e at k)
+
+-- what stands behind the lines before it
+pub line_behind : (old new lines line : List ℕ) (before : ℕ) → Some old ≡ Some lines → Some new ≡ Some (lines ++ line) → before ≡ length old → drop before new ≡ line
+line_behind old new lines line before is grown e =
+    let whole : new ≡ lines ++ line = same_Some _ _ grown in
+    let front : before ≡ length lines = e ∙ ap length (same_Some _ _ is) in
+    rw (whole, front) (drop-append_seam lines line)
 
 behind : (xs ys : List ℕ) → ys ≢ [] → xs ++ ys ≢ []
 behind [] ys some e = some e

@@ -3,10 +3,12 @@ use Rattle.std.proofs.Common.{◌≡◌, ℕ, zero, suc, ◌+◌, ◌-◌, ◌*�
 use Rattle.std.specs.Prelude.{slice_range}
 use Rattle.std.proofs.Math.Nat.{pow-le-pow_right}
 use Rattle.std.proofs.Math.Seq.{drop-cons}
-use Rattle.std.proofs.lemmas.List.{take_more}
+use Rattle.std.proofs.lemmas.List.{length-take-le, take_more}
+use Rattle.byteorder.specs.Endian.{big_number}
+use Rattle.byteorder.specs.Numbers.{big_from-cons}
 use Rattle.tm_bits.specs.Bits.{AreOctets, bits_of, number, part}
 use Rattle.tm_bits.proofs.BitLemmas.{number-low_bits, number-append, length-bits_of, bits_of-append, bits_of-one}
-use Rattle.tm_bits.proofs.PartLemmas.{part-word, part-behind}
+use Rattle.tm_bits.proofs.PartLemmas.{number-bits_of-cons, octets_after, octets_behind, part-word, part-behind}
 use Rattle.tm_fields.specs.Numbers.{octets_at}
 
 number_of_one : (x : ℕ) → x < 256 → number (bits_of (x ∷ [])) ≡ x
@@ -46,6 +48,25 @@ part_between octets first last from to inside low ordered high forward =
       width,
     ) refl
 
+-- the number of the first octets is what `byteorder` reads
+number_read : (n : ℕ) (xs : List ℕ) → AreOctets xs → n ≤ length xs → number (bits_of (take n xs)) ≡ big_number n xs
+unfolding bits_of number
+number_read zero xs are room = refl
+number_read (suc n) [] are room = absurd (omega arith)
+number_read (suc n) (x ∷ xs) are room =
+    number-bits_of-cons x (take n xs) (are.below 0)
+    ∙ rw (length-take-le n xs (omega arith), number_read n xs (octets_after x xs are) (omega arith), big_from-cons 0 n x xs) refl
+
+-- bits that lie in the eight octets before `last`, from the word that is read there
+pub part_read : (octets : List ℕ) (last from to word : ℕ) → AreOctets octets → 8 ≤ last → last ≤ length octets → 8 * (last - 8) ≤ from → from ≤ to → to ≤ 8 * last
+    → word ≡ big_number 8 (drop (last - 8) octets) → part octets from to ≡ word / 2 ^ (8 * last - to) % 2 ^ (to - from)
+part_read octets last from to word are whole inside low ordered high is =
+    let size : last - (last - 8) ≡ 8 = omega arith in
+    let room : 8 ≤ length (drop (last - 8) octets) = omega (arith, length-drop (last - 8) octets) in
+    let read = number_read 8 (drop (last - 8) octets) (octets_behind (last - 8) octets are) room in
+    part_between octets (last - 8) last from to inside low ordered high (omega arith)
+    ∙ rw (size, read, is) refl
+
 -- the eight bits of an octet
 part_octet : (octets : List ℕ) (i : ℕ) → AreOctets octets → i < length octets → part octets (8 * i) (8 * i + 8) ≡ get_or octets i 0
 part_octet octets i are h =
@@ -60,12 +81,12 @@ part_octet octets i are h =
       number_of_one x small,
     ) (omega arith)
 
-octets_behind : (octets : List ℕ) (first count : ℕ) → AreOctets octets → first + count ≤ length octets → octets_at octets (8 * first) count ≡ take count (drop first octets)
-octets_behind octets first zero are h = refl
-octets_behind octets first (suc count) are h =
+octets_from : (octets : List ℕ) (first count : ℕ) → AreOctets octets → first + count ≤ length octets → octets_at octets (8 * first) count ≡ take count (drop first octets)
+octets_from octets first zero are h = refl
+octets_from octets first (suc count) are h =
     let next : 8 * first + 8 ≡ 8 * suc first = omega arith in
     let inside : first < length octets = omega arith in
-    rw (part_octet octets first are inside, next, octets_behind octets (suc first) count are (omega arith), drop-cons octets first 0 inside) refl
+    rw (part_octet octets first are inside, next, octets_from octets (suc first) count are (omega arith), drop-cons octets first 0 inside) refl
 
 -- octets from the first bit of an octet on are octets of the list
 pub octets_at_border : (octets : List ℕ) (at count : ℕ) → AreOctets octets → at % 8 ≡ 0 → at / 8 + count ≤ length octets
@@ -73,7 +94,7 @@ pub octets_at_border : (octets : List ℕ) (at count : ℕ) → AreOctets octets
 octets_at_border octets at count are border h =
     let place : 8 * (at / 8) ≡ at = omega arith in
     let size : at / 8 + count - at / 8 ≡ count = omega arith in
-    rw (size, ← octets_behind octets (at / 8) count are h, place) refl
+    rw (size, ← octets_from octets (at / 8) count are h, place) refl
 
 -- one octet more
 pub octets_more : (octets text new : List ℕ) (at count i x : ℕ) → i < count → new ≡ text ++ (x ∷ []) → x ≡ part octets (at + 8 * i) (at + 8 * i + 8)

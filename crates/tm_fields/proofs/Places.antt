@@ -3,7 +3,8 @@ use Rattle.std.proofs.Common.{◌≡◌, ℕ, zero, suc, ◌+◌, ◌<◌, Bool,
 use Rattle.std.specs.Prelude.{if◌then◌else◌, Some}
 use Rattle.std.specs.Str.{bytes_eq}
 use Rattle.csv.specs.Records.{field_at}
-use Rattle.tm_fields.specs.Columns.{met, heading_places, standing_of}
+use Rattle.tm_fields.specs.Columns.{heading_places, standing_of}
+use Rattle.tm_fields.specs.code.Reading.{met}
 use Rattle.tm_fields.specs.Values.{trimmed, value}
 use Rattle.tm_fields.specs.declared.columns.Standing.{Standing}
 use Rattle.tm_fields.specs.declared.columns.Standing.TheVariants.{Nowhere, Often}

@@ -41,12 +41,6 @@ standing_of (at ∷ next ∷ more) = Often
 abbrev pub standing : List ℕ → List (List ℕ) → Standing
 standing word headings = standing_of (heading_places word 0 headings)
 
--- for a private contract: where a heading stands that stands at one more place
-abbrev pub met : Standing → ℕ → Standing
-met Nowhere at = At at
-met (At first) at = Often
-met Often at = Often
-
 -- a column that has to stand at one place
 abbrev pub only : Column → Standing → ReadOrFault ℕ
 only column Nowhere = Err (fault.Column column)

@@ -1,5 +1,5 @@
 -- The head and the rows of a definition.
-use Rattle.std.specs.Prelude.{ℕ, ◌+◌, ◌-◌, ◌/◌, ◌^◌, nat_lt, max, if◌then◌else◌, List, [], ◌∷◌, ◌++◌, Result, Ok, Err, codes}
+use Rattle.std.specs.Prelude.{◌≡◌, ◌≢◌, ◌<◌, ℕ, ◌+◌, ◌-◌, ◌/◌, ◌^◌, nat_lt, max, if◌then◌else◌, List, [], ◌∷◌, ◌++◌, Result, Ok, Err, codes}
 use Rattle.std.specs.Fmt.{decimal}
 use Rattle.std.specs.List.{flat_map}
 use Rattle.csv.specs.Writing.{default_writer, row_text}
@@ -68,3 +68,20 @@ row_of fields lead packet = row_text default_writer (lead_texts lead ++ flat_map
 abbrev pub row_from : List Field → Lead → List ℕ → Result (List ℕ) RowFault
 row_from fields lead packet =
     if nat_lt (bits_in packet) (bits_needed fields) then Err (fault.ShortPacket (bits_needed fields) (bits_in packet)) else Ok (row_of fields lead packet)
+
+-- the text is the row of a packet
+abbrev pub IsRow : List Field → Lead → List ℕ → List ℕ → Type 0
+IsRow fields lead packet text = row_from fields lead packet ≡ Ok text
+
+-- memory was wanting, or the packet has no row for this reason
+abbrev pub RefusesRow : List Field → Lead → List ℕ → RowFault → Type 0
+RefusesRow fields lead packet refusal = refusal ≢ fault.NoMemory → row_from fields lead packet ≡ Err refusal
+
+-- a packet that lacks bits is refused as that, whatever memory there is
+abbrev pub RefusesShort : {A : Type 0} → List Field → List ℕ → Result A RowFault → Type 0
+RefusesShort fields packet result = bits_in packet < bits_needed fields → result ≡ Err (fault.ShortPacket (bits_needed fields) (bits_in packet))
+
+-- rows of these fields, and the last of them
+pub record RowsState : Type 0 where
+  pub fields : List Field
+  pub row : List ℕ

@@ -2,7 +2,8 @@
 
 ghost use Rattle.std.specs.Prelude.{◌≡◌};
 ghost use Rattle.csv.specs.Records.{fields_of};
-ghost use Rattle.tm_fields.specs.Columns.{at_most_one, columns_of, met, only, standing, column_word};
+ghost use Rattle.tm_fields.specs.Columns.{at_most_one, columns_of, only, standing, column_word};
+ghost use Rattle.tm_fields.specs.code.Reading.{met};
 ghost use Rattle.tm_fields.specs.Values.{value};
 
 use crate::faults::{Column, DefinitionFault};

@@ -1,22 +1,23 @@
 //! A whole definition, and the head and rows that it gives.
 
-ghost use Rattle.std.specs.Prelude.{◌≡◌, ◌≢◌, ◌<◌, ◌≤◌, [], Ok, Err, true, length, List, IfOk, IfErr, map};
+ghost use Rattle.std.specs.Prelude.{◌≡◌, ◌≢◌, ◌<◌, ◌≤◌, ◌++◌, ℕ, [], Ok, Err, Some, true, length, List, IfOk, IfErr, OnOk, map};
 ghost use Rattle.std.specs.List.{list_all};
 ghost use Rattle.csv.specs.Records.{fields_of};
 ghost use Rattle.tm_fields.specs.Numbers.{bits_in};
 ghost use Rattle.tm_fields.specs.Reading.{definition_of, fields_from, fields_in, is_sound};
-ghost use Rattle.tm_fields.specs.Rows.{bits_needed, head_of, row_from, row_of};
+ghost use Rattle.tm_fields.specs.Rows.{IsRow, RefusesRow, RefusesShort, bits_needed, head_of, row_of};
+ghost use Rattle.tm_fields.specs.code.Line.{HasPassedOn};
 ghost use Rattle.tm_fields.specs.declared.field.Field.{Field};
 
 use crate::columns::{Columns, find_columns};
 use crate::faults::{Column, DefinitionFault, NoMemory, RowFault};
 use crate::field::Field;
 use crate::lead::{Lead, put_lead, put_lead_names};
-use crate::line::{begin, end};
+use crate::line::{begin, end, into_text, pass};
 use crate::reading::read_field;
 use crate::table::read_table;
 use crate::values::{put_name, put_value};
-use csv::ByteRecord;
+use csv::{ByteRecord, Writer};
 use std::alloc::{AllocError, Global};
 use std::marker::Model;
 
@@ -24,6 +25,8 @@ use std::marker::Model;
 #[derive(Drop)]
 pub struct Definition {
     fields: Vec<Field>,
+    // The greatest end of a field.
+    needed: u32,
 }
 
 impl Model for Definition {
@@ -31,7 +34,7 @@ impl Model for Definition {
 
     ghost view = { λ d. d.fields.items };
 
-    ghost invariant = { λ d. list_all is_sound d.fields.items ≡ true };
+    ghost invariant = { λ d. (list_all is_sound d.fields.items ≡ true) × (d.needed ≡ bits_needed d.fields.items) };
 }
 
 // The fields of the records under a heading.
@@ -47,14 +50,16 @@ fn read_fields(
     let mut fields = Vec::new(alloc);
     // The bit behind the last field: the first begins behind the packet's header.
     let mut before = 48u32;
+    let mut needed = 0u32;
     for values in records {
         let field = read_field(alloc, columns, values, fields.as_slice(), before)?;
         before = field.begin + field.length;
+        needed = needed.max(before);
         if fields.push(field).is_err() {
             return Err(DefinitionFault::NoMemory);
         }
     }
-    Ok(Definition { fields })
+    Ok(Definition { fields, needed })
 }
 
 // The definition of a table.
@@ -95,11 +100,7 @@ impl Definition {
     pub fn bits_needed(&self) -> u32
         ensures { result ≡ bits_needed self.now }
     {
-        let mut needed = 0u32;
-        for field in &self.fields {
-            needed = needed.max(field.begin + field.length);
-        }
-        needed
+        self.needed
     }
 
     /// The head of the rows, a line of comma-separated values: `tm_record`, `tm_channel`, `tm_apid`, `tm_count`, and the names of
@@ -111,48 +112,19 @@ impl Definition {
     pub fn head(&self, alloc: Global) -> Result<Vec<u8>, NoMemory>
         ensures { IfOk result (λ text. text.items ≡ head_of self.now) }
     {
-        let mut line = begin(alloc);
-        put_lead_names(&mut line)?;
+        let mut writer = begin(alloc);
+        put_lead_names(&mut writer)?;
         for field in &self.fields {
-            put_name(&mut line, field)?;
+            put_name(&mut writer, field)?;
         }
-        end(&mut line)?;
-        match line.into_inner() {
-            Ok(text) => Ok(text),
-            Err(_) => Err(NoMemory),
-        }
+        end(&mut writer)?;
+        Ok(into_text(writer)?)
     }
 
-    // The row of a packet that is long enough.
-    fn whole_row(&self, alloc: Global, lead: Lead, packet: &[u8]) -> Result<Vec<u8>, AllocError>
-        requires { bits_needed self.now ≤ bits_in packet.now }
-        ensures { IfOk result (λ text. text.items ≡ row_of self.now lead packet.now) }
-    {
-        let mut line = begin(alloc);
-        put_lead(&mut line, lead)?;
-        // Each value's text is made here.
-        let mut text = Vec::with_capacity(alloc, 64)?;
-        for field in &self.fields {
-            put_value(alloc, &mut line, &mut text, field, packet)?;
-        }
-        end(&mut line)?;
-        match line.into_inner() {
-            Ok(text) => Ok(text),
-            Err(_) => Err(AllocError),
-        }
-    }
-
-    /// The row of a packet, a line of comma-separated values: the lead's numbers, and the values of all fields but those of type
-    /// `fill`. Octets of the packet behind the last field are passed over.
-    ///
-    /// # Errors
-    ///
-    /// `ShortPacket` where the packet has fewer bits than are needed, whatever memory there is; else `NoMemory` where memory runs
-    /// out.
-    pub fn row(&self, alloc: Global, lead: Lead, packet: &[u8]) -> Result<Vec<u8>, RowFault>
-        ensures ok { IfOk result (λ text. row_from self.now lead packet.now ≡ Ok text.items) }
-        ensures refused { IfErr result (λ f. f ≢ RowFault.NoMemory → row_from self.now lead packet.now ≡ Err f) }
-        ensures short { bits_in packet.now < bits_needed self.now → result ≡ Err (RowFault.ShortPacket (bits_needed self.now) (bits_in packet.now)) }
+    /// A packet must have all bits that are needed.
+    pub(crate) fn check_length(&self, packet: &[u8]) -> Result<(), RowFault>
+        ensures long { OnOk result (bits_needed self.now ≤ bits_in packet.now) }
+        ensures short { IfErr result (λ f. (bits_in packet.now < bits_needed self.now) × (f ≡ RowFault.ShortPacket (bits_needed self.now) (bits_in packet.now))) }
     {
         let needed = self.bits_needed();
         if packet.len() < needed.div_ceil(8) as usize {
@@ -160,6 +132,55 @@ impl Definition {
                 needed: u64::from(needed),
                 found: 8 * packet.len() as u64,
             });
+        }
+        Ok(())
+    }
+
+    /// Writes the row of a packet that is long enough behind whole lines, and passes it on. The text of each value is made in `text`, whatever that holds.
+    pub(crate) fn put_row(
+        &self,
+        alloc: Global,
+        writer: &mut Writer<Vec<u8>>,
+        text: &mut Vec<u8>,
+        lead: Lead,
+        packet: &[u8],
+    ) -> Result<(), AllocError>
+        requires { bits_needed self.now ≤ bits_in packet.now }
+        ensures { OnOk result ((lines : List ℕ) → HasPassedOn (λ v. Some v.items) writer.old lines → HasPassedOn (λ v. Some v.items) writer.new (lines ++ row_of self.now lead packet.now)) }
+    {
+        put_lead(writer, lead)?;
+        for field in &self.fields {
+            put_value(alloc, writer, text, field, packet)?;
+        }
+        end(writer)?;
+        pass(writer)
+    }
+
+    // The row of a packet that is long enough.
+    fn whole_row(&self, alloc: Global, lead: Lead, packet: &[u8]) -> Result<Vec<u8>, AllocError>
+        requires { bits_needed self.now ≤ bits_in packet.now }
+        ensures { IfOk result (λ text. text.items ≡ row_of self.now lead packet.now) }
+    {
+        let mut writer = begin(alloc);
+        let mut text = Vec::new(alloc);
+        self.put_row(alloc, &mut writer, &mut text, lead, packet)?;
+        into_text(writer)
+    }
+
+    /// The row of a packet, a line of comma-separated values: the lead's numbers, and the values of all fields but those of type
+    /// `fill`. Octets of the packet behind the last field are passed over. `Rows` makes many rows in less time.
+    ///
+    /// # Errors
+    ///
+    /// `ShortPacket` where the packet has fewer bits than are needed, whatever memory there is; else `NoMemory` where memory runs
+    /// out.
+    pub fn row(&self, alloc: Global, lead: Lead, packet: &[u8]) -> Result<Vec<u8>, RowFault>
+        ensures ok { IfOk result (λ text. IsRow self.now lead packet.now text.items) }
+        ensures refused { IfErr result (RefusesRow self.now lead packet.now) }
+        ensures short { RefusesShort self.now packet.now result }
+    {
+        if let Err(fault) = self.check_length(packet) {
+            return Err(fault);
         }
         Ok(self.whole_row(alloc, lead, packet)?)
     }

@@ -25,32 +25,35 @@ pub struct Lead {
 
 // Writes a number as a further value.
 fn put_number<W: Write + Drop, I: Integer>(
-    line: &mut Writer<W>,
+    writer: &mut Writer<W>,
     number: I,
 ) -> Result<(), AllocError>
-    ensures { OnOk result ((values : List (List ℕ)) → HasValues W.contents line.old values → HasValues W.contents line.new (values ++ I.text number ∷ [])) }
+    ensures { OnOk result ((lines : List ℕ) (values : List (List ℕ)) → HasValues W.contents writer.old lines values → HasValues W.contents writer.new lines (values ++ I.text number ∷ [])) }
 {
-    put(line, Buffer::new().format(number).as_bytes())
+    put(writer, Buffer::new().format(number).as_bytes())
 }
 
 /// Writes the names that a head begins with.
-pub(crate) fn put_lead_names<W: Write + Drop>(line: &mut Writer<W>) -> Result<(), AllocError>
-    ensures { OnOk result (HasValues W.contents line.old [] → HasValues W.contents line.new lead_names) }
+pub(crate) fn put_lead_names<W: Write + Drop>(writer: &mut Writer<W>) -> Result<(), AllocError>
+    ensures { OnOk result ((lines : List ℕ) → HasValues W.contents writer.old lines [] → HasValues W.contents writer.new lines lead_names) }
 {
-    put(line, b"tm_record")?;
-    put(line, b"tm_channel")?;
-    put(line, b"tm_apid")?;
-    put(line, b"tm_count")?;
+    put(writer, b"tm_record")?;
+    put(writer, b"tm_channel")?;
+    put(writer, b"tm_apid")?;
+    put(writer, b"tm_count")?;
     Ok(())
 }
 
 /// Writes the numbers that a row begins with.
-pub(crate) fn put_lead<W: Write + Drop>(line: &mut Writer<W>, lead: Lead) -> Result<(), AllocError>
-    ensures { OnOk result (HasValues W.contents line.old [] → HasValues W.contents line.new (lead_texts lead)) }
+pub(crate) fn put_lead<W: Write + Drop>(
+    writer: &mut Writer<W>,
+    lead: Lead,
+) -> Result<(), AllocError>
+    ensures { OnOk result ((lines : List ℕ) → HasValues W.contents writer.old lines [] → HasValues W.contents writer.new lines (lead_texts lead)) }
 {
-    put_number(line, lead.seen)?;
-    put_number(line, lead.channel)?;
-    put_number(line, lead.application)?;
-    put_number(line, lead.count)?;
+    put_number(writer, lead.seen)?;
+    put_number(writer, lead.channel)?;
+    put_number(writer, lead.application)?;
+    put_number(writer, lead.count)?;
     Ok(())
 }

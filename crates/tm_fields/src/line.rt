@@ -1,37 +1,65 @@
 //! Lines of comma-separated values, written value by value under CSV's default settings.
 
-ghost use Rattle.std.specs.Prelude.{◌≡◌, ◌≤◌, ◌++◌, ◌∷◌, [], ℕ, Some, List, length, OnOk};
-ghost use Rattle.csv.specs.Writing.{default_writer, row_text, text_written};
-ghost use Rattle.tm_fields.specs.code.Line.{HasValues};
+ghost use Rattle.std.specs.Prelude.{◌≡◌, ◌≤◌, ◌++◌, ◌∷◌, [], ℕ, Some, List, length, IfOk, OnOk};
+ghost use Rattle.csv.specs.Writing.{default_writer, row_text};
+ghost use Rattle.tm_fields.specs.code.Line.{HasPassedOn, HasValues};
 
 use csv::{Writer, WriterBuilder};
 use std::alloc::{AllocError, Global};
 use std::io::Write;
 
-/// A line without values, in memory.
+/// A writer of lines in memory, without a line.
 #[inline(always)]
 pub(crate) fn begin(alloc: Global) -> Writer<Vec<u8>>
-    ensures { HasValues (λ v. Some v.items) result [] }
+    ensures { HasPassedOn (λ v. Some v.items) result [] }
 {
     WriterBuilder::new().from_writer(Vec::new(alloc))
 }
 
-/// Writes a further value. A line in memory fails for want of memory alone.
-pub(crate) fn put<W: Write + Drop>(line: &mut Writer<W>, value: &[u8]) -> Result<(), AllocError>
-    ensures { OnOk result ((values : List (List ℕ)) → HasValues W.contents line.old values → HasValues W.contents line.new (values ++ value.now ∷ [])) }
+/// Makes a writer one without a line, whatever it has written.
+#[cold]
+pub(crate) fn begin_again(alloc: Global, writer: &mut Writer<Vec<u8>>)
+    ensures { HasPassedOn (λ v. Some v.items) writer.new [] }
 {
-    if line.write_field(value).is_err() {
+    *writer = begin(alloc);
+}
+
+/// Writes a further value. A line in memory fails for want of memory alone.
+pub(crate) fn put<W: Write + Drop>(writer: &mut Writer<W>, value: &[u8]) -> Result<(), AllocError>
+    ensures { OnOk result ((lines : List ℕ) (values : List (List ℕ)) → HasValues W.contents writer.old lines values → HasValues W.contents writer.new lines (values ++ value.now ∷ [])) }
+{
+    if writer.write_field(value).is_err() {
         return Err(AllocError);
     }
     Ok(())
 }
 
 /// Ends a line of two values or more.
-pub(crate) fn end<W: Write + Drop>(line: &mut Writer<W>) -> Result<(), AllocError>
-    ensures { OnOk result ((values : List (List ℕ)) → 2 ≤ length values → HasValues W.contents line.old values → text_written W.contents line.new ≡ Some (row_text default_writer values)) }
+pub(crate) fn end<W: Write + Drop>(writer: &mut Writer<W>) -> Result<(), AllocError>
+    ensures { OnOk result ((lines : List ℕ) (values : List (List ℕ)) → 2 ≤ length values → HasValues W.contents writer.old lines values → HasValues W.contents writer.new (lines ++ row_text default_writer values) []) }
 {
-    if line.end_record().is_err() {
+    if writer.end_record().is_err() {
         return Err(AllocError);
     }
     Ok(())
+}
+
+/// Passes whole lines on to what is underneath.
+pub(crate) fn pass<W: Write + Drop>(writer: &mut Writer<W>) -> Result<(), AllocError>
+    ensures { OnOk result ((lines : List ℕ) → HasValues W.contents writer.old lines [] → HasPassedOn W.contents writer.new lines) }
+{
+    if writer.flush().is_err() {
+        return Err(AllocError);
+    }
+    Ok(())
+}
+
+/// The text of whole lines.
+pub(crate) fn into_text(writer: Writer<Vec<u8>>) -> Result<Vec<u8>, AllocError>
+    ensures { IfOk result (λ text. (lines : List ℕ) → HasValues (λ v. Some v.items) writer lines [] → text.items ≡ lines) }
+{
+    match writer.into_inner() {
+        Ok(text) => Ok(text),
+        Err(_) => Err(AllocError),
+    }
 }

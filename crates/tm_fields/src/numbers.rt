@@ -1,8 +1,10 @@
 //! Numbers at places that count bits.
 
-ghost use Rattle.std.specs.Prelude.{◌≡◌, ◌<◌, ◌≤◌, ◌+◌, ◌*◌, ◌^◌, length};
+ghost use Rattle.std.specs.Prelude.{◌≡◌, ◌<◌, ◌≤◌, ◌+◌, ◌*◌, ◌/◌, ◌%◌, ◌^◌, length};
 ghost use Rattle.tm_bits.specs.Bits.{bits_of, number, part};
 ghost use Rattle.tm_fields.specs.Numbers.{bits_in, number_within};
+
+use byteorder::{BigEndian, ByteOrder};
 
 // The number that at most nine octets spell.
 fn spelled(octets: &[u8]) -> u128
@@ -17,9 +19,19 @@ fn spelled(octets: &[u8]) -> u128
     all
 }
 
-/// The number in at most 64 bits: the octets that hold them are put together, the bits behind are shifted away, and those in
-/// front are masked.
-pub(crate) fn number_from(octets: &[u8], at: u32, count: u32) -> u64
+// The bits of a word in front of the last `behind`, so many of them.
+fn cut(word: u64, behind: u32, count: u32) -> u64
+    requires some { 1 ≤ count }
+    requires within { behind + count ≤ 64 }
+    ensures value { result ≡ word / 2 ^ behind % 2 ^ count }
+    ensures bound { result < 2 ^ count }
+{
+    (word >> behind) & (u64::MAX >> (64 - count))
+}
+
+// The number in so many bits: the octets that hold them are put together, the bits behind are shifted away, and those in front are
+// masked.
+fn number_by_octets(octets: &[u8], at: u32, count: u32) -> u64
     requires few { count ≤ 64 }
     requires within { at + count ≤ bits_in octets.now }
     ensures value { result ≡ part octets.now at (at + count) }
@@ -31,6 +43,23 @@ pub(crate) fn number_from(octets: &[u8], at: u32, count: u32) -> u64
     let all = spelled(&octets[first..last]);
     let behind = 8 * last as u64 - end;
     ((all >> behind) % (1 << count)) as u64
+}
+
+/// The number in at most 64 bits. It is cut out of a word of eight octets, where one has all of them.
+pub(crate) fn number_from(octets: &[u8], at: u32, count: u32) -> u64
+    requires some { 1 ≤ count }
+    requires few { count ≤ 64 }
+    requires within { at + count ≤ bits_in octets.now }
+    ensures value { result ≡ part octets.now at (at + count) }
+    ensures bound { result < 2 ^ count }
+{
+    let end = at as usize + count as usize;
+    let last = octets.len().min(at as usize / 8 + 8);
+    if last < 8 || end > 8 * last {
+        return number_by_octets(octets, at, count);
+    }
+    let word = BigEndian::read_u64(&octets[last - 8..]);
+    cut(word, (8 * last - end) as u32, count)
 }
 
 /// The number in so many bits from the bit `offset` on, the most significant first: bit 0 is the most significant bit of the first

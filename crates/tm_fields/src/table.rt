@@ -3,7 +3,8 @@
 ghost use Rattle.std.specs.Prelude.{◌≡◌, ◌≢◌, ◌≤◌, [], ◌∷◌, ◌++◌, true, false, length, map, IfOk, IfErr, OnOk, IsErrOf};
 ghost use Rattle.csv.specs.Reading.{error_kind};
 ghost use Rattle.csv.specs.Records.{fields_of};
-ghost use Rattle.tm_fields.specs.Table.{fault_of_kind, kept, same_lengths, table};
+ghost use Rattle.tm_fields.specs.Table.{same_lengths, table};
+ghost use Rattle.tm_fields.specs.code.Reading.{fault_of_kind, kept};
 
 use crate::faults::DefinitionFault;
 use csv::{ByteRecord, Error, ErrorKind, ReaderBuilder};

@@ -97,14 +97,14 @@ fn push_typed(
 /// Writes a field's value in a line, if it has a column. Its text is made in `text`, whatever that holds.
 pub(crate) fn put_value<W: Write + Drop>(
     alloc: Global,
-    line: &mut Writer<W>,
+    writer: &mut Writer<W>,
     text: &mut Vec<u8>,
     field: &Field,
     packet: &[u8],
 ) -> Result<(), AllocError>
     requires sound { is_sound field.now ≡ true }
     requires within { end_of field.now ≤ bits_in packet.now }
-    ensures { OnOk result ((values : List (List ℕ)) → HasValues W.contents line.old values → HasValues W.contents line.new (values ++ printed packet.now field.now)) }
+    ensures { OnOk result ((lines : List ℕ) (values : List (List ℕ)) → HasValues W.contents writer.old lines values → HasValues W.contents writer.new lines (values ++ printed packet.now field.now)) }
 {
     if field.data_type.has_column() {
         text.clear();
@@ -116,20 +116,20 @@ pub(crate) fn put_value<W: Write + Drop>(
             field.begin,
             field.length,
         )?;
-        put(line, text.as_slice())?;
+        put(writer, text.as_slice())?;
     }
     Ok(())
 }
 
 /// Writes a field's name in a line, if it has a column.
 pub(crate) fn put_name<W: Write + Drop>(
-    line: &mut Writer<W>,
+    writer: &mut Writer<W>,
     field: &Field,
 ) -> Result<(), AllocError>
-    ensures { OnOk result ((values : List (List ℕ)) → HasValues W.contents line.old values → HasValues W.contents line.new (values ++ named field.now)) }
+    ensures { OnOk result ((lines : List ℕ) (values : List (List ℕ)) → HasValues W.contents writer.old lines values → HasValues W.contents writer.new lines (values ++ named field.now)) }
 {
     if field.data_type.has_column() {
-        put(line, field.name.as_slice())?;
+        put(writer, field.name.as_slice())?;
     }
     Ok(())
 }

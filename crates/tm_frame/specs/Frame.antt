@@ -1,5 +1,5 @@
 -- A record's frame, and what a good frame says (CCSDS 132.0-B-3, 4.1).
-use Rattle.std.specs.Prelude.{ℕ, ◌<◌, ◌≤◌, ◌+◌, ◌-◌, Bool, ◌==◌, if◌then◌else◌, List, length, slice_range}
+use Rattle.std.specs.Prelude.{ℕ, ◌<◌, ◌≤◌, ◌+◌, ◌-◌, Bool, true, false, ◌==◌, if◌then◌else◌, List, length, slice_range}
 use Rattle.tm_frame.specs.declared.layout.LayoutParts.{LayoutParts}
 use Rattle.tm_frame.specs.declared.frame.Kind.{Kind}
 use Rattle.tm_frame.specs.declared.frame.Kind.TheVariants.{Packets, NoStart, Idle, Vca}
@@ -36,6 +36,13 @@ kind_from synchronization pointer =
 
 abbrev pub kind_of : List ℕ → Kind
 kind_of frame = kind_from (synchronization_flag frame) (pointer_of frame)
+
+-- a VCA frame
+abbrev pub is_vca_kind : Kind → Bool
+is_vca_kind (Packets place) = false
+is_vca_kind NoStart = false
+is_vca_kind Idle = false
+is_vca_kind Vca = true
 
 -- what a good frame says
 pub record GoodFrame : Type 0 where

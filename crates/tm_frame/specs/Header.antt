@@ -1,7 +1,6 @@
 -- The parts of a frame's headers, each a slice of the frame's bits (CCSDS 132.0-B-3, 4.1.2 and 4.1.3).
 use Rattle.std.specs.Prelude.{ℕ, ◌+◌, Bool, if◌then◌else◌, List}
 use Rattle.tm_bits.specs.Bits.{part, flag}
-use Rattle.tm_frame.specs.declared.header.Header.{Header}
 
 -- the transfer frame version number (4.1.2.2)
 abbrev pub frame_version_of : List ℕ → ℕ
@@ -54,19 +53,3 @@ secondary_version_of frame = part frame 48 50
 -- the total length of the secondary header: its field says the length less one; 0 where there is none
 abbrev pub secondary_length_of : List ℕ → ℕ
 secondary_length_of frame = if secondary_flag frame then part frame 50 56 + 1 else 0
-
--- the primary header
-abbrev pub frame_header_of : List ℕ → Header
-frame_header_of frame = record {
-  version = frame_version_of frame;
-  spacecraft = spacecraft_of frame;
-  channel = channel_of frame;
-  ocf = ocf_flag frame;
-  master_count = master_count_of frame;
-  count = channel_count_of frame;
-  secondary = secondary_flag frame;
-  synchronization = synchronization_flag frame;
-  order = order_flag_of frame;
-  segment = segment_of frame;
-  pointer = pointer_of frame;
-}

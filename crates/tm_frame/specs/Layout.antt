@@ -1,5 +1,5 @@
 -- What a layout may be (CCSDS 132.0-B-3, 4.1.1: all frames of a physical channel have one length; the ranges are this project's own).
-use Rattle.std.specs.Prelude.{ℕ, ◌+◌, ◌≤◌, Bool, ◌||◌, nat_lt, [], ◌∷◌, Option}
+use Rattle.std.specs.Prelude.{ℕ, ◌+◌, ◌-◌, ◌^◌, ◌≤◌, Bool, ◌||◌, nat_lt, [], ◌∷◌, Option}
 use Rattle.std.specs.List.{find}
 use Rattle.tm_frame.specs.declared.layout.LayoutParts.{LayoutParts}
 use Rattle.tm_frame.specs.declared.layout.LayoutFault.{LayoutFault}
@@ -27,3 +27,7 @@ layout_fault parts = find (is_out_of_range parts) (FrameLength ∷ SkipBefore �
 -- the octets of one record
 abbrev pub record_length_of : LayoutParts → ℕ
 record_length_of parts = parts.skip_before + parts.frame_length + parts.skip_after
+
+-- the greatest number of records of a recording
+abbrev pub most_records : ℕ
+most_records = 2 ^ 32 - 1

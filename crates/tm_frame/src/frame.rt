@@ -3,7 +3,7 @@
 ghost use Rattle.std.specs.Prelude.{◌≡◌, ◌≤◌, ◌<◌, IsOk, Ok, length};
 ghost use Rattle.tm_frame.specs.Fault.{fault_of, frame_reading_of};
 ghost use Rattle.tm_frame.specs.Frame.{IsPlaceBelow, frame_of, good_frame, kind_from};
-ghost use Rattle.tm_frame.specs.Header.{frame_header_of};
+ghost use Rattle.tm_frame.specs.code.Headers.{frame_header_of};
 ghost use Rattle.tm_frame.specs.Layout.{IsInRange, record_length_of};
 
 use crate::checks::fault_in;

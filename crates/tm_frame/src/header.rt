@@ -3,7 +3,8 @@
 ghost use Rattle.std.specs.Prelude.{◌≡◌, ◌≤◌, ◌<◌, ◌/◌, ◌%◌, ◌^◌, ◌-◌, length};
 ghost use Rattle.tm_bits.specs.Bits.{part};
 ghost use Rattle.tm_frame.specs.Frame.{field_end, field_length, field_start};
-ghost use Rattle.tm_frame.specs.Header.{frame_header_of, secondary_length_of, secondary_version_of};
+ghost use Rattle.tm_frame.specs.Header.{secondary_length_of, secondary_version_of};
+ghost use Rattle.tm_frame.specs.code.Headers.{frame_header_of};
 
 use crate::LayoutParts;
 use byteorder::{BigEndian, ByteOrder};

@@ -2,3 +2,4 @@ pub mod Item
 pub mod Reasons
 pub mod OnePacket
 pub mod Sinks
+pub mod Among

@@ -7,10 +7,11 @@ use Rattle.tm_frame.specs.declared.layout.LayoutParts.{LayoutParts}
 use Rattle.tm_frame.specs.Layout.{record_length_of}
 use Rattle.tm_output.specs.declared.fault.RunFault.{RunFault}
 use Rattle.tm_output.specs.declared.fault.RunFault.TheVariants.{Read, Write, Report, ShortRecording, TooMany, NoMemory}
-use Rattle.tm_output.specs.Cuts.{AppendsCut, AppendsWhole}
+use Rattle.tm_output.specs.Cuts.{AppendsTextCut, AppendsWhole}
 use Rattle.tm_output.specs.Lines.{short_line}
 use Rattle.tm_output.specs.Records.{AreRecords, record_count, records, rest_of}
-use Rattle.tm_output.specs.Listing.{record_line, record_lines, rest_lines, lines_of, listing, StopsWriting, HasListed, IsListed, IsStopped, ListingStopped}
+use Rattle.tm_output.specs.Listing.{record_line, record_lines, rest_lines, lines_of, listing, StopsListing, IsListed, IsStopped, ListingStopped}
+use Rattle.tm_output.specs.code.Listings.{HasListed}
 use Rattle.tm_output.proofs.CutLemmas.{cut_whole, cut_within}
 use Rattle.tm_output.proofs.ListingLemmas.{AreRecords-append, concat-one, record_lines-append}
 use Rattle.tm_output.proofs.RecordLemmas.{count_front, count_short, records_front, records_short, rest_front, rest_short}
@@ -77,14 +78,14 @@ module _ (layout : LayoutParts) (some : 0 < record_length_of layout) where
     -- what was listed in records was listed in octets
     pub listed_octets : (n : ℕ) → HasListed layout first next old new n → IsListed layout first next old new n
     listed_octets n h =
-        let (read, rest, ((sized, consumed), short, end), count, written) = h in
+        let (read, rest, all, count, written) = h in
         let m : ℕ = record_length_of layout in
         record {
           read = concat read ++ rest;
-          octets = consumed;
-          ended = end;
-          written = subst (λ (l : List (List ℕ)). Appends old new (concat l)) (sym (listing_all read rest sized short)) written;
-          count_is = count ∙ sym (count_front m some read rest sized ∙ ap (λ (k : ℕ). length read + k) (count_short m rest short) ∙ omega arith);
+          octets = all.octets.octets;
+          ended = all.ended;
+          written = subst (λ (l : List (List ℕ)). Appends old new (concat l)) (sym (listing_all read rest all.octets.sized all.short)) written;
+          count_is = count ∙ sym (count_front m some read rest all.octets.sized ∙ ap (λ (k : ℕ). length read + k) (count_short m rest all.short) ∙ omega arith);
         }
 
     -- these are all octets of a source that tells them
@@ -100,19 +101,19 @@ module _ (layout : LayoutParts) (some : 0 < record_length_of layout) where
         let (others, split) = listing_front read (part ++ left) sized in
         (record_lines layout 0 read, others, ap (listing layout) (append_assoc (concat read) part left) ∙ split, written))
 
-    whole_cut : IfSome first (λ recording. AppendsWhole old new (listing layout recording)) → IfSome first (λ recording. AppendsCut old new (listing layout recording))
+    whole_cut : IfSome first (λ recording. AppendsWhole old new (listing layout recording)) → IfSome first (λ recording. AppendsTextCut old new (listing layout recording))
     whole_cut = go first
       where
-        go : (o : Option (List ℕ)) → IfSome o (λ recording. AppendsWhole old new (listing layout recording)) → IfSome o (λ recording. AppendsCut old new (listing layout recording))
+        go : (o : Option (List ℕ)) → IfSome o (λ recording. AppendsWhole old new (listing layout recording)) → IfSome o (λ recording. AppendsTextCut old new (listing layout recording))
         go None h = tt
         go (Some recording) h =
             let (done, more, split, written) = h in
             (concat done, cut_whole (listing layout recording) done more split, written)
 
     -- without memory the text ends with a whole line
-    writing_whole : StopsWriting layout first next old new NoMemory → IfSome first (λ recording. AppendsWhole old new (listing layout recording))
-    writing_whole (inl h) = let (read, one, (sized, consumed), exact, (line, written)) = h in whole_front read one sized consumed written
-    writing_whole (inr h) = let (read, rest, ((sized, consumed), short, end), (line, written)) = h in whole_front read rest sized consumed written
+    writing_whole : StopsListing layout first next old new NoMemory → IfSome first (λ recording. AppendsWhole old new (listing layout recording))
+    writing_whole (inl h) = let (read, one, got, exact, (line, written)) = h in whole_front read one got.sized got.octets written
+    writing_whole (inr h) = let (read, rest, all, (line, written)) = h in whole_front read rest all.octets.sized all.octets.octets written
 
     pub stopped_whole : IsStopped layout first next old new NoMemory → IfSome first (λ recording. AppendsWhole old new (listing layout recording))
     stopped_whole (inl h) = writing_whole h
@@ -124,10 +125,10 @@ module _ (layout : LayoutParts) (some : 0 < record_length_of layout) where
 
     -- a front of the rest's line is a cut
     rest_cut : (read : List (List ℕ)) (n : ℕ) (front rest : List ℕ) → concat (rest_lines (length read) n) ≡ front ++ rest
-        → Appends old new (concat (record_lines layout 0 read) ++ front) → AppendsCut old new (lines_of layout read n)
+        → Appends old new (concat (record_lines layout 0 read) ++ front) → AppendsTextCut old new (lines_of layout read n)
     rest_cut read n front rest parts written = go (n == 0) refl
       where
-        go : (b : Bool) → (n == 0) ≡ b → AppendsCut old new (record_lines layout 0 read ++ rest_lines (length read) n)
+        go : (b : Bool) → (n == 0) ≡ b → AppendsTextCut old new (record_lines layout 0 read ++ rest_lines (length read) n)
         go true none =
             let empty : [] ≡ front ++ rest = rw none at parts in
             let nothing : front ≡ [] = front_nil front rest empty in
@@ -144,36 +145,36 @@ module _ (layout : LayoutParts) (some : 0 < record_length_of layout) where
               written,
             )
 
-    writing_cut : StopsWriting layout first next old new Write → IfSome first (λ recording. AppendsCut old new (listing layout recording))
+    writing_cut : StopsListing layout first next old new Write → IfSome first (λ recording. AppendsTextCut old new (listing layout recording))
     writing_cut (inl h) =
-        let (read, one, (sized, consumed), exact, (front, rest, parts, written)) = h in
-        told _ (concat read ++ one) first next consumed (λ left.
-        let (others, split) = listing_next read one left sized exact in
+        let (read, one, got, exact, (front, rest, parts, written)) = h in
+        told _ (concat read ++ one) first next got.octets (λ left.
+        let (others, split) = listing_next read one left got.sized exact in
         (concat (record_lines layout 0 read) ++ front, cut_within _ (record_lines layout 0 read) others (record_line layout (length read) one) front rest split parts, written))
     writing_cut (inr h) =
-        let (read, rest, ((sized, consumed), short, end), (front, behind, parts, written)) = h in
-        told_all _ (concat read ++ rest) first next consumed end
-        (subst (λ (l : List (List ℕ)). AppendsCut old new l) (sym (listing_all read rest sized short)) (rest_cut read (length rest) front behind parts written))
+        let (read, rest, all, (front, behind, parts, written)) = h in
+        told_all _ (concat read ++ rest) first next all.octets.octets all.ended
+        (subst (λ (l : List (List ℕ)). AppendsTextCut old new l) (sym (listing_all read rest all.octets.sized all.short)) (rest_cut read (length rest) front behind parts written))
 
     -- whatever the fault, there is one place up to which the lines were written
-    pub stopped_cut : (fault : RunFault) → IsStopped layout first next old new fault → IfSome first (λ recording. AppendsCut old new (listing layout recording))
-    stopped_cut Read h = let (read, part, (sized, consumed), short, written) = h in whole_cut (whole_front read part sized consumed written)
+    pub stopped_cut : (fault : RunFault) → IsStopped layout first next old new fault → IfSome first (λ recording. AppendsTextCut old new (listing layout recording))
+    stopped_cut Read h = let (read, part, got, short, written) = h in whole_cut (whole_front read part got.sized got.octets written)
     stopped_cut Write h = writing_cut h
     stopped_cut Report h = absurd h
     stopped_cut ShortRecording h = absurd h
-    stopped_cut TooMany h = let (read, one, (sized, consumed), exact, most, written) = h in whole_cut (whole_front read one sized consumed written)
+    stopped_cut TooMany h = let (read, one, got, exact, most, written) = h in whole_cut (whole_front read one got.sized got.octets written)
     stopped_cut NoMemory h = whole_cut (stopped_whole h)
 
     -- the recording has more records than can be counted
     pub stopped_many : IsStopped layout first next old new TooMany → IfSome first (λ recording. 2 ^ 32 - 1 < record_count (record_length_of layout) recording)
     stopped_many h =
-        let (read, one, (sized, consumed), exact, most, written) = h in
+        let (read, one, got, exact, most, written) = h in
         let n : ℕ = record_length_of layout in
-        told _ (concat read ++ one) first next consumed (λ left.
+        told _ (concat read ++ one) first next got.octets (λ left.
         let longer : List (List ℕ) = read ++ one ∷ [] in
         let all : record_count (record_length_of layout) ((concat read ++ one) ++ left) ≡ length longer + record_count (record_length_of layout) left =
         ap (λ (l : List ℕ). record_count (record_length_of layout) (l ++ left)) (sym (concat-one read one))
-        ∙ count_front n some longer left (AreRecords-append n read (one ∷ []) sized (exact, tt)) in
+        ∙ count_front n some longer left (AreRecords-append n read (one ∷ []) got.sized (exact, tt)) in
         omega (arith, all, length-append read (one ∷ [])))
 
 -- what a fault says of a recording that tells its octets

@@ -7,8 +7,9 @@ use Rattle.tm_frame.specs.declared.layout.LayoutParts.{LayoutParts}
 use Rattle.tm_frame.specs.Layout.{record_length_of}
 use Rattle.tm_output.specs.declared.fault.RunFault.{RunFault}
 use Rattle.tm_output.specs.declared.fault.RunFault.TheVariants.{Read, Write, Report, ShortRecording, TooMany, NoMemory}
-use Rattle.tm_output.specs.Records.{AreRecords}
-use Rattle.tm_output.specs.Listing.{record_line, record_lines, rest_lines, lines_of, StopsIn, LineStopped, HasListed, IsStopped}
+use Rattle.tm_output.specs.Records.{AreRecords, HasRead, HasReadAll}
+use Rattle.tm_output.specs.Listing.{record_line, record_lines, rest_lines, lines_of, StopsIn, IsStopped}
+use Rattle.tm_output.specs.code.Listings.{LineStopped, HasListed}
 
 pub concat-append : (xs ys : List (List ℕ)) → concat (xs ++ ys) ≡ concat xs ++ concat ys
 concat-append [] ys = refl
@@ -42,6 +43,9 @@ module _ (layout : LayoutParts) where
   module _ (first left next old now new : Option (List ℕ)) (seen : ℕ) (octets : List ℕ) (stands : Stands first left old now seen) (got : Consumes left next octets) where
     read_all : Consumes first next (concat stands.0 ++ octets)
     read_all = Consumes-trans first left next (concat stands.0) octets stands.2 got
+
+    has_read : HasRead (record_length_of layout) first next stands.0 octets
+    has_read = record { sized = stands.1; octets = read_all }
 
     -- a record was read, and its line written
     pub stands_more : length octets ≡ record_length_of layout → Appends now new (record_line layout seen octets) → Stands first next old new (seen + 1)
@@ -78,23 +82,26 @@ module _ (layout : LayoutParts) where
     pub stands_record : length octets ≡ record_length_of layout → (fault : RunFault) → LineStopped now new (record_line layout seen octets) fault
         → IsStopped layout first next old new fault
     stands_record exact Read h = absurd h
-    stands_record exact Write h = inl (stands.0, octets, (stands.1, read_all), exact, stops_at (λ n. record_line layout n octets) Write h)
+    stands_record exact Write h = inl (stands.0, octets, has_read, exact, stops_at (λ n. record_line layout n octets) Write h)
     stands_record exact Report h = absurd h
     stands_record exact ShortRecording h = absurd h
     stands_record exact TooMany h = absurd h
-    stands_record exact NoMemory h = inl (inl (stands.0, octets, (stands.1, read_all), exact, stops_at (λ n. record_line layout n octets) NoMemory h))
+    stands_record exact NoMemory h = inl (inl (stands.0, octets, has_read, exact, stops_at (λ n. record_line layout n octets) NoMemory h))
 
     -- a read failed in a record
     pub stands_read : length octets < record_length_of layout → Keeps now new → IsStopped layout first next old new Read
     stands_read short kept =
-        (stands.0, octets, (stands.1, read_all), short, Appends-kept old now new (concat (record_lines layout 0 stands.0)) stands.4 kept)
+        (stands.0, octets, has_read, short, Appends-kept old now new (concat (record_lines layout 0 stands.0)) stands.4 kept)
 
     -- one record too many was read
     pub stands_too_many : length octets ≡ record_length_of layout → seen ≡ 2 ^ 32 - 1 → Keeps now new → IsStopped layout first next old new TooMany
     stands_too_many exact most kept =
-        (stands.0, octets, (stands.1, read_all), exact, sym stands.3 ∙ most, Appends-kept old now new (concat (record_lines layout 0 stands.0)) stands.4 kept)
+        (stands.0, octets, has_read, exact, sym stands.3 ∙ most, Appends-kept old now new (concat (record_lines layout 0 stands.0)) stands.4 kept)
 
     module _ (short : length octets < record_length_of layout) (end : IsAtEnd next) where
+      has_read_all : HasReadAll (record_length_of layout) first next stands.0 octets
+      has_read_all = record { octets = has_read; short = short; ended = end }
+
       -- all was read, and the line of the rest written
       pub stands_end : Appends now new (concat (rest_lines seen (length octets))) → HasListed layout first next old new seen
       stands_end line =
@@ -102,13 +109,13 @@ module _ (layout : LayoutParts) where
           let text : concat (record_lines layout 0 read) ++ concat (rest_lines seen (length octets)) ≡ concat (lines_of layout read (length octets)) =
           ap (λ (n : ℕ). concat (record_lines layout 0 read) ++ concat (rest_lines n (length octets))) count
           ∙ sym (concat-append (record_lines layout 0 read) (rest_lines (length read) (length octets))) in
-          (read, octets, ((sized, read_all), short, end), count, subst (Appends old new) text (Appends-trans old now new (concat (record_lines layout 0 read)) _ written line))
+          (read, octets, has_read_all, count, subst (Appends old new) text (Appends-trans old now new (concat (record_lines layout 0 read)) _ written line))
 
       -- writing stopped in that line
       pub stands_end_stopped : (fault : RunFault) → LineStopped now new (concat (rest_lines seen (length octets))) fault → IsStopped layout first next old new fault
       stands_end_stopped Read h = absurd h
-      stands_end_stopped Write h = inr (stands.0, octets, ((stands.1, read_all), short, end), stops_at (λ n. concat (rest_lines n (length octets))) Write h)
+      stands_end_stopped Write h = inr (stands.0, octets, has_read_all, stops_at (λ n. concat (rest_lines n (length octets))) Write h)
       stands_end_stopped Report h = absurd h
       stands_end_stopped ShortRecording h = absurd h
       stands_end_stopped TooMany h = absurd h
-      stands_end_stopped NoMemory h = inl (inr (stands.0, octets, ((stands.1, read_all), short, end), stops_at (λ n. concat (rest_lines n (length octets))) NoMemory h))
+      stands_end_stopped NoMemory h = inl (inr (stands.0, octets, has_read_all, stops_at (λ n. concat (rest_lines n (length octets))) NoMemory h))

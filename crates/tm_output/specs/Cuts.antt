@@ -9,8 +9,8 @@ TextCut [] text = text ≡ []
 TextCut (piece ∷ pieces) text = ((rest : List ℕ) × (piece ≡ text ++ rest)) ⊎ ((after : List ℕ) × (text ≡ piece ++ after) × TextCut pieces after)
 
 -- an output that tells its octets grew by a cut of the pieces
-abbrev pub AppendsCut : Option (List ℕ) → Option (List ℕ) → List (List ℕ) → Type 0
-AppendsCut old new pieces = (text : List ℕ) × TextCut pieces text × Appends old new text
+abbrev pub AppendsTextCut : Option (List ℕ) → Option (List ℕ) → List (List ℕ) → Type 0
+AppendsTextCut old new pieces = (text : List ℕ) × TextCut pieces text × Appends old new text
 
 -- it grew by some of the pieces, whole, from the first on
 abbrev pub AppendsWhole : Option (List ℕ) → Option (List ℕ) → List (List ℕ) → Type 0

@@ -19,18 +19,6 @@ abbrev pub FaultsCounted : {T : Type 0} → ℕ → ℕ → ℕ → ℕ → Resu
 FaultsCounted source_old source_new out_old out_new r =
     MatchResult r (λ _. (source_new ≡ source_old) × (out_new ≡ out_old)) (CausedByDevice source_old source_new out_old out_new)
 
--- what writing answers
-abbrev pub WriteCaused : ℕ → ℕ → RunFault → Type 0
-WriteCaused old new Read = ⊥
-WriteCaused old new Write = new ≡ raised old
-WriteCaused old new Report = ⊥
-WriteCaused old new ShortRecording = ⊥
-WriteCaused old new TooMany = ⊥
-WriteCaused old new NoMemory = new ≡ old
-
-abbrev pub WritesCounted : {T : Type 0} → ℕ → ℕ → Result T RunFault → Type 0
-WritesCounted old new r = MatchResult r (λ _. new ≡ old) (WriteCaused old new)
-
 -- a run over a source and two outputs
 abbrev pub RunCaused : {K : Type 0} → ℕ → ℕ → View K → View K → RunFault → Type 0
 RunCaused source_old source_new old new Read = (source_new ≡ raised source_old) × SameCounts old new

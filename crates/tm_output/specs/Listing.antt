@@ -1,17 +1,17 @@
 -- The listing of a recording: a line for each record, and one for a rest.
-use Rattle.std.specs.Prelude.{◌≡◌, ◌≢◌, ◌⊎◌, ◌==◌, if◌then◌else◌, ℕ, ◌+◌, ◌-◌, ◌^◌, ◌<◌, List, [], ◌∷◌, ◌++◌, length, Option, Result, Ok, Err}
+use Rattle.std.specs.Prelude.{◌≡◌, ◌≢◌, ◌⊎◌, ◌==◌, if◌then◌else◌, ℕ, ◌+◌, ◌<◌, List, [], ◌∷◌, ◌++◌, length, Option, Result, Ok, Err}
 use Rattle.std.specs.List.{concat}
 use Rattle.std.specs.Io.KnownBytes.{Appends, Consumes, IsAtEnd, Keeps}
 use Rattle.tm_frame.specs.declared.fault.FrameFault.{FrameFault}
 use Rattle.tm_frame.specs.declared.layout.LayoutParts.{LayoutParts}
 use Rattle.tm_frame.specs.Fault.{frame_reading_of}
 use Rattle.tm_frame.specs.Frame.{GoodFrame}
-use Rattle.tm_frame.specs.Layout.{record_length_of}
+use Rattle.tm_frame.specs.Layout.{most_records, record_length_of}
 use Rattle.tm_output.specs.declared.fault.RunFault.{RunFault}
 use Rattle.tm_output.specs.declared.fault.RunFault.TheVariants.{Read, Write, Report, ShortRecording, TooMany, NoMemory}
-use Rattle.tm_output.specs.Cuts.{AppendsCut, AppendsWhole}
+use Rattle.tm_output.specs.Cuts.{AppendsTextCut, AppendsWhole}
 use Rattle.tm_output.specs.Lines.{bad_line, frame_line, short_line}
-use Rattle.tm_output.specs.Records.{AreRecords, record_count, records, rest_of}
+use Rattle.tm_output.specs.Records.{HasRead, HasReadAll, record_count, records, rest_of}
 
 -- the line of a record, by what it reads as
 abbrev pub reading_line : ℕ → Result GoodFrame FrameFault → List ℕ
@@ -39,23 +39,9 @@ unfoldable pub listing : LayoutParts → List ℕ → List (List ℕ)
 listing layout recording =
     lines_of layout (records (record_length_of layout) recording) (length (rest_of (record_length_of layout) recording))
 
--- writing a text stopped: within it, or before it where there was no memory for it, which takes a text that isn't empty
-abbrev pub LineStopped : Option (List ℕ) → Option (List ℕ) → List ℕ → RunFault → Type 0
-LineStopped old new text Write = (front rest : List ℕ) × (text ≡ front ++ rest) × Appends old new front
-LineStopped old new text NoMemory = (text ≢ []) × Keeps old new
-LineStopped old new text _ = ⊥
-
 -- ---- what was read and written when a listing ended; of devices that don't tell their octets nothing is said
 
 module _ (layout : LayoutParts) (left_old left_new out_old out_new : Option (List ℕ)) where
-  -- these records were read, and then these octets
-  abbrev pub HasRead : List (List ℕ) → List ℕ → Type 0
-  HasRead read part = AreRecords (record_length_of layout) read × Consumes left_old left_new (concat read ++ part)
-
-  -- these records were read, and then less than a record to the end
-  abbrev pub HasReadAll : List (List ℕ) → List ℕ → Type 0
-  HasReadAll read rest = HasRead read rest × (length rest < record_length_of layout) × IsAtEnd left_new
-
   -- all was read, these octets; just their lines were written; and so many are their records
   pub record IsListed (count : ℕ) : Type 0 where
     pub read : List ℕ
@@ -71,37 +57,29 @@ module _ (layout : LayoutParts) (left_old left_new out_old out_new : Option (Lis
   StopsIn read text _ = ⊥
 
   -- writing stopped in the line of the record that was read last, or, with all read, in the line of the rest
-  abbrev pub StopsWriting : RunFault → Type 0
-  StopsWriting fault =
-      ((read : List (List ℕ)) × (one : List ℕ) × HasRead read one × (length one ≡ record_length_of layout)
+  abbrev pub StopsListing : RunFault → Type 0
+  StopsListing fault =
+      ((read : List (List ℕ)) × (one : List ℕ) × HasRead (record_length_of layout) left_old left_new read one × (length one ≡ record_length_of layout)
       × StopsIn read (record_line layout (length read) one) fault)
-      ⊎ ((read : List (List ℕ)) × (rest : List ℕ) × HasReadAll read rest × StopsIn read (concat (rest_lines (length read) (length rest))) fault)
+      ⊎ ((read : List (List ℕ)) × (rest : List ℕ) × HasReadAll (record_length_of layout) left_old left_new read rest × StopsIn read (concat (rest_lines (length read) (length rest))) fault)
 
   -- where a fault leaves the devices: after a failed read the lines of all whole records that were read are written, after
   -- the greatest number of records one whole record more was read, and without memory for the first record nothing was
   abbrev pub IsStopped : RunFault → Type 0
   IsStopped Read =
-      (read : List (List ℕ)) × (part : List ℕ) × HasRead read part × (length part < record_length_of layout)
+      (read : List (List ℕ)) × (part : List ℕ) × HasRead (record_length_of layout) left_old left_new read part × (length part < record_length_of layout)
       × Appends out_old out_new (concat (record_lines layout 0 read))
-  IsStopped Write = StopsWriting Write
+  IsStopped Write = StopsListing Write
   IsStopped Report = ⊥
   IsStopped ShortRecording = ⊥
   IsStopped TooMany =
-      (read : List (List ℕ)) × (one : List ℕ) × HasRead read one × (length one ≡ record_length_of layout)
-      × (length read ≡ 2 ^ 32 - 1) × Appends out_old out_new (concat (record_lines layout 0 read))
-  IsStopped NoMemory = StopsWriting NoMemory ⊎ (Keeps left_old left_new × Keeps out_old out_new)
+      (read : List (List ℕ)) × (one : List ℕ) × HasRead (record_length_of layout) left_old left_new read one × (length one ≡ record_length_of layout)
+      × (length read ≡ most_records) × Appends out_old out_new (concat (record_lines layout 0 read))
+  IsStopped NoMemory = StopsListing NoMemory ⊎ (Keeps left_old left_new × Keeps out_old out_new)
 
 -- What a fault says of a recording that tells its octets: there is one place up to which its lines were written, without memory a line's end; and it has more
 -- records than can be counted.
 pub record ListingStopped (layout : LayoutParts) (out_old out_new : Option (List ℕ)) (fault : RunFault) (octets : List ℕ) : Type 0 where
-  pub cut : AppendsCut out_old out_new (listing layout octets)
+  pub cut : AppendsTextCut out_old out_new (listing layout octets)
   pub memory : fault ≡ NoMemory → AppendsWhole out_old out_new (listing layout octets)
-  pub too_many : fault ≡ TooMany → 2 ^ 32 - 1 < record_count (record_length_of layout) octets
-
--- ---- a step of the code: for a private contract
-
--- these records were read, and a rest of them; and their lines were written
-abbrev pub HasListed : LayoutParts → Option (List ℕ) → Option (List ℕ) → Option (List ℕ) → Option (List ℕ) → ℕ → Type 0
-HasListed layout left_old left_new out_old out_new count =
-    (read : List (List ℕ)) × (rest : List ℕ) × HasReadAll layout left_old left_new out_old out_new read rest × (count ≡ length read)
-    × Appends out_old out_new (concat (lines_of layout read (length rest)))
+  pub too_many : fault ≡ TooMany → most_records < record_count (record_length_of layout) octets

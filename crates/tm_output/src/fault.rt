@@ -18,7 +18,7 @@ pub enum RunFault {
     #[error("report failed")]
     Report,
     /// The recording ended before the records that were done in it.
-    #[error("the recording is shorter than the checkpoint")]
+    #[error("recording is shorter than the checkpoint")]
     ShortRecording,
     /// A whole record followed the greatest number of records, 2^32 - 1.
     #[error("too many records")]

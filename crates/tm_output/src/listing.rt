@@ -4,8 +4,9 @@ ghost use Rattle.std.specs.Prelude.{◌≡◌, ◌<◌, ◌≤◌, drop, length,
 ghost use Rattle.std.specs.List.{concat};
 ghost use Rattle.std.specs.Io.KnownBytes.{Appends, Keeps};
 ghost use Rattle.tm_frame.specs.Layout.{record_length_of};
-ghost use Rattle.tm_output.specs.Faults.{FaultsCounted, WritesCounted};
-ghost use Rattle.tm_output.specs.Listing.{HasListed, IsListed, IsStopped, LineStopped, record_line, rest_lines};
+ghost use Rattle.tm_output.specs.Faults.{FaultsCounted};
+ghost use Rattle.tm_output.specs.code.Listings.{WritesCounted, HasListed, LineStopped};
+ghost use Rattle.tm_output.specs.Listing.{IsListed, IsStopped, record_line, rest_lines};
 
 use crate::RunFault;
 use crate::lines::{put_bad, put_frame, put_short};

@@ -15,9 +15,9 @@ ghost use Rattle.tm_output.specs.Shelves.{Shelved, Shelves, shelf_text, shelf_wa
 use crate::lines::{push_short_packet, put_packet};
 use crate::room::{ROOM, line_in};
 use crate::{Packet, RunFault};
-use std::alloc::{AllocError, Global};
+use std::alloc::AllocError;
 use tm_devices::{DeviceFailed, Drain, Shelf, put_all};
-use tm_fields::{Definition, Lead, RowFault};
+use tm_fields::{Lead, RowFault, Rows};
 use tm_packet::Header;
 
 /// Where packets go.
@@ -243,14 +243,13 @@ impl<H: Shelf> Outlet for PacketShelf<'_, H> {
 
 /// A row for each packet of an application into a drain.
 #[derive(Drop)]
-pub struct PacketRows<'a, W> {
-    pub alloc: Global,
-    pub definition: &'a Definition,
+pub struct PacketRows<'r, 'd, 'o, W> {
+    pub rows: &'r mut Rows<'d>,
     pub application: u16,
-    pub out: &'a mut W,
+    pub out: &'o mut W,
 }
 
-impl<W> PacketRows<'_, W> {
+impl<W> PacketRows<'_, '_, '_, W> {
     // The packet of this header is of the application.
     fn is_wanted(&self, header: &Header) -> bool
         ensures { result ≡ (header.now.application == self.now.application) }
@@ -259,7 +258,7 @@ impl<W> PacketRows<'_, W> {
     }
 }
 
-impl<W: Drain> Outlet for PacketRows<'_, W> {
+impl<W: Drain> Outlet for PacketRows<'_, '_, '_, W> {
     ghost use Rattle.tm_output.specs.FieldRows.{RowsBy};
     ghost use Rattle.tm_output.specs.code.Outlets.{no_row};
     ghost use Rattle.tm_output.specs.Pieces.{rows_text};
@@ -270,7 +269,7 @@ impl<W: Drain> Outlet for PacketRows<'_, W> {
 
     ghost Fixed = { RowsBy };
 
-    ghost fixed = { λ o. record { out = o.out.ghost_name; fields = o.definition.now; application = o.application } };
+    ghost fixed = { λ o. record { out = o.out.ghost_name; fields = o.rows.now.fields; application = o.application } };
 
     ghost failures = { λ o. W.failures o.out.now };
 
@@ -292,7 +291,7 @@ impl<W: Drain> Outlet for PacketRows<'_, W> {
 
     #[tactic(auto, using(crate::proofs::LineLemmas::some_short_packet), unfolding(crate::specs::FieldRows::too_short))]
     fn remark(&self, lines: &mut String, packet: &Packet<'_>) -> Result<(), AllocError> {
-        let needed = self.definition.bits_needed();
+        let needed = self.rows.bits_needed();
         let octets = packet.octets.len();
         if !self.is_wanted(&packet.header) || octets >= needed.div_ceil(8) as usize {
             return Ok(());
@@ -327,8 +326,8 @@ impl<W: Drain> Outlet for PacketRows<'_, W> {
             application: packet.header.application(),
             count: packet.header.count(),
         };
-        match self.definition.row(self.alloc, lead, packet.octets) {
-            Ok(row) => match put_all(self.out, row.as_slice()) {
+        match self.rows.write(lead, packet.octets) {
+            Ok(()) => match put_all(self.out, self.rows.row()) {
                 Ok(()) => Ok(()),
                 Err(_) => Err(RunFault::Write),
             },

@@ -13,9 +13,13 @@ pub record Sent : Type 0 where
   pub channel : ℕ
   pub header : Fields
 
--- the number of the pair of channel and application
+-- the number of a channel and application
+abbrev pub pair_key : ℕ → ℕ → ℕ
+pair_key channel application = 2048 * channel + application
+
+-- that of the pair of a header
 abbrev pub key_of : Sent → ℕ
-key_of p = 2048 * p.channel + p.header.application
+key_of p = pair_key p.channel p.header.application
 
 -- idle packets have no sequence
 abbrev pub is_idle : Fields → Bool

@@ -10,4 +10,4 @@ mod tracker;
 
 pub use header::{Flags, Header, PacketFault, packet_version, read_header, write_header};
 pub use notes::{Note, Notes, Why};
-pub use tracker::{NoMemory, PairEntry, Tracker, TrackerFault, Unclosed};
+pub use tracker::{NoMemory, Numbers, PairEntry, Tracker, TrackerFault, Unclosed};

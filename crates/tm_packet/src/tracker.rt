@@ -38,12 +38,15 @@ pub enum TrackerFault {
     NoMemory,
 }
 
-// The three numbers of an entry, as they are spelled.
-#[derive(Clone, Copy)]
-struct Numbers {
-    key: u16,
-    count: u16,
-    first: u16,
+/// The three numbers of an entry, as they are spelled: contracts speak of them, and no call takes or gives them.
+#[derive(Clone, Copy, Debug)]
+pub struct Numbers {
+    /// The number of the channel and application.
+    pub key: u16,
+    /// The last count.
+    pub count: u16,
+    /// The first count of the open group, or 65535 where there is none.
+    pub first: u16,
 }
 
 // One place for each key.

@@ -4,5 +4,5 @@
 mod place;
 mod places;
 
-pub use place::{Place, is_any, place_of, place_of_file};
+pub use place::{Kind, Node, Place, is_any, place_of, place_of_file};
 pub use places::Places;

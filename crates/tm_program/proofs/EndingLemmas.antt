@@ -2,10 +2,10 @@
 use Rattle.std.proofs.Common.{◌≡◌, ℕ, List, Option, None, Some, Result, Ok, inl, inr, subst, ⊎_elim}
 use Rattle.std.specs.Prelude.{IfOk, MatchOption}
 use Rattle.tm_output.specs.declared.command.Ending.{Ending}
-use Rattle.tm_output.specs.Outputs.{Piece, View, Way}
+use Rattle.tm_output.specs.Outputs.{Piece, Way}
 use Rattle.tm_output.specs.Pieces.{Texts}
 use Rattle.tm_tool.specs.RecordingPieces.{Work}
-use Rattle.tm_tool.specs.Runs.{IsEnough, Ran}
+use Rattle.tm_tool.specs.Runs.{Devices, IsEnough, Ran}
 use Rattle.tm_settings.specs.Settings.{Rules}
 use Rattle.tm_tool.specs.Jobs.{JobState, new_job}
 use Rattle.tm_program.specs.code.Endings.{HasDone, IsDone, ending_of}
@@ -15,9 +15,9 @@ use Rattle.tm_words.specs.declared.request.Plan.{Plan}
 untold : (ending : Ending) (w : Work) (left : Option (List ℕ)) (read : List ℕ) → IsEnough ending w left read → IsEnough ending w None read
 untold ending w left read enough = (enough.0, ⊎_elim (λ all. inl (tt, all.1)) inr enough.1)
 
-module _ {A K : Type 0} (grows : K → K → List A → Type 0) (way : Way) (text : Texts A) (ending : Ending) (w : Work) (left_old left_new : Option (List ℕ)) where
-  pub ran_done : (old new : View K) (head : List (Piece A)) (records : ℕ) (kept : Option Work) → Ran grows way text ending w head left_old left_new old new records kept → IsDone ending w records kept
-  ran_done old new head records kept r = (r.read, untold ending w left_new r.read r.enough, r.outcome.count_is, r.outcome.kept_is)
+module _ {A K : Type 0} (grows : K → K → List A → Type 0) (way : Way) (text : Texts A) (ending : Ending) (w : Work) where
+  pub ran_done : (old new : Devices K) (head : List (Piece A)) (records : ℕ) (kept : Option Work) → Ran grows way text ending w head old new records kept → IsDone ending w records kept
+  ran_done old new head records kept r = (r.read, untold ending w new.left r.read r.enough, r.outcome.count_is, r.outcome.kept_is)
 
 -- what is done from the job that is gone on with, or else from a new one
 pub done_from : {E : Type 0} (found : Result JobState E) (p : Plan) (settings : Rules) (resumed : Option JobState) (job : JobState) (records : ℕ) (kept : Option Work)

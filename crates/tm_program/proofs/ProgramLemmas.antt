@@ -2,9 +2,10 @@
 use Rattle.std.proofs.Common.{ℕ, ◌≡◌, ◌⊎◌, ◌∙◌, List, Option, None, Some, ap, inl, inr, option_map, refl, subst, sym}
 use Rattle.std.proofs.lemmas.Option.{same_Some}
 use Rattle.tm_shelf.specs.Names.{file_in}
-use Rattle.tm_program.specs.Clashes.{first_clash}
+use Rattle.tm_program.specs.code.Clashes.{first_clash}
 use Rattle.tm_program.specs.code.Files.{IsFaultOf, IsFileFault}
-use Rattle.tm_program.specs.Program.{HasFault, HasFolderFault, HasReadFault, IsAsked, IsFolderFault, IsInFolder, IsNamed, IsNoMemory, IsOfDefinition, IsOfFolder, IsOfOutputs, IsOfPut, IsOfResumed, IsOfSettings, IsOfStreams, IsReadWhole, IsRunFault, MayCome, MayEnd}
+use Rattle.tm_program.specs.Program.{IsAsked, IsInFolder, IsNamed, IsOfFolder, IsReadWhole, MayCome, MayEnd}
+use Rattle.tm_program.specs.code.Faults.{HasFault, HasFolderFault, HasReadFault, IsFolderFault, IsNoMemory, IsOfDefinition, IsOfOutputs, IsOfPut, IsOfResumed, IsOfSettings, IsOfStreams, IsRunFault}
 use Rattle.tm_output.specs.declared.fault.RunFault.TheVariants.{NoMemory, Read, Report, ShortRecording, TooMany, Write}
 use Rattle.tm_program.specs.declared.fault.ToolFault.{ToolFault}
 use Rattle.tm_program.specs.declared.fault.ToolFault.TheVariants as tool

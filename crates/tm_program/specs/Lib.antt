@@ -1,4 +1,3 @@
-pub mod Clashes
 pub mod FaultLines
 pub mod Program
 pub mod code

@@ -4,7 +4,7 @@ ghost use Rattle.std.specs.Prelude.{◌≡◌, ◌⊎◌, None, Ok, Some, IfErr,
 ghost use Rattle.tm_tool.specs.Checkpoints.{checkpoint_of};
 ghost use Rattle.tm_tool.specs.Jobs.{JobState, new_job};
 ghost use Rattle.tm_program.specs.code.Endings.{ending_of};
-ghost use Rattle.tm_program.specs.Program.{HasFault, IsNoMemory, IsOfResumed, IsResumed};
+ghost use Rattle.tm_program.specs.code.Faults.{HasFault, IsNoMemory, IsOfResumed, IsResumed};
 
 use crate::fault::ToolFault;
 use crate::files::{read_file, replace};

@@ -2,8 +2,9 @@
 
 ghost use Rattle.std.specs.Prelude.{◌≡◌, ◌⊎◌, None, Some, false, true, IfErr, IfOk, IfSome, OnOk};
 ghost use Rattle.tm_places.specs.Places.{faults_clash};
-ghost use Rattle.tm_program.specs.Clashes.{checkpoint_clash, clash_of, output_clash, report_clash};
-ghost use Rattle.tm_program.specs.Program.{AreClear, HasFault, IsNoMemory, IsRunFault, beside, has_name, is_checkpoint, is_in_the_way, is_read};
+ghost use Rattle.tm_program.specs.code.Clashes.{checkpoint_clash, clash_of, output_clash, report_clash};
+ghost use Rattle.tm_program.specs.Program.{AreClear, beside, has_name, is_checkpoint, is_in_the_way, is_read};
+ghost use Rattle.tm_program.specs.code.Faults.{HasFault, IsNoMemory, IsRunFault};
 
 use crate::decisions::{Stream, stream_fault, writes_output};
 use crate::fault::ToolFault;

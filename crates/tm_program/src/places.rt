@@ -2,7 +2,7 @@
 
 ghost use Rattle.std.specs.Prelude.{◌≡◌, None, false, IfErr, IfOk};
 ghost use Rattle.tm_places.specs.Place.{IsOther};
-ghost use Rattle.tm_program.specs.Program.{IsNoMemory};
+ghost use Rattle.tm_program.specs.code.Faults.{IsNoMemory};
 
 use crate::decisions::{Recording, Stream, recording_by, writes_errors, writes_output};
 use crate::fault::ToolFault;

@@ -5,11 +5,12 @@ ghost use Rattle.tm_output.specs.Faults.{RunCounted};
 ghost use Rattle.tm_output.specs.Seen.{both, shelf_both};
 ghost use Rattle.tm_shelf.specs.Names.{file_in};
 ghost use Rattle.tm_shelf.specs.Shelves.{HoldsNone};
-ghost use Rattle.tm_program.specs.code.Decisions.{IsBlamed, IsBlamedOf, put_fault_of, split_end_of, stream_fault_of};
+ghost use Rattle.tm_program.specs.code.Decisions.{IsBlamed, IsBlamedOf, put_fault_of, split_end_of, stream_fault_of, is_job};
 ghost use Rattle.tm_program.specs.code.Endings.{HasDone, HasShown, IsDone, ending_of};
 ghost use Rattle.tm_program.specs.code.Files.{IsFileFault};
 ghost use Rattle.tm_program.specs.code.Reports.{is_file};
-ghost use Rattle.tm_program.specs.Program.{AreClear, HasFault, HasFolderFault, is_job, IsAsked, IsFolderFault, IsNoMemory, IsOfDefinition, IsOfOutputs, IsOfPut, IsOfResumed, IsOfSettings, IsOfStreams, IsResumed, IsRunFault, MayCome, MayEnd};
+ghost use Rattle.tm_program.specs.Program.{AreClear, IsAsked, MayCome, MayEnd};
+ghost use Rattle.tm_program.specs.code.Faults.{HasFault, HasFolderFault, IsFolderFault, IsNoMemory, IsOfDefinition, IsOfOutputs, IsOfPut, IsOfResumed, IsOfSettings, IsOfStreams, IsResumed, IsRunFault};
 
 use crate::decisions::{
     Destination, Opening, Recording, Stream, destination_by, is_job, opening_by, recording_by,
@@ -28,7 +29,7 @@ use tm_fields::Definition;
 use tm_places::Places;
 use tm_shelf::{FileShelf, ShelfFault, name_in};
 use tm_tool::{
-    Command, Done, Drain, Ending, Job, Octets, Reading, RunFault, Settings, Shelf, Source, Writing,
+    Command, Done, Drain, Ending, Job, Octets, Reading, RunFault, Seeking, Settings, Shelf, Source, Writing,
     list_frames, run as run_job, split, summarize,
 };
 use tm_words::{Action, Plan, plan};
@@ -49,13 +50,13 @@ fn no_memory() -> ToolFault
     ToolFault::Run(RunFault::NoMemory)
 }
 
-// A source over a buffer behind the recording.
-fn source<S: Read + Drop>(alloc: Global, recording: S) -> Result<Reading<BufReader<S>>, ToolFault>
-    ensures left { IfOk result (λ s. ⟦<Reading<BufReader<S>> as Source>⟧.left s ≡ S.remaining recording) }
+// A buffer behind the recording.
+fn buffered<S: Read + Drop>(alloc: Global, recording: S) -> Result<BufReader<S>, ToolFault>
+    ensures left { IfOk result (λ reader. ⟦<BufReader<S> as Read>⟧.remaining reader ≡ S.remaining recording) }
     ensures refused { IfErr result IsNoMemory }
 {
     match BufReader::with_capacity(alloc, RECORDING_BUFFER, recording) {
-        Ok(reader) => Ok(Reading::new(reader)),
+        Ok(reader) => Ok(reader),
         Err(_) => Err(no_memory()),
     }
 }
@@ -94,36 +95,34 @@ fn list_to<S: Source, W: Drain>(
 
 // Lists the frames of a recording, or sums it up, on standard output.
 #[tactic(auto, using(crate::proofs::ProgramLemmas::starved_run))]
-fn list<R: Print + AllocGlobal, S: Read + Drop>(
+fn list<R: Print + AllocGlobal, S: Source + Drop>(
     rt: &R,
     action: Action,
     settings: &Settings,
-    recording: S,
+    mut source: S,
 ) -> Result<(), ToolFault>
     ensures { IfErr result IsRunFault }
 {
     let alloc = rt.alloc();
-    let mut source = source(alloc, recording)?;
     let mut out = drain(alloc, io::writer(rt))?;
     list_to(alloc, action, settings, &mut source, &mut out)
 }
 
 // The devices of every run of a job: the recording, and the report.
 #[derive(Drop)]
-struct Ends<S: Read + Drop, V: Write + Drop> {
-    source: Reading<BufReader<S>>,
+struct Ends<S: Source + Drop, V: Write + Drop> {
+    source: S,
     report: Writing<BufWriter<V>>,
 }
 
-// Buffers behind the recording and before the report.
-fn ends_with<S: Read + Drop, V: Write + Drop>(
+// A buffer before the report.
+fn ends_with<S: Source + Drop, V: Write + Drop>(
     alloc: Global,
-    recording: S,
+    source: S,
     report: V,
 ) -> Result<Ends<S, V>, ToolFault>
     ensures { IfErr result IsNoMemory }
 {
-    let source = source(alloc, recording)?;
     let report = drain(alloc, report)?;
     Ok(Ends { source, report })
 }
@@ -153,7 +152,7 @@ fn give_to<S: Source, W: Drain, V: Drain>(
 
 // Gives the packets of a recording on standard output.
 #[tactic(auto, using(crate::proofs::ProgramLemmas::starved_run))]
-fn give_packets<R: Print + AllocGlobal, S: Read + Drop, V: Write + Drop>(
+fn give_packets<R: Print + AllocGlobal, S: Source + Drop, V: Write + Drop>(
     rt: &R,
     job: Job,
     command: Command<'_>,
@@ -236,7 +235,7 @@ fn split_to<S: Source, H: Shelf, V: Drain>(
 
 // Gives the packets of a recording to a file for each application.
 #[tactic(auto, using(crate::proofs::ProgramLemmas::starved_run, crate::proofs::ProgramLemmas::put_there))]
-fn split_packets<R: Files + AllocGlobal, S: Read + Drop, V: Write + Drop>(
+fn split_packets<R: Files + AllocGlobal, S: Source + Drop, V: Write + Drop>(
     rt: &R,
     job: Job,
     shelf: &mut FileShelf<'_, R>,
@@ -385,12 +384,12 @@ fn inputs_by<R: Files + AllocGlobal>(rt: &R, plan: &Plan) -> Result<Inputs, Tool
 
 // Goes on with the job over the recording, to where the plan wants the packets.
 #[tactic(auto, using(crate::proofs::ProgramLemmas::starved_run, crate::proofs::ProgramLemmas::folder_there, crate::proofs::ProgramLemmas::split_there))]
-fn go_on<R: Files + Print + AllocGlobal, S: Read + Drop, V: Write + Drop>(
+fn go_on<R: Files + Print + AllocGlobal, S: Source + Drop, V: Write + Drop>(
     rt: &R,
     plan: &Plan,
     definition: Option<&Definition>,
     job: Job,
-    recording: S,
+    source: S,
     report: V,
     places: &Places,
 ) -> Result<Done, ToolFault>
@@ -398,7 +397,7 @@ fn go_on<R: Files + Print + AllocGlobal, S: Read + Drop, V: Write + Drop>(
     ensures refused { IfErr result (λ fault. IsRunFault fault ⊎ HasFolderFault plan.now.dir fault) }
 {
     let ending = ending_by(plan);
-    let ends = ends_with(rt.alloc(), recording, report)?;
+    let ends = ends_with(rt.alloc(), source, report)?;
     match shelf_by(rt, plan, places)? {
         Some(mut shelf) => split_packets(rt, job, &mut shelf, ends, ending),
         None => give_packets(rt, job, command_by(plan, definition), ends, ending),
@@ -408,11 +407,11 @@ fn go_on<R: Files + Print + AllocGlobal, S: Read + Drop, V: Write + Drop>(
 // Does what the plan asks for with the recording, once the names of its files were checked, and answers what its job has done, if it has one. Names are
 // looked up anew once the report is made: before, it may have been none.
 #[tactic(auto, using(crate::proofs::ProgramLemmas::starved_run, crate::proofs::ProgramLemmas::run_ends, crate::proofs::EndingLemmas::done_from))]
-fn run_on<R: Files + Print + AllocGlobal, S: Read + Drop, E: Write + Drop>(
+fn run_on<R: Files + Print + AllocGlobal, S: Source + Drop, E: Write + Drop>(
     rt: &R,
     plan: &Plan,
     inputs: Inputs,
-    recording: S,
+    source: S,
     errors: E,
     checked: Checked,
 ) -> Result<Option<Done>, ToolFault>
@@ -421,7 +420,7 @@ fn run_on<R: Files + Print + AllocGlobal, S: Read + Drop, E: Write + Drop>(
     ensures refused { IfErr result (IsOfOutputs plan.now) }
 {
     if !is_job(plan.action) {
-        list(rt, plan.action, &inputs.settings, recording)?;
+        list(rt, plan.action, &inputs.settings, source)?;
         return Ok(None);
     }
     let Inputs {
@@ -437,7 +436,7 @@ fn run_on<R: Files + Print + AllocGlobal, S: Read + Drop, E: Write + Drop>(
         plan,
         definition.as_ref(),
         job,
-        recording,
+        source,
         report,
         &places,
     )?;
@@ -447,11 +446,11 @@ fn run_on<R: Files + Print + AllocGlobal, S: Read + Drop, E: Write + Drop>(
 
 // Checks the names of the plan's files, and does what the plan asks for with the recording.
 #[tactic(auto, using(crate::proofs::ProgramLemmas::starved_run, crate::proofs::ProgramLemmas::names_come))]
-fn check_and_run<R: Files + Print + AllocGlobal, S: Read + Drop, E: Write + Drop>(
+fn check_and_run<R: Files + Print + AllocGlobal, S: Source + Drop, E: Write + Drop>(
     rt: &R,
     plan: &Plan,
     inputs: Inputs,
-    recording: S,
+    source: S,
     errors: E,
 ) -> Result<Option<Done>, ToolFault>
     ensures ok { OnOk result (AreClear plan.now) }
@@ -461,7 +460,7 @@ fn check_and_run<R: Files + Print + AllocGlobal, S: Read + Drop, E: Write + Drop
 {
     let places = places_by(rt, plan)?;
     let checked = check_names(rt.alloc(), plan, &places)?;
-    run_on(rt, plan, inputs, recording, errors, checked)
+    run_on(rt, plan, inputs, source, errors, checked)
 }
 
 // The plan of the words.
@@ -521,8 +520,14 @@ fn run_plan<R: Files + Input + Print + AllocGlobal, E: Write + Drop>(
     check_streams(rt, plan, &mut errors)?;
     let inputs = inputs_by(rt, plan)?;
     let done = match recording_by(plan) {
-        Recording::File(name) => check_and_run(rt, plan, inputs, open(rt, name)?, errors),
-        Recording::Input => check_and_run(rt, plan, inputs, rt.reader(), errors),
+        Recording::File(name) => {
+            let source = Seeking::new(buffered(rt.alloc(), open(rt, name)?)?);
+            check_and_run(rt, plan, inputs, source, errors)
+        }
+        Recording::Input => {
+            let source = Reading::new(buffered(rt.alloc(), rt.reader())?);
+            check_and_run(rt, plan, inputs, source, errors)
+        }
     };
     match done {
         Ok(_) => Ok(()),

@@ -9,7 +9,8 @@ use Rattle.tm_reassembly.specs.State.{Tail}
 use Rattle.tm_reassembly.specs.Chain.{ChainMember, End, Ended, Unended, Run, Runs, stem_with, runs_after, has_frame_gap, with_member, cut_before}
 use Rattle.tm_reassembly.specs.Parts.{Part, fate_at, far_end, begins_packet, lead, parts}
 use Rattle.tm_reassembly.specs.Items.{chain_parts}
-pub use Rattle.tm_reassembly.specs.Valid.{IsTail, IsOpenTail}
+pub use Rattle.tm_reassembly.specs.Valid.{IsTail}
+pub use Rattle.tm_reassembly.specs.code.Fits.{IsOpenTail}
 use Rattle.tm_reassembly.specs.code.Field.{step_parts, step_tail, ended_parts, chain_parts_at, chain_tail_at}
 use Rattle.tm_reassembly.proofs.Sweep.{sweep, parts_from-sweep}
 use Rattle.tm_reassembly.proofs.Fresh.{fresh_body}

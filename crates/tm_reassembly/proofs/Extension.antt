@@ -6,7 +6,7 @@ use Rattle.std.proofs.lemmas.Bool.{cases_lt, lt-leb, le-leb, and_right}
 use Rattle.tm_reassembly.specs.State.{State, Last, Tail}
 use Rattle.tm_reassembly.specs.Readings.{Reading}
 use Rattle.tm_reassembly.specs.Chain.{ChainMember, Run, Runs, stem_of, stem_with, chain, frames, member_of, has_frame_gap, runs, runs_after, with_member, cut_before}
-use Rattle.tm_reassembly.specs.Valid.{AllReadingsFit, PlaceFits, PlacesFit}
+use Rattle.tm_reassembly.specs.code.Fits.{AllReadingsFit, PlaceFits, PlacesFit}
 use Rattle.tm_reassembly.specs.Verdict.{Verdict, verdict, completed_at_once, Grow, GrowFrom, is_whole}
 use Rattle.tm_reassembly.specs.Parts.{text, far_end, begins_packet}
 use Rattle.tm_items.specs.OnePacket.{reach}

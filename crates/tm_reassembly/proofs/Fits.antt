@@ -17,7 +17,7 @@ use Rattle.tm_frame.proofs.FaultLemmas.{place_inside}
 use Rattle.tm_reassembly.specs.Readings.{Reading}
 use Rattle.tm_reassembly.specs.Chain.{start_place_of, counted_field}
 use Rattle.tm_reassembly.specs.Recording.{readings}
-use Rattle.tm_reassembly.specs.Valid.{PlaceFits, IsFit, AllReadingsFit}
+use Rattle.tm_reassembly.specs.code.Fits.{PlaceFits, IsFit, AllReadingsFit}
 
 -- parts of octets are octets
 octets_cons : (x : ℕ) (xs : List ℕ) → x < 256 → AreOctets xs → AreOctets (x ∷ xs)

@@ -11,8 +11,8 @@ use Rattle.tm_items.specs.Item.{Item, seen_of, Vca, Dropped, Packet}
 pub use Rattle.tm_reassembly.specs.Tiles.{tail_of}
 use Rattle.tm_reassembly.specs.Chain.{ChainMember, has_frame_gap, stem_of, stem_with, Unended}
 use Rattle.tm_reassembly.specs.Parts.{Part, Fate, Given, Lost, Held}
-use Rattle.tm_reassembly.specs.code.Field.{chain_parts_at, chain_tail_at}
-use Rattle.tm_reassembly.specs.Items.{part_item, seen_at, gap_item, gaps, gap_at, vca_at, channel_items, part_items}
+use Rattle.tm_reassembly.specs.code.Field.{chain_parts_at, chain_tail_at, part_items}
+use Rattle.tm_reassembly.specs.Items.{part_item, seen_at, gap_item, gaps, gap_at, vca_at, channel_items}
 use Rattle.tm_reassembly.proofs.Step.{PlaceFits}
 use Rattle.tm_reassembly.proofs.Chained.{IsOpenTail, chained, chained_step, chained_end, chain_parts-stem, chain_parts-fresh, left_parts}
 use Rattle.tm_reassembly.proofs.Seen.{AllSeen, seen_at-all, seen_at-none, chain_parts_at-at, chain_tail_at-open, AllAt, IsAt}

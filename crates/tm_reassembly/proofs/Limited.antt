@@ -3,7 +3,7 @@ use Rattle.std.proofs.Common.{Ok, Err, ℕ, ◌≤◌, Bool, Option, List, [], �
 use Rattle.std.specs.List.{slice_get}
 use Rattle.std.proofs.lemmas.Bool.{cases_Bool}
 use Rattle.tm_frame.specs.Frame.{GoodFrame}
-use Rattle.tm_reassembly.specs.Among.{Among}
+use Rattle.tm_items.specs.Among.{Among}
 use Rattle.tm_reassembly.specs.Chain.{ChainMember, has_frame_gap, member, master_member}
 use Rattle.tm_items.specs.Item.{Item, Packet}
 use Rattle.tm_reassembly.specs.Items.{master_gap_item, gap_item, gap_at, vca_at, items_of_readings, state_after_readings}
@@ -11,7 +11,8 @@ use Rattle.tm_reassembly.specs.Readings.{Reading}
 use Rattle.tm_reassembly.specs.Recording as raw
 use Rattle.tm_rules.specs.Rules.{Rules, chooses}
 use Rattle.tm_reassembly.specs.State.{State, Tail}
-use Rattle.tm_reassembly.specs.Valid.{IsFit, AllReadingsFit, IsValidState}
+use Rattle.tm_reassembly.specs.Valid.{IsValidState}
+use Rattle.tm_reassembly.specs.code.Fits.{IsFit, AllReadingsFit}
 use Rattle.tm_reassembly.proofs.Each.{Each, Each-append, Each-cond}
 use Rattle.tm_reassembly.proofs.Fits.{readings-fit}
 use Rattle.tm_reassembly.proofs.Joining.{before_of, tail_of, member_items, gap-each, part_items-each}

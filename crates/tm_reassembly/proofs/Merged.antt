@@ -17,11 +17,13 @@ use Rattle.tm_items.specs.Item as item
 use Rattle.tm_items.specs.Item.{Item, seen_of}
 use Rattle.tm_reassembly.specs.Chain.{ChainMember, chain, frames, master_chain, member_of, master_member, master_frames}
 use Rattle.tm_reassembly.specs.Parts.{Part, Fate, Held}
-use Rattle.tm_reassembly.specs.Items.{part_item, seen_at, gap_item, master_gap_item, gaps, gap_at, vca_at, master_items, channel_items, chain_parts, record_items, merged, part_items}
+use Rattle.tm_reassembly.specs.Items.{part_item, seen_at, gap_item, master_gap_item, gaps, gap_at, vca_at, master_items, channel_items, chain_parts, record_items, merged}
+use Rattle.tm_reassembly.specs.code.Field.{part_items}
 use Rattle.tm_rules.specs.Rules.{Rules, chooses}
 use Rattle.tm_reassembly.specs.Recording.{readings, items}
-use Rattle.tm_reassembly.specs.Valid.{AllReadingsFit, PlaceFits, IsValidState, IsFit}
-use Rattle.tm_reassembly.specs.Among.{Among, is_of, is_master_gap}
+use Rattle.tm_reassembly.specs.Valid.{IsValidState}
+use Rattle.tm_reassembly.specs.code.Fits.{AllReadingsFit, PlaceFits, IsFit}
+use Rattle.tm_items.specs.Among.{Among, is_of, is_master_gap}
 use Rattle.tm_reassembly.proofs.Seen.{AllSeen, seen_at-all, seen_at-none}
 use Rattle.tm_reassembly.proofs.Joining.{before_of, tail_of, channel_items-is, AllNumbered, items-seen, gaps-each, vcas-each, none_other, gap-each}
 use Rattle.tm_reassembly.proofs.Fits.{readings-fit}

@@ -13,7 +13,8 @@ use Rattle.tm_reassembly.specs.Items.{master_gap_item, gap_at, items_of_readings
 use Rattle.tm_reassembly.specs.OlderForms.{without_master, IsMasterGapAtMost, LacksMasterGap, one_octet_more}
 use Rattle.tm_reassembly.specs.Recording as raw
 use Rattle.tm_rules.specs.Rules.{Rules, chooses}
-use Rattle.tm_reassembly.specs.Valid.{HasShape, IsFit, AllReadingsFit, IsValidState}
+use Rattle.tm_reassembly.specs.Valid.{HasShape, IsValidState}
+use Rattle.tm_reassembly.specs.code.Fits.{IsFit, AllReadingsFit}
 use Rattle.tm_reassembly.proofs.Fits.{readings-fit}
 use Rattle.tm_reassembly.proofs.Joining.{before_of, tail_of, member_items}
 use Rattle.tm_reassembly.proofs.OneStep.{valid-from, after-nil, items-one, after-one, after-bad, items-other, after-other}

@@ -11,17 +11,18 @@ use Rattle.tm_reassembly.specs.Items.{master_gap_item, gap_at}
 use Rattle.tm_frame.specs.declared.fault.FrameFault.{FrameFault}
 use Rattle.tm_frame.specs.Fault.{frame_reading_of}
 use Rattle.tm_frame.specs.Frame.{GoodFrame}
-use Rattle.tm_reassembly.specs.State.{State, Last, Tail}
+use Rattle.tm_reassembly.specs.State.{State, Last, Tail, octets_in}
 use Rattle.tm_reassembly.specs.Readings.{Reading}
 use Rattle.tm_items.specs.Item.{Item, Bad}
 use Rattle.tm_reassembly.specs.Chain.{member, has_frame_gap, master_member}
 use Rattle.tm_reassembly.specs.code.Field.{chain_tail_at}
 use Rattle.tm_reassembly.specs.Items as read
-use Rattle.tm_reassembly.specs.code.Kept.{Slot, HaveLimit, lasts, unused, frame_count_in, tail_in, octets_in, counted, kept_items, last_after}
+use Rattle.tm_reassembly.specs.code.Kept.{Slot, HaveLimit, lasts, unused, frame_count_in, tail_in, counted, kept_items, last_after}
 use Rattle.tm_reassembly.proofs.Slots.{last_at, lasts_set, lasts_length, limit_at, limit_set}
 use Rattle.tm_reassembly.specs.Recording.{items, after}
 use Rattle.tm_items.specs.Sinks.{RefusesOne}
-use Rattle.tm_reassembly.specs.Valid.{IsValidState, IsFit, IsOpenTail}
+use Rattle.tm_reassembly.specs.Valid.{IsValidState}
+use Rattle.tm_reassembly.specs.code.Fits.{IsFit, IsOpenTail}
 use Rattle.tm_reassembly.proofs.States.{tail-short}
 use Rattle.tm_reassembly.proofs.Fits.{reading-fit}
 use Rattle.tm_reassembly.proofs.Joining.{before_of, tail_of, member_items}

@@ -5,11 +5,11 @@ use Rattle.std.specs.List.{slice_get}
 use Rattle.std.proofs.lemmas.List.{append-nil, length-set}
 use Rattle.std.proofs.lemmas.Bool.{cases_Bool, cases_eq, eq-eqb, ne_eqb, cond-true, cond-false, both_ways}
 use Rattle.tm_reassembly.specs.State.{State, Last, Tail}
-use Rattle.tm_frame.specs.Frame.{GoodFrame}
+use Rattle.tm_frame.specs.Frame.{GoodFrame, is_vca_kind}
 use Rattle.tm_frame.specs.declared.fault.FrameFault.{FrameFault}
 use Rattle.tm_reassembly.specs.Readings.{Reading}
 use Rattle.tm_items.specs.Item as item
-use Rattle.tm_reassembly.specs.Chain.{ChainMember, has_frame_gap, member, member_of, is_vca_kind, chain, master_member, master_stem}
+use Rattle.tm_reassembly.specs.Chain.{ChainMember, has_frame_gap, member, member_of, chain, master_member, master_stem}
 use Rattle.tm_reassembly.specs.code.Field.{chain_tail_at}
 use Rattle.tm_rules.specs.Channels.{eight}
 use Rattle.tm_reassembly.specs.Items.{seen_at, channel_items, channel_after, state_after_readings, master_gap_item, gap_at, last_frame_count, record_items, items_of_readings, last_with}

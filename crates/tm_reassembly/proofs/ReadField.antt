@@ -6,9 +6,8 @@ use Rattle.tm_reassembly.proofs.Split.{whole_part, field_parts-whole, unfinished
 use Rattle.tm_items.specs.Item.{Item, Packet}
 use Rattle.tm_reassembly.specs.Parts.{Part, begins_packet}
 use Rattle.tm_items.specs.OnePacket.{reach}
-use Rattle.tm_reassembly.specs.code.Field.{field_parts, unfinished}
+use Rattle.tm_reassembly.specs.code.Field.{field_parts, unfinished, part_items}
 use Rattle.tm_items.specs.Sinks.{TakesAll, RefusesOne}
-use Rattle.tm_reassembly.specs.Items.{part_items}
 
 -- what follows from taking the rest of the items, or from refusing one of them
 pub record Leads {S F : Type 0} (takes : S → Item → S → Type 0) (refuses : S → Item → F → S → Type 0) (start now : S) (all rest : List Item) : Type 0 where

@@ -6,7 +6,7 @@ use Rattle.std.specs.List.{flat_map, slice_get}
 use Rattle.std.proofs.lemmas.List.{append-nil}
 use Rattle.std.proofs.lemmas.List.Concat.{flat_map-append}
 use Rattle.std.proofs.lemmas.Bool.{cases_Bool, cond_both, eq-eqb, cond-true, cond-false}
-pub use Rattle.tm_reassembly.specs.Valid.{IsFit, AllReadingsFit}
+pub use Rattle.tm_reassembly.specs.code.Fits.{IsFit, AllReadingsFit}
 use Rattle.tm_reassembly.specs.State.{State, Last, Tail}
 use Rattle.tm_reassembly.specs.Readings.{Reading}
 use Rattle.tm_items.specs.Item.{Item}

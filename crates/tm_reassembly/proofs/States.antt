@@ -10,10 +10,10 @@ use Rattle.tm_frame.specs.declared.layout.LayoutParts.{LayoutParts}
 use Rattle.tm_frame.specs.declared.frame.Kind.TheVariants as got
 use Rattle.tm_frame.specs.declared.frame.Kind.{Kind}
 use Rattle.tm_frame.specs.Fault.{frame_reading_of}
-use Rattle.tm_frame.specs.Frame.{GoodFrame}
+use Rattle.tm_frame.specs.Frame.{GoodFrame, is_vca_kind}
 use Rattle.tm_reassembly.specs.Readings.{Reading}
 use Rattle.tm_reassembly.specs.State.{State, Last, Tail}
-use Rattle.tm_reassembly.specs.Chain.{has_frame_gap, member, counted_field, start_place_of, is_vca_kind}
+use Rattle.tm_reassembly.specs.Chain.{has_frame_gap, member, counted_field, start_place_of}
 use Rattle.tm_items.specs.OnePacket.{reach}
 use Rattle.tm_reassembly.specs.Parts.{agrees, begins_packet}
 use Rattle.tm_reassembly.specs.code.Field.{chain_tail_at, step_tail, frame_tail, tail_left, tail_at, left_in, unfinished}

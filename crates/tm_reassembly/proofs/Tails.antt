@@ -2,12 +2,12 @@
 use Rattle.std.proofs.Common.{◌≡◌, ℕ, ◌+◌, true, false, not, ◌&&◌, ◌-◌, ◌<◌, ◌≤◌, Option, Some, None, List, [], ◌∷◌, ◌++◌, length, take, refl, sym, ap, subst, ◌∙◌, arith, length-append, leb, eqb}
 use Rattle.std.proofs.Math.Seq.{take-append-add}
 use Rattle.std.proofs.lemmas.Bool.{le-leb, eq-eqb, eqb-true, cond-true}
-use Rattle.tm_reassembly.specs.State.{Tail}
+use Rattle.tm_reassembly.specs.State.{Tail, octets_in}
 use Rattle.tm_reassembly.specs.Parts.{Given, agrees_at, is_long}
 use Rattle.tm_items.specs.OnePacket.{reach}
 use Rattle.tm_reassembly.specs.code.Field.{step_parts, frame_parts}
 use Rattle.tm_reassembly.proofs.Long.{and_not}
-use Rattle.tm_reassembly.specs.code.Kept.{tail_of_octets, octets_in, grown, completed, member_at}
+use Rattle.tm_reassembly.specs.code.Kept.{tail_of_octets, grown, completed, member_at}
 
 -- the first six octets of a tail and a field
 pub join_six : (tail field : List ℕ) → length tail ≤ 6 → tail ++ take (6 - length tail) field ≡ take 6 (tail ++ field)

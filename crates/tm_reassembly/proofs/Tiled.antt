@@ -6,18 +6,19 @@ use Rattle.std.proofs.lemmas.List.{append-nil, length-map}
 use Rattle.std.proofs.lemmas.List.Elements.{filter-append}
 use Rattle.std.proofs.lemmas.Bool.{cases_Bool, cases_eq, eq-eqb, ne_eqb, cond-true, cond-false}
 use Rattle.tm_reassembly.specs.State.{State, Last, Tail}
-use Rattle.tm_frame.specs.Frame.{GoodFrame}
+use Rattle.tm_frame.specs.Frame.{GoodFrame, is_vca_kind}
 use Rattle.tm_frame.specs.declared.frame.Kind.TheVariants as got
 use Rattle.tm_frame.specs.declared.frame.Kind.{Kind}
 use Rattle.tm_reassembly.specs.Readings.{Reading}
 use Rattle.tm_items.specs.Item as item
 use Rattle.tm_items.specs.Item.{Item}
-use Rattle.tm_reassembly.specs.Chain.{ChainMember, has_frame_gap, member, master_member, member_of, is_vca_kind, counted_field}
+use Rattle.tm_reassembly.specs.Chain.{ChainMember, has_frame_gap, member, master_member, member_of, counted_field}
 use Rattle.tm_reassembly.specs.Parts.{Part, Fate, Given, Lost, Held}
-use Rattle.tm_reassembly.specs.code.Field.{chain_parts_at, chain_tail_at}
-use Rattle.tm_reassembly.specs.Items.{items_of_readings, state_after_readings, empty, part_item, gap_item, master_gap_item, gap_at, vca_at, part_items}
-use Rattle.tm_reassembly.specs.Valid.{HasShape, IsFit, AllReadingsFit}
-use Rattle.tm_reassembly.specs.Tiles.{Spot, field_spots, kind_spots, record_spots, channel_spots, IsHeld, Takes, Tile, is_part_of, parts_of, tail_of, held_tail}
+use Rattle.tm_reassembly.specs.code.Field.{chain_parts_at, chain_tail_at, part_items}
+use Rattle.tm_reassembly.specs.Items.{items_of_readings, state_after_readings, empty, part_item, gap_item, master_gap_item, gap_at, vca_at}
+use Rattle.tm_reassembly.specs.Valid.{HasShape}
+use Rattle.tm_reassembly.specs.code.Fits.{IsFit, AllReadingsFit}
+use Rattle.tm_reassembly.specs.Tiles.{Spot, field_spots, kind_spots, record_spots, channel_spots, IsHeld, Covers, Tile, is_part_of, parts_of, tail_of, held_tail}
 use Rattle.tm_reassembly.proofs.Chained.{IsOpenTail}
 use Rattle.tm_reassembly.proofs.Seen.{AllAt, chain_parts_at-at, IsAt}
 use Rattle.tm_reassembly.proofs.Joining.{before_of, member_items, gap-each}
@@ -29,23 +30,23 @@ Tile-append : (a b c : List Spot) (xs ys : List Item) → Tile a xs b → Tile b
 Tile-append a b c [] ys h k = subst (λ (s : List Spot). Tile s ys c) (sym h) k
 Tile-append a b c (x ∷ xs) ys h k = (h.0, h.1, Tile-append h.0 b c xs ys h.2 k)
 
-Takes-more : (a b more : List Spot) (x : Item) → Takes a x b → Takes (a ++ more) x (b ++ more)
-Takes-more a b more (item.Packet seen channel first place octets) h =
+Covers-more : (a b more : List Spot) (x : Item) → Covers a x b → Covers (a ++ more) x (b ++ more)
+Covers-more a b more (item.Packet seen channel first place octets) h =
     (h.0, ap (λ (s : List Spot). s ++ more) h.1 ∙ append_assoc h.0 b more, h.2, h.3)
-Takes-more a b more (item.Dropped seen channel first place octets reason) h =
+Covers-more a b more (item.Dropped seen channel first place octets reason) h =
     (h.0, ap (λ (s : List Spot). s ++ more) h.1 ∙ append_assoc h.0 b more, h.2, h.3)
-Takes-more a b more x h = absurd h
+Covers-more a b more x h = absurd h
 
 Tile-more : (a b more : List Spot) (xs : List Item) → Tile a xs b → Tile (a ++ more) xs (b ++ more)
 Tile-more a b more [] h = ap (λ (s : List Spot). s ++ more) h
-Tile-more a b more (x ∷ xs) h = (h.0 ++ more, Takes-more a h.0 more x h.1, Tile-more h.0 b more xs h.2)
+Tile-more a b more (x ∷ xs) h = (h.0 ++ more, Covers-more a h.0 more x h.1, Tile-more h.0 b more xs h.2)
 
 -- parts and their items
 tile-parts : (limit c n : ℕ) (spots rest : List Spot) (ps : List Part) → AllAt limit n ps → Lay spots ps rest → Tile spots (parts_of c (part_items c ps)) rest
 tile-parts limit c n spots rest [] k h = h
 tile-parts limit c n spots rest (p ∷ ps) k h = one p.fate k.0 (tile-parts limit c n h.0 rest ps k.1 h.2)
   where
-    kept : (b : Bool) → b ≡ true → (x : Item) (xs : List Item) → Takes spots x h.0 → Tile h.0 xs rest → Tile spots (if b then x ∷ xs else xs) rest
+    kept : (b : Bool) → b ≡ true → (x : Item) (xs : List Item) → Covers spots x h.0 → Tile h.0 xs rest → Tile spots (if b then x ∷ xs else xs) rest
     kept b e x xs t u = subst (λ (z : Bool). Tile spots (if z then x ∷ xs else xs) rest) (sym e) (h.0, t, u)
 
     one : (f : Fate) → IsAt limit n p f → Tile h.0 (parts_of c (part_items c ps)) rest → Tile spots (parts_of c (part_item c p f ++ part_items c ps)) rest

@@ -4,6 +4,22 @@ use Rattle.tm_packet.specs.Header.{packet_version_of, packet_header_of}
 use Rattle.tm_reassembly.specs.Chain.{ChainMember}
 use Rattle.tm_reassembly.specs.Parts.{Part, Fate, Start, text}
 
+-- the text of a run: of a frame, with those before it and those behind it
+abbrev pub text_around : List ChainMember → ChainMember → List ChainMember → List ℕ
+text_around before f later = text (before ++ f ∷ later)
+
+-- where in the text the frame begins that comes after some frames
+abbrev pub frame_begin : List ChainMember → ℕ
+frame_begin before = length (text before)
+
+-- where it ends
+abbrev pub frame_end : List ChainMember → ChainMember → ℕ
+frame_end before f = frame_begin before + length f.field
+
+-- where a start of it begins, behind the octets that it has before the start
+abbrev pub start_in_text : List ChainMember → List ℕ → ℕ
+start_in_text before skipped = frame_begin before + length skipped
+
 -- where the packet that starts at q ends, by the six octets of its header, or seven octets on where the text doesn't have them
 abbrev pub reach_at : List ℕ → ℕ → ℕ
 reach_at t q = if nat_le (q + 6) (length t) then q + ((packet_header_of (take 6 (drop q t))).data_length + 7) else q + 7
@@ -35,15 +51,15 @@ module _ (limit : ℕ) where
   -- read begins at the start, it reaches past the frame's beginning, and each frame between agrees with it.
   abbrev pub IsOpen : List ℕ → ℕ → List ChainMember → List ChainMember → Type 0
   IsOpen t q front between =
-      BeginsPacket t q (length (text front)) × (length (text (front ++ between)) < reach_at t q)
-      × ((earlier later : List ChainMember) (g : ChainMember) → between ≡ earlier ++ g ∷ later → Agrees t q (length (text (front ++ earlier))) g)
+      BeginsPacket t q (frame_begin front) × (frame_begin (front ++ between) < reach_at t q)
+      × ((earlier later : List ChainMember) (g : ChainMember) → between ≡ earlier ++ g ∷ later → Agrees t q (frame_begin (front ++ earlier)) g)
 
   -- a packet that is read begins at q, the text ends it, and each later frame at which it is open agrees with it
   abbrev pub IsWhole : List ℕ → ℕ → List ChainMember → List ChainMember → Type 0
   IsWhole t q front later =
-      BeginsPacket t q (length (text front)) × (reach_at t q ≤ length t)
+      BeginsPacket t q (frame_begin front) × (reach_at t q ≤ length t)
       × ((between more : List ChainMember) (m : ChainMember) → later ≡ between ++ m ∷ more → IsOpen t q front between
-      → Agrees t q (length (text (front ++ between))) m)
+      → Agrees t q (frame_begin (front ++ between)) m)
 
   -- The starts of a frame whose octets are those of the text from `begin` up to, not with, `stop`: its place, and each place in it
   -- that a packet reaches that is read at a start.
@@ -55,7 +71,7 @@ module _ (limit : ℕ) where
   abbrev pub IsOpenAt : List ℕ → List ChainMember → ℕ → Type 0
   IsOpenAt t before q =
       (earlier : List ChainMember) × (between : List ChainMember) × (f : ChainMember) × (before ≡ earlier ++ f ∷ between)
-      × IsStart t (length (text earlier)) (length (text earlier) + length f.field) f.place q
+      × IsStart t (frame_begin earlier) (frame_end earlier f) f.place q
       × IsOpen t q (earlier ++ f ∷ []) between
 
 abbrev pub Iff : Type 0 → Type 0 → Type 0

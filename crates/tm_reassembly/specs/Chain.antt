@@ -1,6 +1,6 @@
 -- The chain of a channel, its gaps, and its runs (CCSDS 132.0-B-3, 4.1.2.6 and 4.1.2.7); and the master chain, of all channels.
 use Rattle.std.specs.Prelude.{ℕ, ◌+◌, ◌%◌, ◌==◌, Bool, true, false, not, Option, None, Some, Ok, Err, List, [], ◌∷◌, ◌++◌, slice_get, if◌then◌else◌}
-use Rattle.tm_frame.specs.Frame.{GoodFrame}
+use Rattle.tm_frame.specs.Frame.{GoodFrame, is_vca_kind}
 use Rattle.tm_frame.specs.declared.frame.Kind.TheVariants as got
 use Rattle.tm_frame.specs.declared.frame.Kind.{Kind}
 use Rattle.tm_reassembly.specs.Readings.{Reading}
@@ -32,13 +32,6 @@ counted_field (got.Packets place) field = field
 counted_field got.NoStart field = field
 counted_field got.Idle field = []
 counted_field got.Vca field = field
-
--- a VCA frame
-abbrev pub is_vca_kind : Kind → Bool
-is_vca_kind (got.Packets place) = false
-is_vca_kind got.NoStart = false
-is_vca_kind got.Idle = false
-is_vca_kind got.Vca = true
 
 -- a good frame, as a member
 abbrev pub member : ℕ → GoodFrame → ChainMember

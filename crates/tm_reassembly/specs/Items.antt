@@ -39,10 +39,6 @@ part_item channel p (Given seen) = Packet seen channel p.first p.place p.octets 
 part_item channel p (Lost reason seen) = Dropped seen channel p.first p.place (length p.octets) reason ∷ []
 part_item channel p Held = []
 
--- the items of parts
-abbrev pub part_items : ℕ → List Part → List Item
-part_items channel ps = flat_map (λ p. part_item channel p p.fate) ps
-
 -- those of some items that are seen at a record
 abbrev pub seen_at : ℕ → List Item → List Item
 seen_at number xs = filter (λ x. seen_of x == number) xs

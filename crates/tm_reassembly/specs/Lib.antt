@@ -11,5 +11,4 @@ pub mod Valid
 pub mod Verdict
 pub mod Tiles
 pub mod Absolute
-pub mod Among
 pub mod code

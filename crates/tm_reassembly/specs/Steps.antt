@@ -1,7 +1,8 @@
 -- What the code is seen as, and how a step and a closed end may be refused.
-use Rattle.std.specs.Prelude.{◌≡◌, ℕ, ◌*◌, ◌-◌, ◌^◌, ◌<◌, Bool, true, false, Option, Some, None, List, [], ◌∷◌, slice_get}
+use Rattle.std.specs.Prelude.{◌≡◌, ℕ, ◌*◌, ◌<◌, Bool, true, false, Option, Some, None, List, [], ◌∷◌, slice_get}
 use Rattle.tm_reassembly.specs.declared.fault.StepFault as fault
 use Rattle.tm_reassembly.specs.declared.fault.StepFault.TheVariants.{Sink, Failed, TooMany}
+pub use Rattle.tm_frame.specs.Layout.{most_records}
 use Rattle.tm_rules.specs.Rules.{Rules}
 use Rattle.tm_items.specs.Item.{Item}
 use Rattle.tm_reassembly.specs.Items.{empty}
@@ -23,10 +24,6 @@ progress_in rules state = record { rules = rules; state = state; failed = false;
 -- before any record
 abbrev pub new_progress : Rules → Progress
 new_progress rules = progress_in rules empty
-
--- the greatest number of records
-abbrev pub most_records : ℕ
-most_records = 2 ^ 32 - 1
 
 -- the items of one more record, and the progress with it
 abbrev pub step_items : Progress → List ℕ → List Item

@@ -42,22 +42,22 @@ abbrev pub BeginsAt : ℕ → ℕ → List Spot → Type 0
 BeginsAt first place [] = ⊥
 BeginsAt first place (x ∷ xs) = (x.record_number ≡ first) × (x.place ≡ place)
 
--- an item takes the octets that it tells of off the front
-abbrev pub Takes : List Spot → Item → List Spot → Type 0
-Takes spots (item.Packet seen channel first place octets) rest =
+-- an item covers the octets at the front that it tells of, and the others lie behind them
+abbrev pub Covers : List Spot → Item → List Spot → Type 0
+Covers spots (item.Packet seen channel first place octets) rest =
     (these : List Spot) × (spots ≡ these ++ rest) × (spot_octets these ≡ octets) × BeginsAt first place these
-Takes spots (item.Dropped seen channel first place octets reason) rest =
+Covers spots (item.Dropped seen channel first place octets reason) rest =
     (these : List Spot) × (spots ≡ these ++ rest) × (length these ≡ octets) × BeginsAt first place these
-Takes spots (item.Bad seen fault) rest = ⊥
-Takes spots (item.MasterGap seen expected found missing) rest = ⊥
-Takes spots (item.Gap seen channel expected found missing) rest = ⊥
-Takes spots (item.Vca seen channel) rest = ⊥
-Takes spots (item.Short seen octets) rest = ⊥
+Covers spots (item.Bad seen fault) rest = ⊥
+Covers spots (item.MasterGap seen expected found missing) rest = ⊥
+Covers spots (item.Gap seen channel expected found missing) rest = ⊥
+Covers spots (item.Vca seen channel) rest = ⊥
+Covers spots (item.Short seen octets) rest = ⊥
 
 -- items that begin at the first octet, each where the one before ends
 abbrev pub Tile : List Spot → List Item → List Spot → Type 0
 Tile spots [] rest = spots ≡ rest
-Tile spots (x ∷ xs) rest = (middle : List Spot) × Takes spots x middle × Tile middle xs rest
+Tile spots (x ∷ xs) rest = (middle : List Spot) × Covers spots x middle × Tile middle xs rest
 
 -- the octets that are left are those of the tail, or there are none
 abbrev pub IsHeld : Option Tail → List Spot → Type 0

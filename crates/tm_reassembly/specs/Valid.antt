@@ -1,10 +1,8 @@
 -- Which records and which states may be.
-use Rattle.std.specs.Prelude.{◌≡◌, ℕ, ◌+◌, ◌^◌, ◌<◌, ◌≤◌, Bool, true, false, Option, Some, None, Ok, Err, List, [], ◌∷◌, length, slice_get}
+use Rattle.std.specs.Prelude.{◌≡◌, ℕ, ◌+◌, ◌^◌, ◌<◌, ◌≤◌, Bool, true, false, Option, Some, None, List, [], ◌∷◌, length, slice_get}
 use Rattle.tm_bits.specs.Bits.{AreOctets}
 use Rattle.tm_frame.specs.declared.layout.LayoutParts.{LayoutParts}
-use Rattle.tm_reassembly.specs.Readings.{Reading}
 use Rattle.tm_reassembly.specs.State.{State, Last, Tail}
-use Rattle.tm_reassembly.specs.Chain.{ChainMember, start_place_of, counted_field}
 use Rattle.tm_reassembly.specs.Parts.{begins_packet}
 use Rattle.tm_items.specs.OnePacket.{reach}
 use Rattle.tm_rules.specs.Rules.{Rules, IsLimit, chooses}
@@ -16,24 +14,6 @@ abbrev pub AllOctets : List (List ℕ) → Type 0
 AllOctets [] = Unit {0}
 AllOctets (octets ∷ more) = AreOctets octets × AllOctets more
 
--- a place isn't past its field's end
-abbrev pub PlaceFits : Option ℕ → ℕ → Type 0
-PlaceFits None len = Unit {0}
-PlaceFits (Some place) len = place ≤ len
-
-abbrev pub PlacesFit : List ChainMember → Type 0
-PlacesFit [] = Unit {0}
-PlacesFit (m ∷ ms) = PlaceFits m.place (length m.field) × PlacesFit ms
-
--- a good frame's channel is one of eight, and its place isn't past its field's end
-abbrev pub IsFit : Reading → Type 0
-IsFit (Err fault) = Unit {0}
-IsFit (Ok f) = (f.channel < 8) × PlaceFits (start_place_of f.kind) (length (counted_field f.kind f.field))
-
-abbrev pub AllReadingsFit : List Reading → Type 0
-AllReadingsFit [] = Unit {0}
-AllReadingsFit (r ∷ rs) = IsFit r × AllReadingsFit rs
-
 -- ---- states
 
 module _ (limit : ℕ) where
@@ -41,11 +21,6 @@ module _ (limit : ℕ) where
   abbrev pub IsTail : List ℕ → Type 0
   IsTail [] = ⊥
   IsTail (x ∷ xs) = (begins_packet limit (x ∷ xs) ≡ true) × (length (x ∷ xs) < reach (x ∷ xs))
-
-  -- what is held, if anything, is an unfinished packet
-  abbrev pub IsOpenTail : Option Tail → Type 0
-  IsOpenTail None = Unit {0}
-  IsOpenTail (Some t) = IsTail t.octets
 
   -- eight channels; nothing is kept of one that isn't chosen; and each tail is an unfinished packet
   pub record HasShape (chosen : ℕ → Bool) (s : State) : Type 0 where

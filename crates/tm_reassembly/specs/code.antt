@@ -1,3 +1,4 @@
 pub mod Blocks
 pub mod Field
 pub mod Kept
+pub mod Fits

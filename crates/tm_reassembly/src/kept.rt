@@ -3,15 +3,16 @@
 ghost use Rattle.std.specs.Prelude.{◌≡◌, ◌+◌, ◌<◌, ◌≤◌, vec_len, vec_capacity, ◌∷◌, ◌++◌, length, IfOk, IfErr, OnOk, Option, None, Some, IsSome, true, false};
 ghost use Rattle.tm_reassembly.specs.code.Blocks.{block_last};
 ghost use Rattle.tm_reassembly.specs.Checkpoint.{block};
-ghost use Rattle.tm_reassembly.specs.Chain.{member, has_frame_gap, is_vca_kind};
-ghost use Rattle.tm_reassembly.specs.code.Field.{chain_parts_at, chain_tail_at, ended_parts, step_parts, step_tail};
-ghost use Rattle.tm_reassembly.specs.Items.{gap_item, master_gap_item, gap_at, vca_at, close_last, part_items};
+ghost use Rattle.tm_reassembly.specs.Chain.{member, has_frame_gap};
+ghost use Rattle.tm_frame.specs.Frame.{is_vca_kind};
+ghost use Rattle.tm_reassembly.specs.code.Field.{chain_parts_at, chain_tail_at, ended_parts, step_parts, step_tail, part_items};
+ghost use Rattle.tm_reassembly.specs.Items.{gap_item, master_gap_item, gap_at, vca_at, close_last};
 ghost use Rattle.tm_items.specs.Item as value;
-ghost use Rattle.tm_reassembly.specs.code.Kept.{Slot, last_of, octets_in, frame_count_in, tail_in, kept_items, last_after, counted, missed, member_at};
+ghost use Rattle.tm_reassembly.specs.code.Kept.{Slot, last_of, frame_count_in, tail_in, kept_items, last_after, counted, missed, member_at};
+ghost use Rattle.tm_reassembly.specs.State.{octets_in, Last};
 ghost use Rattle.tm_rules.specs.Rules.{IsLimit};
 ghost use Rattle.tm_items.specs.Sinks.{TakesAll, RefusesOne};
-ghost use Rattle.tm_reassembly.specs.State.{Last};
-ghost use Rattle.tm_reassembly.specs.Valid.{PlaceFits, IsOpenTail};
+ghost use Rattle.tm_reassembly.specs.code.Fits.{PlaceFits, IsOpenTail};
 
 use crate::checkpoint::{Block, push};
 use crate::tail::Tail;

@@ -11,13 +11,13 @@ ghost use Rattle.tm_reassembly.specs.Checkpoint.{state_spelling, old_spelling, D
 ghost use Rattle.tm_reassembly.specs.OlderForms.{LacksMasterGap, one_octet_more, without_master};
 ghost use Rattle.tm_reassembly.specs.Items.{empty, held_part, chain_parts, channel_items, master_items, seen_at};
 ghost use Rattle.tm_items.specs.Item.{Item, Packet, seen_of};
-ghost use Rattle.tm_reassembly.specs.Among.{Among, is_of, is_master_gap};
+ghost use Rattle.tm_items.specs.Among.{Among, is_of, is_master_gap};
 ghost use Rattle.tm_reassembly.specs.Recording.{readings, items, after};
 ghost use Rattle.tm_items.specs.declared.items.Reason.TheVariants as why;
 ghost use Rattle.tm_reassembly.specs.Chain.{ChainMember, Run, End, runs, chain, master_chain};
 ghost use Rattle.tm_reassembly.specs.Parts.{Start, starts_of, text, far_end, is_long, begins_packet, agrees, open_after, claims, holder, breaker, joined, Given, Lost, fate_at, front_of, lead, lead_part, start_part};
 ghost use Rattle.tm_items.specs.OnePacket.{is_packet, reach};
-ghost use Rattle.tm_reassembly.specs.Absolute.{reach_at, IsVersionZero, IsLong, BeginsPacket, AgreesAt, Agrees, IsOpen, IsOpenAt, IsWhole, Iff, IsStart, IsIn, LiesAfter, part_at};
+ghost use Rattle.tm_reassembly.specs.Absolute.{text_around, start_in_text, frame_begin, frame_end, reach_at, IsVersionZero, IsLong, BeginsPacket, AgreesAt, Agrees, IsOpen, IsOpenAt, IsWhole, Iff, IsStart, IsIn, LiesAfter, part_at};
 ghost use Rattle.tm_reassembly.specs.Tiles.{Spot, channel_spots, parts_of, held_tail, Tile, IsHeld};
 ghost use Rattle.tm_reassembly.specs.Verdict.{verdict, completed_at_once, Grow, is_whole};
 
@@ -138,33 +138,33 @@ pub fn at_most_one()
 pub fn places_in_text()
     ensures starts_there { (limit : ℕ) (before : List ChainMember) (f : ChainMember) (later : List ChainMember) (s : Start) → IsIn s (starts_of limit f) →
         (skipped : List ℕ) × LiesAfter f s skipped
-        × IsStart limit (text (before ++ f ∷ later)) (length (text before)) (length (text before) + length f.field) f.place
-        (length (text before) + length skipped) }
+        × IsStart limit (text_around before f later) (frame_begin before) (frame_end before f) f.place
+        (start_in_text before skipped) }
     ensures starts_here { (limit : ℕ) (before : List ChainMember) (f : ChainMember) (later : List ChainMember) (q : ℕ) →
-        IsStart limit (text (before ++ f ∷ later)) (length (text before)) (length (text before) + length f.field) f.place q →
-        (s : Start) × (skipped : List ℕ) × IsIn s (starts_of limit f) × LiesAfter f s skipped × (q ≡ length (text before) + length skipped) }
+        IsStart limit (text_around before f later) (frame_begin before) (frame_end before f) f.place q →
+        (s : Start) × (skipped : List ℕ) × IsIn s (starts_of limit f) × LiesAfter f s skipped × (q ≡ start_in_text before skipped) }
     ensures ends { (before : List ChainMember) (f : ChainMember) (skipped start : List ℕ) → f.field ≡ skipped ++ start → (later : List ChainMember) →
-        reach_at (text (before ++ f ∷ later)) (length (text before) + length skipped)
-        ≡ (length (text before) + length skipped) + far_end start later }
+        reach_at (text_around before f later) (start_in_text before skipped)
+        ≡ (start_in_text before skipped) + far_end start later }
     ensures agreement { (limit : ℕ) (before : List ChainMember) (f : ChainMember) (skipped start : List ℕ) → f.field ≡ skipped ++ start →
         (between later : List ChainMember) (m : ChainMember) →
         Iff (agrees limit (far_end start later) (length start + length (text between)) m ≡ true)
-        (Agrees limit (text (before ++ f ∷ later)) (length (text before) + length skipped) (length (text ((before ++ f ∷ []) ++ between))) m) }
+        (Agrees limit (text_around before f later) (start_in_text before skipped) (frame_begin ((before ++ f ∷ []) ++ between)) m) }
     ensures long { (limit : ℕ) (before : List ChainMember) (f : ChainMember) (skipped start : List ℕ) → f.field ≡ skipped ++ start →
         (between later : List ChainMember) (m : ChainMember) →
         Iff (is_long limit (far_end start later) ((length start + length (text between)) + length m.field) ≡ true)
-        (IsLong limit (text (before ++ f ∷ later)) (length (text before) + length skipped) (length (text ((before ++ f ∷ []) ++ between)) + length m.field)) }
+        (IsLong limit (text_around before f later) (start_in_text before skipped) (frame_end ((before ++ f ∷ []) ++ between) m)) }
     ensures own_long { (limit : ℕ) (before : List ChainMember) (f : ChainMember) (skipped start : List ℕ) → f.field ≡ skipped ++ start → (later : List ChainMember) →
         Iff (is_long limit (reach start) (length start) ≡ true)
-        (IsLong limit (text (before ++ f ∷ later)) (length (text before) + length skipped) (length (text (before ++ f ∷ [])))) }
+        (IsLong limit (text_around before f later) (start_in_text before skipped) (frame_begin (before ++ f ∷ []))) }
     ensures opened { (limit : ℕ) (before : List ChainMember) (f : ChainMember) (skipped start : List ℕ) → f.field ≡ skipped ++ start → 0 < length start →
         (between later : List ChainMember) →
         Iff ((begins_packet limit start && open_after limit (far_end start later) (length start) between) ≡ true)
-        (IsOpen limit (text (before ++ f ∷ later)) (length (text before) + length skipped) (before ++ f ∷ []) between) }
+        (IsOpen limit (text_around before f later) (start_in_text before skipped) (before ++ f ∷ []) between) }
     ensures whole { (limit : ℕ) (before : List ChainMember) (f : ChainMember) (skipped start : List ℕ) → f.field ≡ skipped ++ start → 0 < length start →
         (later : List ChainMember) →
         Iff (is_whole limit start later ≡ true)
-        (IsWhole limit (text (before ++ f ∷ later)) (length (text before) + length skipped) (before ++ f ∷ []) later) }
+        (IsWhole limit (text_around before f later) (start_in_text before skipped) (before ++ f ∷ []) later) }
 {}
 
 /// Where parts end. A packet is seen at the frame that holds its last octet, which is a later one or the start's own. A start that a
@@ -185,54 +185,54 @@ pub fn part_ends()
 /// the end of that. Another one is a packet up to where that ends, if it is whole; octets up to the frame at which it is open and that doesn't agree with it, if there is one; and else all octets up to the
 /// end of the text, which are held or lost as the run ends.
 pub fn parts_in_text()
-    ensures no_start { (limit : ℕ) (before later : List ChainMember) (m : ChainMember) → ((q : ℕ) → IsOpenAt limit (text (before ++ m ∷ later)) before q → ⊥) →
+    ensures no_start { (limit : ℕ) (before later : List ChainMember) (m : ChainMember) → ((q : ℕ) → IsOpenAt limit (text_around before m later) before q → ⊥) →
         lead limit (claims limit before (m ∷ later)) m ≡ lead_part m why.NoStart (front_of m.place m.field) }
-    ensures pointer { (limit : ℕ) (before later : List ChainMember) (m : ChainMember) (q : ℕ) → IsOpenAt limit (text (before ++ m ∷ later)) before q →
-        (AgreesAt (reach_at (text (before ++ m ∷ later)) q) (length (text before)) (length m.field) m.place → ⊥) →
+    ensures pointer { (limit : ℕ) (before later : List ChainMember) (m : ChainMember) (q : ℕ) → IsOpenAt limit (text_around before m later) before q →
+        (AgreesAt (reach_at (text_around before m later) q) (frame_begin before) (length m.field) m.place → ⊥) →
         lead limit (claims limit before (m ∷ later)) m ≡ lead_part m why.Pointer (front_of m.place m.field) }
-    ensures long_lead { (limit : ℕ) (before later : List ChainMember) (m : ChainMember) (q : ℕ) → IsOpenAt limit (text (before ++ m ∷ later)) before q →
-        AgreesAt (reach_at (text (before ++ m ∷ later)) q) (length (text before)) (length m.field) m.place →
-        IsLong limit (text (before ++ m ∷ later)) q (length (text before) + length m.field) →
+    ensures long_lead { (limit : ℕ) (before later : List ChainMember) (m : ChainMember) (q : ℕ) → IsOpenAt limit (text_around before m later) before q →
+        AgreesAt (reach_at (text_around before m later) q) (frame_begin before) (length m.field) m.place →
+        IsLong limit (text_around before m later) q (frame_end before m) →
         lead limit (claims limit before (m ∷ later)) m ≡ lead_part m why.Length (front_of m.place m.field) }
-    ensures joined { (limit : ℕ) (before later : List ChainMember) (m : ChainMember) (q : ℕ) → IsOpenAt limit (text (before ++ m ∷ later)) before q →
-        Agrees limit (text (before ++ m ∷ later)) q (length (text before)) m →
+    ensures joined { (limit : ℕ) (before later : List ChainMember) (m : ChainMember) (q : ℕ) → IsOpenAt limit (text_around before m later) before q →
+        Agrees limit (text_around before m later) q (frame_begin before) m →
         lead limit (claims limit before (m ∷ later)) m ≡ [] }
     ensures unread { (limit : ℕ) (before : List ChainMember) (f : ChainMember) (later : List ChainMember) (s : Start) (skipped : List ℕ) → LiesAfter f s skipped → (end : End) →
-        (IsVersionZero (text (before ++ f ∷ later)) (length (text before) + length skipped) → ⊥) →
+        (IsVersionZero (text_around before f later) (start_in_text before skipped) → ⊥) →
         start_part limit f later end s
-        ≡ part_at f s (text (before ++ f ∷ later)) (length (text before) + length skipped) (length (text before) + length f.field) (Lost why.Version f.number) }
+        ≡ part_at f s (text_around before f later) (start_in_text before skipped) (frame_end before f) (Lost why.Version f.number) }
     ensures long_unread { (limit : ℕ) (before : List ChainMember) (f : ChainMember) (later : List ChainMember) (s : Start) (skipped : List ℕ) → LiesAfter f s skipped → (end : End) →
-        IsVersionZero (text (before ++ f ∷ later)) (length (text before) + length skipped) →
-        IsLong limit (text (before ++ f ∷ later)) (length (text before) + length skipped) (length (text (before ++ f ∷ []))) →
+        IsVersionZero (text_around before f later) (start_in_text before skipped) →
+        IsLong limit (text_around before f later) (start_in_text before skipped) (frame_begin (before ++ f ∷ [])) →
         start_part limit f later end s
-        ≡ part_at f s (text (before ++ f ∷ later)) (length (text before) + length skipped) (length (text before) + length f.field) (Lost why.Length f.number) }
+        ≡ part_at f s (text_around before f later) (start_in_text before skipped) (frame_end before f) (Lost why.Length f.number) }
     ensures packet { (limit : ℕ) (before : List ChainMember) (f : ChainMember) (later : List ChainMember) (s : Start) (skipped : List ℕ) → LiesAfter f s skipped → (end : End) →
-        IsWhole limit (text (before ++ f ∷ later)) (length (text before) + length skipped) (before ++ f ∷ []) later →
+        IsWhole limit (text_around before f later) (start_in_text before skipped) (before ++ f ∷ []) later →
         start_part limit f later end s
-        ≡ part_at f s (text (before ++ f ∷ later)) (length (text before) + length skipped)
-        (reach_at (text (before ++ f ∷ later)) (length (text before) + length skipped))
+        ≡ part_at f s (text_around before f later) (start_in_text before skipped)
+        (reach_at (text_around before f later) (start_in_text before skipped))
         (Given (holder (far_end s.octets later) (length s.octets) f.number later)) }
     ensures broken { (limit : ℕ) (before : List ChainMember) (f : ChainMember) (later : List ChainMember) (s : Start) (skipped : List ℕ) → LiesAfter f s skipped → (end : End) →
         (between more : List ChainMember) (m : ChainMember) → later ≡ between ++ m ∷ more →
-        IsOpen limit (text (before ++ f ∷ later)) (length (text before) + length skipped) (before ++ f ∷ []) between →
-        (AgreesAt (reach_at (text (before ++ f ∷ later)) (length (text before) + length skipped)) (length (text ((before ++ f ∷ []) ++ between))) (length m.field) m.place → ⊥) →
+        IsOpen limit (text_around before f later) (start_in_text before skipped) (before ++ f ∷ []) between →
+        (AgreesAt (reach_at (text_around before f later) (start_in_text before skipped)) (frame_begin ((before ++ f ∷ []) ++ between)) (length m.field) m.place → ⊥) →
         start_part limit f later end s
-        ≡ part_at f s (text (before ++ f ∷ later)) (length (text before) + length skipped)
-        (length (text ((before ++ f ∷ []) ++ between))) (Lost why.Pointer m.number) }
+        ≡ part_at f s (text_around before f later) (start_in_text before skipped)
+        (frame_begin ((before ++ f ∷ []) ++ between)) (Lost why.Pointer m.number) }
     ensures long_broken { (limit : ℕ) (before : List ChainMember) (f : ChainMember) (later : List ChainMember) (s : Start) (skipped : List ℕ) → LiesAfter f s skipped → (end : End) →
         (between more : List ChainMember) (m : ChainMember) → later ≡ between ++ m ∷ more →
-        IsOpen limit (text (before ++ f ∷ later)) (length (text before) + length skipped) (before ++ f ∷ []) between →
-        AgreesAt (reach_at (text (before ++ f ∷ later)) (length (text before) + length skipped)) (length (text ((before ++ f ∷ []) ++ between))) (length m.field) m.place →
-        IsLong limit (text (before ++ f ∷ later)) (length (text before) + length skipped) (length (text ((before ++ f ∷ []) ++ between)) + length m.field) →
+        IsOpen limit (text_around before f later) (start_in_text before skipped) (before ++ f ∷ []) between →
+        AgreesAt (reach_at (text_around before f later) (start_in_text before skipped)) (frame_begin ((before ++ f ∷ []) ++ between)) (length m.field) m.place →
+        IsLong limit (text_around before f later) (start_in_text before skipped) (frame_end ((before ++ f ∷ []) ++ between) m) →
         start_part limit f later end s
-        ≡ part_at f s (text (before ++ f ∷ later)) (length (text before) + length skipped)
-        (length (text ((before ++ f ∷ []) ++ between))) (Lost why.Length m.number) }
+        ≡ part_at f s (text_around before f later) (start_in_text before skipped)
+        (frame_begin ((before ++ f ∷ []) ++ between)) (Lost why.Length m.number) }
     ensures unended { (limit : ℕ) (before : List ChainMember) (f : ChainMember) (later : List ChainMember) (s : Start) (skipped : List ℕ) → LiesAfter f s skipped → (end : End) →
-        BeginsPacket limit (text (before ++ f ∷ later)) (length (text before) + length skipped) (length (text (before ++ f ∷ []))) →
-        (IsWhole limit (text (before ++ f ∷ later)) (length (text before) + length skipped) (before ++ f ∷ []) later → ⊥) →
+        BeginsPacket limit (text_around before f later) (start_in_text before skipped) (frame_begin (before ++ f ∷ [])) →
+        (IsWhole limit (text_around before f later) (start_in_text before skipped) (before ++ f ∷ []) later → ⊥) →
         ((between more : List ChainMember) (m : ChainMember) → later ≡ between ++ m ∷ more →
-        IsOpen limit (text (before ++ f ∷ later)) (length (text before) + length skipped) (before ++ f ∷ []) between →
-        Agrees limit (text (before ++ f ∷ later)) (length (text before) + length skipped) (length (text ((before ++ f ∷ []) ++ between))) m) →
+        IsOpen limit (text_around before f later) (start_in_text before skipped) (before ++ f ∷ []) between →
+        Agrees limit (text_around before f later) (start_in_text before skipped) (frame_begin ((before ++ f ∷ []) ++ between)) m) →
         start_part limit f later end s
-        ≡ part_at f s (text (before ++ f ∷ later)) (length (text before) + length skipped) (length (text (before ++ f ∷ later))) (fate_at end) }
+        ≡ part_at f s (text_around before f later) (start_in_text before skipped) (length (text_around before f later)) (fate_at end) }
 {}

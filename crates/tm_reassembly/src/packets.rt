@@ -2,14 +2,13 @@
 
 ghost use Rattle.std.specs.Prelude.{◌≡◌, ◌+◌, ◌^◌, ◌<◌, ◌≤◌, ◌==◌, true, false, length, take, drop, None, Some, ◌++◌, IfOk, IfErr, OnOk};
 ghost use Rattle.tm_items.specs.OnePacket as one_packet;
-ghost use Rattle.tm_reassembly.specs.code.Field.{field_parts, unfinished, left_in, frame_parts};
+ghost use Rattle.tm_reassembly.specs.code.Field.{field_parts, unfinished, left_in, frame_parts, part_items};
 ghost use Rattle.tm_reassembly.specs.code.Kept.{member_at};
 ghost use Rattle.tm_reassembly.specs.Parts as model;
 ghost use Rattle.tm_reassembly.specs.Parts.{begins_packet, unread_reason, lead_part, front_of};
 ghost use Rattle.tm_rules.specs.Rules.{IsLimit};
 ghost use Rattle.tm_items.specs.Sinks.{TakesAll, RefusesOne};
-ghost use Rattle.tm_reassembly.specs.Items.{part_items};
-ghost use Rattle.tm_reassembly.specs.Valid.{PlaceFits};
+ghost use Rattle.tm_reassembly.specs.code.Fits.{PlaceFits};
 
 use tm_items::{Item, Reason, Sink};
 use tm_packet::{packet_version, read_header};

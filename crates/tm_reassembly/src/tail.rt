@@ -3,17 +3,17 @@
 ghost use Rattle.std.specs.Prelude.{◌≡◌, ◌+◌, ◌<◌, ◌≤◌, ◌++◌, length, take, IfOk, IfErr, OnOk, Option, None, Some, is_some, true, vec_len, vec_capacity};
 ghost use Rattle.tm_reassembly.specs.code.Blocks.{spelled_tail};
 ghost use Rattle.tm_items.specs.declared.items.Reason.TheVariants as why;
-ghost use Rattle.tm_reassembly.specs.code.Field.{step_parts, step_tail, ended_parts, frame_parts, frame_tail};
+ghost use Rattle.tm_reassembly.specs.code.Field.{step_parts, step_tail, ended_parts, frame_parts, frame_tail, part_items};
 ghost use Rattle.tm_items.specs.Item as value;
-ghost use Rattle.tm_reassembly.specs.code.Kept.{Buffer, tail_of_octets, octets_in, grown, completed, member_at};
+ghost use Rattle.tm_reassembly.specs.code.Kept.{Buffer, tail_of_octets, grown, completed, member_at};
+ghost use Rattle.tm_reassembly.specs.State.{octets_in};
 ghost use Rattle.tm_reassembly.specs.Parts as model;
 ghost use Rattle.tm_reassembly.specs.Parts.{lead_part, front_of};
 ghost use Rattle.tm_rules.specs.Rules.{IsLimit};
 ghost use Rattle.tm_items.specs.OnePacket.{IsOnePacket};
 ghost use Rattle.tm_items.specs.Sinks.{TakesAll, RefusesOne};
-ghost use Rattle.tm_reassembly.specs.Items.{part_items};
 ghost use Rattle.tm_reassembly.specs.State as state;
-ghost use Rattle.tm_reassembly.specs.Valid.{PlaceFits, IsOpenTail};
+ghost use Rattle.tm_reassembly.specs.code.Fits.{PlaceFits, IsOpenTail};
 
 use crate::checkpoint::{push, push_four, push_two};
 use crate::packets::{agrees_at, give_field, is_long, reach_over, read_field};

@@ -19,6 +19,19 @@ pub enum Key {
 impl Key {
     ghost use Rattle.tm_settings.specs.Keys.{key_name};
 
+    /// All keys.
+    pub(crate) const ALL: [Key; 9] = [
+        Key::Spacecraft,
+        Key::FrameLength,
+        Key::SkipBefore,
+        Key::SkipAfter,
+        Key::Secondary,
+        Key::Ocf,
+        Key::ErrorControl,
+        Key::Channels,
+        Key::MaxPacket,
+    ];
+
     /// The key as it is written.
     pub fn word(self) -> &'static str
         ensures { result.now ≡ key_name self }

@@ -10,7 +10,7 @@ ghost use Rattle.tm_rules.specs.Rules.{IsLimit};
 ghost use Rattle.tm_settings.specs.Keys.{is_name};
 ghost use Rattle.tm_settings.specs.Settings.{choices_from, layout_from, least, settings_from, unknown_keys};
 
-use crate::values::{channels_at, limit_at, number_at, presence_at, skip_at, truth_at};
+use crate::values::{channels_at, integer_at, limit_at, presence_at, skip_at, truth_at};
 use crate::{Key, SettingsFault};
 use std::alloc::Global;
 use std::marker::Model;
@@ -45,15 +45,7 @@ impl Model for Settings {
 fn is_setting(name: &str) -> bool
     ensures { result ≡ is_name name.now }
 {
-    name == "spacecraft"
-        || name == "frame_length"
-        || name == "skip_before"
-        || name == "skip_after"
-        || name == "secondary"
-        || name == "ocf"
-        || name == "error_control"
-        || name == "channels"
-        || name == "max_packet"
+    Key::ALL.iter().any(|key| name == key.word())
 }
 
 // The first key that names no setting, in the order of the keys.
@@ -86,8 +78,8 @@ fn layout_of(parts: LayoutParts) -> Layout
 fn read_layout(table: &Table) -> Result<Layout, SettingsFault>
     ensures { result ≡ layout_from (table_view table.now) }
 {
-    let spacecraft = number_at(table, Key::Spacecraft, 0, 1023)?;
-    let frame_length = number_at(table, Key::FrameLength, 9, 2048)?;
+    let spacecraft = integer_at(table, Key::Spacecraft, 0, 1023)?;
+    let frame_length = integer_at(table, Key::FrameLength, 9, 2048)?;
     let skip_before = skip_at(table, Key::SkipBefore)?;
     let skip_after = skip_at(table, Key::SkipAfter)?;
     let secondary = presence_at(table, Key::Secondary)?;

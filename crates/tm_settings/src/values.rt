@@ -44,7 +44,7 @@ fn read_number(key: Key, low: u32, high: u32, value: &Value) -> Result<u32, Sett
 }
 
 /// A number that has to be there.
-pub fn number_at(table: &Table, key: Key, low: u32, high: u32) -> Result<u32, SettingsFault>
+pub fn integer_at(table: &Table, key: Key, low: u32, high: u32) -> Result<u32, SettingsFault>
     ensures { result ≡ required key (integer_of key low high) (value_at key (table_view table.now)) }
 {
     match value_at(table, key) {

@@ -4,7 +4,8 @@ ghost use Rattle.std.specs.Prelude.{◌≡◌, ◌≢◌, ◌<◌, ◌+◌, ◌+
 ghost use Rattle.tm_devices.specs.Devices.{Counts};
 ghost use Rattle.tm_shelf.specs.code.Buffers.{AreEmpty, IsExtended};
 ghost use Rattle.tm_shelf.specs.ShelfFaults.{is_starving, taken_by};
-ghost use Rattle.tm_shelf.specs.Names.{IsClear, file_in};
+ghost use Rattle.tm_shelf.specs.Names.{file_in};
+ghost use Rattle.tm_shelf.specs.code.Files.{IsClear};
 
 use std::alloc::{AllocError, Global};
 use std::fs::{File, OpenOptions};

@@ -7,7 +7,7 @@ use Rattle.tm_items.specs.Item.{Item, Bad, MasterGap, Gap, Vca, Dropped, Packet,
 use Rattle.tm_output.specs.Pieces.{Entries, HasLine, noted, notes_of}
 use Rattle.tm_output.proofs.PacketLemmas.{notes_one}
 use Rattle.tm_summary.specs.Adding.{with_item, with_packet}
-use Rattle.tm_summary.specs.Kinds.{pair_key}
+use Rattle.tm_packet.specs.Merge.{pair_key}
 use Rattle.tm_summary.specs.Numbers.{Numbers}
 use Rattle.tm_summary.specs.Tallies.{with_given, noted_numbers}
 

@@ -3,7 +3,7 @@ use Rattle.std.proofs.Common.{◌≡◌, ◌≢◌, ℕ, ◌+◌, ◌<◌, Bool,
 use Rattle.std.specs.Prelude.{◌==◌, filter, if◌then◌else◌}
 use Rattle.std.proofs.lemmas.List.Elements.{filter-append}
 use Rattle.std.proofs.lemmas.List.Sums.{sum_by_push, sum_by-cons, fold_push}
-use Rattle.tm_frame.specs.Frame.{GoodFrame}
+use Rattle.tm_frame.specs.Frame.{GoodFrame, is_vca_kind}
 use Rattle.tm_packet.specs.declared.notes.Note.{Note}
 use Rattle.tm_packet.specs.declared.notes.Note.TheVariants as note
 use Rattle.tm_items.specs.declared.items.Reason.{Reason}
@@ -11,7 +11,7 @@ use Rattle.tm_items.specs.declared.items.Reason.TheVariants as why
 use Rattle.tm_items.specs.Item.{Item, Gap, Vca, Dropped, Packet, seen_of}
 use Rattle.tm_summary.specs.declared.channel.Loss.{Loss}
 use Rattle.tm_summary.specs.Adding.{drop_more, frame_more, gap_more, loss_more, no_loss, note_more, packet_more, whole_more}
-use Rattle.tm_summary.specs.Kinds.{is_idle_kind, is_vca, is_gap, gap_missing, is_packet_item, packet_length, is_drop, drop_octets, has_reason, place_of, is_sequence_gap, sequence_missing, is_whole, is_broken, is_stray}
+use Rattle.tm_summary.specs.Kinds.{is_idle_kind, is_gap, gap_missing, is_packet_item, packet_length, is_drop, drop_octets, has_reason, place_of, is_sequence_gap, sequence_missing, is_whole_group, is_broken, is_stray}
 use Rattle.tm_summary.specs.Numbers.{application_of, capped, channel_counts, count_capped, first_seen, how_many, in_all, loss_of, for_numbers}
 use Rattle.tm_summary.proofs.Tables.{table-more, table-same}
 
@@ -71,7 +71,7 @@ place_below why.Length = omega arith
 module _ (frames : List GoodFrame) (items : List Item) where
   pub channel_frame : (f : GoodFrame) → channel_counts (frames ++ f ∷ []) items ≡ frame_more (channel_counts frames items) f.kind
   channel_frame f =
-      rw (counted_more frames f, how_many_more (λ (g : GoodFrame). is_idle_kind g.kind) frames f, how_many_more (λ (g : GoodFrame). is_vca g.kind) frames f) refl
+      rw (counted_more frames f, how_many_more (λ (g : GoodFrame). is_idle_kind g.kind) frames f, how_many_more (λ (g : GoodFrame). is_vca_kind g.kind) frames f) refl
 
   -- where no part is lost, none is lost for any reason
   losses-same : (x : Item) → ((n : ℕ) → has_reason n x ≡ false) → for_numbers 7 (loss_of (items ++ x ∷ [])) ≡ for_numbers 7 (loss_of items)
@@ -169,7 +169,7 @@ module _ (packets : List Item) (notes : List Note) where
       rw (
         how_many_more is_sequence_gap notes (note.Gap expected found missing),
         in_all_more sequence_missing notes (note.Gap expected found missing),
-        how_many_more is_whole notes (note.Gap expected found missing),
+        how_many_more is_whole_group notes (note.Gap expected found missing),
         how_many_more is_broken notes (note.Gap expected found missing),
         how_many_more is_stray notes (note.Gap expected found missing),
       ) refl
@@ -177,7 +177,7 @@ module _ (packets : List Item) (notes : List Note) where
       rw (
         how_many_more is_sequence_gap notes (note.Broken first last why),
         in_all_same sequence_missing notes (note.Broken first last why) refl,
-        how_many_more is_whole notes (note.Broken first last why),
+        how_many_more is_whole_group notes (note.Broken first last why),
         how_many_more is_broken notes (note.Broken first last why),
         how_many_more is_stray notes (note.Broken first last why),
       ) refl
@@ -185,7 +185,7 @@ module _ (packets : List Item) (notes : List Note) where
       rw (
         how_many_more is_sequence_gap notes (note.Whole first last),
         in_all_same sequence_missing notes (note.Whole first last) refl,
-        how_many_more is_whole notes (note.Whole first last),
+        how_many_more is_whole_group notes (note.Whole first last),
         how_many_more is_broken notes (note.Whole first last),
         how_many_more is_stray notes (note.Whole first last),
       ) refl
@@ -193,7 +193,7 @@ module _ (packets : List Item) (notes : List Note) where
       rw (
         how_many_more is_sequence_gap notes (note.Stray count flags),
         in_all_same sequence_missing notes (note.Stray count flags) refl,
-        how_many_more is_whole notes (note.Stray count flags),
+        how_many_more is_whole_group notes (note.Stray count flags),
         how_many_more is_broken notes (note.Stray count flags),
         how_many_more is_stray notes (note.Stray count flags),
       ) refl

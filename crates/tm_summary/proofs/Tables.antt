@@ -3,7 +3,8 @@ use Rattle.std.proofs.Common.{◌≡◌, ◌≢◌, ◌<◌, ◌≤◌, ◌+◌,
 use Rattle.std.proofs.lemmas.Bool.{cases_lt}
 use Rattle.std.proofs.lemmas.List.{map-append, set-append_left, set_at, get_or_at, get_or_append_left, length-map, length_push, length-replicate, replicate_more}
 use Rattle.tm_summary.specs.declared.application.ApplicationCounts.{ApplicationCounts}
-use Rattle.tm_summary.specs.Adding.{more_at, no_application, no_applications}
+use Rattle.tm_summary.specs.Adding.{more_at, no_application}
+use Rattle.tm_summary.specs.code.Places.{no_applications}
 use Rattle.tm_summary.specs.Numbers.{below, for_numbers}
 
 pub length-below : (n : ℕ) → length (below n) ≡ n

@@ -6,7 +6,7 @@ use Rattle.tm_output.specs.declared.fault.RunFault.{RunFault}
 use Rattle.tm_output.specs.Pieces.{Entries, noted_all}
 use Rattle.tm_summary.specs.declared.counting.Counting.{Counting}
 use Rattle.tm_summary.specs.Kinds.{is_bad}
-use Rattle.tm_summary.specs.Tallies.{AllFit, Refuses, TakesTally, with_all}
+use Rattle.tm_summary.specs.Tallies.{AllFit, RefusesTally, TakesTally, with_all}
 
 -- one of the items is a bad frame
 abbrev pub any_bad : List Item → Bool
@@ -44,7 +44,7 @@ took_tally s [] t h = subst (TookTally s []) (sym h) (took_none s)
 took_tally s (x ∷ xs) t h = took_more s h.0 t x xs h.1 (took_tally h.0 xs t h.2)
 
 -- it refuses none
-pub none_refused : (s : Counting) (xs : List Item) (fault : RunFault) (t : Counting) → RefusesOne TakesTally Refuses s xs fault t → ⊥
+pub none_refused : (s : Counting) (xs : List Item) (fault : RunFault) (t : Counting) → RefusesOne TakesTally RefusesTally s xs fault t → ⊥
 none_refused s [] fault t h = h
 none_refused s (x ∷ xs) fault t (inl h) = h
 none_refused s (x ∷ xs) fault t (inr h) = none_refused h.0 xs fault t h.2

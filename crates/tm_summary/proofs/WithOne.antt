@@ -13,8 +13,11 @@ use Rattle.tm_items.specs.Item.{Item, Bad, MasterGap, Gap, Vca, Dropped, Packet,
 use Rattle.tm_items.specs.Sinks.{ItemFits}
 use Rattle.tm_summary.specs.declared.application.ApplicationCounts.{ApplicationCounts}
 use Rattle.tm_summary.specs.declared.channel.ChannelCounts.{ChannelCounts}
-use Rattle.tm_summary.specs.Adding.{drop_more, frame_more, gap_more, more_at, no_application, no_applications, no_channel, note_more, packet_more, whole_more, with_frame, with_item, with_note}
-use Rattle.tm_summary.specs.Kinds.{Noted, is_bad, has_fault, is_master_gap_item, master_missing, rest_octets, of_channel, has_key, pair_key}
+use Rattle.tm_summary.specs.Adding.{drop_more, frame_more, gap_more, more_at, no_application, no_channel, note_more, packet_more, whole_more, with_frame, with_item, with_note}
+use Rattle.tm_summary.specs.code.Places.{no_applications}
+use Rattle.tm_summary.specs.Kinds.{Noted, is_bad, has_fault, master_missing, rest_octets, has_key}
+use Rattle.tm_packet.specs.Merge.{pair_key}
+use Rattle.tm_items.specs.Among.{is_master_gap, is_of}
 use Rattle.tm_summary.specs.Numbers.{Numbers, Tally, and_frame, and_item, and_note, application_of, capped, channel_counts, frames_of, how_many, in_all, items_on, nothing, notes_at_key, numbers_of, packets_of, for_numbers}
 use Rattle.tm_summary.proofs.OneMore.{application_packet, channel_drop, channel_frame, channel_gap, channel_packet, channel_vca, counted_more, filter_no, filter_yes, how_many_more, in_all_more, in_all_same, notes_more}
 use Rattle.tm_summary.proofs.Tables.{table-more, table-same, table_all, table_none}
@@ -74,11 +77,11 @@ module _ (t : Tally) where
       table-same 8 (λ n. how_many (has_fault (n + 1)) (t.items ++ x ∷ [])) (λ n. how_many (has_fault (n + 1)) t.items)
       (λ n. in_all_same (λ y. if has_fault (n + 1) y then 1 else 0) t.items x (rw (none (n + 1)) refl))
 
-  same_channels : (x : Item) → ((c : ℕ) → of_channel c x ≡ false)
+  same_channels : (x : Item) → ((c : ℕ) → is_of c x ≡ false)
       → for_numbers 8 (λ c. channel_counts (frames_of c t.frames) (items_on c (t.items ++ x ∷ []))) ≡ for_numbers 8 (λ c. channel_counts (frames_of c t.frames) (items_on c t.items))
   same_channels x none =
       table-same 8 (λ c. channel_counts (frames_of c t.frames) (items_on c (t.items ++ x ∷ []))) (λ c. channel_counts (frames_of c t.frames) (items_on c t.items))
-      (λ c. ap (channel_counts (frames_of c t.frames)) (filter_no (of_channel c) t.items x (none c)))
+      (λ c. ap (channel_counts (frames_of c t.frames)) (filter_no (is_of c) t.items x (none c)))
 
   same_applications : (x : Item) → ((key : ℕ) → has_key key x ≡ false)
       → for_numbers 16384 (λ key. application_of (packets_of key (t.items ++ x ∷ [])) (notes_at_key key t.notes)) ≡ for_numbers 16384 (λ key. application_of (packets_of key t.items) (notes_at_key key t.notes))
@@ -90,15 +93,15 @@ module _ (t : Tally) where
 
   -- an item of this channel that gives this more there
   more_channels : (x : Item) (channel : ℕ) (more : ChannelCounts → ChannelCounts) → channel < 8
-      → ((c : ℕ) → of_channel c x ≡ (channel == c))
+      → ((c : ℕ) → is_of c x ≡ (channel == c))
       → ((frames : List GoodFrame) (items : List Item) → channel_counts frames (items ++ x ∷ []) ≡ more (channel_counts frames items))
       → for_numbers 8 (λ c. channel_counts (frames_of c t.frames) (items_on c (t.items ++ x ∷ [])))
       ≡ more_at (for_numbers 8 (λ c. channel_counts (frames_of c t.frames) (items_on c t.items))) channel no_channel more
   more_channels x channel more below own gives =
       table-more 8 channel (λ c. channel_counts (frames_of c t.frames) (items_on c (t.items ++ x ∷ []))) (λ c. channel_counts (frames_of c t.frames) (items_on c t.items)) no_channel more
-      (λ c other. ap (channel_counts (frames_of c t.frames)) (filter_no (of_channel c) t.items x (own c ∙ ne_eqb channel c (λ e. other (sym e)))))
+      (λ c other. ap (channel_counts (frames_of c t.frames)) (filter_no (is_of c) t.items x (own c ∙ ne_eqb channel c (λ e. other (sym e)))))
       below
-      (ap (channel_counts (frames_of channel t.frames)) (filter_yes (of_channel channel) t.items x (own channel ∙ eq-eqb channel channel refl))
+      (ap (channel_counts (frames_of channel t.frames)) (filter_yes (is_of channel) t.items x (own channel ∙ eq-eqb channel channel refl))
       ∙ gives (frames_of channel t.frames) (items_on channel t.items))
 
   -- ---- a frame
@@ -131,7 +134,7 @@ module _ (t : Tally) where
       (λ n other. in_all_same (λ y. if has_fault (n + 1) y then 1 else 0) t.items (Bad seen f) (rw (ne_eqb (fault_number f) (n + 1) (λ e. other (omega (arith, e)))) refl))
       (omega (arith, first, last))
       (in_all_more (λ y. if has_fault (fault_number f - 1 + 1) y then 1 else 0) t.items (Bad seen f) ∙ rw (eq-eqb (fault_number f) (fault_number f - 1 + 1) (omega (arith, first))) refl))
-      (how_many_more is_master_gap_item t.items (Bad seen f))
+      (how_many_more is_master_gap t.items (Bad seen f))
       (in_all_same master_missing t.items (Bad seen f) refl)
       (same_channels (Bad seen f) (λ c. refl))
       (same_applications (Bad seen f) (λ key. refl))
@@ -145,7 +148,7 @@ module _ (t : Tally) where
       (how_many_more is_bad t.items (MasterGap seen expected found missing))
       (in_all_same rest_octets t.items (MasterGap seen expected found missing) refl)
       (same_faults (MasterGap seen expected found missing) (λ n. refl))
-      (how_many_more is_master_gap_item t.items (MasterGap seen expected found missing))
+      (how_many_more is_master_gap t.items (MasterGap seen expected found missing))
       (in_all_more master_missing t.items (MasterGap seen expected found missing))
       (same_channels (MasterGap seen expected found missing) (λ c. refl))
       (same_applications (MasterGap seen expected found missing) (λ key. refl))
@@ -159,7 +162,7 @@ module _ (t : Tally) where
       (how_many_more is_bad t.items (Gap seen channel expected found missing))
       (in_all_same rest_octets t.items (Gap seen channel expected found missing) refl)
       (same_faults (Gap seen channel expected found missing) (λ n. refl))
-      (how_many_more is_master_gap_item t.items (Gap seen channel expected found missing))
+      (how_many_more is_master_gap t.items (Gap seen channel expected found missing))
       (in_all_same master_missing t.items (Gap seen channel expected found missing) refl)
       (more_channels (Gap seen channel expected found missing) channel (λ c. gap_more c missing) below (λ c. refl)
       (λ frames items. channel_gap frames items seen channel expected found missing))
@@ -168,9 +171,9 @@ module _ (t : Tally) where
   vca_in_channel : (seen channel c : ℕ) (b : Bool) → (channel == c) ≡ b
       → channel_counts (frames_of c t.frames) (items_on c (t.items ++ Vca seen channel ∷ [])) ≡ channel_counts (frames_of c t.frames) (items_on c t.items)
   vca_in_channel seen channel c true is =
-      ap (channel_counts (frames_of c t.frames)) (filter_yes (of_channel c) t.items (Vca seen channel) is)
+      ap (channel_counts (frames_of c t.frames)) (filter_yes (is_of c) t.items (Vca seen channel) is)
       ∙ channel_vca (frames_of c t.frames) (items_on c t.items) seen channel
-  vca_in_channel seen channel c false is = ap (channel_counts (frames_of c t.frames)) (filter_no (of_channel c) t.items (Vca seen channel) is)
+  vca_in_channel seen channel c false is = ap (channel_counts (frames_of c t.frames)) (filter_no (is_of c) t.items (Vca seen channel) is)
 
   -- nothing is counted of a VCA frame's item: its frame is counted
   vca_counted : (seen channel : ℕ) → numbers_of (and_item t (Vca seen channel)) ≡ with_item (numbers_of t) (Vca seen channel)
@@ -181,7 +184,7 @@ module _ (t : Tally) where
       (how_many_more is_bad t.items (Vca seen channel))
       (in_all_same rest_octets t.items (Vca seen channel) refl)
       (same_faults (Vca seen channel) (λ n. refl))
-      (how_many_more is_master_gap_item t.items (Vca seen channel))
+      (how_many_more is_master_gap t.items (Vca seen channel))
       (in_all_same master_missing t.items (Vca seen channel) refl)
       (table-same 8 (λ c. channel_counts (frames_of c t.frames) (items_on c (t.items ++ Vca seen channel ∷ []))) (λ c. channel_counts (frames_of c t.frames) (items_on c t.items))
       (λ c. vca_in_channel seen channel c (channel == c) refl))
@@ -196,7 +199,7 @@ module _ (t : Tally) where
       (how_many_more is_bad t.items (Dropped seen channel first place octets reason))
       (in_all_same rest_octets t.items (Dropped seen channel first place octets reason) refl)
       (same_faults (Dropped seen channel first place octets reason) (λ n. refl))
-      (how_many_more is_master_gap_item t.items (Dropped seen channel first place octets reason))
+      (how_many_more is_master_gap t.items (Dropped seen channel first place octets reason))
       (in_all_same master_missing t.items (Dropped seen channel first place octets reason) refl)
       (more_channels (Dropped seen channel first place octets reason) channel (λ c. drop_more c octets reason) below (λ c. refl)
       (λ frames items. channel_drop frames items seen channel first place octets reason))
@@ -213,7 +216,7 @@ module _ (t : Tally) where
       (how_many_more is_bad t.items (Packet seen channel first place octets))
       (in_all_same rest_octets t.items (Packet seen channel first place octets) refl)
       (same_faults (Packet seen channel first place octets) (λ n. refl))
-      (how_many_more is_master_gap_item t.items (Packet seen channel first place octets))
+      (how_many_more is_master_gap t.items (Packet seen channel first place octets))
       (in_all_same master_missing t.items (Packet seen channel first place octets) refl)
       (more_channels (Packet seen channel first place octets) channel (λ c. packet_more c (length octets)) below (λ c. refl)
       (λ frames items. channel_packet frames items seen channel first place octets))
@@ -237,7 +240,7 @@ module _ (t : Tally) where
       (how_many_more is_bad t.items (Short seen octets))
       (in_all_more rest_octets t.items (Short seen octets))
       (same_faults (Short seen octets) (λ n. refl))
-      (how_many_more is_master_gap_item t.items (Short seen octets))
+      (how_many_more is_master_gap t.items (Short seen octets))
       (in_all_same master_missing t.items (Short seen octets) refl)
       (same_channels (Short seen octets) (λ c. refl))
       (same_applications (Short seen octets) (λ key. refl))

@@ -1,5 +1,5 @@
 -- The numbers with one frame, item or note more. The laws say that they are those of the lists with it.
-use Rattle.std.specs.Prelude.{ℕ, ◌+◌, ◌-◌, ◌==◌, List, [], length, replicate, slice_set, slice_index_or, if◌then◌else◌}
+use Rattle.std.specs.Prelude.{ℕ, ◌+◌, ◌-◌, ◌==◌, List, [], length, slice_set, slice_index_or, if◌then◌else◌}
 use Rattle.tm_frame.specs.declared.fault.FrameFault.{FrameFault}
 use Rattle.tm_frame.specs.declared.frame.Kind.{Kind}
 use Rattle.tm_frame.specs.FaultWords.{fault_number}
@@ -11,7 +11,9 @@ use Rattle.tm_items.specs.Item.{Item, Bad, MasterGap, Gap, Vca, Dropped, Packet,
 use Rattle.tm_summary.specs.declared.application.ApplicationCounts.{ApplicationCounts}
 use Rattle.tm_summary.specs.declared.channel.ChannelCounts.{ChannelCounts}
 use Rattle.tm_summary.specs.declared.channel.Loss.{Loss}
-use Rattle.tm_summary.specs.Kinds.{is_idle_kind, is_vca, pair_key, place_of}
+use Rattle.tm_summary.specs.Kinds.{is_idle_kind, place_of}
+use Rattle.tm_packet.specs.Merge.{pair_key}
+use Rattle.tm_frame.specs.Frame.{is_vca_kind}
 use Rattle.tm_summary.specs.Numbers.{Numbers, application_of, capped, channel_counts}
 
 -- ---- of a channel
@@ -23,10 +25,6 @@ no_channel = channel_counts [] []
 abbrev pub no_application : ApplicationCounts
 no_application = application_of [] []
 
--- one for each channel and application
-unfoldable pub no_applications : List ApplicationCounts
-no_applications = replicate 16384 no_application
-
 abbrev pub no_loss : Loss
 no_loss = record { parts = 0; octets = 0 }
 
@@ -37,7 +35,7 @@ abbrev pub frame_more : ChannelCounts → Kind → ChannelCounts
 frame_more c kind = record c {
   frames = capped (c.frames + 1);
   idle = if is_idle_kind kind then capped (c.idle + 1) else c.idle;
-  vca = if is_vca kind then capped (c.vca + 1) else c.vca;
+  vca = if is_vca_kind kind then capped (c.vca + 1) else c.vca;
 }
 
 abbrev pub gap_more : ChannelCounts → ℕ → ChannelCounts

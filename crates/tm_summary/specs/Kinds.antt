@@ -1,5 +1,5 @@
 -- The frames, items and notes that a summary counts, and what of them it adds up.
-use Rattle.std.specs.Prelude.{ℕ, ◌+◌, ◌*◌, ◌==◌, Bool, true, false, length}
+use Rattle.std.specs.Prelude.{ℕ, ◌==◌, Bool, true, false, length}
 use Rattle.tm_frame.specs.declared.frame.Kind.{Kind}
 use Rattle.tm_frame.specs.declared.frame.Kind.TheVariants.{Packets, NoStart, Idle}
 use Rattle.tm_frame.specs.declared.frame.Kind.TheVariants as kind
@@ -7,9 +7,10 @@ use Rattle.tm_frame.specs.FaultWords.{fault_number}
 use Rattle.tm_packet.specs.declared.notes.Note.{Note}
 use Rattle.tm_packet.specs.declared.notes.Note.TheVariants as note
 use Rattle.tm_packet.specs.Header.{packet_header_of}
+use Rattle.tm_packet.specs.Merge.{pair_key}
 use Rattle.tm_items.specs.declared.items.Reason.{Reason}
 use Rattle.tm_items.specs.declared.items.Reason.TheVariants as why
-use Rattle.tm_items.specs.Item.{Item, Bad, MasterGap, Gap, Vca, Dropped, Packet, Short}
+use Rattle.tm_items.specs.Item.{Item, Bad, MasterGap, Gap, Dropped, Packet, Short}
 
 -- ---- frames, by what their data fields hold
 
@@ -18,12 +19,6 @@ is_idle_kind (Packets place) = false
 is_idle_kind NoStart = false
 is_idle_kind Idle = true
 is_idle_kind kind.Vca = false
-
-abbrev pub is_vca : Kind → Bool
-is_vca (Packets place) = false
-is_vca NoStart = false
-is_vca Idle = false
-is_vca kind.Vca = true
 
 -- ---- items
 
@@ -36,10 +31,6 @@ abbrev pub has_fault : ℕ → Item → Bool
 has_fault n (Bad seen fault) = fault_number fault == n
 has_fault n _ = false
 
-abbrev pub is_master_gap_item : Item → Bool
-is_master_gap_item (MasterGap seen expected found missing) = true
-is_master_gap_item _ = false
-
 abbrev pub master_missing : Item → ℕ
 master_missing (MasterGap seen expected found missing) = missing
 master_missing _ = 0
@@ -48,16 +39,6 @@ master_missing _ = 0
 abbrev pub rest_octets : Item → ℕ
 rest_octets (Short seen octets) = octets
 rest_octets _ = 0
-
--- an item of this channel
-abbrev pub of_channel : ℕ → Item → Bool
-of_channel c (Bad seen fault) = false
-of_channel c (MasterGap seen expected found missing) = false
-of_channel c (Gap seen channel expected found missing) = channel == c
-of_channel c (Vca seen channel) = channel == c
-of_channel c (Dropped seen channel first place octets reason) = channel == c
-of_channel c (Packet seen channel first place octets) = channel == c
-of_channel c (Short seen octets) = false
 
 abbrev pub is_gap : Item → Bool
 is_gap (Gap seen channel expected found missing) = true
@@ -98,10 +79,6 @@ abbrev pub has_reason : ℕ → Item → Bool
 has_reason n (Dropped seen channel first place octets reason) = place_of reason == n
 has_reason n _ = false
 
--- the number of a channel and application
-abbrev pub pair_key : ℕ → ℕ → ℕ
-pair_key channel application = 2048 * channel + application
-
 -- a packet of the channel and application of this number
 abbrev pub has_key : ℕ → Item → Bool
 has_key key (Packet seen channel first place octets) = pair_key channel (packet_header_of octets).application == key
@@ -122,9 +99,9 @@ abbrev pub sequence_missing : Note → ℕ
 sequence_missing (note.Gap expected found missing) = missing
 sequence_missing _ = 0
 
-abbrev pub is_whole : Note → Bool
-is_whole (note.Whole first last) = true
-is_whole _ = false
+abbrev pub is_whole_group : Note → Bool
+is_whole_group (note.Whole first last) = true
+is_whole_group _ = false
 
 abbrev pub is_broken : Note → Bool
 is_broken (note.Broken first last why) = true

@@ -4,3 +4,4 @@ pub mod Adding
 pub mod Lines
 pub mod Pieces
 pub mod Tallies
+pub mod code

@@ -1,12 +1,13 @@
 -- The numbers of a summary, each of whole lists: how many are of a kind, or the sum of a part of them.
 use Rattle.std.specs.Prelude.{ℕ, zero, suc, ◌+◌, ◌-◌, ◌^◌, ◌==◌, min, Bool, List, [], ◌∷◌, ◌++◌, map, filter, fold, sum_by, if◌then◌else◌}
-use Rattle.tm_frame.specs.Frame.{GoodFrame}
+use Rattle.tm_frame.specs.Frame.{GoodFrame, is_vca_kind}
 use Rattle.tm_items.specs.Item.{Item, seen_of}
 use Rattle.tm_packet.specs.declared.notes.Note.{Note}
 use Rattle.tm_summary.specs.declared.application.ApplicationCounts.{ApplicationCounts}
 use Rattle.tm_summary.specs.declared.channel.ChannelCounts.{ChannelCounts}
 use Rattle.tm_summary.specs.declared.channel.Loss.{Loss}
-use Rattle.tm_summary.specs.Kinds.{Noted, is_idle_kind, is_vca, is_bad, has_fault, is_master_gap_item, master_missing, rest_octets, of_channel, is_gap, gap_missing, is_packet_item, packet_length, is_drop, drop_octets, has_reason, has_key, is_sequence_gap, sequence_missing, is_whole, is_broken, is_stray}
+use Rattle.tm_summary.specs.Kinds.{Noted, is_idle_kind, is_bad, has_fault, master_missing, rest_octets, is_gap, gap_missing, is_packet_item, packet_length, is_drop, drop_octets, has_reason, has_key, is_sequence_gap, sequence_missing, is_whole_group, is_broken, is_stray}
+use Rattle.tm_items.specs.Among.{is_master_gap, is_of}
 
 -- a number that would be over 2^64 - 1 stays there
 abbrev pub capped : ℕ → ℕ
@@ -45,7 +46,7 @@ abbrev pub channel_counts : List GoodFrame → List Item → ChannelCounts
 channel_counts frames items = record {
   frames = count_capped frames;
   idle = how_many (λ f. is_idle_kind f.kind) frames;
-  vca = how_many (λ f. is_vca f.kind) frames;
+  vca = how_many (λ f. is_vca_kind f.kind) frames;
   gaps = how_many is_gap items;
   missing = in_all gap_missing items;
   packets = how_many is_packet_item items;
@@ -72,7 +73,7 @@ application_of packets notes = record {
   last = last_seen packets;
   gaps = how_many is_sequence_gap notes;
   missing = in_all sequence_missing notes;
-  groups = how_many is_whole notes;
+  groups = how_many is_whole_group notes;
   broken = how_many is_broken notes;
   strays = how_many is_stray notes;
 }
@@ -101,7 +102,7 @@ abbrev pub frames_of : ℕ → List GoodFrame → List GoodFrame
 frames_of channel frames = filter (λ f. f.channel == channel) frames
 
 abbrev pub items_on : ℕ → List Item → List Item
-items_on channel items = filter (of_channel channel) items
+items_on channel items = filter (is_of channel) items
 
 abbrev pub packets_of : ℕ → List Item → List Item
 packets_of key items = filter (has_key key) items
@@ -127,7 +128,7 @@ numbers_of t = record {
   bad = how_many is_bad t.items;
   rest = in_all rest_octets t.items;
   faults = for_numbers 8 (λ n. how_many (has_fault (n + 1)) t.items);
-  master_gaps = how_many is_master_gap_item t.items;
+  master_gaps = how_many is_master_gap t.items;
   master_missing = in_all master_missing t.items;
   channels = for_numbers 8 (λ c. channel_counts (frames_of c t.frames) (items_on c t.items));
   applications = for_numbers 16384 (λ key. application_of (packets_of key t.items) (notes_at_key key t.notes));

@@ -9,7 +9,8 @@ use Rattle.tm_output.specs.declared.fault.RunFault.{RunFault}
 use Rattle.tm_output.specs.Pieces.{Entries, noted, notes_of, sent}
 use Rattle.tm_summary.specs.declared.counting.Counting.{Counting}
 use Rattle.tm_summary.specs.Adding.{with_item, with_note}
-use Rattle.tm_summary.specs.Kinds.{Noted, is_bad, pair_key}
+use Rattle.tm_summary.specs.Kinds.{Noted, is_bad}
+use Rattle.tm_packet.specs.Merge.{pair_key}
 use Rattle.tm_summary.specs.Numbers.{Numbers, Tally}
 
 -- ---- the notes of packets, each with its channel and application
@@ -66,6 +67,10 @@ abbrev pub with_open : Numbers → List Unclosed → Numbers
 with_open n [] = n
 with_open n (u ∷ us) = with_open (with_note n u.key u.note) us
 
+-- it holds the same references
+abbrev pub SameReferences : Counting → Counting → Type 0
+SameReferences old new = (new.tracker.ghost_name ≡ old.tracker.ghost_name) × (new.counts.ghost_name ≡ old.counts.ghost_name)
+
 -- it takes an item that fits: it is counted, and its packet noted
 pub record TakesTally (s : Counting) (x : Item) (t : Counting) : Type 0 where
   pub fits : ItemFits x
@@ -76,5 +81,5 @@ pub record TakesTally (s : Counting) (x : Item) (t : Counting) : Type 0 where
   pub bad_is : t.bad ≡ is_bad x || s.bad
 
 -- it refuses none
-abbrev pub Refuses : Counting → Item → RunFault → Counting → Type 0
-Refuses s x fault t = ⊥
+abbrev pub RefusesTally : Counting → Item → RunFault → Counting → Type 0
+RefusesTally s x fault t = ⊥

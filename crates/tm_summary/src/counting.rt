@@ -6,7 +6,7 @@ ghost use Rattle.tm_items.specs.Item as value;
 ghost use Rattle.tm_items.specs.OnePacket.{IsOnePacket};
 ghost use Rattle.tm_items.specs.Sinks.{item_of, ItemFits};
 ghost use Rattle.tm_output.specs.Pieces.{HasLine, noted};
-ghost use Rattle.tm_summary.specs.Tallies.{Refuses, TakesTally, with_given, noted_numbers, with_open};
+ghost use Rattle.tm_summary.specs.Tallies.{RefusesTally, SameReferences, TakesTally, with_given, noted_numbers, with_open};
 ghost use Rattle.tm_summary.specs.Kinds.{is_bad};
 
 use crate::counts::Counts;
@@ -47,7 +47,7 @@ impl Counting<'_> {
     fn add_packet(&mut self, seen: u32, channel: u8, octets: &[u8])
         requires channel { channel < 8 }
         requires packet { IsOnePacket octets.now }
-        ensures same { (self.new.tracker.ghost_name ≡ self.old.tracker.ghost_name) × (self.new.counts.ghost_name ≡ self.old.counts.ghost_name) }
+        ensures same { SameReferences self.old self.new }
         ensures noted { self.new.tracker.now ≡ noted self.old.tracker.now (value.Packet seen channel 0 0 octets.now) }
         ensures counted { self.new.counts.now ≡ with_given self.old.tracker.now self.old.counts.now (value.Packet seen channel 0 0 octets.now) }
         ensures bad { self.new.bad ≡ self.old.bad }
@@ -64,7 +64,7 @@ impl Counting<'_> {
     fn add_line(&mut self, item: Item<'_>)
         requires fits { ItemFits (item_of item) }
         requires line { HasLine (item_of item) }
-        ensures same { (self.new.tracker.ghost_name ≡ self.old.tracker.ghost_name) × (self.new.counts.ghost_name ≡ self.old.counts.ghost_name) }
+        ensures same { SameReferences self.old self.new }
         ensures noted { self.new.tracker.now ≡ noted self.old.tracker.now (item_of item.entry) }
         ensures counted { self.new.counts.now ≡ with_given self.old.tracker.now self.old.counts.now (item_of item.entry) }
         ensures bad { self.new.bad ≡ is_bad (item_of item.entry) || self.old.bad }
@@ -75,7 +75,7 @@ impl Counting<'_> {
 
     /// Counts the groups that are open at a closed end as broken.
     pub fn add_open(&mut self)
-        ensures same { (self.new.tracker.ghost_name ≡ self.old.tracker.ghost_name) × (self.new.counts.ghost_name ≡ self.old.counts.ghost_name) }
+        ensures same { SameReferences self.old self.new }
         ensures counted { self.new.counts.now ≡ with_open self.old.counts.now (sequence.unclosed 0 self.old.tracker.now) }
     {
         let mut at = 0;
@@ -91,7 +91,7 @@ impl Sink for Counting<'_> {
 
     ghost takes = { TakesTally };
 
-    ghost refuses = { Refuses };
+    ghost refuses = { RefusesTally };
 
     fn take(&mut self, item: Item<'_>) -> Result<(), RunFault> {
         match item {

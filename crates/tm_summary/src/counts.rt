@@ -5,7 +5,8 @@ ghost use Rattle.tm_frame.specs.FaultWords.{fault_number};
 ghost use Rattle.tm_packet.specs.Header.{packet_header_of};
 ghost use Rattle.tm_items.specs.Item as value;
 ghost use Rattle.tm_items.specs.Sinks.{item_of, ItemFits};
-ghost use Rattle.tm_summary.specs.Adding.{no_applications, with_bad, with_frame, with_item, with_note, with_packet};
+ghost use Rattle.tm_summary.specs.Adding.{with_bad, with_frame, with_item, with_note, with_packet};
+ghost use Rattle.tm_summary.specs.code.Places.{no_applications};
 ghost use Rattle.tm_summary.specs.Numbers.{numbers_of, nothing};
 ghost use Rattle.tm_output.specs.Pieces.{HasLine};
 

@@ -73,16 +73,15 @@ impl<'a> Plan<'a> {
         self.calls.get(..index).unwrap_or(&[])
     }
 
-    // The call of a device fails that would follow these, if there is one. The run answers this, so many calls failed, and it read and wrote just
-    // what these calls move.
+    // The call of a device fails that would follow these, if there is one. The run answers this, so many calls of each device failed, and it read and
+    // wrote just what these calls move.
     fn gives(
         &self,
         alloc: Global,
         bench: &mut Bench,
         calls: &[Call],
         device: Device,
-        answer: Result<u32, RunFault>,
-        failed: [u64; 3],
+        (answer, failed): (Result<u32, RunFault>, [u64; 3]),
     ) -> bool {
         let (count, _) = moved(calls, device);
         bench.begin(device, count.saturating_add(1));
@@ -102,13 +101,19 @@ impl<'a> Plan<'a> {
             Device::Out => (RunFault::Write, [0, 1, 0]),
             Device::Report => (RunFault::Report, [0, 0, 1]),
         };
-        self.gives(alloc, bench, self.before(index), device, Err(fault), failed)
+        self.gives(
+            alloc,
+            bench,
+            self.before(index),
+            device,
+            (Err(fault), failed),
+        )
     }
 
     // Behind the last call of a device no call is left that could fail: the run gives all that is known of the row.
     fn is_done(&self, alloc: Global, bench: &mut Bench, device: Device) -> bool {
         let all = self.calls.as_slice();
-        self.gives(alloc, bench, all, device, Ok(self.records), [0, 0, 0])
+        self.gives(alloc, bench, all, device, (Ok(self.records), [0, 0, 0]))
             && bench.has_given(&self.out, self.report)
     }
 

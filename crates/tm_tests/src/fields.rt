@@ -2,7 +2,9 @@
 
 use crate::field_rows::AND_ONE_BIT;
 use std::alloc::{AllocError, Global};
-use tm_fields::{Column, Definition, DefinitionFault, Lead, RowFault, number_at, push_escaped};
+use tm_fields::{
+    Column, Definition, DefinitionFault, Lead, RowFault, Rows, number_at, push_escaped,
+};
 
 pub(crate) const TEXT: &str =
     "name, data_type, bit_length\nVERSION, uint, 8\nLEVEL, int, 12\nPAD, fill, 4\nLABEL, str, 24\nRATE, float, 32\n";
@@ -71,6 +73,29 @@ fn packet_that_is_a_bit_short(rt: HostRuntime) {
     let head = head_of(alloc, AND_ONE_BIT).expect(&rt, "a head");
     assert!(rt; head.as_slice().ends_with(b",RATE,EXTRA\n"));
     assert!(rt; bits_short(alloc, AND_ONE_BIT) == Some((129, 128)));
+}
+
+// The row of the packet is written as it is by itself.
+fn writes_row(rows: &mut Rows<'_>) -> bool {
+    rows.write(LEAD, &PACKET).is_ok() && rows.row() == ROW.as_bytes()
+}
+
+// So many rows that the text that they are in is begun anew, one that is refused, and one after it.
+#[test]
+fn rows_one_behind_another(rt: HostRuntime) {
+    let alloc = rt.alloc();
+    let definition = Definition::read(alloc, TEXT.as_bytes()).expect(&rt, "a definition");
+    let mut rows = Rows::new(alloc, &definition);
+    assert!(rt; rows.bits_needed() == 128 && rows.row().is_empty());
+    for _ in 0..2000u32 {
+        assert!(rt; writes_row(&mut rows));
+    }
+    let short = RowFault::ShortPacket {
+        needed: 128,
+        found: 120,
+    };
+    assert!(rt; rows.write(LEAD, &PACKET[..15]) == Err(short) && rows.row().is_empty());
+    assert!(rt; writes_row(&mut rows));
 }
 
 #[test]

@@ -3,8 +3,9 @@
 use crate::bench::{Bench, By};
 use crate::runs::{BASE, octets_of, settings_of};
 use std::alloc::Global;
-use std::io::{self, ErrorKind, Read, Write};
-use tm_tool::{Drain, Reading, RunFault, Source, Writing, list_frames};
+use std::io::{self, Cursor, ErrorKind, Read, Seek, SeekFrom, Write};
+use tm_devices::fill;
+use tm_tool::{DeviceFailed, Drain, Reading, RunFault, Seeking, Source, Writing, list_frames};
 
 // A frame of 24 octets with a packet of 7 octets and one of 11.
 const TWO_PACKETS: &str = "02A000001800 0064C000000055 0064C00100045555555555";
@@ -140,6 +141,42 @@ fn through_readers_and_writers(rt: HostRuntime) {
     let answer = listed(alloc, BASE, &mut source, &mut Writing::new(&mut lines));
     assert!(rt; answer == Some(Ok(2)));
     assert!(rt; lines.as_slice() == WITH_REST_LINES.as_bytes());
+}
+
+// The first record is passed over, and more than is left is not.
+#[test]
+fn passed_over_by_a_seek(rt: HostRuntime) {
+    let octets = octets_of(rt.alloc(), WITH_REST).expect(&rt, "octets");
+    let mut source = Seeking::new(Cursor::new(octets.as_slice()));
+    let mut next = [0; 24];
+    assert!(rt; source.pass_over(24) == Ok(true));
+    assert!(rt; source.pass_over(1000) == Ok(false));
+    assert!(rt; fill(&mut source, &mut next) == Ok(24));
+    assert!(rt; octets.get(24..48) == Some(next.as_slice()));
+}
+
+// A reader that finds its end, and can't be moved back.
+#[derive(Drop)]
+struct Stuck;
+
+impl Read for Stuck {
+    fn read(&mut self, _buffer: &mut [u8]) -> io::Result<usize> {
+        Ok(0)
+    }
+}
+
+impl Seek for Stuck {
+    fn seek(&mut self, to: SeekFrom) -> io::Result<u64> {
+        match to {
+            SeekFrom::Start(_) => Err(io::Error::from(ErrorKind::Other)),
+            SeekFrom::Current(_) | SeekFrom::End(_) => Ok(48),
+        }
+    }
+}
+
+#[test]
+fn failing_seek(rt: HostRuntime) {
+    assert!(rt; Seeking::new(Stuck).pass_over(0) == Err(DeviceFailed));
 }
 
 // A reader that fails.

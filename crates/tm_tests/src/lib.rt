@@ -18,6 +18,8 @@ mod cut_texts;
 #[cfg(test)]
 mod failing;
 #[cfg(test)]
+mod fault_texts;
+#[cfg(test)]
 mod field_rows;
 #[cfg(test)]
 mod fields;

@@ -5,7 +5,7 @@ use crate::fields::{HEAD, LEAD, PACKET, ROW, TEXT};
 use crate::reassembly::{GREATEST, layout};
 use crate::runs::settings_of;
 use std::alloc::Global;
-use tm_fields::{Definition, DefinitionFault, RowFault};
+use tm_fields::{Definition, DefinitionFault, RowFault, Rows};
 use tm_frame::Layout;
 use tm_memory::{Answer, Turns, made};
 use tm_packet::{Tracker, TrackerFault};
@@ -69,6 +69,7 @@ enum Call {
     ReadDefinition,
     Head,
     Row,
+    KeptRow,
     ReadSettings,
     NewJob,
 }
@@ -116,6 +117,7 @@ impl Tried for Needs {
             Call::ReadDefinition => definition_read(alloc),
             Call::Head => head_made(alloc, &self.definition),
             Call::Row => row_made(alloc, &self.definition),
+            Call::KeptRow => row_written(alloc, &self.definition),
             Call::ReadSettings => settings_read(alloc),
             Call::NewJob => job_made(alloc, &self.settings),
         }
@@ -224,6 +226,14 @@ fn row_made(alloc: Global, definition: &Definition) -> Answer {
     }
 }
 
+fn row_written(alloc: Global, definition: &Definition) -> Answer {
+    let mut rows = Rows::new(alloc, definition);
+    match rows.write(LEAD, &PACKET) {
+        Ok(()) => Answer::right_if(rows.row() == ROW.as_bytes()),
+        Err(fault) => Answer::refused_if(fault == RowFault::NoMemory && rows.row().is_empty()),
+    }
+}
+
 fn settings_read(alloc: Global) -> Answer {
     match Settings::read(alloc, SETTINGS.as_bytes()) {
         Ok(settings) => Answer::right_if(
@@ -291,6 +301,11 @@ fn head_of_rows(rt: HostRuntime) {
 #[test]
 fn row_of_a_packet(rt: HostRuntime) {
     assert!(rt; passes_call(&rt, Call::Row));
+}
+
+#[test]
+fn row_of_rows(rt: HostRuntime) {
+    assert!(rt; passes_call(&rt, Call::KeptRow));
 }
 
 #[test]

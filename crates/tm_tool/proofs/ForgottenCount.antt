@@ -14,7 +14,7 @@ use Rattle.tm_tool.specs.OlderVersions.{gap_piece, IsGapLineAtMost, LacksGapLine
 use Rattle.tm_output.specs.code.Outlets.{GivesNone, no_text}
 use Rattle.tm_output.specs.Outputs.{Piece}
 use Rattle.tm_output.specs.Pieces.{Entries, Texts, item_line, noted, noted_all, piece_of, pieces_of, report_of, text_of}
-use Rattle.tm_tool.specs.RecordingPieces.{Work, chosen, end_pieces, further, items_of, pieces, record_pieces, worked}
+use Rattle.tm_tool.specs.RecordingPieces.{Work, records_for, end_pieces, further, items_of, pieces, record_pieces, worked}
 use Rattle.tm_output.specs.Records.{rest_of}
 use Rattle.tm_output.specs.Shelves.{shelf_text}
 use Rattle.tm_output.specs.code.ShelfLaws.{no_shelf}
@@ -91,7 +91,7 @@ module _ {A : Type 0} (text : Texts A) (none : (seen expected found missing : �
   lacks_gap : (ending : Ending) (w : Work) (recording : List ℕ) → IsValid w → LacksGapLine (pieces text ending w recording) (pieces text ending (work_without_master w) recording)
   unfolding pieces
   lacks_gap ending w recording valid =
-      let rs : List (List ℕ) = chosen ending (further w recording) in
+      let rs : List (List ℕ) = records_for ending (further w recording) in
       let rest : ℕ = length (rest_of (record_length_of w.rules.layout) recording) in
       let h = lacks_piece w.entries (items_of w rs) (items_of (work_without_master w) rs) (end_pieces text ending (worked w rs) rest) (lacks_item w rs valid) in
       record {

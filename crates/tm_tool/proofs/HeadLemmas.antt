@@ -10,7 +10,8 @@ use Rattle.tm_output.specs.code.Outlets.{PutStopped}
 use Rattle.tm_output.specs.Outputs.{Stopped, Took, lines_way, view}
 use Rattle.tm_output.specs.Pieces.{way_of}
 use Rattle.tm_output.proofs.PieceLemmas.{flushed, stopped_put, took_piece}
-use Rattle.tm_tool.specs.Jobs.{head_pieces, head_text}
+use Rattle.tm_tool.specs.Jobs.{head_pieces}
+use Rattle.tm_tool.specs.code.Heads.{head_text}
 
 module _ {old new report : Option (List ℕ)} {failures failures' : ℕ} (report_failures : ℕ) where
   pub head_took : (command : Command) (fresh : Bool) → Appends old new (head_text command fresh) × (failures' ≡ failures)

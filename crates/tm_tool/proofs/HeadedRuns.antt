@@ -7,7 +7,7 @@ use Rattle.tm_output.specs.declared.command.Ending.{Ending}
 use Rattle.tm_output.specs.Outputs.{AppendsCut, CausedByOutput, Piece, Took, View, Way, outs, reports}
 use Rattle.tm_output.specs.Pieces.{Texts}
 use Rattle.tm_tool.specs.RecordingPieces.{Work, pieces}
-use Rattle.tm_tool.specs.Runs.{IsHeadedStop, IsStoppedAt, StoppedIn}
+use Rattle.tm_tool.specs.Runs.{IsHeadedStop, IsStoppedAt, StoppedIn, devices_at}
 use Rattle.tm_output.proofs.PieceLemmas.{cut_after, stopped_more, stops_after}
 use Rattle.tm_tool.proofs.Running.{IsValid}
 use Rattle.tm_tool.proofs.RunPieces.{run_cut, run_memory, run_refused, run_many, run_short}
@@ -15,7 +15,7 @@ use Rattle.tm_tool.proofs.RunPieces.{run_cut, run_memory, run_refused, run_many,
 module _ {A K : Type 0} (grows : K → K → List A → Type 0) (grows-nil : (k : K) → grows k k [])
     (grows-trans : (j k l : K) (xs ys : List A) → grows j k xs → grows k l ys → grows j l (xs ++ ys))
     (way : Way) (text : Texts A) (ending : Ending) (w : Work) (head : List (Piece A)) (valid : IsValid w) (some : 0 < record_length_of w.rules.layout)
-    (next : Option (List ℕ)) (old new : View K) (fault : RunFault) where
+    (failures failures' : ℕ) (next : Option (List ℕ)) (old new : View K) (fault : RunFault) where
   cut_behind : (mid : View K) (ps : List (Piece A)) → Took grows old mid head → AppendsCut grows mid new ps → AppendsCut grows old new (head ++ ps)
   cut_behind mid ps headed h =
       let (out, report, cut, outs_new, reports_new) = h in (
@@ -26,7 +26,7 @@ module _ {A K : Type 0} (grows : K → K → List A → Type 0) (grows-nil : (k 
         Appends-trans old.report mid.report new.report (reports head) report headed.whole.1 reports_new,
       )
 
-  pub stop_told : (first : Option (List ℕ)) → IsHeadedStop grows way text ending w head first next old new fault
+  pub stop_told : (first : Option (List ℕ)) → IsHeadedStop grows way text ending w head (devices_at first failures old) (devices_at next failures' new) fault
       → IfSome first (StoppedIn grows way text ending w head old new fault)
   stop_told None h = tt
   stop_told (Some octets) (inl h) =

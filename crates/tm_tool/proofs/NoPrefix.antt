@@ -16,7 +16,7 @@ use Rattle.tm_reassembly.specs.State.{State}
 use Rattle.tm_reassembly.specs.Valid.{IsValidState}
 use Rattle.tm_tool.specs.declared.version.Version.{Version}
 use Rattle.tm_tool.specs.declared.version.Version.TheVariants.{One, Two, Three}
-use Rattle.tm_tool.specs.Checkpoints.{IsWork, form_of, tells, kept_state, kept_in, presence_octet, three, settings_octets, head_octets, state_octets, spelled_in, state_in}
+use Rattle.tm_tool.specs.Checkpoints.{IsWork, form_of, tells, kept_state, kept_in, presence_octet, three_octets, settings_octets, head_octets, state_octets, spelled_in, state_in}
 use Rattle.tm_output.specs.Pieces.{Entries}
 use Rattle.tm_tool.specs.RecordingPieces.{Work}
 use Rattle.tm_tool.proofs.CheckpointLemmas.{body, check, behind_head}
@@ -91,7 +91,7 @@ twelve_told s t l e limit =
 -- and all fifteen tell them all
 fifteen_told : (s t : Rules) → length s.channels ≡ length t.channels → settings_octets s ≡ settings_octets t → s ≡ t
 fifteen_told s t l e =
-    let limits : three s.max_packet ≡ three t.max_packet = ap (drop 12) e in
+    let limits : three_octets s.max_packet ≡ three_octets t.max_packet = ap (drop 12) e in
     twelve_told s t l (ap (take 12) e) (three_told s.max_packet t.max_packet (cc) (cc) (cc))
 
 -- where a version can tell the settings its octets do

@@ -8,7 +8,7 @@ use Rattle.tm_packet.specs.Merge.{Sent}
 use Rattle.tm_packet.specs.Valid.{AllHeadersFit, AreValidEntries}
 use Rattle.tm_packet.proofs.AfterValid.{header-fits}
 use Rattle.tm_packet.proofs.Merging.{after-append, after_from-none, notes-append}
-use Rattle.tm_reassembly.specs.Among.{Among, is_of}
+use Rattle.tm_items.specs.Among.{Among, is_of}
 use Rattle.tm_reassembly.specs.Items.{close_channels, close_tail, closing}
 use Rattle.tm_reassembly.specs.State.{Last, State, Tail}
 use Rattle.tm_items.specs.Item.{Item, Packet, Short}

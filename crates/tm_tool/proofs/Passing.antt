@@ -1,10 +1,13 @@
 -- Records that are read and passed over.
-use Rattle.std.proofs.Common.{◌≡◌, ◌<◌, ◌+◌, ℕ, List, [], ◌∷◌, ◌++◌, length, refl, sym, subst, length-append, arith, Option}
+use Rattle.std.proofs.Common.{◌≡◌, ◌<◌, ◌≤◌, ◌+◌, ◌*◌, ℕ, zero, suc, List, [], ◌∷◌, ◌++◌, length, take, drop, refl, sym, ap, subst, ◌∙◌, length-append, length-drop, length-take-le, arith, Option}
+use Rattle.std.proofs.Math.Nat.{zero-mul}
+use Rattle.std.proofs.lemmas.List.{nil_from_length, take-append-drop}
 use Rattle.std.specs.List.{concat}
 use Rattle.std.specs.Io.KnownBytes.{Consumes, IsAtEnd}
 use Rattle.std.proofs.KnownBytes.{Consumes-nil, Consumes-trans}
+use Rattle.tm_output.specs.Records.{AreRecords}
 use Rattle.tm_tool.specs.Runs.{HasRead}
-use Rattle.tm_tool.specs.code.Stepping.{HasPassed, PassingFails, PassingEnds}
+use Rattle.tm_tool.specs.code.Taking.{HasPassed, PassingFails, PassingEnds}
 use Rattle.tm_output.proofs.ListingLemmas.{AreRecords-append, concat-one}
 
 pub passing_first : (size : ℕ) (left : Option (List ℕ)) → HasPassed size 0 left left
@@ -33,3 +36,29 @@ module _ (size count : ℕ) (first left next : Option (List ℕ)) (octets : List
     all = record { octets = read_on; short = short; ended = ended };
     few = omega (arith, passed.counted, fewer);
   }
+
+-- so many octets are so many records
+pub cut_records : (size count : ℕ) (octets : List ℕ) → length octets ≡ count * size
+    → (read : List (List ℕ)) × AreRecords size read × (length read ≡ count) × (concat read ≡ octets)
+cut_records size zero octets long = ([], tt, refl, sym (nil_from_length octets (long ∙ zero-mul size)))
+cut_records size (suc n) octets long =
+    let more : size ≤ length octets = omega (arith, long) in
+    let rest : length (drop size octets) ≡ n * size = length-drop size octets ∙ omega (arith, long) in
+    let others = cut_records size n (drop size octets) rest in (
+      take size octets ∷ others.0,
+      (length-take-le size octets more, others.1),
+      omega (arith, others.2),
+      ap (λ (l : List ℕ). take size octets ++ l) others.3 ∙ take-append-drop size octets,
+    )
+
+-- they were passed over in one step
+pub passed_over : (size count : ℕ) (first next : Option (List ℕ)) (octets : List ℕ) → length octets ≡ count * size → Consumes first next octets → HasPassed size count first next
+passed_over size count first next octets long got =
+    let cut = cut_records size count octets long in
+    record { read = cut.0; sized = cut.1; counted = cut.2; octets = subst (Consumes first next) (sym cut.3) got }
+
+-- or the call failed before the first of them
+pub passing_refused : (size count : ℕ) (first next : Option (List ℕ)) → 0 < size → 0 < count → next ≡ first → PassingFails size count first next
+passing_refused size count first next some few same =
+    let kept : Consumes first next [] = subst (λ (l : Option (List ℕ)). Consumes first l []) (sym same) (Consumes-nil first) in
+    record { read = []; part = []; octets = record { sized = tt; octets = kept }; short = some; few = few }

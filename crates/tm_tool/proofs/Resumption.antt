@@ -13,7 +13,7 @@ use Rattle.tm_tool.specs.Checkpoints.{IsWork, checkpoint_of, resumed}
 use Rattle.tm_tool.specs.Jobs.{JobState, new_job}
 use Rattle.tm_output.specs.Outputs.{Piece}
 use Rattle.tm_output.specs.Pieces.{Texts}
-use Rattle.tm_tool.specs.RecordingPieces.{Work, chosen, end_pieces, further, pieces, record_pieces, worked}
+use Rattle.tm_tool.specs.RecordingPieces.{Work, records_for, end_pieces, further, pieces, record_pieces, worked}
 use Rattle.tm_output.specs.Records.{records, rest_of}
 use Rattle.tm_tool.specs.Resuming.{Stop, KeepsJob, Follows, left_by, then_pieces, run_pieces, resumed_pieces, done_by, done_in_all, in_one}
 use Rattle.tm_tool.proofs.CheckpointLemmas.{read_again}
@@ -31,16 +31,16 @@ same_end text Close count w rest = refl
 same_end text _ count w rest = refl
 
 -- how many records an ending takes
-chosen-counted : (ending : Ending) (done more : List (List ℕ)) → length (done ++ chosen ending more) ≡ done_by ending (length done) (length (done ++ more))
-chosen-counted (StopAfter n) done more =
+records_for-counted : (ending : Ending) (done more : List (List ℕ)) → length (done ++ records_for ending more) ≡ done_by ending (length done) (length (done ++ more))
+records_for-counted (StopAfter n) done more =
     let left : length (done ++ more) - length done ≡ length more = omega (arith, length-append done more) in
     rw (length-append done (take n more), length-take n more, left) refl
-chosen-counted _ done more = refl
+records_for-counted _ done more = refl
 
 -- what an ending takes comes first, and a closed end takes all
-chosen-front : (ending : Ending) (more : List (List ℕ)) → (others : List (List ℕ)) × (more ≡ chosen ending more ++ others) × (ending ≡ Close → others ≡ [])
-chosen-front (StopAfter n) more = (drop n more, sym (take-append-drop n more), λ (e : StopAfter n ≡ Close). cc)
-chosen-front _ more = ([], sym (append-nil more), λ e. refl)
+records_for-front : (ending : Ending) (more : List (List ℕ)) → (others : List (List ℕ)) × (more ≡ records_for ending more ++ others) × (ending ≡ Close → others ≡ [])
+records_for-front (StopAfter n) more = (drop n more, sym (take-append-drop n more), λ (e : StopAfter n ≡ Close). cc)
+records_for-front _ more = ([], sym (append-nil more), λ e. refl)
 
 module _ {A : Type 0} (head : Bool → List (Piece A)) (none : head false ≡ []) (text : Texts A) (ending : Ending) (last : List ℕ)
     (start : Work) (zero : start.state.records ≡ 0)
@@ -50,37 +50,37 @@ module _ {A : Type 0} (head : Bool → List (Piece A)) (none : head false ≡ []
 
   -- the records that are taken behind those that are done
   abbrev taken : (done : List (List ℕ)) (stops : List Stop) → Follows size last done stops → List (List ℕ)
-  taken done [] (more, is) = chosen ending more
-  taken done (stop ∷ stops) (more, is, keeps, rest) = chosen stop.ending more ++ taken (done ++ chosen stop.ending more) stops rest
+  taken done [] (more, is) = records_for ending more
+  taken done (stop ∷ stops) (more, is, keeps, rest) = records_for stop.ending more ++ taken (done ++ records_for stop.ending more) stops rest
 
   -- the last recording begins with the records that are done
   front : (done : List (List ℕ)) (stops : List Stop) → Follows size last done stops → (more : List (List ℕ)) × (records size last ≡ done ++ more)
   front done [] (more, is) = (more, is)
   front done (stop ∷ stops) (more, is, keeps, rest) =
-      let (others, split) = front (done ++ chosen stop.ending more) stops rest in
-      (chosen stop.ending more ++ others, split ∙ append_assoc done (chosen stop.ending more) others)
+      let (others, split) = front (done ++ records_for stop.ending more) stops rest in
+      (records_for stop.ending more ++ others, split ∙ append_assoc done (records_for stop.ending more) others)
 
   -- and with all that are taken; a closed end takes all of them
   whole : (done : List (List ℕ)) (stops : List Stop) (h : Follows size last done stops)
       → (others : List (List ℕ)) × (records size last ≡ (done ++ taken done stops h) ++ others) × (ending ≡ Close → others ≡ [])
   whole done [] (more, is) =
-      let (others, split, all) = chosen-front ending more in
-      (others, is ∙ ap (λ (l : List (List ℕ)). done ++ l) split ∙ sym (append_assoc done (chosen ending more) others), all)
+      let (others, split, all) = records_for-front ending more in
+      (others, is ∙ ap (λ (l : List (List ℕ)). done ++ l) split ∙ sym (append_assoc done (records_for ending more) others), all)
   whole done (stop ∷ stops) (more, is, keeps, rest) =
-      let (others, split, all) = whole (done ++ chosen stop.ending more) stops rest in (
+      let (others, split, all) = whole (done ++ records_for stop.ending more) stops rest in (
         others,
-        split ∙ ap (λ (l : List (List ℕ)). l ++ others) (append_assoc done (chosen stop.ending more) (taken (done ++ chosen stop.ending more) stops rest)),
+        split ∙ ap (λ (l : List (List ℕ)). l ++ others) (append_assoc done (records_for stop.ending more) (taken (done ++ records_for stop.ending more) stops rest)),
         all,
       )
 
   -- how many they are
   counted : (done : List (List ℕ)) (stops : List Stop) (h : Follows size last done stops)
       → done_in_all size ending last (length done) stops ≡ length (done ++ taken done stops h)
-  counted done [] (more, is) = rw is (sym (chosen-counted ending done more))
+  counted done [] (more, is) = rw is (sym (records_for-counted ending done more))
   counted done (stop ∷ stops) (more, is, keeps, rest) =
-      let here : done_by stop.ending (length done) (length (records size stop.recording)) ≡ length (done ++ chosen stop.ending more) =
-      rw is (sym (chosen-counted stop.ending done more)) in
-      rw (here, counted (done ++ chosen stop.ending more) stops rest, append_assoc done (chosen stop.ending more) (taken (done ++ chosen stop.ending more) stops rest)) refl
+      let here : done_by stop.ending (length done) (length (records size stop.recording)) ≡ length (done ++ records_for stop.ending more) =
+      rw is (sym (records_for-counted stop.ending done more)) in
+      rw (here, counted (done ++ records_for stop.ending more) stops rest, append_assoc done (records_for stop.ending more) (taken (done ++ records_for stop.ending more) stops rest)) refl
 
   module _ (done : List (List ℕ)) (recording : List ℕ) (more : List (List ℕ)) (is : records size recording ≡ done ++ more) where
     -- the records that follow those that are done
@@ -91,11 +91,11 @@ module _ {A : Type 0} (head : Bool → List (Piece A)) (none : head false ≡ []
 
     -- the pieces of a run from there
     pieces_is : (e : Ending) (v : IsValid start) → pieces text e (worked start done) recording
-        ≡ record_pieces text (worked start done) (chosen e more)
-        ++ end_pieces text e (worked start (done ++ chosen e more)) (length (rest_of size recording))
+        ≡ record_pieces text (worked start done) (records_for e more)
+        ++ end_pieces text e (worked start (done ++ records_for e more)) (length (rest_of size recording))
     unfolding pieces
     pieces_is e v =
-        rw (further_is, worked-append start v done (chosen e more)) refl
+        rw (further_is, worked-append start v done (records_for e more)) refl
 
   module _ (v : IsValid start) where
     abbrev after_stop : Rules → List Stop → Result JobState CheckpointFault → List (Piece A)
@@ -107,7 +107,7 @@ module _ {A : Type 0} (head : Bool → List (Piece A)) (none : head false ≡ []
         ++ end_pieces text ending (worked start (done ++ taken done stops h)) (length (rest_of size last)))
     chain done fresh [] (more, is) = ap (λ (ps : List (Piece A)). head fresh ++ ps) (pieces_is done last more is ending v)
     chain done fresh (stop ∷ stops) (more, is, keeps, rest) =
-        let c : List (List ℕ) = chosen stop.ending more in
+        let c : List (List ℕ) = records_for stop.ending more in
         let t : List (List ℕ) = taken (done ++ c) stops rest in
         let w : Work = worked start done in
         let end : List (Piece A) = end_pieces text ending (worked start ((done ++ c) ++ t)) (length (rest_of size last)) in
@@ -125,14 +125,14 @@ module _ {A : Type 0} (head : Bool → List (Piece A)) (none : head false ≡ []
         rw (here, there, records-append w (valid done more_all split_all).state text c t) (simp append_assoc)
 
     -- all of them, in one run
-    chosen_all : (stops : List Stop) (h : Follows size last [] stops)
-        → chosen (in_one ending (done_in_all size ending last 0 stops)) (records size last) ≡ taken [] stops h
-    chosen_all stops h =
+    records_for_all : (stops : List Stop) (h : Follows size last [] stops)
+        → records_for (in_one ending (done_in_all size ending last 0 stops)) (records size last) ≡ taken [] stops h
+    records_for_all stops h =
         let (others, split, all) = whole [] stops h in
         by_cases ending refl others split all
       where
         by_cases : (e : Ending) → ending ≡ e → (others : List (List ℕ)) → records size last ≡ taken [] stops h ++ others → (ending ≡ Close → others ≡ [])
-            → chosen (in_one e (done_in_all size ending last 0 stops)) (records size last) ≡ taken [] stops h
+            → records_for (in_one e (done_in_all size ending last 0 stops)) (records size last) ≡ taken [] stops h
         by_cases Close is others split all = rw (split, all is) (append-nil (taken [] stops h))
         by_cases _ is others split all =
             rw (split, counted [] stops h) (take-append_seam (taken [] stops h) others)
@@ -148,8 +148,8 @@ module _ {A : Type 0} (head : Bool → List (Piece A)) (none : head false ≡ []
         let one : pieces text (in_one ending count) start last ≡ record_pieces text start t ++ end_pieces text ending (worked start t) rest =
         ap (λ (w : Work). pieces text (in_one ending count) w last) (sym first)
         ∙ pieces_is [] last (records size last) refl (in_one ending count) v
-        ∙ ap (λ (w : Work). record_pieces text w (chosen (in_one ending count) (records size last)) ++ end_pieces text (in_one ending count) (worked start (chosen (in_one ending count) (records size last))) rest) first
-        ∙ ap (λ (rs : List (List ℕ)). record_pieces text start rs ++ end_pieces text (in_one ending count) (worked start rs) rest) (chosen_all stops h)
+        ∙ ap (λ (w : Work). record_pieces text w (records_for (in_one ending count) (records size last)) ++ end_pieces text (in_one ending count) (worked start (records_for (in_one ending count) (records size last))) rest) first
+        ∙ ap (λ (rs : List (List ℕ)). record_pieces text start rs ++ end_pieces text (in_one ending count) (worked start rs) rest) (records_for_all stops h)
         ∙ ap (λ (ps : List (Piece A)). record_pieces text start t ++ ps) (same_end text ending count (worked start t) rest) in
         ap (λ (w : Work). resumed_pieces head text ending last start.rules (record { work = w; fresh = fresh }) stops) (sym first)
         ∙ chain [] fresh stops h

@@ -9,7 +9,8 @@ use Rattle.tm_output.specs.Outputs.{Piece, View, Took, Stopped, Way}
 use Rattle.tm_output.specs.Pieces.{Entries, Texts, noted_all, pieces_of, unclosed_pieces}
 use Rattle.tm_tool.specs.RecordingPieces.{Work, worked, record_pieces, closing_pieces, end_pieces}
 use Rattle.tm_tool.specs.Runs.{StopsAtEnd, IsStoppedAt, behind, kept_of}
-use Rattle.tm_tool.specs.code.Stepping.{IsRun, HasStepped}
+use Rattle.tm_tool.specs.code.Stepping.{IsRun, TookRecords}
+use Rattle.tm_tool.specs.code.Taking.{HasStepped}
 use Rattle.tm_output.proofs.PieceLemmas.{took_took, took_stopped, took_failed, stopped_more}
 use Rattle.tm_tool.proofs.Running.{behind-counted}
 
@@ -45,7 +46,7 @@ module _ {A K : Type 0} (grows : K → K → List A → Type 0) (grows-nil : (k 
   -- ---- the end of a run
 
   module _ (way : Way) (text : Texts A) (ending : Ending) (w : Work) (first next : Option (List ℕ)) (old mid : View K) (work : Work) (n : ℕ)
-      (stepped : HasStepped grows text ending w first next old mid work n) where
+      (stepped : HasStepped (TookRecords grows text) ending w first next old mid work n) where
     end_same : end_pieces text ending work n ≡ end_pieces text ending (worked w (behind w stepped.read)) (length stepped.rest)
     end_same =
         rw (stepped.work, stepped.left)

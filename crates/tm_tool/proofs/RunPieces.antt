@@ -14,13 +14,14 @@ use Rattle.tm_output.specs.declared.command.Ending.{Ending}
 use Rattle.tm_output.specs.declared.command.Ending.TheVariants.{StopAfter}
 use Rattle.tm_output.specs.Outputs.{Piece, View, AppendsCut, Took, RefusesPut, WantsMemory, Stopped, outs, reports, Way}
 use Rattle.tm_output.specs.Pieces.{Texts}
-use Rattle.tm_tool.specs.RecordingPieces.{Work, chosen, further, worked, record_pieces, end_pieces, pieces_after, pieces}
+use Rattle.tm_tool.specs.RecordingPieces.{Work, records_for, further, worked, record_pieces, end_pieces, pieces_after, pieces}
 use Rattle.tm_output.specs.Records.{AreRecords, record_count, records, rest_of}
-use Rattle.tm_tool.specs.Runs.{HasRead, HasReadAll, HasEnded, IsEnough, WantsFurther, Suffices, Outcome, Ran, StopsAtRead, StopsAtRecord, StopsAtEnd, IsStoppedAt, behind, kept_of}
+use Rattle.tm_tool.specs.Runs.{HasRead, HasReadAll, HasEnded, IsEnough, WantsFurther, Suffices, Outcome, Ran, devices_at, StopsAtRead, StopsAtRecord, StopsAtEnd, IsStoppedAt, behind, kept_of}
 use Rattle.tm_output.proofs.ListingLemmas.{AreRecords-append, concat-one}
 use Rattle.tm_output.proofs.PieceLemmas.{cut_all, cut_more, cut_none, took_took, took_stopped, stopped_more}
 use Rattle.tm_output.proofs.RecordLemmas.{records_counted, records_front, records_sized, records_whole, rest_front, rest_small, count_front, count_short, records_short, rest_short}
-use Rattle.tm_tool.specs.code.Stepping.{IsRun, Reached}
+use Rattle.tm_tool.specs.code.Stepping.{IsRun}
+use Rattle.tm_tool.specs.code.Taking.{Reached}
 use Rattle.tm_tool.proofs.Running.{IsValid, behind-more, behind-none, records-append, wanted_reached, more_reached}
 
 -- a refusal has one fault
@@ -34,25 +35,25 @@ module _ (w : Work) (read : List (List ℕ)) (passed : w.state.records ≤ lengt
   size = length-drop w.state.records read
 
   -- all of them, where no more follow
-  chosen_all : (ending : Ending) → Reached ending w.state.records (length read) → chosen ending (behind w read) ≡ behind w read
-  chosen_all (StopAfter n) h = take_all n (behind w read) (omega (arith, h, size, passed))
-  chosen_all _ h = refl
+  records_for_all : (ending : Ending) → Reached ending w.state.records (length read) → records_for ending (behind w read) ≡ behind w read
+  records_for_all (StopAfter n) h = take_all n (behind w read) (omega (arith, h, size, passed))
+  records_for_all _ h = refl
 
   -- those that were read come first
-  chosen_front : (ending : Ending) (more : List (List ℕ)) → Reached ending w.state.records (length read)
-      → (others : List (List ℕ)) × (chosen ending (behind w read ++ more) ≡ behind w read ++ others)
-  chosen_front (StopAfter n) more h =
+  records_for_front : (ending : Ending) (more : List (List ℕ)) → Reached ending w.state.records (length read)
+      → (others : List (List ℕ)) × (records_for ending (behind w read ++ more) ≡ behind w read ++ others)
+  records_for_front (StopAfter n) more h =
       let count : n ≡ length (behind w read) + (n - length (behind w read)) = omega (arith, h, size, passed) in (
         take (n - length (behind w read)) more,
         ap (λ (k : ℕ). take k (behind w read ++ more)) count ∙ take-append-add (behind w read) more (n - length (behind w read)),
       )
-  chosen_front _ more h = (more, refl)
+  records_for_front _ more h = (more, refl)
 
   -- and are all, where no more are wanted
-  chosen_enough : (ending : Ending) (more : List (List ℕ)) → Suffices ending w.state.records (length read) → chosen ending (behind w read ++ more) ≡ behind w read
-  chosen_enough (StopAfter n) more h =
+  records_for_enough : (ending : Ending) (more : List (List ℕ)) → Suffices ending w.state.records (length read) → records_for ending (behind w read ++ more) ≡ behind w read
+  records_for_enough (StopAfter n) more h =
       take-append-le n (behind w read) more (omega (arith, h, size, passed)) ∙ take_all n (behind w read) (omega (arith, h, size, passed))
-  chosen_enough _ more h = absurd h
+  records_for_enough _ more h = absurd h
 
 -- where no more are wanted the ending has no pieces
 end_none : {A : Type 0} (text : Texts A) (ending : Ending) (done count : ℕ) (w : Work) (rest : ℕ) → Suffices ending done count → end_pieces text ending w rest ≡ []
@@ -80,17 +81,17 @@ module _ {A K : Type 0} (grows : K → K → List A → Type 0) (grows-nil : (k 
       rw (records_front (record_length_of w.rules.layout) some read more sized) (drop-append-le w.state.records read (records (record_length_of w.rules.layout) more) passed)
 
   -- the records that an ending takes
-  chosen_is : (read : List (List ℕ)) (rest : List ℕ) (left_old left_new : Option (List ℕ)) (left : List ℕ) → w.state.records ≤ length read
+  records_for_is : (read : List (List ℕ)) (rest : List ℕ) (left_old left_new : Option (List ℕ)) (left : List ℕ) → w.state.records ≤ length read
       → HasEnded ending w left_old left_new read rest → (IsAtEnd left_new → left ≡ []) → AreRecords (record_length_of w.rules.layout) read
-      → chosen ending (further w ((concat read ++ rest) ++ left)) ≡ behind w read
-  chosen_is read rest left_old left_new left passed (inl h) end sized =
+      → records_for ending (further w ((concat read ++ rest) ++ left)) ≡ behind w read
+  records_for_is read rest left_old left_new left passed (inl h) end sized =
       let n : ℕ = record_length_of w.rules.layout in
       let all : (concat read ++ rest) ++ left ≡ concat read ++ rest = ap (λ (l : List ℕ). (concat read ++ rest) ++ l) (end h.0.ended) ∙ append-nil (concat read ++ rest) in
       rw (all, further_front read rest sized passed, records_short n rest h.0.short, append-nil (behind w read))
-      (chosen_all w read passed ending (wanted_reached ending w.state.records (length read) h.1))
-  chosen_is read rest left_old left_new left passed (inr h) end sized =
+      (records_for_all w read passed ending (wanted_reached ending w.state.records (length read) h.1))
+  records_for_is read rest left_old left_new left passed (inr h) end sized =
       rw (append_assoc (concat read) rest left, further_front read (rest ++ left) sized passed)
-      (chosen_enough w read passed ending (records (record_length_of w.rules.layout) (rest ++ left)) h.2)
+      (records_for_enough w read passed ending (records (record_length_of w.rules.layout) (rest ++ left)) h.2)
 
   -- and what the ending has
   end_is : (read : List (List ℕ)) (rest : List ℕ) (left_old left_new : Option (List ℕ)) (left : List ℕ)
@@ -111,7 +112,7 @@ module _ {A K : Type 0} (grows : K → K → List A → Type 0) (grows-nil : (k 
       → pieces text ending w ((concat read ++ rest) ++ left) ≡ pieces_after text ending w (behind w read) (length rest)
   unfolding pieces
   pieces_ended read rest left_old left_new left passed h end sized =
-      rw (chosen_is read rest left_old left_new left passed h end sized, end_is read rest left_old left_new left h end sized) refl
+      rw (records_for_is read rest left_old left_new left passed h end sized, end_is read rest left_old left_new left h end sized) refl
 
   -- the pieces of the records in front come first
   pieces_front : (read : List (List ℕ)) (more : List ℕ) → AreRecords (record_length_of w.rules.layout) read → w.state.records ≤ length read
@@ -122,7 +123,7 @@ module _ {A K : Type 0} (grows : K → K → List A → Type 0) (grows-nil : (k 
       let n : ℕ = record_length_of w.rules.layout in
       let rest : ℕ = length (rest_of n (concat read ++ more)) in
       let done : List (List ℕ) = behind w read in
-      let (others, split) = chosen_front w read passed ending (records n more) reached in
+      let (others, split) = records_for_front w read passed ending (records n more) reached in
       let here : List (Piece A) = record_pieces text w done in
       let there : List (Piece A) = record_pieces text (worked w done) others in
       let end : List (Piece A) = end_pieces text ending (worked w (done ++ others)) rest in (
@@ -187,17 +188,17 @@ module _ {A K : Type 0} (grows : K → K → List A → Type 0) (grows-nil : (k 
         ap (λ (l : List ℕ). pieces text ending w l) (sym (append-nil (concat read ++ rest)))
         ∙ pieces_ended read rest first next [] passed ended (λ end. refl) (sized_in read rest ended)
 
-    chosen_read : (read : List (List ℕ)) (rest : List ℕ) → w.state.records ≤ length read → HasEnded ending w first next read rest
-        → chosen ending (further w (concat read ++ rest)) ≡ behind w read
-    chosen_read read rest passed ended =
-        ap (λ (l : List ℕ). chosen ending (further w l)) (sym (append-nil (concat read ++ rest)))
-        ∙ chosen_is read rest first next [] passed ended (λ end. refl) (sized_in read rest ended)
+    records_for_read : (read : List (List ℕ)) (rest : List ℕ) → w.state.records ≤ length read → HasEnded ending w first next read rest
+        → records_for ending (further w (concat read ++ rest)) ≡ behind w read
+    records_for_read read rest passed ended =
+        ap (λ (l : List ℕ). records_for ending (further w l)) (sym (append-nil (concat read ++ rest)))
+        ∙ records_for_is read rest first next [] passed ended (λ end. refl) (sized_in read rest ended)
 
     -- a run in records is one in octets
-    pub ran_behind : (head : List (Piece A)) (mid : View K) (count : ℕ) (kept : Option Work) → Took grows old mid head → IsRun grows way text ending w first next mid new count kept
-        → Ran grows way text ending w head first next old new count kept
-    ran_behind head mid count kept headed h =
-        let is : chosen ending (further w (concat h.read ++ h.rest)) ≡ behind w h.read = chosen_read h.read h.rest h.passed h.ended in
+    pub ran_behind : (failures failures' : ℕ) (head : List (Piece A)) (mid : View K) (count : ℕ) (kept : Option Work) → Took grows old mid head
+        → IsRun grows way text ending w first next mid new count kept → Ran grows way text ending w head (devices_at first failures old) (devices_at next failures' new) count kept
+    ran_behind failures failures' head mid count kept headed h =
+        let is : records_for ending (further w (concat h.read ++ h.rest)) ≡ behind w h.read = records_for_read h.read h.rest h.passed h.ended in
         record {
           read = concat h.read ++ h.rest;
           octets = octets_in h.read h.rest h.ended;
@@ -211,7 +212,8 @@ module _ {A K : Type 0} (grows : K → K → List A → Type 0) (grows-nil : (k 
         }
 
     -- and what was read in octets was read in records
-    module _ (head : List (Piece A)) (count : ℕ) (kept : Option Work) (h : Ran grows way text ending w head first next old new count kept) where
+    module _ (failures failures' : ℕ) (head : List (Piece A)) (count : ℕ) (kept : Option Work)
+        (h : Ran grows way text ending w head (devices_at first failures old) (devices_at next failures' new) count kept) where
       abbrev its_records : List (List ℕ)
       its_records = records (record_length_of w.rules.layout) h.read
 
@@ -256,16 +258,16 @@ module _ {A K : Type 0} (grows : K → K → List A → Type 0) (grows-nil : (k 
       pub ran_told : IfSome first (λ octets. Outcome grows way text ending w head octets old new count kept)
       ran_told =
           ended_told _ its_records its_rest ended_by (λ left end sized.
-          let chosen_same : chosen ending (further w ((concat its_records ++ its_rest) ++ left)) ≡ chosen ending (further w h.read) =
-          chosen_is its_records its_rest first next left passed_by ended_by end sized ∙ sym (chosen_read its_records its_rest passed_by ended_by)
-          ∙ ap (λ (l : List ℕ). chosen ending (further w l)) whole in
+          let records_for_same : records_for ending (further w ((concat its_records ++ its_rest) ++ left)) ≡ records_for ending (further w h.read) =
+          records_for_is its_records its_rest first next left passed_by ended_by end sized ∙ sym (records_for_read its_records its_rest passed_by ended_by)
+          ∙ ap (λ (l : List ℕ). records_for ending (further w l)) whole in
           let pieces_same : pieces text ending w ((concat its_records ++ its_rest) ++ left) ≡ pieces text ending w h.read =
           pieces_ended its_records its_rest first next left passed_by ended_by end sized ∙ sym (pieces_read its_records its_rest passed_by ended_by)
           ∙ ap (λ (l : List ℕ). pieces text ending w l) whole in
           record {
             took = subst (λ (ps : List (Piece A)). Took grows old new (head ++ ps)) (sym pieces_same) h.outcome.took;
-            count_is = h.outcome.count_is ∙ ap (λ (rs : List (List ℕ)). w.state.records + length rs) (sym chosen_same);
-            kept_is = h.outcome.kept_is ∙ ap (λ (rs : List (List ℕ)). kept_of ending (worked w rs)) (sym chosen_same);
+            count_is = h.outcome.count_is ∙ ap (λ (rs : List (List ℕ)). w.state.records + length rs) (sym records_for_same);
+            kept_is = h.outcome.kept_is ∙ ap (λ (rs : List (List ℕ)). kept_of ending (worked w rs)) (sym records_for_same);
           })
 
     -- all of the pieces of some records were written

@@ -4,7 +4,7 @@ use Rattle.std.proofs.lemmas.Bool.{eq-eqb}
 use Rattle.tm_packet.specs.Valid as valid
 use Rattle.tm_packet.proofs.AfterValid.{header-range, header-fits, after-valid}
 use Rattle.tm_packet.proofs.States.{valid-none}
-use Rattle.tm_reassembly.specs.Among.{Among, is_of}
+use Rattle.tm_items.specs.Among.{Among, is_of}
 use Rattle.tm_items.specs.Item.{Item, Packet}
 use Rattle.tm_rules.specs.Rules.{Rules, IsLimit}
 use Rattle.tm_reassembly.specs.Valid.{AllOctets}

@@ -72,15 +72,15 @@ presence_octet Always = 1
 presence_octet Never = 2
 
 -- a number in three octets
-abbrev pub three : ℕ → List ℕ
-three n = n / 65536 ∷ two_octets (n % 65536)
+abbrev pub three_octets : ℕ → List ℕ
+three_octets n = n / 65536 ∷ two_octets (n % 65536)
 
 -- the settings in fifteen octets
 abbrev pub settings_octets : Rules → List ℕ
 settings_octets s =
     two_octets s.layout.spacecraft ++ two_octets s.layout.frame_length ++ two_octets s.layout.skip_before ++ two_octets s.layout.skip_after
     ++ presence_octet s.layout.secondary ∷ presence_octet s.layout.ocf ∷ (if s.layout.error_control then 1 else 0) ∷ mask_of s.channels
-    ∷ three s.max_packet
+    ∷ three_octets s.max_packet
 
 -- those that a version has of them, the first
 abbrev pub settings_in : Version → Rules → List ℕ

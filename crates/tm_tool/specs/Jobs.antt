@@ -1,5 +1,5 @@
 -- Jobs, and what is written before all else.
-use Rattle.std.specs.Prelude.{ℕ, Bool, true, if◌then◌else◌, List, [], ◌∷◌, ◌++◌}
+use Rattle.std.specs.Prelude.{ℕ, Bool, true, if◌then◌else◌, List, [], ◌∷◌}
 use Rattle.tm_fields.specs.declared.field.Field.{Field}
 use Rattle.tm_fields.specs.Rows.{head_of}
 use Rattle.tm_packet.specs.Merge.{no_entries}
@@ -7,10 +7,8 @@ use Rattle.tm_reassembly.specs.Items.{empty}
 use Rattle.tm_rules.specs.Rules.{Rules}
 use Rattle.tm_output.specs.declared.command.Command.{Command}
 use Rattle.tm_output.specs.declared.command.Command.TheVariants.{Extract, Packets, Fields}
-use Rattle.tm_output.specs.declared.command.Ending.{Ending}
 use Rattle.tm_output.specs.Outputs.{Piece}
-use Rattle.tm_tool.specs.RecordingPieces.{Work, pieces}
-use Rattle.tm_output.specs.Pieces.{text_of}
+use Rattle.tm_tool.specs.RecordingPieces.{Work}
 
 -- how far a job has got, and whether it is fresh: no run has begun with it
 pub record JobState : Type 0 where
@@ -33,9 +31,3 @@ abbrev pub head_pieces : Command → Bool → List (Piece ℕ)
 head_pieces Extract fresh = []
 head_pieces Packets fresh = []
 head_pieces (Fields definition application) fresh = rows_head definition.now fresh
-
--- its octets
-abbrev pub head_text : Command → Bool → List ℕ
-head_text Extract fresh = []
-head_text Packets fresh = []
-head_text (Fields definition application) fresh = if fresh then head_of definition.now else []

@@ -33,10 +33,10 @@ worked w rs = record {
 -- ---- endings
 
 -- of the records that follow those that are done an ending takes so many, or all
-abbrev pub chosen : {X : Type 0} → Ending → List X → List X
-chosen Close rs = rs
-chosen Keep rs = rs
-chosen (StopAfter n) rs = take n rs
+abbrev pub records_for : {X : Type 0} → Ending → List X → List X
+records_for Close rs = rs
+records_for Keep rs = rs
+records_for (StopAfter n) rs = take n rs
 
 -- the records of a recording that follow those that are done
 abbrev pub further : Work → List ℕ → List (List ℕ)
@@ -66,4 +66,4 @@ module _ {A : Type 0} (text : Texts A) where
   -- the pieces of a recording, from where the job has got
   unfoldable pub pieces : Ending → Work → List ℕ → List (Piece A)
   pieces ending w recording =
-      pieces_after ending w (chosen ending (further w recording)) (length (rest_of (record_length_of w.rules.layout) recording))
+      pieces_after ending w (records_for ending (further w recording)) (length (rest_of (record_length_of w.rules.layout) recording))

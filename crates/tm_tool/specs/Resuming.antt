@@ -8,7 +8,7 @@ use Rattle.tm_tool.specs.Checkpoints.{checkpoint_of, resumed}
 use Rattle.tm_tool.specs.Jobs.{JobState}
 use Rattle.tm_output.specs.Outputs.{Piece}
 use Rattle.tm_output.specs.Pieces.{Texts}
-use Rattle.tm_tool.specs.RecordingPieces.{Work, chosen, further, pieces, worked}
+use Rattle.tm_tool.specs.RecordingPieces.{Work, records_for, further, pieces, worked}
 use Rattle.tm_output.specs.Records.{records}
 
 -- a stop: where a run ended, and the recording as it was then
@@ -24,7 +24,7 @@ KeepsJob (StopAfter n) = ⊤
 
 -- the work of the job that a run leaves
 abbrev pub left_by : Ending → Work → List ℕ → Work
-left_by ending w recording = worked w (chosen ending (further w recording))
+left_by ending w recording = worked w (records_for ending (further w recording))
 
 abbrev pub then_pieces : {A : Type 0} → Result JobState CheckpointFault → (JobState → List (Piece A)) → List (Piece A)
 then_pieces (Ok job) more = more job
@@ -51,7 +51,7 @@ no_head fresh = []
 abbrev pub Follows : ℕ → List ℕ → List (List ℕ) → List Stop → Type 0
 Follows size last done [] = (more : List (List ℕ)) × (records size last ≡ done ++ more)
 Follows size last done (stop ∷ stops) =
-    (more : List (List ℕ)) × (records size stop.recording ≡ done ++ more) × KeepsJob stop.ending × Follows size last (done ++ chosen stop.ending more) stops
+    (more : List (List ℕ)) × (records size stop.recording ≡ done ++ more) × KeepsJob stop.ending × Follows size last (done ++ records_for stop.ending more) stops
 
 -- how many records are done after a run, of so many in its recording, where so many were done before
 abbrev pub done_by : Ending → ℕ → ℕ → ℕ

@@ -1,8 +1,7 @@
 -- What was read and written when a run ended. Of a source that doesn't tell its octets nothing is said of what was read.
-use Rattle.std.specs.Prelude.{⊤, false, ◌≡◌, ◌≢◌, ◌⊎◌, ◌<◌, ◌≤◌, ◌+◌, ◌-◌, ◌^◌, ℕ, List, [], ◌∷◌, ◌++◌, length, drop, Option, None, Some}
-use Rattle.std.specs.List.{concat}
+use Rattle.std.specs.Prelude.{⊤, false, ◌≡◌, ◌≢◌, ◌⊎◌, ◌<◌, ◌≤◌, ◌+◌, ℕ, List, [], ◌∷◌, ◌++◌, length, drop, Option, None, Some, Result}
 use Rattle.std.specs.Io.KnownBytes.{Consumes, IsAtEnd}
-use Rattle.tm_frame.specs.Layout.{record_length_of}
+use Rattle.tm_frame.specs.Layout.{most_records, record_length_of}
 use Rattle.tm_reassembly.specs.Valid.{IsValidState}
 use Rattle.tm_output.specs.declared.fault.RunFault.{RunFault}
 use Rattle.tm_output.specs.declared.fault.RunFault.TheVariants.{Read, Write, Report, ShortRecording, TooMany, NoMemory}
@@ -10,19 +9,14 @@ use Rattle.tm_output.specs.declared.command.Ending.{Ending}
 use Rattle.tm_output.specs.declared.command.Ending.TheVariants.{Close, Keep, StopAfter}
 use Rattle.tm_output.specs.Outputs.{AppendsCut, Piece, RefusesPut, Stopped, Took, View, WantsMemory, Way}
 use Rattle.tm_output.specs.Pieces.{Texts}
-use Rattle.tm_tool.specs.RecordingPieces.{Work, chosen, further, worked, record_pieces, end_pieces, pieces}
-use Rattle.tm_output.specs.Records.{AreRecords, record_count, rest_of}
-
--- these records were read, and then these octets
-pub record HasRead (size : ℕ) (left_old left_new : Option (List ℕ)) (read : List (List ℕ)) (part : List ℕ) : Type 0 where
-  pub sized : AreRecords size read
-  pub octets : Consumes left_old left_new (concat read ++ part)
-
--- these records were read, and then less than a record to the end
-pub record HasReadAll (size : ℕ) (left_old left_new : Option (List ℕ)) (read : List (List ℕ)) (rest : List ℕ) : Type 0 where
-  pub octets : HasRead size left_old left_new read rest
-  pub short : length rest < size
-  pub ended : IsAtEnd left_new
+use Rattle.tm_output.specs.Faults.{RunCounted}
+use Rattle.tm_output.specs.Seen.{both, shelf_both}
+use Rattle.tm_devices.specs.declared.device.Drain as drain
+use Rattle.tm_devices.specs.declared.device.Shelf as shelf
+use Rattle.tm_devices.specs.declared.device.Source as source
+use Rattle.tm_tool.specs.RecordingPieces.{Work, records_for, further, worked, record_pieces, end_pieces, pieces}
+use Rattle.tm_output.specs.Records.{record_count, rest_of}
+pub use Rattle.tm_output.specs.Records.{HasRead, HasReadAll}
 
 -- Of a job of which so many records were done: after a count of records in all a further one is wanted.
 abbrev pub WantsFurther : Ending → ℕ → ℕ → Type 0
@@ -63,6 +57,27 @@ IsEnough ending w left read =
     × ((IsAtEnd left × WantsFurther ending w.state.records (record_count (record_length_of w.rules.layout) read))
     ⊎ ((rest_of (record_length_of w.rules.layout) read ≡ []) × Suffices ending w.state.records (record_count (record_length_of w.rules.layout) read)))
 
+-- what is known of all devices of a run: what is left of the recording, how many of its calls have failed, and the two outputs
+pub record Devices (K : Type 0) : Type 0 where
+  pub left : Option (List ℕ)
+  pub failures : ℕ
+  pub outputs : View K
+
+abbrev pub devices_at : {K : Type 0} → Option (List ℕ) → ℕ → View K → Devices K
+devices_at left failures outputs = record { left = left; failures = failures; outputs = outputs }
+
+-- those of a run into two drains
+abbrev pub devices : {R W V : Type 0} → source.Ghosts R → drain.Ghosts W → drain.Ghosts V → R → W → V → Devices (Option (List ℕ))
+devices r w v recording out report = devices_at (r.left recording) (r.failures recording) (both w v out report)
+
+-- and into a shelf and a drain
+abbrev pub shelf_devices : {R H F V : Type 0} → source.Ghosts R → shelf.Ghosts H F → drain.Ghosts V → R → H → V → Devices (Option (ℕ → List ℕ))
+shelf_devices r h v recording shelf report = devices_at (r.left recording) (r.failures recording) (shelf_both h v shelf report)
+
+-- a device is blamed only where a call of it failed
+abbrev pub DevicesCounted : {T K : Type 0} → Devices K → Devices K → Result T RunFault → Type 0
+DevicesCounted old new r = RunCounted old.failures new.failures old.outputs new.outputs r
+
 -- Records and what the ending has are written one after the other, from where the job has got. The recording is read from its beginning:
 -- the records that are done come first, and nothing is written of them.
 module _ {A K : Type 0} (grows : K → K → List A → Type 0) (way : Way) (text : Texts A) (ending : Ending) (w : Work) where
@@ -71,15 +86,15 @@ module _ {A K : Type 0} (grows : K → K → List A → Type 0) (way : Way) (tex
   -- what a run over these octets comes to: just their pieces were written; so many records are done; and this is kept
   pub record Outcome (head : List (Piece A)) (octets : List ℕ) (old new : View K) (count : ℕ) (kept : Option Work) : Type 0 where
     pub took : Took grows old new (head ++ pieces text ending w octets)
-    pub count_is : count ≡ w.state.records + length (chosen ending (further w octets))
-    pub kept_is : kept ≡ kept_of ending (worked w (chosen ending (further w octets)))
+    pub count_is : count ≡ w.state.records + length (records_for ending (further w octets))
+    pub kept_is : kept ≡ kept_of ending (worked w (records_for ending (further w octets)))
 
   -- it ran over the octets that it read, and these are what the ending reads
-  pub record Ran (head : List (Piece A)) (left_old left_new : Option (List ℕ)) (old new : View K) (count : ℕ) (kept : Option Work) : Type 0 where
+  pub record Ran (head : List (Piece A)) (old new : Devices K) (count : ℕ) (kept : Option Work) : Type 0 where
     pub read : List ℕ
-    pub octets : Consumes left_old left_new read
-    pub enough : IsEnough ending w left_new read
-    pub outcome : Outcome head read old new count kept
+    pub octets : Consumes old.left new.left read
+    pub enough : IsEnough ending w new.left read
+    pub outcome : Outcome head read old.outputs new.outputs count kept
 
   -- ---- after a fault
 
@@ -106,7 +121,7 @@ module _ {A K : Type 0} (grows : K → K → List A → Type 0) (way : Way) (tex
     pub one : List ℕ
     pub octets : HasRead (record_length_of w.rules.layout) left_old left_new read one
     pub exact : length one ≡ record_length_of w.rules.layout
-    pub most : length read ≡ 2 ^ 32 - 1
+    pub most : length read ≡ most_records
     pub wanted : WantsFurther ending w.state.records (length read)
     pub took : Took grows old new (record_pieces text w (behind w read))
 
@@ -157,9 +172,14 @@ module _ {A K : Type 0} (grows : K → K → List A → Type 0) (way : Way) (tex
     pub headed : Took grows old mid head
     pub stopped : IsStoppedAt left_old left_new mid new fault
 
-  abbrev pub IsHeadedStop : List (Piece A) → Option (List ℕ) → Option (List ℕ) → View K → View K → RunFault → Type 0
-  IsHeadedStop head left_old left_new old new fault =
-      StopsAtHead head left_old left_new old new fault ⊎ StopsBehindHead head left_old left_new old new fault
+  -- where a fault leaves the devices of a run with a head
+  abbrev pub IsHeadedStop : List (Piece A) → Devices K → Devices K → RunFault → Type 0
+  IsHeadedStop head old new fault =
+      StopsAtHead head old.left new.left old.outputs new.outputs fault ⊎ StopsBehindHead head old.left new.left old.outputs new.outputs fault
+
+  -- and without one
+  abbrev pub IsStop : Devices K → Devices K → RunFault → Type 0
+  IsStop old new fault = IsStoppedAt old.left new.left old.outputs new.outputs fault
 
   -- What a fault says of a recording that tells its octets: there is one place up to which its pieces were written; and each fault has its reason.
   pub record StoppedIn (head : List (Piece A)) (old new : View K) (fault : RunFault) (octets : List ℕ) : Type 0 where
@@ -169,6 +189,6 @@ module _ {A K : Type 0} (grows : K → K → List A → Type 0) (way : Way) (tex
     -- some octets of that packet aren't there, and nothing of it is reported
     pub refused : fault ≡ Write → way.flush ≡ false → RefusesPut grows old new (head ++ pieces text ending w octets)
     -- it has more records than can be counted
-    pub too_many : fault ≡ TooMany → 2 ^ 32 - 1 < record_count (record_length_of w.rules.layout) octets
+    pub too_many : fault ≡ TooMany → most_records < record_count (record_length_of w.rules.layout) octets
     -- it has fewer records than are done
     pub short : fault ≡ ShortRecording → record_count (record_length_of w.rules.layout) octets < w.state.records

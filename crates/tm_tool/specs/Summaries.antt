@@ -1,12 +1,12 @@
 -- A summary of a recording: what it counts, its lines, and what was read and written when it ended.
-use Rattle.std.specs.Prelude.{◌≡◌, ◌⊎◌, ◌<◌, ◌-◌, ◌^◌, ℕ, List, [], ◌∷◌, ◌++◌, length, Option, Result, Ok, Err}
+use Rattle.std.specs.Prelude.{◌≡◌, ◌⊎◌, ◌<◌, ℕ, List, [], ◌∷◌, ◌++◌, length, Option, Result, Ok, Err}
 use Rattle.std.specs.List.{concat, flat_map}
 use Rattle.std.specs.Io.KnownBytes.{Appends, Consumes, IsAtEnd}
 use Rattle.tm_frame.specs.declared.fault.FrameFault.{FrameFault}
 use Rattle.tm_frame.specs.declared.layout.LayoutParts.{LayoutParts}
 use Rattle.tm_frame.specs.Fault.{frame_reading_of}
 use Rattle.tm_frame.specs.Frame.{GoodFrame}
-use Rattle.tm_frame.specs.Layout.{record_length_of}
+use Rattle.tm_frame.specs.Layout.{most_records, record_length_of}
 use Rattle.tm_packet.specs.Merge as sequence
 use Rattle.tm_rules.specs.Rules.{Rules}
 use Rattle.tm_items.specs.Item.{Item}
@@ -78,7 +78,7 @@ module _ (rules : Rules) (left_old left_new : Option (List ℕ)) where
     pub one : List ℕ
     pub octets : HasRead (record_length_of rules.layout) left_old left_new read one
     pub exact : length one ≡ record_length_of rules.layout
-    pub most : length read ≡ 2 ^ 32 - 1
+    pub most : length read ≡ most_records
 
   -- all was read, and writing stopped at one place of the lines, or a flush failed behind them
   pub record StopsInLines (old new : View (Option (List ℕ))) (fault : RunFault) : Type 0 where
@@ -101,4 +101,4 @@ module _ (rules : Rules) (left_old left_new : Option (List ℕ)) where
 pub record SummaryStopped (rules : Rules) (old new : View (Option (List ℕ))) (fault : RunFault) (octets : List ℕ) : Type 0 where
   pub cut : AppendsCut Appends old new (line_pieces (summary rules octets))
   pub memory : fault ≡ NoMemory → (new ≡ old) ⊎ WantsMemory Appends lines_way old new (line_pieces (summary rules octets))
-  pub too_many : fault ≡ TooMany → 2 ^ 32 - 1 < record_count (record_length_of rules.layout) octets
+  pub too_many : fault ≡ TooMany → most_records < record_count (record_length_of rules.layout) octets

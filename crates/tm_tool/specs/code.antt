@@ -1,2 +1,4 @@
 pub mod Stepping
+pub mod Taking
 pub mod Summing
+pub mod Heads

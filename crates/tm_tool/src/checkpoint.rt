@@ -9,7 +9,7 @@ ghost use Rattle.tm_reassembly.specs.State.{State};
 ghost use Rattle.tm_reassembly.specs.Steps.{progress_in};
 ghost use Rattle.tm_reassembly.specs.Valid.{IsValidState};
 ghost use Rattle.tm_tool.specs.declared.version.Version.TheVariants as version;
-ghost use Rattle.tm_tool.specs.Checkpoints.{AsksMemory, IsWork, checkpoint_of, check_holds, form_of, framed, head_octets, inner, job_of, presence_octet, resumed, says_settings, settings_octets, state_in, tells, three, with_check, with_entries, with_state};
+ghost use Rattle.tm_tool.specs.Checkpoints.{AsksMemory, IsWork, checkpoint_of, check_holds, form_of, framed, head_octets, inner, job_of, presence_octet, resumed, says_settings, settings_octets, state_in, tells, three_octets, with_check, with_entries, with_state};
 
 use crate::version::Version;
 use crate::work::Work;
@@ -136,7 +136,7 @@ fn push_check(octets: &mut Vec<u8>) -> Result<(), AllocError>
 // A number in three octets.
 fn three_octets(number: u32) -> [u8; 3]
     requires { number < 2 ^ 24 }
-    ensures { result ≡ three number }
+    ensures { result ≡ three_octets number }
 {
     let low = ((number % 65536) as u16).to_be_bytes();
     [(number / 65536) as u8, low[0], low[1]]

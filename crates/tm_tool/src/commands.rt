@@ -4,7 +4,8 @@ ghost use Rattle.std.specs.Prelude.{◌≡◌, ◌≢◌, ◌<◌, [], IfOk, IfE
 ghost use Rattle.std.specs.Io.KnownBytes.{Appends, Keeps};
 ghost use Rattle.tm_output.specs.declared.command.Command.TheVariants.{Extract, Packets};
 ghost use Rattle.tm_output.specs.Faults.{RunCounted};
-ghost use Rattle.tm_tool.specs.Jobs.{head_pieces, head_text};
+ghost use Rattle.tm_tool.specs.Jobs.{head_pieces};
+ghost use Rattle.tm_tool.specs.code.Heads.{head_text};
 ghost use Rattle.tm_output.specs.code.Outlets.{PutStopped};
 ghost use Rattle.tm_output.specs.Outputs.{lines_way};
 ghost use Rattle.tm_output.specs.Pieces.{way_of, text_of};
@@ -18,7 +19,7 @@ use crate::work::Work;
 use crate::{Command, Drain, Ending, RunFault, Shelf, Source};
 use std::alloc::Global;
 use tm_devices::put_all;
-use tm_fields::Definition;
+use tm_fields::Rows;
 use tm_output::{PacketLines, PacketOctets, PacketRows, PacketShelf};
 use tm_packet::Tracker;
 use tm_reassembly::Reassembly;
@@ -85,9 +86,9 @@ pub fn run_by<R: Source, W: Drain, V: Drain>(
             run_to_end(alloc, work, recording, &mut outlet, report, ending)
         }
         Command::Fields(definition, application) => {
+            let mut rows = Rows::new(alloc, definition);
             let mut outlet = PacketRows {
-                alloc,
-                definition,
+                rows: &mut rows,
                 application,
                 out,
             };

@@ -2,12 +2,10 @@
 
 ghost use Rattle.std.specs.Prelude.{[], ◌≡◌, false, option_map, IfOk, IfErr, IfSome, OnOk};
 ghost use Rattle.std.specs.Io.KnownBytes.{Appends, Keeps};
-ghost use Rattle.tm_output.specs.Faults.{RunCounted};
 ghost use Rattle.tm_tool.specs.Jobs.{new_job, head_pieces};
 ghost use Rattle.tm_output.specs.Pieces.{way_of, text_of};
-ghost use Rattle.tm_tool.specs.Runs.{IsSoundWork, IsHeadedStop, IsStoppedAt, Ran};
+ghost use Rattle.tm_tool.specs.Runs.{DevicesCounted, IsHeadedStop, IsSoundWork, IsStop, Ran, devices, shelf_devices};
 ghost use Rattle.tm_output.specs.Shelves.{Shelves, shelf_text, shelf_way};
-ghost use Rattle.tm_output.specs.Seen.{both, shelf_both};
 
 use crate::commands::{put_head, run_by, run_split};
 use crate::recording::Ended;
@@ -120,22 +118,22 @@ pub fn run<R: Source, W: Drain, V: Drain>(
     ensures sound { IsSoundWork job.work }
 
     // With Ok just the pieces of what was read were written, and passed on; and what was read is what the ending reads.
-    ensures ran { IfOk result (λ done. Ran Appends (way_of command.entry) (text_of command.entry) ending job.work (head_pieces command.entry job.fresh) (R.left recording.old) (R.left recording.new)
-        (both W.Drain V.Drain out.old report.old)
-        (both W.Drain V.Drain out.new report.new) done.records (option_map (λ j. j.work) done.kept)) }
+    ensures ran { IfOk result (λ done. Ran Appends (way_of command.entry) (text_of command.entry) ending job.work (head_pieces command.entry job.fresh)
+        (devices R.Source W.Drain V.Drain recording.old out.old report.old)
+        (devices R.Source W.Drain V.Drain recording.new out.new report.new) done.records (option_map (λ j. j.work) done.kept)) }
     ensures fresh { IfOk result (λ done. IfSome done.kept (λ j. j.fresh ≡ false)) }
     ensures flushed_out { OnOk result (Keeps (W.flushed out.new) (W.written out.new)) }
     ensures flushed_report { OnOk result (Keeps (V.flushed report.new) (V.written report.new)) }
 
     // After a fault there is one place up to which pieces were written, and nothing was read past the record at a piece of which writing stopped.
-    ensures stopped { IfErr result (IsHeadedStop Appends (way_of command.entry) (text_of command.entry) ending job.work (head_pieces command.entry job.fresh) (R.left recording.old) (R.left recording.new)
-        (both W.Drain V.Drain out.old report.old)
-        (both W.Drain V.Drain out.new report.new)) }
+    ensures stopped { IfErr result (IsHeadedStop Appends (way_of command.entry) (text_of command.entry) ending job.work (head_pieces command.entry job.fresh)
+        (devices R.Source W.Drain V.Drain recording.old out.old report.old)
+        (devices R.Source W.Drain V.Drain recording.new out.new report.new)) }
 
     // A device is blamed only where a call of it failed.
-    ensures counts { RunCounted (R.failures recording.old) (R.failures recording.new)
-        (both W.Drain V.Drain out.old report.old)
-        (both W.Drain V.Drain out.new report.new) result }
+    ensures counts { DevicesCounted
+        (devices R.Source W.Drain V.Drain recording.old out.old report.old)
+        (devices R.Source W.Drain V.Drain recording.new out.new report.new) result }
 {
     let Job { work, fresh } = job;
     if let Err(fault) = put_head(alloc, command, fresh, out) {
@@ -164,21 +162,21 @@ pub fn split<R: Source, H: Shelf, V: Drain>(
     ensures sound { IsSoundWork job.work }
 
     // With Ok just the pieces of what was read were written, and passed on; and what was read is what the ending reads.
-    ensures ran { IfOk result (λ done. Ran Shelves shelf_way shelf_text ending job.work [] (R.left recording.old) (R.left recording.new)
-        (shelf_both H.Shelf V.Drain shelf.old report.old)
-        (shelf_both H.Shelf V.Drain shelf.new report.new) done.records (option_map (λ j. j.work) done.kept)) }
+    ensures ran { IfOk result (λ done. Ran Shelves shelf_way shelf_text ending job.work []
+        (shelf_devices R.Source H.Shelf V.Drain recording.old shelf.old report.old)
+        (shelf_devices R.Source H.Shelf V.Drain recording.new shelf.new report.new) done.records (option_map (λ j. j.work) done.kept)) }
     ensures fresh { IfOk result (λ done. IfSome done.kept (λ j. j.fresh ≡ job.fresh)) }
     ensures flushed_report { OnOk result (Keeps (V.flushed report.new) (V.written report.new)) }
 
     // After a fault there is one place up to which pieces were written, and nothing was read past the record at a piece of which writing stopped.
-    ensures stopped { IfErr result (IsStoppedAt Shelves shelf_way shelf_text ending job.work (R.left recording.old) (R.left recording.new)
-        (shelf_both H.Shelf V.Drain shelf.old report.old)
-        (shelf_both H.Shelf V.Drain shelf.new report.new)) }
+    ensures stopped { IfErr result (IsStop Shelves shelf_way shelf_text ending job.work
+        (shelf_devices R.Source H.Shelf V.Drain recording.old shelf.old report.old)
+        (shelf_devices R.Source H.Shelf V.Drain recording.new shelf.new report.new)) }
 
     // A device is blamed only where a call of it failed.
-    ensures counts { RunCounted (R.failures recording.old) (R.failures recording.new)
-        (shelf_both H.Shelf V.Drain shelf.old report.old)
-        (shelf_both H.Shelf V.Drain shelf.new report.new) result }
+    ensures counts { DevicesCounted
+        (shelf_devices R.Source H.Shelf V.Drain recording.old shelf.old report.old)
+        (shelf_devices R.Source H.Shelf V.Drain recording.new shelf.new report.new) result }
 {
     let Job { work, fresh } = job;
     match run_split(alloc, work, recording, shelf, report, ending) {

@@ -25,7 +25,7 @@ ghost use Rattle.tm_output.specs.Records.{record_count, records};
 ghost use Rattle.tm_tool.specs.Resuming.{Follows, Stop, done_in_all, in_one, no_head, resumed_pieces, run_pieces, then_pieces};
 ghost use Rattle.tm_output.specs.Shelves.{Shelved, Shelves, shelf_text, shelf_way};
 ghost use Rattle.tm_tool.specs.Summaries.{IsSummarized, IsSummaryStop, SummaryStopped, summary};
-ghost use Rattle.tm_tool.specs.Runs.{IsSoundWork, IsHeadedStop, IsStoppedAt, Outcome, Ran, StoppedIn};
+ghost use Rattle.tm_tool.specs.Runs.{Devices, IsHeadedStop, IsSoundWork, IsStop, Outcome, Ran, StoppedIn};
 
 /// Checkpoints: what is written is read again, with the same settings, as the same work, and the job isn't fresh. So it is for the older
 /// versions, as far as they can tell the settings, but that the last master channel count is lost. And octets that are read are the
@@ -52,20 +52,20 @@ pub fn checkpoints()
 /// were written, down to the ending. After a fault there is one place up to which they were written. `NoMemory` comes only where something was to
 /// be made in memory; a refused put leaves some octets of its packet out; there are more records than can be counted, or fewer than are done.
 pub fn whole_recordings()
-    ensures ran { (command : Command) (ending : Ending) (job : JobState) (left_old left_new : Option (List ℕ)) (old new : View (Option (List ℕ)))
+    ensures ran { (command : Command) (ending : Ending) (job : JobState) (old new : Devices (Option (List ℕ)))
         (count : ℕ) (kept : Option Work) → IsSoundWork job.work →
-        Ran Appends (way_of command) (text_of command) ending job.work (head_pieces command job.fresh) left_old left_new old new count kept →
-        IfSome left_old (λ octets. Outcome Appends (way_of command) (text_of command) ending job.work (head_pieces command job.fresh) octets old new count kept) }
-    ensures stopped { (command : Command) (ending : Ending) (job : JobState) (left_old left_new : Option (List ℕ)) (old new : View (Option (List ℕ)))
+        Ran Appends (way_of command) (text_of command) ending job.work (head_pieces command job.fresh) old new count kept →
+        IfSome old.left (λ octets. Outcome Appends (way_of command) (text_of command) ending job.work (head_pieces command job.fresh) octets old.outputs new.outputs count kept) }
+    ensures stopped { (command : Command) (ending : Ending) (job : JobState) (old new : Devices (Option (List ℕ)))
         (fault : RunFault) → IsSoundWork job.work →
-        IsHeadedStop Appends (way_of command) (text_of command) ending job.work (head_pieces command job.fresh) left_old left_new old new fault →
-        IfSome left_old (StoppedIn Appends (way_of command) (text_of command) ending job.work (head_pieces command job.fresh) old new fault) }
-    ensures split_ran { (ending : Ending) (w : Work) (left_old left_new : Option (List ℕ)) (old new : View (Option (ℕ → List ℕ)))
-        (count : ℕ) (kept : Option Work) → IsSoundWork w → Ran Shelves shelf_way shelf_text ending w [] left_old left_new old new count kept →
-        IfSome left_old (λ octets. Outcome Shelves shelf_way shelf_text ending w [] octets old new count kept) }
-    ensures split_stopped { (ending : Ending) (w : Work) (left_old left_new : Option (List ℕ)) (old new : View (Option (ℕ → List ℕ)))
-        (fault : RunFault) → IsSoundWork w → IsStoppedAt Shelves shelf_way shelf_text ending w left_old left_new old new fault →
-        IfSome left_old (StoppedIn Shelves shelf_way shelf_text ending w [] old new fault) }
+        IsHeadedStop Appends (way_of command) (text_of command) ending job.work (head_pieces command job.fresh) old new fault →
+        IfSome old.left (StoppedIn Appends (way_of command) (text_of command) ending job.work (head_pieces command job.fresh) old.outputs new.outputs fault) }
+    ensures split_ran { (ending : Ending) (w : Work) (old new : Devices (Option (ℕ → List ℕ)))
+        (count : ℕ) (kept : Option Work) → IsSoundWork w → Ran Shelves shelf_way shelf_text ending w [] old new count kept →
+        IfSome old.left (λ octets. Outcome Shelves shelf_way shelf_text ending w [] octets old.outputs new.outputs count kept) }
+    ensures split_stopped { (ending : Ending) (w : Work) (old new : Devices (Option (ℕ → List ℕ)))
+        (fault : RunFault) → IsSoundWork w → IsStop Shelves shelf_way shelf_text ending w old new fault →
+        IfSome old.left (StoppedIn Shelves shelf_way shelf_text ending w [] old.outputs new.outputs fault) }
 {}
 
 /// Joining: the pieces of records and more records are those of the first, and then those of the others from the work that the first leave;

@@ -1,45 +1,51 @@
 //! A recording, record by record, into the outputs.
 
-ghost use Rattle.std.specs.Prelude.{◌≡◌, ◌<◌, ◌-◌, ◌∷◌, [], true, false, length, option_map, IfOk, IfErr, IfSome, OnOk};
+ghost use Rattle.std.specs.Prelude.{◌≡◌, ◌<◌, false, length, option_map, IfOk, IfErr, IfSome, OnOk};
 ghost use Rattle.std.specs.Io.KnownBytes.{Keeps};
 ghost use Rattle.tm_frame.specs.Layout.{record_length_of};
 ghost use Rattle.tm_reassembly.specs.Items.{closing};
-ghost use Rattle.tm_reassembly.specs.Steps.{most_records};
 ghost use Rattle.tm_output.specs.Faults.{RunCounted};
 ghost use Rattle.tm_output.specs.Outputs.{Written};
-ghost use Rattle.tm_tool.specs.RecordingPieces.{closing_pieces, end_pieces, record_pieces, worked};
+ghost use Rattle.tm_tool.specs.RecordingPieces.{closing_pieces, end_pieces};
 ghost use Rattle.tm_output.specs.Pieces.{noted_all, pieces_of};
-ghost use Rattle.tm_tool.specs.Runs.{IsSoundWork, WantsFurther, IsStoppedAt, kept_of};
-ghost use Rattle.tm_tool.specs.code.Stepping.{IsRun, Enough, HasPassed, IsGoing, HasStepped, PassCounted, PassingStopped, StepWritten, work_of};
+ghost use Rattle.tm_tool.specs.Runs.{IsSoundWork, IsStoppedAt, kept_of};
+ghost use Rattle.tm_tool.specs.code.Stepping.{IsRun, IsGoing, work_of};
 ghost use Rattle.tm_output.specs.Seen.{fixture, outlet_both, output_both};
 
+use crate::taking::{RecordTaker, take_records};
 use crate::work::Work;
 use crate::{Drain, Ending, RunFault, Source};
 use std::alloc::Global;
-use tm_devices::fill;
 use tm_output::{Outlet, Output};
 use tm_packet::Tracker;
 use tm_reassembly::{Reassembly, StepFault};
 
-// Takes a record.
-fn step_into<O: Outlet, V: Drain>(
-    reassembly: &mut Reassembly,
-    octets: &[u8],
-    output: &mut Output<'_, O, V>,
-) -> Result<(), RunFault>
-    requires exact { length octets.now ≡ record_length_of reassembly.old.rules.layout }
-    requires going { IsGoing reassembly.old }
-    ensures same { fixture O.Outlet output.new ≡ fixture O.Outlet output.old }
-    ensures work { OnOk result (work_of reassembly.new output.new.tracker.now ≡ worked (work_of reassembly.old output.old.tracker.now) (octets.now ∷ [])) }
-    ensures going_on { OnOk result (IsGoing reassembly.new) }
-    ensures few { OnOk result (reassembly.old.state.records < most_records) }
-    ensures written { StepWritten O.grows O.way reassembly.old.state.records (output_both O.Outlet V.Drain output.old) (output_both O.Outlet V.Drain output.new) (record_pieces (O.text (O.fixed output.old.outlet.now)) (work_of reassembly.old output.old.tracker.now) (octets.now ∷ [])) result }
-{
-    match reassembly.step(octets, output) {
-        Ok(()) => Ok(()),
-        Err(StepFault::Sink(fault)) => Err(fault),
-        Err(StepFault::TooMany) => Err(RunFault::TooMany),
-        Err(StepFault::Failed) => unreachable!(),
+impl<O: Outlet, V: Drain> RecordTaker for Output<'_, O, V> {
+    ghost use Rattle.tm_output.specs.Outputs.{View};
+    ghost use Rattle.tm_output.specs.Seen.{Fixture};
+    ghost use Rattle.tm_tool.specs.code.Stepping.{RefusesRecord, TakesRecord};
+
+    ghost Held = { View O.Held };
+
+    ghost Fixed = { Fixture O.Fixed };
+
+    ghost held = { output_both O.Outlet V.Drain };
+
+    ghost fixed = { fixture O.Outlet };
+
+    ghost entries = { λ output. output.tracker.now };
+
+    ghost takes = { λ f. TakesRecord O.grows (O.text f.texts) };
+
+    ghost refuses = { λ f. RefusesRecord O.grows (O.text f.texts) O.way };
+
+    fn take_record(&mut self, reassembly: &mut Reassembly, octets: &[u8]) -> Result<(), RunFault> {
+        match reassembly.step(octets, self) {
+            Ok(()) => Ok(()),
+            Err(StepFault::Sink(fault)) => Err(fault),
+            Err(StepFault::TooMany) => Err(RunFault::TooMany),
+            Err(StepFault::Failed) => unreachable!(),
+        }
     }
 }
 
@@ -60,78 +66,6 @@ fn finish_into<O: Outlet, V: Drain>(
         Err(StepFault::Sink(fault)) => Err(fault),
         Err(StepFault::TooMany) => unreachable!(),
         Err(StepFault::Failed) => unreachable!(),
-    }
-}
-
-// Reads the records that are done, and passes over them.
-fn skip_records<R: Source>(count: u32, buffer: &mut [u8], recording: &mut R) -> Result<(), RunFault>
-    requires some { 0 < length buffer.old }
-    ensures passed { OnOk result (HasPassed (length buffer.old) count (R.left recording.old) (R.left recording.new)) }
-    ensures stopped { IfErr result (PassingStopped (length buffer.old) count (R.left recording.old) (R.left recording.new)) }
-    ensures counts { PassCounted (R.failures recording.old) (R.failures recording.new) result }
-{
-    for _passed in 0..count {
-        let Ok(octets) = fill(recording, buffer) else {
-            return Err(RunFault::Read);
-        };
-        if octets < buffer.len() {
-            return Err(RunFault::ShortRecording);
-        }
-    }
-    Ok(())
-}
-
-// The ending wants a further record, of which so many were done and so many are.
-fn wants_more(ending: Ending, done: u32, records: u32) -> bool
-    ensures wanted { result ≡ true → WantsFurther ending done records }
-    ensures enough { result ≡ false → Enough ending done records }
-{
-    match ending {
-        Ending::Close | Ending::Keep => true,
-        Ending::StopAfter(more) => u64::from(records) < u64::from(done) + u64::from(more),
-    }
-}
-
-// Takes the records that the ending wants, one at a time through this buffer, behind those that are done. Answers how many octets are
-// left then, of a record that is no whole one.
-fn step_records<R: Source, O: Outlet, V: Drain>(
-    reassembly: &mut Reassembly,
-    buffer: &mut [u8],
-    recording: &mut R,
-    output: &mut Output<'_, O, V>,
-    ending: Ending,
-) -> Result<usize, RunFault>
-    requires exact { length buffer.old ≡ record_length_of reassembly.old.rules.layout }
-    requires some { 0 < length buffer.old }
-    requires going { IsGoing reassembly.old }
-    ensures same { fixture O.Outlet output.new ≡ fixture O.Outlet output.old }
-    ensures going_on { OnOk result (IsGoing reassembly.new × (reassembly.new.rules ≡ reassembly.old.rules)) }
-    ensures short { IfOk result (λ octets. octets < record_length_of reassembly.old.rules.layout) }
-    ensures stepped { IfOk result (HasStepped O.grows (O.text (O.fixed output.old.outlet.now)) ending (work_of reassembly.old output.old.tracker.now) (R.left recording.old) (R.left recording.new)
-        (output_both O.Outlet V.Drain output.old) (output_both O.Outlet V.Drain output.new) (work_of reassembly.new output.new.tracker.now)) }
-    ensures stopped { IfErr result (IsStoppedAt O.grows O.way (O.text (O.fixed output.old.outlet.now)) ending (work_of reassembly.old output.old.tracker.now)
-        (R.left recording.old) (R.left recording.new)
-        (output_both O.Outlet V.Drain output.old) (output_both O.Outlet V.Drain output.new)) }
-    ensures counts { RunCounted (R.failures recording.old) (R.failures recording.new)
-        (output_both O.Outlet V.Drain output.old) (output_both O.Outlet V.Drain output.new) result }
-{
-    let done = reassembly.records();
-    if let Err(fault) = skip_records(done, buffer, recording) {
-        return Err(fault);
-    }
-    loop {
-        if !wants_more(ending, done, reassembly.records()) {
-            return Ok(0);
-        }
-        let Ok(octets) = fill(recording, buffer) else {
-            return Err(RunFault::Read);
-        };
-        if octets < buffer.len() {
-            return Ok(octets);
-        }
-        if let Err(fault) = step_into(reassembly, buffer, output) {
-            return Err(fault);
-        }
     }
 }
 
@@ -212,7 +146,7 @@ fn take_all<R: Source, O: Outlet, V: Drain>(
     ensures counts { RunCounted (R.failures recording.old) (R.failures recording.new)
         (output_both O.Outlet V.Drain output.old) (output_both O.Outlet V.Drain output.new) result }
 {
-    let rest = match step_records(&mut reassembly, buffer, recording, output, ending) {
+    let rest = match take_records(&mut reassembly, buffer, recording, output, ending) {
         Ok(rest) => rest,
         Err(fault) => return Err(fault),
     };

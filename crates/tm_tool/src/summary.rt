@@ -3,19 +3,19 @@
 ghost use Rattle.std.specs.Prelude.{◌≡◌, ◌<◌, false, length, IfErr, IfOk, OnOk};
 ghost use Rattle.std.specs.Io.KnownBytes.{Keeps};
 ghost use Rattle.tm_frame.specs.Layout.{record_length_of};
-ghost use Rattle.tm_reassembly.specs.Steps.{most_records};
 ghost use Rattle.tm_output.specs.Faults.{FaultsCounted};
 ghost use Rattle.tm_summary.specs.Numbers.{nothing, numbers_of};
 ghost use Rattle.tm_summary.specs.Pieces.{out_alone};
+ghost use Rattle.tm_summary.specs.Tallies.{SameReferences};
 ghost use Rattle.tm_tool.specs.Summaries.{IsSummarized, IsSummaryStop};
 ghost use Rattle.tm_tool.specs.code.Stepping.{IsGoing, work_of};
-ghost use Rattle.tm_tool.specs.code.Summing.{CountCounted, CountingStopped, CountsEnd, CountsRecord, HasCountedAll, HasSummed};
+ghost use Rattle.tm_tool.specs.code.Summing.{CountCounted, CountingStopped, CountsEnd, HasSummed};
 
 use crate::job::Job;
+use crate::taking::{RecordTaker, take_records};
 use crate::work::Work;
-use crate::{Drain, RunFault, Settings, Source};
+use crate::{Drain, Ending, RunFault, Settings, Source};
 use std::alloc::Global;
-use tm_devices::fill;
 use tm_frame::read_good;
 use tm_packet::Tracker;
 use tm_reassembly::{Reassembly, StepFault};
@@ -24,66 +24,39 @@ use tm_summary::{Counting, Counts, put_summary};
 // The octets for which a line has room from the beginning. The longest has fewer.
 const LINE: usize = 512;
 
-// Counts a record, and its frame where it is a good one.
-fn count_record(
-    reassembly: &mut Reassembly,
-    octets: &[u8],
-    counting: &mut Counting<'_>,
-) -> Result<(), RunFault>
-    requires exact { length octets.now ≡ record_length_of reassembly.old.rules.layout }
-    requires going { IsGoing reassembly.old }
-    ensures same { (counting.new.tracker.ghost_name ≡ counting.old.tracker.ghost_name) × (counting.new.counts.ghost_name ≡ counting.old.counts.ghost_name) }
-    ensures going_on { OnOk result (IsGoing reassembly.new) }
-    ensures counted { OnOk result (CountsRecord (work_of reassembly.old counting.old.tracker.now) counting.old.counts.now octets.now
-        (work_of reassembly.new counting.new.tracker.now) counting.new.counts.now) }
-    ensures few { OnOk result (reassembly.old.state.records < most_records) }
-    ensures most { IfErr result (λ fault. (fault ≡ RunFault.TooMany) × (reassembly.old.state.records ≡ most_records)) }
-{
-    let layout = reassembly.layout();
-    counting.bad = false;
-    match reassembly.step(octets, counting) {
-        Ok(()) => {}
-        Err(StepFault::TooMany) => return Err(RunFault::TooMany),
-        Err(StepFault::Failed) => unreachable!(),
-        Err(StepFault::Sink(_)) => unreachable!(),
-    }
-    if !counting.bad {
-        let frame = read_good(&layout, octets);
-        counting.counts.add_frame(frame.channel(), frame.kind());
-    }
-    Ok(())
-}
+impl RecordTaker for Counting<'_> {
+    ghost use Rattle.tm_summary.specs.Numbers.{Numbers};
+    ghost use Rattle.tm_tool.specs.code.Summing.{CountingNames, CountsRecord, RefusesCount};
 
-// Counts the records of a recording, one at a time through this buffer. Answers how many octets are left then.
-fn count_records<R: Source>(
-    reassembly: &mut Reassembly,
-    buffer: &mut [u8],
-    recording: &mut R,
-    counting: &mut Counting<'_>,
-) -> Result<usize, RunFault>
-    requires exact { length buffer.old ≡ record_length_of reassembly.old.rules.layout }
-    requires some { 0 < length buffer.old }
-    requires going { IsGoing reassembly.old }
-    requires first { reassembly.old.state.records ≡ 0 }
-    requires none { counting.old.counts.now ≡ numbers_of nothing }
-    ensures same { (counting.new.tracker.ghost_name ≡ counting.old.tracker.ghost_name) × (counting.new.counts.ghost_name ≡ counting.old.counts.ghost_name) }
-    ensures going_on { OnOk result (IsGoing reassembly.new × (reassembly.new.rules ≡ reassembly.old.rules)) }
-    ensures short { IfOk result (λ rest. rest < record_length_of reassembly.old.rules.layout) }
-    ensures counted { IfOk result (HasCountedAll (work_of reassembly.old counting.old.tracker.now) (R.left recording.old) (R.left recording.new)
-        (work_of reassembly.new counting.new.tracker.now) counting.new.counts.now) }
-    ensures stopped { IfErr result (CountingStopped (work_of reassembly.old counting.old.tracker.now) (R.left recording.old) (R.left recording.new)) }
-    ensures counts { CountCounted (R.failures recording.old) (R.failures recording.new) result }
-{
-    loop {
-        let Ok(octets) = fill(recording, buffer) else {
-            return Err(RunFault::Read);
-        };
-        if octets < buffer.len() {
-            return Ok(octets);
+    ghost Held = { Numbers };
+
+    ghost Fixed = { CountingNames };
+
+    ghost held = { λ counting. counting.counts.now };
+
+    ghost fixed = { λ counting. record { tracker = counting.tracker.ghost_name; counts = counting.counts.ghost_name } };
+
+    ghost entries = { λ counting. counting.tracker.now };
+
+    ghost takes = { λ _. CountsRecord };
+
+    ghost refuses = { λ _. RefusesCount };
+
+    // Counts a record, and its frame where it is a good one.
+    fn take_record(&mut self, reassembly: &mut Reassembly, octets: &[u8]) -> Result<(), RunFault> {
+        let layout = reassembly.layout();
+        self.bad = false;
+        match reassembly.step(octets, self) {
+            Ok(()) => {}
+            Err(StepFault::TooMany) => return Err(RunFault::TooMany),
+            Err(StepFault::Failed) => unreachable!(),
+            Err(StepFault::Sink(_)) => unreachable!(),
         }
-        if let Err(fault) = count_record(reassembly, buffer, counting) {
-            return Err(fault);
+        if !self.bad {
+            let frame = read_good(&layout, octets);
+            self.counts.add_frame(frame.channel(), frame.kind());
         }
+        Ok(())
     }
 }
 
@@ -91,7 +64,7 @@ fn count_records<R: Source>(
 fn count_end(reassembly: Reassembly, rest: usize, counting: &mut Counting<'_>)
     requires rest { rest < record_length_of reassembly.rules.layout }
     requires going { reassembly.failed ≡ false }
-    ensures same { (counting.new.tracker.ghost_name ≡ counting.old.tracker.ghost_name) × (counting.new.counts.ghost_name ≡ counting.old.counts.ghost_name) }
+    ensures same { SameReferences counting.old counting.new }
     ensures counted { CountsEnd (work_of reassembly counting.old.tracker.now) counting.old.counts.now rest counting.new.counts.now }
 {
     match reassembly.finish(rest, counting) {
@@ -114,12 +87,12 @@ fn count_all<R: Source>(
     requires first { reassembly.state.records ≡ 0 }
     requires none { counting.old.counts.now ≡ numbers_of nothing }
     requires places { length counting.old.tracker.now ≡ 16384 }
-    ensures same { (counting.new.tracker.ghost_name ≡ counting.old.tracker.ghost_name) × (counting.new.counts.ghost_name ≡ counting.old.counts.ghost_name) }
+    ensures same { SameReferences counting.old counting.new }
     ensures counted { IfOk result (HasSummed (work_of reassembly counting.old.tracker.now) (R.left recording.old) (R.left recording.new) counting.new.counts.now) }
     ensures stopped { IfErr result (CountingStopped (work_of reassembly counting.old.tracker.now) (R.left recording.old) (R.left recording.new)) }
     ensures counts { CountCounted (R.failures recording.old) (R.failures recording.new) result }
 {
-    let rest = match count_records(&mut reassembly, buffer, recording, counting) {
+    let rest = match take_records(&mut reassembly, buffer, recording, counting, Ending::Close) {
         Ok(rest) => rest,
         Err(fault) => return Err(fault),
     };

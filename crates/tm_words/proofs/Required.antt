@@ -21,7 +21,7 @@ use Rattle.tm_words.specs.declared.request.Plan.{Plan}
 use Rattle.tm_words.specs.declared.request.UsageFault.{UsageFault}
 use Rattle.tm_words.specs.declared.request.UsageFault.TheVariants.{NoMemory}
 use Rattle.tm_words.specs.Refusals.{IsOfKind, IsOfOneKind}
-use Rattle.tm_words.specs.CommandLine.{tmx, plan_with, action_named, decimal, faults_of, matches_of, plan_of, HasNeeds, HasRequired, HasStop, IsBetween}
+use Rattle.tm_words.specs.CommandLine.{tmx, plan_with, action_named, number_spelled, faults_of, matches_of, plan_of, HasNeeds, HasRequired, HasStop, IsBetween}
 use Rattle.tm_words.proofs.Filled.{Filled, find_all, IsRuled, OfRange, Range, is_sized, level-filled, given-first, given-number, range_of, read-number}
 
 pub tmx_simple : is_simple tmx ≡ true
@@ -61,13 +61,13 @@ GivenFor Frames rows = ⊤
 GivenFor Packets rows = ⊤
 GivenFor Extract rows = ⊤
 GivenFor Split rows = HasValue (codes "dir") rows
-GivenFor Fields rows = HasValue (codes "definition") rows × IsBetween 0 2047 (option_and_then (decimal 16) (one_of (codes "apid") rows))
+GivenFor Fields rows = HasValue (codes "definition") rows × IsBetween 0 2047 (option_and_then (number_spelled 16) (one_of (codes "apid") rows))
 GivenFor Summary rows = ⊤
 
 -- where `--stop-after` has a text, it has a number in its range
 abbrev GivenStop : List Row → Type 0
 GivenStop rows = IfSome (one_of (codes "stop-after") rows)
-    (λ text. IsBetween 1 4294967295 (option_and_then (decimal 32) (one_of (codes "stop-after") rows)))
+    (λ text. IsBetween 1 4294967295 (option_and_then (number_spelled 32) (one_of (codes "stop-after") rows)))
 
 -- the matches are of a subcommand that names an action, and have its settings and what it needs
 abbrev Reaches : Option (Text × List Row) → Type 0

@@ -98,8 +98,8 @@ action_named word =
     else (if bytes_eq word (codes "summary") then Some Summary else None)))))
 
 -- the number that a text spells in decimal, where it is one of so many bits
-abbrev pub decimal : ℕ → Text → Option ℕ
-decimal bits text =
+abbrev pub number_spelled : ℕ → Text → Option ℕ
+number_spelled bits text =
     let digits = without_leading_plus text in
     if (nat_lt 0 (length digits) && list_all (λ d. nat_lt (digit_value d) 10) digits) && nat_lt (digits_value 10 digits) (2 ^ bits)
     then Some (digits_value 10 digits) else None
@@ -112,11 +112,11 @@ plan_with rows action = record {
   settings = first_of (codes "settings") rows;
   report = first_of (codes "report") rows;
   checkpoint = first_of (codes "checkpoint") rows;
-  stop_after = option_and_then (decimal 32) (one_of (codes "stop-after") rows);
+  stop_after = option_and_then (number_spelled 32) (one_of (codes "stop-after") rows);
   resume = first_of (codes "resume") rows;
   dir = first_of (codes "dir") rows;
   definition = first_of (codes "definition") rows;
-  apid = option_and_then (decimal 16) (one_of (codes "apid") rows);
+  apid = option_and_then (number_spelled 16) (one_of (codes "apid") rows);
 }
 
 -- the plan of a subcommand and its matches

@@ -3,7 +3,7 @@
 ghost use Rattle.std.specs.Prelude.{◌≡◌, ◌≢◌, ◌⊎◌, true, false, Err, Some, [], map, IfOk, IfErr, option_and_then, string_bytes};
 ghost use Rattle.clap.specs.Words.{HasKind, first_of, found_of, kind_of, one_of, rows_of, subcommand_rows_of};
 ghost use Rattle.tm_words.specs.Refusals.{IsOfKind, IsOfOneKind};
-ghost use Rattle.tm_words.specs.CommandLine.{HasRequired, HasStop, action_named, decimal, faults_of, is_taken, lacks_checkpoint, matches_of, plan_in, plan_of};
+ghost use Rattle.tm_words.specs.CommandLine.{HasRequired, HasStop, action_named, number_spelled, faults_of, is_taken, lacks_checkpoint, matches_of, plan_in, plan_of};
 
 use crate::command::tmx_command;
 use crate::request::{Action, Plan, UsageFault};
@@ -31,14 +31,14 @@ fn value_of(alloc: Global, matches: &ArgMatches<'_>, id: &str) -> Result<Option<
 
 // The number of sixteen bits that the value of an argument spells.
 fn short_number_of(matches: &ArgMatches<'_>, id: &str) -> Option<u16>
-    ensures { result ≡ option_and_then (decimal 16) (one_of id.now (rows_of (found_of matches.now))) }
+    ensures { result ≡ option_and_then (number_spelled 16) (one_of id.now (rows_of (found_of matches.now))) }
 {
     matches.get_one::<u16>(id)
 }
 
 // The number of thirty-two bits that the value of an argument spells.
 fn number_of(matches: &ArgMatches<'_>, id: &str) -> Option<u32>
-    ensures { result ≡ option_and_then (decimal 32) (one_of id.now (rows_of (found_of matches.now))) }
+    ensures { result ≡ option_and_then (number_spelled 32) (one_of id.now (rows_of (found_of matches.now))) }
 {
     matches.get_one::<u32>(id)
 }

@@ -12,13 +12,12 @@ use Rattle.tm_program.specs.declared.decisions.Recording.{Recording}
 use Rattle.tm_program.specs.declared.decisions.Recording.TheVariants as recording
 use Rattle.tm_program.specs.declared.decisions.Stream.{Stream}
 use Rattle.tm_program.specs.declared.decisions.Stream.TheVariants as stream
-use Rattle.tm_program.specs.Program.{is_job}
 use Rattle.tm_program.specs.declared.fault.ToolFault.{ToolFault}
 use Rattle.tm_program.specs.declared.fault.ToolFault.TheVariants as tool
 use Rattle.tm_shelf.specs.declared.files.ShelfFault.{ShelfFault}
 use Rattle.tm_shelf.specs.declared.files.ShelfFault.TheVariants as shelf
 use Rattle.tm_words.specs.declared.request.Action.{Action}
-use Rattle.tm_words.specs.declared.request.Action.TheVariants.{Split}
+use Rattle.tm_words.specs.declared.request.Action.TheVariants.{Frames, Split, Summary}
 use Rattle.tm_words.specs.declared.request.Plan.{Plan}
 
 -- the recording comes from the file of exactly the name that the plan has, and from standard input exactly where it has none
@@ -41,6 +40,12 @@ IsDestination p destination.Output = p.action ≡ Split → p.dir ≡ None
 abbrev pub writes_output : Action → Bool
 writes_output Split = false
 writes_output _ = true
+
+-- an action of a job, which has a report: all but a list of frames and a summary
+abbrev pub is_job : Action → Bool
+is_job Frames = false
+is_job Summary = false
+is_job _ = true
 
 -- the report goes to standard error
 abbrev pub writes_errors : Action → Option (List ℕ) → Bool

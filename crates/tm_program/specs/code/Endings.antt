@@ -1,6 +1,6 @@
 -- Where the run of a plan ends, and what is done then.
 use Rattle.std.specs.Prelude.{◌≡◌, ◌+◌, ℕ, List, length, Option, Some, None}
-use Rattle.tm_tool.specs.RecordingPieces.{Work, chosen, further, worked}
+use Rattle.tm_tool.specs.RecordingPieces.{Work, records_for, further, worked}
 use Rattle.tm_tool.specs.Jobs.{JobState, new_job}
 use Rattle.tm_tool.specs.Runs.{IsEnough, kept_of}
 use Rattle.tm_settings.specs.Settings.{Rules}
@@ -25,7 +25,7 @@ ending_of p = ending_with p.checkpoint p.stop_after
 -- them; and where the ending keeps a job it is the one after those of their records that it takes.
 abbrev pub IsDone : Ending → Work → ℕ → Option Work → Type 0
 IsDone ending w records kept = (read : List ℕ) × IsEnough ending w None read
-    × (records ≡ w.state.records + length (chosen ending (further w read))) × (kept ≡ kept_of ending (worked w (chosen ending (further w read))))
+    × (records ≡ w.state.records + length (records_for ending (further w read))) × (kept ≡ kept_of ending (worked w (records_for ending (further w read))))
 
 -- the work of the job that is gone on with, or else of a new one
 abbrev pub work_from : Rules → Option JobState → Work

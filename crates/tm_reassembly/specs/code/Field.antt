@@ -1,12 +1,15 @@
 -- What one frame gives by itself, with no other frame in view. These stand in private contracts alone; that they agree with the
 -- definitions, which look at whole runs, is proved.
 use Rattle.std.specs.Prelude.{ℕ, suc, zero, pred, ◌+◌, ◌-◌, nat_le, Bool, true, false, Option, Some, None, List, [], ◌∷◌, ◌++◌, length, take, if◌then◌else◌}
+use Rattle.std.specs.List.{flat_map}
 use Rattle.tm_items.specs.declared.items.Reason.TheVariants as why
 use Rattle.tm_items.specs.declared.items.Reason.{Reason}
 use Rattle.tm_reassembly.specs.State.{Tail}
 use Rattle.tm_reassembly.specs.Chain.{ChainMember}
 use Rattle.tm_reassembly.specs.Parts.{Part, Given, Lost, begins_packet, agrees, reason_at, unread_reason, front_of, lead, lead_part}
+use Rattle.tm_items.specs.Item.{Item}
 use Rattle.tm_items.specs.OnePacket.{reach}
+use Rattle.tm_reassembly.specs.Items.{part_item}
 
 -- the tail that these last octets of a field are, if there are any
 abbrev pub tail_at : ℕ → ℕ → List ℕ → Option Tail
@@ -105,3 +108,7 @@ module _ (limit : ℕ) where
   chain_tail_at gap true tail m = None
   chain_tail_at true false tail m = step_tail None m
   chain_tail_at false false tail m = step_tail tail m
+
+-- the items of parts
+abbrev pub part_items : ℕ → List Part → List Item
+part_items channel ps = flat_map (λ p. part_item channel p p.fate) ps

@@ -2,9 +2,9 @@
 -- the model of the public type.
 use Rattle.std.specs.Prelude.{◌≡◌, ℕ, ◌+◌, ◌≤◌, ◌==◌, min, if◌then◌else◌, map, slice_get, Option, Some, None, List, [], ◌∷◌, ◌++◌, false}
 use Rattle.tm_reassembly.specs.Chain.{ChainMember, has_frame_gap, next_frame_count}
-use Rattle.tm_reassembly.specs.code.Field.{chain_parts_at, chain_tail_at}
+use Rattle.tm_reassembly.specs.code.Field.{chain_parts_at, chain_tail_at, part_items}
 use Rattle.tm_items.specs.Item.{Item}
-use Rattle.tm_reassembly.specs.Items.{gap_item, gap_at, vca_at, part_items}
+use Rattle.tm_reassembly.specs.Items.{gap_item, gap_at, vca_at}
 use Rattle.tm_reassembly.specs.Parts.{Part, Given}
 use Rattle.tm_reassembly.specs.State.{Last, Tail}
 
@@ -45,11 +45,6 @@ HaveLimit limit slots = (c : ℕ) (x : Slot) → slice_get slots c ≡ Some x �
 abbrev pub tail_of_octets : ℕ → ℕ → List ℕ → Option Tail
 tail_of_octets first place [] = None
 tail_of_octets first place (x ∷ xs) = Some (record { first = first; place = place; octets = x ∷ xs })
-
--- the octets of a tail
-abbrev pub octets_in : Option Tail → List ℕ
-octets_in None = []
-octets_in (Some t) = t.octets
 
 -- a last count, if there is one, and a tail
 abbrev pub last_of : Option ℕ → Option Tail → Option Last

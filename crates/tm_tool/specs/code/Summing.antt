@@ -1,18 +1,16 @@
 -- What was counted by then, while a summary is made: for private contracts.
 use Rattle.std.specs.Prelude.{◌≡◌, ◌+◌, ◌≤◌, ℕ, List, [], ◌∷◌, ◌++◌, length, Option, Result, MatchResult}
-use Rattle.std.specs.List.{concat}
-use Rattle.std.specs.Io.KnownBytes.{Consumes}
 use Rattle.tm_frame.specs.Layout.{record_length_of}
 use Rattle.tm_packet.specs.Merge as sequence
 use Rattle.tm_reassembly.specs.Items.{closing}
+use Rattle.tm_reassembly.specs.Steps.{most_records}
 use Rattle.tm_devices.specs.Devices.{raised}
 use Rattle.tm_output.specs.declared.fault.RunFault.{RunFault}
 use Rattle.tm_output.specs.declared.fault.RunFault.TheVariants.{Read, Write, Report, ShortRecording, TooMany, NoMemory}
 use Rattle.tm_output.specs.Pieces.{noted_all}
-use Rattle.tm_output.specs.Records.{AreRecords}
-use Rattle.tm_summary.specs.Numbers.{Numbers, Tally, nothing, numbers_of}
+use Rattle.tm_summary.specs.Numbers.{Numbers, Tally, numbers_of}
 use Rattle.tm_summary.specs.Tallies.{and_items, and_notes, notes_among, open_notes}
-use Rattle.tm_tool.specs.RecordingPieces.{Work, items_of, worked}
+use Rattle.tm_tool.specs.RecordingPieces.{Work, items_of}
 use Rattle.tm_tool.specs.Runs.{HasReadAll}
 use Rattle.tm_tool.specs.Summaries.{StopsAtMost, StopsInReading, good_frames, tally_of}
 
@@ -29,33 +27,27 @@ abbrev pub and_end : Work → Tally → ℕ → Tally
 and_end w t rest =
     and_notes (and_items t w.entries (closing w.state rest)) (open_notes (sequence.unclosed 0 (noted_all w.entries (closing w.state rest))))
 
--- a record was counted on top of all that was counted before
-pub record CountsRecord (w : Work) (before : Numbers) (octets : List ℕ) (v : Work) (now : Numbers) : Type 0 where
-  pub work : v ≡ worked w (octets ∷ [])
-  pub counted : (t : Tally) → before ≡ numbers_of t → now ≡ numbers_of (and_records w t (octets ∷ []))
+-- records were counted on top of all that was counted before
+abbrev pub CountedRecords : Work → List (List ℕ) → Numbers → Numbers → Type 0
+CountedRecords w rs before now = (t : Tally) → before ≡ numbers_of t → now ≡ numbers_of (and_records w t rs)
+
+-- a record is counted, or refused because it is one too many
+abbrev pub CountsRecord : Work → List ℕ → Numbers → Numbers → Type 0
+CountsRecord w octets before now = CountedRecords w (octets ∷ []) before now
+
+abbrev pub RefusesCount : Work → List ℕ → Numbers → Numbers → RunFault → Type 0
+RefusesCount w octets before now fault = (fault ≡ TooMany) × (w.state.records ≡ most_records)
+
+-- the references that a sink holds which counts
+pub record CountingNames : Type 0 where
+  pub tracker : ℕ
+  pub counts : ℕ
 
 -- and a closed end, where there is a place for each channel and application
 abbrev pub CountsEnd : Work → Numbers → ℕ → Numbers → Type 0
 CountsEnd w before rest now = (t : Tally) → before ≡ numbers_of t → length w.entries ≤ 16384 → now ≡ numbers_of (and_end w t rest)
 
 module _ (w : Work) (left_old left_new : Option (List ℕ)) where
-  -- these records were read, nothing else, and counted
-  pub record HasCounted (v : Work) (now : Numbers) : Type 0 where
-    pub read : List (List ℕ)
-    pub sized : AreRecords (record_length_of w.rules.layout) read
-    pub octets : Consumes left_old left_new (concat read)
-    pub work : v ≡ worked w read
-    pub counted : now ≡ numbers_of (and_records w nothing read)
-
-  -- all was read, its records were counted, and so many octets are left
-  pub record HasCountedAll (v : Work) (now : Numbers) (left : ℕ) : Type 0 where
-    pub read : List (List ℕ)
-    pub rest : List ℕ
-    pub all : HasReadAll (record_length_of w.rules.layout) left_old left_new read rest
-    pub left_is : length rest ≡ left
-    pub work : v ≡ worked w read
-    pub counted : now ≡ numbers_of (and_records w nothing read)
-
   -- all was read and counted, down to the closed end; and so many records were read
   pub record HasSummed (now : Numbers) (count : ℕ) : Type 0 where
     pub read : List (List ℕ)

@@ -2,7 +2,8 @@ use Rattle.std.proofs.Common.{◌≡◌, true, false, arith, sym, ◌∙◌}
 use Rattle.std.specs.Prelude.{if◌then◌else◌}
 use Rattle.std.specs.Str.{bytes_eq}
 use Rattle.csv.specs.Records.{fields_of}
-use Rattle.tm_fields.specs.Columns.{met, heading_places}
+use Rattle.tm_fields.specs.Columns.{heading_places}
+use Rattle.tm_fields.specs.code.Reading.{met}
 use Rattle.tm_fields.specs.Values.{value}
 use Rattle.tm_fields.proofs.Places.{standing_first, standing_step}
 use Rattle.tm_fields.proofs.columns.find_heading.Goals as goal

@@ -2,7 +2,7 @@ use Rattle.std.proofs.Common.{◌≡◌, ◌∷◌, [], arith, sym, ◌∙◌, r
 use Rattle.std.specs.Result.{is_ok}
 use Rattle.std.proofs.lemmas.Result.{err_from_is_err_and}
 use Rattle.csv.specs.Records.{fields_of}
-use Rattle.tm_fields.proofs.Fields.{last_end_more, next_read, next_refused, sound_more}
+use Rattle.tm_fields.proofs.Fields.{last_end_more, needed_more, next_read, next_refused, sound_more}
 use Rattle.tm_fields.proofs.definition.read_fields.Goals as goal
 
 pub returns-in_err-field-clause-refused : goal.returns-in_err-field-clause-refused
@@ -23,5 +23,6 @@ loop-values-preserved c =
       rest = sym step ∙ c.loop-values.invariant.rest;
       before = sym (last_end_more 48 fields x);
       sound = sound_more fields x c.loop-values.invariant.sound c.in_ok-field.ensures.sound;
+      needed = c.max-needed.ensures ∙ sym (needed_more fields c.loop-values.needed x c.loop-values.invariant.needed);
       count = omega (arith, length-append fields (x ∷ []), c.loop-values.invariant.count);
     })

@@ -1,4 +1,4 @@
-use Rattle.std.proofs.Common.{◌≡◌, ◌++◌, ◌∷◌, [], List, ℕ, length, take, refl, ap, arith, rules}
+use Rattle.std.proofs.Common.{◌≡◌, ◌++◌, ◌∷◌, [], List, ℕ, length, take, refl, arith, rules}
 use Rattle.std.specs.List.{flat_map}
 use Rattle.tm_fields.specs.Escape.{octet_text}
 use Rattle.tm_fields.proofs.Escapes.{written_within}

@@ -1,15 +1,20 @@
-use Rattle.std.proofs.Common.{◌≡◌, ℕ, ◌+◌, ◌-◌, ◌*◌, ◌/◌, ◌%◌, ◌^◌, sym, ap, ◌∙◌, arith}
-use Rattle.std.proofs.lemmas.Nat.{one_shl}
-use Rattle.tm_fields.proofs.NumberLemmas.{part_between}
+use Rattle.std.proofs.Common.{◌≡◌, ℕ, ◌+◌, ◌-◌, List, length, take, drop, sym, ap, ◌∙◌, arith, length-drop}
+use Rattle.std.proofs.lemmas.List.{take_all}
+use Rattle.byteorder.specs.Endian.{big_number}
+use Rattle.tm_bits.specs.Bits.{AreOctets}
+use Rattle.tm_fields.proofs.NumberLemmas.{part_read}
 use Rattle.tm_fields.proofs.numbers.number_from.Goals as goal
 
 pub returns-clause-value : goal.returns-clause-value
 returns-clause-value c =
+    let octets = c.args.octets.now in
     let at : ℕ = c.args.at in
     let count : ℕ = c.args.count in
-    let last : ℕ = c.div_ceil-last.result in
-    let end : c.from.result + c.from-2.result ≡ at + count = omega (arith, c.from.ensures, c.from-2.ensures) in
+    let last : ℕ = c.min-last.result in
+    let are : AreOctets octets = record { below = λ i. omega (arith, c.type_inv.octets i) } in
     let width : at + count - at ≡ count = omega arith in
-    let bits = ap (λ n. c.spelled-all.result / 2 ^ (8 * last - (at + count)) % 2 ^ n) width in
-    let between = part_between c.args.octets.now (at / 8) last at (at + count) (omega arith) (omega arith) (omega arith) (omega arith) (omega arith) in
-    rw (one_shl count 128 (omega arith), end) (sym bits ∙ ap (λ n. n / 2 ^ (8 * last - (at + count)) % 2 ^ (at + count - at)) c.spelled-all.ensures.value ∙ sym between)
+    let from : List ℕ = drop (last - 8) octets in
+    let whole : take (length octets - (last - 8)) from ≡ from = take_all (length octets - (last - 8)) from (omega (arith, length-drop (last - 8) octets)) in
+    let word = c.read_u64-word.ensures ∙ ap (big_number 8) whole in
+    let read = part_read octets last at (at + count) c.read_u64-word.result are (omega arith) (omega arith) (omega arith) (omega arith) (omega arith) word in
+    c.cut.ensures.value ∙ sym (rw width at read)

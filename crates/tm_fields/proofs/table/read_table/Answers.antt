@@ -4,7 +4,7 @@ use Rattle.csv.specs.Records.{fields_of}
 use Rattle.csv.specs.declared.parser.State.TheVariants as st
 use Rattle.csv.proofs.ReadFacts.{rows-end, rows-more}
 use Rattle.std.specs.Prelude.{Option}
-use Rattle.tm_fields.specs.Table.{fault_of_kind, kept}
+use Rattle.tm_fields.specs.code.Reading.{fault_of_kind, kept}
 use Rattle.tm_fields.specs.declared.faults.DefinitionFault.TheVariants.{Csv}
 use Rattle.tm_fields.proofs.Causes.{cause, took_next}
 use Rattle.tm_fields.proofs.Kept.{kept_again}

@@ -3,7 +3,7 @@ use Rattle.csv.specs.Reading.{Reached, Ready, default_config, source_of, strip_b
 use Rattle.csv.specs.Records.{fields_of}
 use Rattle.csv.specs.declared.parser.State.TheVariants as st
 use Rattle.csv.specs.declared.reader.Trim.TheVariants as trim
-use Rattle.tm_fields.specs.Table.{kept}
+use Rattle.tm_fields.specs.code.Reading.{kept}
 use Rattle.tm_fields.proofs.Lengths.{Expects}
 use Rattle.tm_fields.proofs.table.read_table.Given as goal
 

@@ -2,7 +2,8 @@ use Rattle.std.proofs.Common.{rules, ◌≡◌, length, take, arith, ◌∙◌, 
 use Rattle.std.specs.List.{concat}
 use Rattle.std.specs.Io.KnownBytes.{Appends, Consumes}
 use Rattle.tm_frame.specs.Layout.{record_length_of}
-use Rattle.tm_output.specs.Listing.{LineStopped, rest_lines}
+use Rattle.tm_output.specs.Listing.{rest_lines}
+use Rattle.tm_output.specs.code.Listings.{LineStopped}
 use Rattle.tm_output.proofs.ListingLemmas.{stands_more, stands_end, stands_end_stopped}
 use Rattle.tm_output.proofs.listing.list_records.Goals as goal
 

@@ -1,5 +1,5 @@
 use Rattle.std.proofs.Common.{length, ap, sym, refl, ◌∙◌, arith}
-use Rattle.tm_reassembly.specs.Items.{part_items}
+use Rattle.tm_reassembly.specs.code.Field.{part_items}
 use Rattle.tm_reassembly.proofs.ReadField.{leads_start, leads_take, read_packet, field_parts-skip, unfinished-skip}
 use Rattle.tm_reassembly.proofs.packets.read_field.Goals as goal
 

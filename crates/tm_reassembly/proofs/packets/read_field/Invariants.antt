@@ -1,6 +1,5 @@
 use Rattle.std.proofs.Common.{length, ◌-◌, ◌≡◌, ◌≤◌, drop}
-use Rattle.tm_reassembly.specs.Items.{part_items}
-use Rattle.tm_reassembly.specs.code.Field.{field_parts, unfinished}
+use Rattle.tm_reassembly.specs.code.Field.{part_items, field_parts, unfinished}
 use Rattle.tm_reassembly.proofs.ReadField.{Leads, items_from}
 use Rattle.tm_reassembly.proofs.packets.read_field.Given as goal
 

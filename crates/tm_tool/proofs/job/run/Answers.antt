@@ -8,7 +8,7 @@ use Rattle.tm_tool.proofs.job.run.Goals as goal
 pub returns-in-Ok-clause-ran : goal.returns-in-Ok-clause-ran
 returns-in-Ok-clause-ran g c =
     rw (← c.job.view_is, c.done_by.ensures.records, c.done_by.ensures.kept)
-    (ran_behind Appends Appends-nil Appends-trans _ _ _ _ c.in-Ok.ensures.sound.0 c.in-Ok.ensures.sound.1 _ _ _ _ _ _ _ _
+    (ran_behind Appends Appends-nil Appends-trans _ _ _ _ c.in-Ok.ensures.sound.0 c.in-Ok.ensures.sound.1 _ _ _ _ _ _ _ _ _ _
     (head_took _ c.args.command c.job.inside.fresh c.in_default.ensures.whole) c.in-Ok.ensures.run)
 
 pub returns-in-Err-clause-stopped : goal.returns-in-Err-clause-stopped

@@ -1,9 +1,8 @@
-use Rattle.std.proofs.Common.{◌≡◌, ℕ, ◌++◌, take, Some, List, subst, ◌∙◌, arith, length-append}
+use Rattle.std.proofs.Common.{◌≡◌, ℕ, ◌++◌, [], take, Some, List, subst, ◌∙◌, arith, length-append}
 use Rattle.std.proofs.lemmas.List.{take_all}
 use Rattle.std.specs.List.{flat_map}
 use Rattle.tm_fields.specs.code.Line.{HasValues}
 use Rattle.tm_fields.specs.Rows.{lead_names, named}
-use Rattle.std.proofs.lemmas.Option.{same_Some}
 use Rattle.tm_fields.proofs.RowLemmas.{texts_more}
 use Rattle.tm_fields.proofs.definition.Definition.head.Goals as goal
 
@@ -14,15 +13,15 @@ loop-field-preserved c =
     let is = rw same at c.field-item.is in
     let i : ℕ = c.loop-field.field-index in
     let more = texts_more named lead_names c.args.self.now i c.field-item.result inside is in
-    subst (λ (values : List (List ℕ)). HasValues (λ v. Some v.items) c.put_name.new.line values) more
-    (c.in_ok-put_name.ensures (lead_names ++ flat_map named (take i c.args.self.now)) c.loop-field.invariant)
+    subst (λ (values : List (List ℕ)). HasValues (λ v. Some v.items) c.put_name.new.writer [] values) more
+    (c.in_ok-put_name.ensures [] (lead_names ++ flat_map named (take i c.args.self.now)) c.loop-field.invariant)
 
-pub returns-in-Ok : goal.returns-in-Ok
-returns-in-Ok c =
+pub returns : goal.returns
+returns c =
     let same = c.deref-field-items.ensures.value ∙ c.self.view_is in
     let left = rw same at c.loop-field-test.false in
     let fields = c.args.self.now in
     let all : take c.loop-field.field-index fields ≡ fields = take_all c.loop-field.field-index fields left in
-    let values : List (List ℕ) = lead_names ++ flat_map (named) fields in
+    let values : List (List ℕ) = lead_names ++ flat_map named fields in
     let written = rw all at c.loop-field.invariant in
-    c.in-Ok.ensures.ok ∙ same_Some _ _ (c.in_ok-end.ensures values (omega (arith, length-append (lead_names) (flat_map (named) fields))) written)
+    c.in_ok-into_text.ensures _ (c.in_ok-end.ensures [] values (omega (arith, length-append lead_names (flat_map named fields))) written)

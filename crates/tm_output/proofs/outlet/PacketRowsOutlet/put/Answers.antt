@@ -5,18 +5,18 @@ use Rattle.tm_devices.specs.Devices.{AppendsFront}
 use Rattle.tm_output.proofs.RowLemmas.{some_tabled, tabled_is}
 use Rattle.tm_output.proofs.outlet.PacketRowsOutlet.put.Goals as goal
 
-pub returns-in-Ok-clause-stopped : goal.returns-in-Ok-clause-stopped
-returns-in-Ok-clause-stopped g c =
+pub returns-in-Err-clause-stopped : goal.returns-in-Err-clause-stopped
+returns-in-Err-clause-stopped g c =
     let wanted : (c.args.packet.now.header.application == c.args.self.now.application) ≡ true = search rules in
     let row =
-    tabled_is c.args.self.now.definition.now c.args.self.now.application c.args.packet.now.seen c.args.packet.now.channel c.args.packet.now.first c.args.packet.now.place _ _ c.args.packet.now.octets.now c.in-Ok.row.items c.args.packet.now.header
+    tabled_is c.args.self.now.rows.now.fields c.args.self.now.application c.args.packet.now.seen c.args.packet.now.channel c.args.packet.now.first c.args.packet.now.place _ _ c.args.packet.now.octets.now c.write.new.self.row c.args.packet.now.header
     c.requires wanted c.application.ensures.value c.count.ensures.value c.in-Ok.ensures.ok in
-    (c.in-Err.ensures.counts, subst (AppendsFront (g.W.Drain.written c.args.self.now.out.now) (g.W.Drain.written c.put_all.new.out)) (c.as_slice.ensures.value ∙ sym row) c.in-Err.ensures.front)
+    (c.in-Err.ensures.counts, subst (AppendsFront (g.W.Drain.written c.args.self.now.out.now) (g.W.Drain.written c.put_all.new.out)) (c.row.ensures ∙ sym row) c.in-Err.ensures.front)
 
-pub returns-clause-stopped : goal.returns-clause-stopped
-returns-clause-stopped g c =
+pub returns-in-Err-NoMemory-clause-stopped : goal.returns-in-Err-NoMemory-clause-stopped
+returns-in-Err-NoMemory-clause-stopped g c =
     let wanted : (c.args.packet.now.header.application == c.args.self.now.application) ≡ true = search rules in
     let some =
-    some_tabled c.args.self.now.definition.now c.args.self.now.application c.args.packet.now.seen c.args.packet.now.channel c.args.packet.now.first c.args.packet.now.place c.args.packet.now.octets.now c.args.packet.now.header
-    c.requires wanted (λ less. cc (c.row.ensures.short less)) in
+    some_tabled c.args.self.now.rows.now.fields c.args.self.now.application c.args.packet.now.seen c.args.packet.now.channel c.args.packet.now.first c.args.packet.now.place c.args.packet.now.octets.now c.args.packet.now.header
+    c.requires wanted (λ less. cc (c.write.ensures.short less)) in
     (refl, some, refl, Appends-nil _)

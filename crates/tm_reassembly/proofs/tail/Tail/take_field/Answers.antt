@@ -1,5 +1,6 @@
 use Rattle.std.proofs.Common.{◌≡◌, ◌<◌, ◌≤◌, ◌+◌, ◌++◌, true, false, ℕ, List, length, sym, ap, ◌∙◌, rules}
-use Rattle.tm_reassembly.specs.code.Kept.{Buffer, octets_in}
+use Rattle.tm_reassembly.specs.code.Kept.{Buffer}
+use Rattle.tm_reassembly.specs.State.{octets_in}
 use Rattle.tm_reassembly.specs.Parts.{agrees_at, is_long}
 use Rattle.tm_items.specs.OnePacket.{reach}
 use Rattle.tm_reassembly.proofs.Tails.{octets_again, step_completed_at}

@@ -1,0 +1,78 @@
+-- Which faults the steps of a plan may end in, each by what it does.
+use Rattle.std.specs.Prelude.{◌≡◌, ◌≢◌, ◌⊎◌, ⊤, ℕ, true, List, Option, None, Some, Ok, IsSome}
+use Rattle.tm_output.specs.declared.fault.RunFault.TheVariants.{NoMemory, Report, Write}
+use Rattle.tm_program.specs.Program.{IsInFolder}
+use Rattle.tm_program.specs.code.Decisions.{is_job}
+use Rattle.tm_program.specs.code.Files.{IsFaultOf, IsFileFault}
+use Rattle.tm_program.specs.declared.fault.ToolFault.{ToolFault}
+use Rattle.tm_program.specs.declared.fault.ToolFault.TheVariants as tool
+use Rattle.tm_settings.specs.Settings.{Rules}
+use Rattle.tm_tool.specs.Checkpoints.{resumed}
+use Rattle.tm_tool.specs.Jobs.{JobState}
+use Rattle.tm_words.specs.declared.request.Action.TheVariants.{Split}
+use Rattle.tm_words.specs.declared.request.Plan.{Plan}
+
+-- there is such a file, and it can't be opened, made or written
+abbrev pub HasFault : Option (List ℕ) → ToolFault → Type 0
+HasFault None fault = ⊥
+HasFault (Some name) fault = IsFileFault name fault
+
+-- the folder of this name can't be written, an application's file in it is another file of the run, or memory is wanting
+abbrev pub IsFolderFault : List ℕ → ToolFault → Type 0
+IsFolderFault dir (tool.File given) = (given ≡ dir) ⊎ IsInFolder dir given
+IsFolderFault dir (tool.Run NoMemory) = ⊤
+IsFolderFault dir _ = ⊥
+
+-- there is such a folder
+abbrev pub HasFolderFault : Option (List ℕ) → ToolFault → Type 0
+HasFolderFault None fault = ⊥
+HasFolderFault (Some dir) fault = IsFolderFault dir fault
+
+-- there is such a file, and it can't be read whole
+abbrev pub HasReadFault : Option (List ℕ) → ToolFault → Type 0
+HasReadFault None fault = ⊥
+HasReadFault (Some name) fault = IsFaultOf name fault
+
+-- the settings' file can't be read, or is no settings
+abbrev pub IsOfSettings : Plan → ToolFault → Type 0
+IsOfSettings p (tool.Settings fault) = ⊤
+IsOfSettings p fault = HasReadFault p.settings fault
+
+-- likewise the definition's
+abbrev pub IsOfDefinition : Plan → ToolFault → Type 0
+IsOfDefinition p (tool.Definition fault) = IsSome p.definition
+IsOfDefinition p fault = HasReadFault p.definition fault
+
+-- likewise that of the checkpoint to go on from
+abbrev pub IsOfResumed : Plan → ToolFault → Type 0
+IsOfResumed p (tool.Checkpoint fault) = IsSome p.resume
+IsOfResumed p fault = HasReadFault p.resume fault
+
+-- memory ran out
+abbrev pub IsNoMemory : ToolFault → Type 0
+IsNoMemory (tool.Run NoMemory) = ⊤
+IsNoMemory _ = ⊥
+
+-- a fault of a run, or want of memory
+abbrev pub IsRunFault : ToolFault → Type 0
+IsRunFault (tool.Run fault) = ⊤
+IsRunFault _ = ⊥
+
+-- likewise, or the file of this name is another file of the run
+abbrev pub IsOfPut : Option (List ℕ) → ToolFault → Type 0
+IsOfPut taken (tool.File name) = taken ≡ Some name
+IsOfPut taken fault = IsRunFault fault
+
+-- a standard stream is closed to which the plan writes: standard output, or standard error where that takes the report
+abbrev pub IsOfStreams : Plan → ToolFault → Type 0
+IsOfStreams p (tool.Run Write) = p.action ≢ Split
+IsOfStreams p (tool.Run Report) = (is_job p.action ≡ true) × (p.report ≡ None)
+IsOfStreams p _ = ⊥
+
+-- the run ended before its end, a file or the folder that it writes can't be opened, made or written, or one of these or a stream is another file of the run
+abbrev pub IsOfOutputs : Plan → ToolFault → Type 0
+IsOfOutputs p fault = IsRunFault fault ⊎ HasFault p.report fault ⊎ HasFault p.checkpoint fault ⊎ HasFolderFault p.dir fault
+
+-- a job that a checkpoint of these settings says
+abbrev pub IsResumed : Rules → JobState → Type 0
+IsResumed settings job = (octets : List ℕ) × (resumed settings octets ≡ Ok job)

@@ -1,0 +1,24 @@
+-- The records that were read behind those that are done are taken, and no call failed.
+use Rattle.std.proofs.Common.{◌≡◌, ◌-◌, ◌^◌, ◌<◌, length}
+use Rattle.tm_frame.specs.Layout.{record_length_of}
+use Rattle.tm_tool.specs.code.Stepping.{IsGoing, work_of}
+use Rattle.tm_tool.specs.code.Taking.{HasTaken, Reached, TakesRecords}
+use Rattle.tm_tool.proofs.taking.take_records.Given as goal
+
+abbrev pub invariant-loop-ending : goal.invariant-loop-ending
+invariant-loop-ending g l = record {
+  same : g.K.RecordTaker.fixed l.taker ≡ g.K.RecordTaker.fixed l.fn.taker;
+  rules : l.reassembly.rules ≡ l.fn.reassembly.rules;
+  going : IsGoing l.reassembly;
+  few : l.reassembly.state.records < 2 ^ 32;
+  exact : length l.buffer ≡ record_length_of l.fn.reassembly.rules.layout;
+  reads : g.R.Source.failures l.recording ≡ g.R.Source.failures l.fn.recording;
+  done : l.done ≡ l.fn.reassembly.state.records;
+  reached : Reached l.ending l.done l.reassembly.state.records;
+  taken : HasTaken (TakesRecords (g.K.RecordTaker.takes (g.K.RecordTaker.fixed l.fn.taker))) (work_of l.fn.reassembly (g.K.RecordTaker.entries l.fn.taker))
+      (g.R.Source.left l.fn.recording) (g.R.Source.left l.recording)
+      (g.K.RecordTaker.held l.fn.taker) (g.K.RecordTaker.held l.taker) (work_of l.reassembly (g.K.RecordTaker.entries l.taker));
+}
+
+abbrev pub decreases-loop-ending : goal.decreases-loop-ending
+decreases-loop-ending g l = 2 ^ 32 - l.reassembly.state.records

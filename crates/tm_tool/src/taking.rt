@@ -1,0 +1,133 @@
+//! The records of a recording, one by one into what takes them.
+
+ghost use Rattle.std.specs.Prelude.{◌≡◌, ◌<◌, ◌∷◌, [], ℕ, true, false, List, length, IfOk, IfErr, OnOk};
+ghost use Rattle.tm_frame.specs.Layout.{record_length_of};
+ghost use Rattle.tm_reassembly.specs.Steps.{most_records};
+ghost use Rattle.tm_output.specs.declared.fault.RunFault.{RunFault};
+ghost use Rattle.tm_output.specs.Pieces.{Entries};
+ghost use Rattle.tm_tool.specs.RecordingPieces.{Work, worked};
+ghost use Rattle.tm_tool.specs.Runs.{WantsFurther};
+ghost use Rattle.tm_tool.specs.code.Stepping.{IsGoing, work_of};
+ghost use Rattle.tm_tool.specs.code.Taking.{Enough, HasStepped, PassesRecords, TakesRecords, TakingStopped};
+
+use crate::{Ending, RunFault, Source};
+use tm_devices::fill;
+use tm_reassembly::Reassembly;
+
+// Takes records one by one: a sink of a reassembly's items, and what is done beside.
+pub(crate) trait RecordTaker {
+    // What is known of what it holds.
+    ghost Held: { Type 0 };
+
+    // What no call changes.
+    ghost Fixed: { Type 0 };
+
+    ghost held: { Self → Self.Held };
+
+    ghost fixed: { Self → Self.Fixed };
+
+    ghost entries: { Self → Entries };
+
+    // A record behind this work may be taken, and this is held then.
+    ghost takes: { Self.Fixed → Work → List ℕ → Self.Held → Self.Held → Type 0 };
+
+    // It may be refused with this fault, and this is held then.
+    ghost refuses: { Self.Fixed → Work → List ℕ → Self.Held → Self.Held → RunFault → Type 0 };
+
+    // Takes a record.
+    fn take_record(&mut self, reassembly: &mut Reassembly, octets: &[u8]) -> Result<(), RunFault>
+        requires exact { length octets.now ≡ record_length_of reassembly.old.rules.layout }
+        requires going { IsGoing reassembly.old }
+        ensures same { Self.fixed self.new ≡ Self.fixed self.old }
+        ensures work { OnOk result (work_of reassembly.new (Self.entries self.new) ≡ worked (work_of reassembly.old (Self.entries self.old)) (octets.now ∷ [])) }
+        ensures going_on { OnOk result (IsGoing reassembly.new) }
+        ensures few { OnOk result (reassembly.old.state.records < most_records) }
+        ensures taken { OnOk result (Self.takes (Self.fixed self.old) (work_of reassembly.old (Self.entries self.old)) octets.now (Self.held self.old) (Self.held self.new)) }
+        ensures refused { IfErr result (Self.refuses (Self.fixed self.old) (work_of reassembly.old (Self.entries self.old)) octets.now (Self.held self.old) (Self.held self.new)) };
+}
+
+// Reads the records that are done, one by one.
+fn read_over<R: Source>(count: u32, buffer: &mut [u8], recording: &mut R) -> Result<(), RunFault>
+    requires some { 0 < length buffer.old }
+    ensures { PassesRecords (length buffer.old) count (R.left recording.old) (R.left recording.new) (R.failures recording.old) (R.failures recording.new) result }
+{
+    for _passed in 0..count {
+        let Ok(octets) = fill(recording, buffer) else {
+            return Err(RunFault::Read);
+        };
+        if octets < buffer.len() {
+            return Err(RunFault::ShortRecording);
+        }
+    }
+    Ok(())
+}
+
+// Passes over the records that are done: in one step where the recording can do so, else it reads them.
+fn skip_records<R: Source>(count: u32, buffer: &mut [u8], recording: &mut R) -> Result<(), RunFault>
+    requires some { 0 < length buffer.old }
+    ensures { PassesRecords (length buffer.old) count (R.left recording.old) (R.left recording.new) (R.failures recording.old) (R.failures recording.new) result }
+{
+    if count == 0 {
+        return Ok(());
+    }
+    if let Some(octets) = u64::from(count).checked_mul(buffer.len() as u64) {
+        match recording.pass_over(octets) {
+            Ok(true) => return Ok(()),
+            Ok(false) => {}
+            Err(_) => return Err(RunFault::Read),
+        }
+    }
+    read_over(count, buffer, recording)
+}
+
+// The ending wants a further record, of which so many were done and so many are.
+fn wants_more(ending: Ending, done: u32, records: u32) -> bool
+    ensures wanted { result ≡ true → WantsFurther ending done records }
+    ensures enough { result ≡ false → Enough ending done records }
+{
+    match ending {
+        Ending::Close | Ending::Keep => true,
+        Ending::StopAfter(more) => u64::from(records) < u64::from(done) + u64::from(more),
+    }
+}
+
+// Takes the records that the ending wants, one at a time through this buffer, behind those that are done. Answers how many octets are
+// left then, of a record that is no whole one.
+pub(crate) fn take_records<R: Source, K: RecordTaker>(
+    reassembly: &mut Reassembly,
+    buffer: &mut [u8],
+    recording: &mut R,
+    taker: &mut K,
+    ending: Ending,
+) -> Result<usize, RunFault>
+    requires exact { length buffer.old ≡ record_length_of reassembly.old.rules.layout }
+    requires some { 0 < length buffer.old }
+    requires going { IsGoing reassembly.old }
+    ensures same { K.fixed taker.new ≡ K.fixed taker.old }
+    ensures going_on { OnOk result (IsGoing reassembly.new × (reassembly.new.rules ≡ reassembly.old.rules)) }
+    ensures short { IfOk result (λ octets. octets < record_length_of reassembly.old.rules.layout) }
+    ensures stepped { IfOk result (HasStepped (TakesRecords (K.takes (K.fixed taker.old))) ending (work_of reassembly.old (K.entries taker.old))
+        (R.left recording.old) (R.left recording.new) (K.held taker.old) (K.held taker.new) (work_of reassembly.new (K.entries taker.new))) }
+    ensures counts { OnOk result (R.failures recording.new ≡ R.failures recording.old) }
+    ensures stopped { IfErr result (TakingStopped (TakesRecords (K.takes (K.fixed taker.old))) (K.refuses (K.fixed taker.old)) ending (work_of reassembly.old (K.entries taker.old))
+        (R.left recording.old) (R.left recording.new) (R.failures recording.old) (R.failures recording.new) (K.held taker.old) (K.held taker.new)) }
+{
+    let done = reassembly.records();
+    if let Err(fault) = skip_records(done, buffer, recording) {
+        return Err(fault);
+    }
+    loop {
+        if !wants_more(ending, done, reassembly.records()) {
+            return Ok(0);
+        }
+        let Ok(octets) = fill(recording, buffer) else {
+            return Err(RunFault::Read);
+        };
+        if octets < buffer.len() {
+            return Ok(octets);
+        }
+        if let Err(fault) = taker.take_record(reassembly, buffer) {
+            return Err(fault);
+        }
+    }
+}

@@ -29,8 +29,8 @@ use tm_fields::Definition;
 use tm_places::Places;
 use tm_shelf::{FileShelf, ShelfFault, name_in};
 use tm_tool::{
-    Command, Done, Drain, Ending, Job, Octets, Reading, RunFault, Seeking, Settings, Shelf, Source, Writing,
-    list_frames, run as run_job, split, summarize,
+    Command, Done, Drain, Ending, Job, Octets, Reading, RunFault, Seeking, Settings, Shelf, Source,
+    Writing, list_frames, run as run_job, split, summarize,
 };
 use tm_words::{Action, Plan, plan};
 
@@ -431,15 +431,7 @@ fn run_on<R: Files + Print + AllocGlobal, S: Source + Drop, E: Write + Drop>(
     let report = report_by(rt, plan, checked, errors)?;
     let places = places_by(rt, plan)?;
     let job = job_by(rt, resumed, &settings)?;
-    let done = go_on(
-        rt,
-        plan,
-        definition.as_ref(),
-        job,
-        source,
-        report,
-        &places,
-    )?;
+    let done = go_on(rt, plan, definition.as_ref(), job, source, report, &places)?;
     keep(rt, plan, &done)?;
     Ok(Some(done))
 }

@@ -10,20 +10,27 @@ use crate::faults::{Column, DefinitionFault};
 use crate::words::{is_text, trim};
 use csv::ByteRecord;
 
-/// Where a heading stands.
+/// Where a heading stands among those of a definition.
 #[derive(Clone, Copy)]
-pub(crate) enum Standing {
+pub enum Standing {
+    /// In no column.
     Nowhere,
+    /// In this column alone, counted from 0.
     At(usize),
+    /// In more than one column.
     Often,
 }
 
-/// The places of the columns that are read.
+/// The places of the columns that are read, counted from 0.
 #[derive(Clone, Copy)]
-pub(crate) struct Columns {
+pub struct Columns {
+    /// That of the names.
     pub name: usize,
+    /// That of the data types.
     pub data_type: usize,
+    /// That of the lengths in bits.
     pub bit_length: usize,
+    /// That of the offsets in bits, if there is one.
     pub bit_offset: Option<usize>,
 }
 

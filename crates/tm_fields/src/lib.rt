@@ -20,6 +20,7 @@ mod table;
 mod values;
 mod words;
 
+pub use columns::{Columns, Standing};
 pub use definition::Definition;
 pub use escape::push_escaped;
 pub use faults::{Column, DefinitionFault, NoMemory, RowFault};

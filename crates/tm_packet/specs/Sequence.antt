@@ -1,4 +1,9 @@
 -- The sequence notes of one pair of channel and application, by sequence flags and counts (CCSDS 133.0-B-2, section 4.1.3.4).
+--
+-- A member has a gap where its count is not the one before it plus 1. A group is a member with flags first, and the longest stretch of
+-- continuations without a gap behind it (`group_of`). The member behind the stretch decides what becomes of the group (`decided`): a last
+-- without a gap makes it whole; any other breaks it, by its gap if it has one, else by its flags. A group that no member follows is open
+-- (`open_at_end`). A continuation or last in no group is a stray. Each note is given at the member that decides it.
 use Rattle.std.specs.Prelude.{ℕ, ◌+◌, ◌-◌, ◌%◌, Bool, true, false, not, ◌==◌, ◌&&◌, Option, Some, None, List, [], ◌∷◌, ◌++◌, map, if◌then◌else◌}
 use Rattle.tm_packet.specs.declared.header.Flags.{Flags}
 use Rattle.tm_packet.specs.declared.header.Flags.TheVariants as flag

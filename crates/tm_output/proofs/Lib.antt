@@ -1,6 +1,6 @@
 pub mod ListingLemmas
 pub mod RecordLemmas
-pub mod CutLemmas
+pub mod LinePieces
 pub mod ListingEnds
 pub mod LineLemmas
 pub mod PieceLemmas

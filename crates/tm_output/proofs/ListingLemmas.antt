@@ -1,26 +1,17 @@
 -- How a listing stands while it goes on, and what follows at its end.
-use Rattle.std.proofs.Common.{◌≡◌, ◌<◌, ◌+◌, ◌-◌, ◌^◌, ℕ, List, [], ◌∷◌, ◌++◌, length, refl, sym, ap, subst, ◌∙◌, append_assoc, append-nil, length-append, add-zero, arith, Option, inl, inr}
+use Rattle.std.proofs.Common.{◌≡◌, ◌<◌, ◌+◌, ◌-◌, ◌^◌, ℕ, List, [], ◌∷◌, ◌++◌, length, refl, sym, ap, subst, ◌∙◌, append_assoc, length-append, add-zero, arith, Option}
 use Rattle.std.specs.List.{concat}
-use Rattle.std.specs.Io.KnownBytes.{Appends, Consumes, IsAtEnd, Keeps}
-use Rattle.std.proofs.KnownBytes.{Appends-nil, Appends-trans, Appends-kept, Consumes-nil, Consumes-trans}
+use Rattle.std.specs.Io.KnownBytes.{Appends, Consumes, IsAtEnd}
+use Rattle.std.proofs.KnownBytes.{Appends-nil, Appends-trans, Consumes-nil, Consumes-trans}
 use Rattle.tm_frame.specs.declared.layout.LayoutParts.{LayoutParts}
 use Rattle.tm_frame.specs.Layout.{record_length_of}
-use Rattle.tm_output.specs.declared.fault.RunFault.{RunFault}
-use Rattle.tm_output.specs.declared.fault.RunFault.TheVariants.{Read, Write, Report, ShortRecording, TooMany, NoMemory}
-use Rattle.tm_output.specs.Records.{AreRecords, HasRead, HasReadAll}
-use Rattle.tm_output.specs.Listing.{record_line, record_lines, rest_lines, lines_of, StopsIn, IsStopped}
-use Rattle.tm_output.specs.code.Listings.{LineStopped, HasListed}
-
-pub concat-append : (xs ys : List (List ℕ)) → concat (xs ++ ys) ≡ concat xs ++ concat ys
-concat-append [] ys = refl
-concat-append (x ∷ xs) ys = ap (λ (l : List ℕ). x ++ l) (concat-append xs ys) ∙ sym (append_assoc x (concat xs) (concat ys))
-
-pub concat-one : (xs : List (List ℕ)) (x : List ℕ) → concat (xs ++ x ∷ []) ≡ concat xs ++ x
-concat-one xs x = concat-append xs (x ∷ []) ∙ ap (λ (l : List ℕ). concat xs ++ l) (append-nil x)
-
-pub AreRecords-append : (size : ℕ) (a b : List (List ℕ)) → AreRecords size a → AreRecords size b → AreRecords size (a ++ b)
-AreRecords-append size [] b h k = k
-AreRecords-append size (r ∷ a) b h k = (h.0, AreRecords-append size a b h.1 k)
+use Rattle.tm_output.specs.declared.fault.RunFault.TheVariants.{Write}
+use Rattle.tm_output.specs.Outputs.{Stopped, Took, View, line_piece, line_pieces, octets_way, outs}
+use Rattle.tm_output.specs.Records.{AreRecords, HasRead, records, rest_of}
+use Rattle.tm_output.specs.Listing.{IsListed, StopsAtFailedRead, StopsAtOneMore, StopsInRecordLine, StopsInRestLine, lines_of, listing, record_line, record_lines, rest_lines}
+use Rattle.tm_output.proofs.LinePieces.{lines_lines, lines_out}
+use Rattle.tm_output.proofs.PieceLemmas.{took_none}
+use Rattle.tm_output.proofs.RecordLemmas.{AreRecords-append, concat-one, count_all, records_all, rest_all}
 
 pub record_lines-append : (layout : LayoutParts) (seen : ℕ) (a b : List (List ℕ))
     → record_lines layout seen (a ++ b) ≡ record_lines layout seen a ++ record_lines layout (seen + length a) b
@@ -31,91 +22,92 @@ record_lines-append layout seen (r ∷ a) b =
     (record_lines-append layout (seen + 1) a b ∙ ap (λ (n : ℕ). record_lines layout (seen + 1) a ++ record_lines layout n b) count)
 
 module _ (layout : LayoutParts) where
+  -- the lines of records and one more
+  pub one_line_more : (read : List (List ℕ)) (one : List ℕ) (seen : ℕ) → seen ≡ length read
+      → record_lines layout 0 (read ++ one ∷ []) ≡ record_lines layout 0 read ++ record_line layout seen one ∷ []
+  one_line_more read one seen count =
+      let place : 0 + length read ≡ seen = omega (arith, count) in
+      record_lines-append layout 0 read (one ∷ []) ∙ ap (λ (n : ℕ). record_lines layout 0 read ++ record_line layout n one ∷ []) place
+
+  -- the lines of a recording that was read whole
+  pub listing_all : (read : List (List ℕ)) (rest : List ℕ) → AreRecords (record_length_of layout) read → length rest < record_length_of layout
+      → listing layout (concat read ++ rest) ≡ lines_of layout read (length rest)
+  unfolding listing
+  listing_all read rest sized short =
+      rw (records_all (record_length_of layout) read rest sized short, rest_all (record_length_of layout) read rest sized short) refl
+
   -- these records were read, and their lines written
-  abbrev pub Stands : Option (List ℕ) → Option (List ℕ) → Option (List ℕ) → Option (List ℕ) → ℕ → Type 0
-  Stands first left old now seen =
-      (read : List (List ℕ)) × AreRecords (record_length_of layout) read × Consumes first left (concat read) × (seen ≡ length read)
-      × Appends old now (concat (record_lines layout 0 read))
+  pub record Stands (first left : Option (List ℕ)) (old now : View (Option (List ℕ))) (seen : ℕ) : Type 0 where
+    pub read : List (List ℕ)
+    pub sized : AreRecords (record_length_of layout) read
+    pub octets : Consumes first left (concat read)
+    pub count_is : seen ≡ length read
+    pub took : Took Appends old now (line_pieces (record_lines layout 0 read))
 
-  pub stands_first : (left out : Option (List ℕ)) → Stands left left out out 0
-  stands_first left out = ([], tt, Consumes-nil left, refl, Appends-nil out)
+  pub stands_first : (left : Option (List ℕ)) (old : View (Option (List ℕ))) → Stands left left old old 0
+  stands_first left old = record { read = []; sized = tt; octets = Consumes-nil left; count_is = refl; took = took_none Appends Appends-nil Appends-trans old }
 
-  module _ (first left next old now new : Option (List ℕ)) (seen : ℕ) (octets : List ℕ) (stands : Stands first left old now seen) (got : Consumes left next octets) where
-    read_all : Consumes first next (concat stands.0 ++ octets)
-    read_all = Consumes-trans first left next (concat stands.0) octets stands.2 got
-
-    has_read : HasRead (record_length_of layout) first next stands.0 octets
-    has_read = record { sized = stands.1; octets = read_all }
-
-    -- a record was read, and its line written
-    pub stands_more : length octets ≡ record_length_of layout → Appends now new (record_line layout seen octets) → Stands first next old new (seen + 1)
-    stands_more exact line =
-        let (read, sized, consumed, count, written) = stands in
-        let lines : record_lines layout 0 (read ++ octets ∷ []) ≡ record_lines layout 0 read ++ record_line layout seen octets ∷ [] =
-        record_lines-append layout 0 read (octets ∷ [])
-        ∙ ap (λ (n : ℕ). record_lines layout 0 read ++ record_line layout n octets ∷ []) (let e : 0 + length read ≡ seen = omega arith in e) in
-        let text : concat (record_lines layout 0 (read ++ octets ∷ [])) ≡ concat (record_lines layout 0 read) ++ record_line layout seen octets =
-        ap concat lines ∙ concat-one (record_lines layout 0 read) (record_line layout seen octets) in (
-          read ++ octets ∷ [],
-          AreRecords-append (record_length_of layout) read (octets ∷ []) sized (exact, tt),
-          subst (Consumes first next) (sym (concat-one read octets)) read_all,
-          omega (arith, length-append read (octets ∷ [])),
-          subst (Appends old new) (sym text) (Appends-trans old now new (concat (record_lines layout 0 read)) (record_line layout seen octets) written line),
-        )
-
-    -- writing stopped in a text after the lines of the records
-    stops_in : (text : List ℕ) (fault : RunFault) → LineStopped now new text fault → StopsIn layout first next old new stands.0 text fault
-    stops_in text Read h = absurd h
-    stops_in text Write h =
-        let (front, rest, parts, grown) = h in
-        (front, rest, parts, Appends-trans old now new (concat (record_lines layout 0 stands.0)) front stands.4 grown)
-    stops_in text Report h = absurd h
-    stops_in text ShortRecording h = absurd h
-    stops_in text TooMany h = absurd h
-    stops_in text NoMemory h = (h.0, Appends-kept old now new (concat (record_lines layout 0 stands.0)) stands.4 h.1)
-
-    -- the number of the records that were read is the number of the next
-    stops_at : (line : ℕ → List ℕ) (fault : RunFault) → LineStopped now new (line seen) fault → StopsIn layout first next old new stands.0 (line (length stands.0)) fault
-    stops_at line fault h = stops_in (line (length stands.0)) fault (subst (λ (n : ℕ). LineStopped now new (line n) fault) stands.3 h)
-
-    -- a record was read, and writing stopped in its line
-    pub stands_record : length octets ≡ record_length_of layout → (fault : RunFault) → LineStopped now new (record_line layout seen octets) fault
-        → IsStopped layout first next old new fault
-    stands_record exact Read h = absurd h
-    stands_record exact Write h = inl (stands.0, octets, has_read, exact, stops_at (λ n. record_line layout n octets) Write h)
-    stands_record exact Report h = absurd h
-    stands_record exact ShortRecording h = absurd h
-    stands_record exact TooMany h = absurd h
-    stands_record exact NoMemory h = inl (inl (stands.0, octets, has_read, exact, stops_at (λ n. record_line layout n octets) NoMemory h))
+  module _ {first left next : Option (List ℕ)} {old now : View (Option (List ℕ))} {seen : ℕ} (octets : List ℕ) (stands : Stands first left old now seen) (got : Consumes left next octets) where
+    has_read : HasRead (record_length_of layout) first next stands.read octets
+    has_read = record { sized = stands.sized; octets = Consumes-trans first left next (concat stands.read) octets stands.octets got }
 
     -- a read failed in a record
-    pub stands_read : length octets < record_length_of layout → Keeps now new → IsStopped layout first next old new Read
-    stands_read short kept =
-        (stands.0, octets, has_read, short, Appends-kept old now new (concat (record_lines layout 0 stands.0)) stands.4 kept)
+    pub stands_read : length octets < record_length_of layout → StopsAtFailedRead layout first next old now
+    stands_read short = record { read = stands.read; part = octets; octets = has_read; short = short; took = stands.took }
 
-    -- one record too many was read
-    pub stands_too_many : length octets ≡ record_length_of layout → seen ≡ 2 ^ 32 - 1 → Keeps now new → IsStopped layout first next old new TooMany
-    stands_too_many exact most kept =
-        (stands.0, octets, has_read, exact, sym stands.3 ∙ most, Appends-kept old now new (concat (record_lines layout 0 stands.0)) stands.4 kept)
+    module _ (exact : length octets ≡ record_length_of layout) where
+      -- one record too many was read
+      pub stands_too_many : seen ≡ 2 ^ 32 - 1 → StopsAtOneMore layout first next old now
+      stands_too_many most = record { read = stands.read; one = octets; octets = has_read; exact = exact; most = sym stands.count_is ∙ most; took = stands.took }
 
-    module _ (short : length octets < record_length_of layout) (end : IsAtEnd next) where
-      has_read_all : HasReadAll (record_length_of layout) first next stands.0 octets
-      has_read_all = record { octets = has_read; short = short; ended = end }
+      -- a record was read, and its line written
+      pub stands_more : {new : View (Option (List ℕ))} → Took Appends now new (line_piece (record_line layout seen octets) ∷ []) → Stands first next old new (seen + 1)
+      stands_more {new} line = record {
+        read = stands.read ++ octets ∷ [];
+        sized = AreRecords-append (record_length_of layout) stands.read (octets ∷ []) stands.sized (exact, tt);
+        octets = subst (Consumes first next) (sym (concat-one stands.read octets)) has_read.octets;
+        count_is = omega (arith, stands.count_is, length-append stands.read (octets ∷ []));
+        took = rw (one_line_more stands.read octets seen stands.count_is) (lines_lines old now new (record_lines layout 0 stands.read) (record_line layout seen octets ∷ []) stands.took line);
+      }
+
+      -- writing stopped in it
+      pub stands_record : {new : View (Option (List ℕ))} → Stopped Appends octets_way now new (line_piece (record_line layout seen octets) ∷ []) Write
+          → StopsInRecordLine layout first next old new
+      stands_record stopped = record {
+        read = stands.read;
+        one = octets;
+        octets = has_read;
+        exact = exact;
+        mid = now;
+        took = stands.took;
+        stopped = rw (← stands.count_is) stopped;
+      }
+
+    module _ (rest : ℕ) (size : length octets ≡ rest) (less : rest < record_length_of layout) (end : IsAtEnd next) where
 
       -- all was read, and the line of the rest written
-      pub stands_end : Appends now new (concat (rest_lines seen (length octets))) → HasListed layout first next old new seen
-      stands_end line =
-          let (read, sized, consumed, count, written) = stands in
-          let text : concat (record_lines layout 0 read) ++ concat (rest_lines seen (length octets)) ≡ concat (lines_of layout read (length octets)) =
-          ap (λ (n : ℕ). concat (record_lines layout 0 read) ++ concat (rest_lines n (length octets))) count
-          ∙ sym (concat-append (record_lines layout 0 read) (rest_lines (length read) (length octets))) in
-          (read, octets, has_read_all, count, subst (Appends old new) text (Appends-trans old now new (concat (record_lines layout 0 read)) _ written line))
+      pub stands_end : {new : View (Option (List ℕ))} → Took Appends now new (line_pieces (rest_lines seen rest)) → IsListed layout first next old.out new.out seen
+      stands_end {new} line =
+          let read : List (List ℕ) = stands.read in
+          let short : length octets < record_length_of layout = omega (arith, size, less) in
+          let text : outs (line_pieces (record_lines layout 0 read ++ rest_lines seen rest)) ≡ concat (listing layout (concat read ++ octets)) =
+          lines_out (record_lines layout 0 read ++ rest_lines seen rest) ∙ rw (stands.count_is, ← size, listing_all read octets stands.sized short) refl in
+          record {
+            read = concat read ++ octets;
+            octets = has_read.octets;
+            ended = end;
+            written = subst (Appends old.out new.out) text (lines_lines old now new (record_lines layout 0 read) (rest_lines seen rest) stands.took line).whole.0;
+            count_is = stands.count_is ∙ sym (count_all (record_length_of layout) read octets stands.sized short);
+          }
 
-      -- writing stopped in that line
-      pub stands_end_stopped : (fault : RunFault) → LineStopped now new (concat (rest_lines seen (length octets))) fault → IsStopped layout first next old new fault
-      stands_end_stopped Read h = absurd h
-      stands_end_stopped Write h = inr (stands.0, octets, has_read_all, stops_at (λ n. concat (rest_lines n (length octets))) Write h)
-      stands_end_stopped Report h = absurd h
-      stands_end_stopped ShortRecording h = absurd h
-      stands_end_stopped TooMany h = absurd h
-      stands_end_stopped NoMemory h = inl (inr (stands.0, octets, has_read_all, stops_at (λ n. concat (rest_lines n (length octets))) NoMemory h))
+      -- writing stopped in that line, or a flush failed
+      pub stands_end_stopped : {new : View (Option (List ℕ))} → Stopped Appends octets_way now new (line_pieces (rest_lines seen rest)) Write
+          → StopsInRestLine layout first next old new
+      stands_end_stopped stopped = record {
+        read = stands.read;
+        rest = octets;
+        all = record { octets = has_read; short = omega (arith, size, less); ended = end };
+        mid = now;
+        took = stands.took;
+        stopped = rw (← stands.count_is, size) stopped;
+      }

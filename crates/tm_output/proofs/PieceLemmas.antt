@@ -192,7 +192,7 @@ module _ {A K : Type 0} (grows : K → K → List A → Type 0) (grows-nil : (k 
 
 -- ---- one piece
 
-keeps_nil : (old new : Option (List ℕ)) → Keeps old new → Appends old new []
+pub keeps_nil : (old new : Option (List ℕ)) → Keeps old new → Appends old new []
 keeps_nil old new kept = Appends-kept old old new [] (Appends-nil old) kept
 
 module _ {A K : Type 0} (grows : K → K → List A → Type 0) (old new : View K) (p : Piece A) where

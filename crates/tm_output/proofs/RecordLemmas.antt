@@ -1,10 +1,22 @@
 -- How a recording that begins with some records is cut.
-use Rattle.std.proofs.Common.{◌≡◌, ◌<◌, ◌≤◌, ℕ, zero, suc, ◌+◌, ◌*◌, ◌/◌, ◌%◌, ◌-◌, List, [], ◌∷◌, ◌++◌, length, take, drop, length-append, length-drop, length-take-le, refl, sym, ap, ◌∙◌, append_assoc, arith, add-one}
+use Rattle.std.proofs.Common.{◌≡◌, ◌<◌, ◌≤◌, ℕ, zero, suc, ◌+◌, ◌*◌, ◌/◌, ◌%◌, ◌-◌, List, [], ◌∷◌, ◌++◌, length, take, drop, length-append, length-drop, length-take-le, refl, sym, ap, subst, ◌∙◌, append_assoc, append-nil, arith, add-one, Option, None, Some, IfSome, ◌^◌}
 use Rattle.std.proofs.lemmas.List.{drop-drop, take-append-drop}
 use Rattle.std.proofs.Math.Seq.{take-append_seam, drop-append_seam}
 use Rattle.std.proofs.Math.Nat.{div-eq-sub-div, div-eq_of_lt, div-mul-le_self, mod-eq-sub-div-mul, mod-lt, zero-mul}
 use Rattle.std.specs.List.{concat}
-use Rattle.tm_output.specs.Records.{AreRecords, first_records, record_count, records, rest_of}
+use Rattle.std.specs.Io.KnownBytes.{Consumes, IsAtEnd}
+use Rattle.tm_output.specs.Records.{AreRecords, HasRead, first_records, record_count, records, rest_of}
+
+pub concat-append : (xs ys : List (List ℕ)) → concat (xs ++ ys) ≡ concat xs ++ concat ys
+concat-append [] ys = refl
+concat-append (x ∷ xs) ys = ap (λ (l : List ℕ). x ++ l) (concat-append xs ys) ∙ sym (append_assoc x (concat xs) (concat ys))
+
+pub concat-one : (xs : List (List ℕ)) (x : List ℕ) → concat (xs ++ x ∷ []) ≡ concat xs ++ x
+concat-one xs x = concat-append xs (x ∷ []) ∙ ap (λ (l : List ℕ). concat xs ++ l) (append-nil x)
+
+pub AreRecords-append : (size : ℕ) (a b : List (List ℕ)) → AreRecords size a → AreRecords size b → AreRecords size (a ++ b)
+AreRecords-append size [] b h k = k
+AreRecords-append size (r ∷ a) b h k = (h.0, AreRecords-append size a b h.1 k)
 
 module _ (size : ℕ) (some : 0 < size) where
   -- one record in front
@@ -65,6 +77,20 @@ module _ (size : ℕ) (rest : List ℕ) (short : length rest < size) where
   unfolding rest_of
   rest_short = rw (count_short, zero-mul size) refl
 
+-- records, and then less than a record
+module _ (size : ℕ) (read : List (List ℕ)) (rest : List ℕ) (sized : AreRecords size read) (short : length rest < size) where
+  some : 0 < size
+  some = omega (arith, short)
+
+  pub records_all : records size (concat read ++ rest) ≡ read
+  records_all = records_front size some read rest sized ∙ ap (λ (l : List (List ℕ)). read ++ l) (records_short size rest short) ∙ append-nil read
+
+  pub rest_all : rest_of size (concat read ++ rest) ≡ rest
+  rest_all = rest_front size some read rest sized ∙ rest_short size rest short
+
+  pub count_all : record_count size (concat read ++ rest) ≡ length read
+  count_all = omega (arith, count_front size some read rest sized, count_short size rest short)
+
 -- ---- a recording is its records and its rest
 
 cut_whole : (size n : ℕ) (octets : List ℕ) → concat (first_records size n octets) ++ drop (n * size) octets ≡ octets
@@ -106,3 +132,26 @@ module _ (size : ℕ) (some : 0 < size) (octets : List ℕ) where
   rest_small =
       let left : length octets % size ≡ length octets - record_count size octets * size = mod-eq-sub-div-mul (length octets) size in
       omega (arith, left, mod-lt (length octets) some, length-drop (record_count size octets * size) octets)
+
+-- ---- a recording that tells its octets
+
+-- what is said of one of which these octets were read: nothing is left at its end
+pub told : (P : List ℕ → Type 0) (octets : List ℕ) (old new : Option (List ℕ)) → Consumes old new octets
+    → ((left : List ℕ) → (IsAtEnd new → left ≡ []) → P (octets ++ left)) → IfSome old P
+told P octets None new c h = tt
+told P octets (Some all) None c h = absurd c
+told P octets (Some all) (Some left) c h = subst P (sym c) (h left (λ end. end))
+
+pub always : {P : List ℕ → Type 0} (o : Option (List ℕ)) → ((x : List ℕ) → P x) → IfSome o P
+always None f = tt
+always (Some x) f = f x
+
+-- one whole record more than can be counted was read
+pub many_told : (size : ℕ) (first next : Option (List ℕ)) (read : List (List ℕ)) (one : List ℕ) → 0 < size → HasRead size first next read one → length one ≡ size
+    → length read ≡ 2 ^ 32 - 1 → IfSome first (λ octets. 2 ^ 32 - 1 < record_count size octets)
+many_told size first next read one some h exact most =
+    told _ (concat read ++ one) first next h.octets (λ left end.
+    let longer : List (List ℕ) = read ++ one ∷ [] in
+    let all : record_count size ((concat read ++ one) ++ left) ≡ length longer + record_count size left =
+    rw (← concat-one read one) (count_front size some longer left (AreRecords-append size read (one ∷ []) h.sized (exact, tt))) in
+    omega (arith, all, length-append read (one ∷ []), most))

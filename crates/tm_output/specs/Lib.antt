@@ -1,6 +1,5 @@
 pub mod Records
 pub mod Lines
-pub mod Cuts
 pub mod Faults
 pub mod Listing
 pub mod Outputs

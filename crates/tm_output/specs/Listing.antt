@@ -1,7 +1,7 @@
 -- The listing of a recording: a line for each record, and one for a rest.
-use Rattle.std.specs.Prelude.{◌≡◌, ◌≢◌, ◌⊎◌, ◌==◌, if◌then◌else◌, ℕ, ◌+◌, ◌<◌, List, [], ◌∷◌, ◌++◌, length, Option, Result, Ok, Err}
+use Rattle.std.specs.Prelude.{◌≡◌, ◌⊎◌, ◌==◌, if◌then◌else◌, ℕ, ◌+◌, ◌<◌, List, [], ◌∷◌, ◌++◌, length, Option, Result, Ok, Err}
 use Rattle.std.specs.List.{concat}
-use Rattle.std.specs.Io.KnownBytes.{Appends, Consumes, IsAtEnd, Keeps}
+use Rattle.std.specs.Io.KnownBytes.{Appends, Consumes, IsAtEnd}
 use Rattle.tm_frame.specs.declared.fault.FrameFault.{FrameFault}
 use Rattle.tm_frame.specs.declared.layout.LayoutParts.{LayoutParts}
 use Rattle.tm_frame.specs.Fault.{frame_reading_of}
@@ -9,8 +9,8 @@ use Rattle.tm_frame.specs.Frame.{GoodFrame}
 use Rattle.tm_frame.specs.Layout.{most_records, record_length_of}
 use Rattle.tm_output.specs.declared.fault.RunFault.{RunFault}
 use Rattle.tm_output.specs.declared.fault.RunFault.TheVariants.{Read, Write, Report, ShortRecording, TooMany, NoMemory}
-use Rattle.tm_output.specs.Cuts.{AppendsTextCut, AppendsWhole}
 use Rattle.tm_output.specs.Lines.{bad_line, frame_line, short_line}
+use Rattle.tm_output.specs.Outputs.{AppendsCut, Stopped, Took, View, line_piece, line_pieces, octets_way}
 use Rattle.tm_output.specs.Records.{HasRead, HasReadAll, record_count, records, rest_of}
 
 -- the line of a record, by what it reads as
@@ -41,45 +41,63 @@ listing layout recording =
 
 -- ---- what was read and written when a listing ended; of devices that don't tell their octets nothing is said
 
-module _ (layout : LayoutParts) (left_old left_new out_old out_new : Option (List ℕ)) where
+module _ (layout : LayoutParts) (left_old left_new : Option (List ℕ)) where
   -- all was read, these octets; just their lines were written; and so many are their records
-  pub record IsListed (count : ℕ) : Type 0 where
+  pub record IsListed (out_old out_new : Option (List ℕ)) (count : ℕ) : Type 0 where
     pub read : List ℕ
     pub octets : Consumes left_old left_new read
     pub ended : IsAtEnd left_new
     pub written : Appends out_old out_new (concat (listing layout read))
     pub count_is : count ≡ record_count (record_length_of layout) read
 
-  -- after the lines of these records, writing stopped in a text: within it, or before it where there was no memory for it
-  abbrev pub StopsIn : List (List ℕ) → List ℕ → RunFault → Type 0
-  StopsIn read text Write = (front rest : List ℕ) × (text ≡ front ++ rest) × Appends out_old out_new (concat (record_lines layout 0 read) ++ front)
-  StopsIn read text NoMemory = (text ≢ []) × Appends out_old out_new (concat (record_lines layout 0 read))
-  StopsIn read text _ = ⊥
+  -- a read failed in a record: the lines of every whole record before it are written
+  pub record StopsAtFailedRead (old new : View (Option (List ℕ))) : Type 0 where
+    pub read : List (List ℕ)
+    pub part : List ℕ
+    pub octets : HasRead (record_length_of layout) left_old left_new read part
+    pub short : length part < record_length_of layout
+    pub took : Took Appends old new (line_pieces (record_lines layout 0 read))
 
-  -- writing stopped in the line of the record that was read last, or, with all read, in the line of the rest
-  abbrev pub StopsListing : RunFault → Type 0
-  StopsListing fault =
-      ((read : List (List ℕ)) × (one : List ℕ) × HasRead (record_length_of layout) left_old left_new read one × (length one ≡ record_length_of layout)
-      × StopsIn read (record_line layout (length read) one) fault)
-      ⊎ ((read : List (List ℕ)) × (rest : List ℕ) × HasReadAll (record_length_of layout) left_old left_new read rest × StopsIn read (concat (rest_lines (length read) (length rest))) fault)
+  -- a whole record followed the greatest number of records: the lines of those before it are written
+  pub record StopsAtOneMore (old new : View (Option (List ℕ))) : Type 0 where
+    pub read : List (List ℕ)
+    pub one : List ℕ
+    pub octets : HasRead (record_length_of layout) left_old left_new read one
+    pub exact : length one ≡ record_length_of layout
+    pub most : length read ≡ most_records
+    pub took : Took Appends old new (line_pieces (record_lines layout 0 read))
 
-  -- where a fault leaves the devices: after a failed read the lines of all whole records that were read are written, after
-  -- the greatest number of records one whole record more was read, and without memory for the first record nothing was
-  abbrev pub IsStopped : RunFault → Type 0
-  IsStopped Read =
-      (read : List (List ℕ)) × (part : List ℕ) × HasRead (record_length_of layout) left_old left_new read part × (length part < record_length_of layout)
-      × Appends out_old out_new (concat (record_lines layout 0 read))
-  IsStopped Write = StopsListing Write
-  IsStopped Report = ⊥
-  IsStopped ShortRecording = ⊥
-  IsStopped TooMany =
-      (read : List (List ℕ)) × (one : List ℕ) × HasRead (record_length_of layout) left_old left_new read one × (length one ≡ record_length_of layout)
-      × (length read ≡ most_records) × Appends out_old out_new (concat (record_lines layout 0 read))
-  IsStopped NoMemory = StopsListing NoMemory ⊎ (Keeps left_old left_new × Keeps out_old out_new)
+  -- writing stopped in the line of the record that was read last: nothing was read past it, and all lines before it are written
+  pub record StopsInRecordLine (old new : View (Option (List ℕ))) : Type 0 where
+    pub read : List (List ℕ)
+    pub one : List ℕ
+    pub octets : HasRead (record_length_of layout) left_old left_new read one
+    pub exact : length one ≡ record_length_of layout
+    pub mid : View (Option (List ℕ))
+    pub took : Took Appends old mid (line_pieces (record_lines layout 0 read))
+    pub stopped : Stopped Appends octets_way mid new (line_piece (record_line layout (length read) one) ∷ []) Write
 
--- What a fault says of a recording that tells its octets: there is one place up to which its lines were written, without memory a line's end; and it has more
--- records than can be counted.
-pub record ListingStopped (layout : LayoutParts) (out_old out_new : Option (List ℕ)) (fault : RunFault) (octets : List ℕ) : Type 0 where
-  pub cut : AppendsTextCut out_old out_new (listing layout octets)
-  pub memory : fault ≡ NoMemory → AppendsWhole out_old out_new (listing layout octets)
+  -- all was read, and writing stopped in the line of the rest, or no line was left and a flush failed
+  pub record StopsInRestLine (old new : View (Option (List ℕ))) : Type 0 where
+    pub read : List (List ℕ)
+    pub rest : List ℕ
+    pub all : HasReadAll (record_length_of layout) left_old left_new read rest
+    pub mid : View (Option (List ℕ))
+    pub took : Took Appends old mid (line_pieces (record_lines layout 0 read))
+    pub stopped : Stopped Appends octets_way mid new (line_pieces (rest_lines (length read) (length rest))) Write
+
+  -- where a fault leaves the devices: without memory for the first record nothing is read, and no line takes memory
+  abbrev pub IsListingStop : View (Option (List ℕ)) → View (Option (List ℕ)) → RunFault → Type 0
+  IsListingStop old new Read = StopsAtFailedRead old new
+  IsListingStop old new Write = StopsInRecordLine old new ⊎ StopsInRestLine old new
+  IsListingStop old new Report = ⊥
+  IsListingStop old new ShortRecording = ⊥
+  IsListingStop old new TooMany = StopsAtOneMore old new
+  IsListingStop old new NoMemory = (left_new ≡ left_old) × (new ≡ old)
+
+-- What a fault says of a recording that tells its octets: there is one place up to which its lines were written; without memory nothing was; and it has
+-- more records than can be counted.
+pub record ListingStopped (layout : LayoutParts) (old new : View (Option (List ℕ))) (fault : RunFault) (octets : List ℕ) : Type 0 where
+  pub cut : AppendsCut Appends old new (line_pieces (listing layout octets))
+  pub memory : fault ≡ NoMemory → new ≡ old
   pub too_many : fault ≡ TooMany → most_records < record_count (record_length_of layout) octets

@@ -1,6 +1,6 @@
 -- Two outputs that grow by pieces, and the one place where writing may stop. The first, `out`, is a device or a set of files: what it
 -- grows by is a list of any kind.
-use Rattle.std.specs.Prelude.{◌≡◌, ◌≢◌, ◌⊎◌, ℕ, Bool, true, false, List, [], ◌∷◌, ◌++◌, Option, Result, MatchResult}
+use Rattle.std.specs.Prelude.{◌≡◌, ◌≢◌, ◌⊎◌, ℕ, Bool, true, false, List, [], ◌∷◌, ◌++◌, map, Option, Result, MatchResult}
 use Rattle.std.specs.Io.KnownBytes.{Appends}
 use Rattle.tm_devices.specs.Devices.{raised}
 use Rattle.tm_output.specs.declared.fault.RunFault.{RunFault}
@@ -18,6 +18,13 @@ outs (p ∷ ps) = p.out ++ outs ps
 abbrev pub reports : {A : Type 0} → List (Piece A) → List ℕ
 reports [] = []
 reports (p ∷ ps) = p.report ++ reports ps
+
+-- a line that belongs to `out`, and lines; nothing of them is for the report
+abbrev pub line_piece : List ℕ → Piece ℕ
+line_piece line = record { out = line; report = [] }
+
+abbrev pub line_pieces : List (List ℕ) → List (Piece ℕ)
+line_pieces lines = map line_piece lines
 
 -- The pieces up to one place: nothing of no pieces. Else a front of what belongs to `out` of the first, and nothing for the report;
 -- or all of that and a front of its report; or both whole, and then a cut of the others.

@@ -1,5 +1,5 @@
 -- Two devices at a moment, and what of an output no call changes.
-use Rattle.std.specs.Prelude.{ℕ, List, Option}
+use Rattle.std.specs.Prelude.{ℕ, List, Option, None}
 use Rattle.tm_devices.specs.declared.device.Drain as drain
 use Rattle.tm_devices.specs.declared.device.Shelf as shelf
 use Rattle.tm_output.specs.declared.outlet.Outlet as outlet
@@ -9,6 +9,10 @@ use Rattle.tm_output.specs.Outputs.{View, view}
 -- what is known of two drains
 abbrev pub both : {W V : Type 0} → drain.Ghosts W → drain.Ghosts V → W → V → View (Option (List ℕ))
 both w v out report = view (w.written out) (v.written report) (w.failures out) (v.failures report)
+
+-- of a drain, where there is no report
+abbrev pub out_alone : {W : Type 0} → drain.Ghosts W → W → View (Option (List ℕ))
+out_alone w out = view (w.written out) None (w.failures out) 0
 
 -- of a shelf and a drain
 abbrev pub shelf_both : {H F V : Type 0} → shelf.Ghosts H F → drain.Ghosts V → H → V → View (Option (ℕ → List ℕ))

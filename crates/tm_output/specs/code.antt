@@ -2,4 +2,3 @@ pub mod Sinking
 pub mod Packets
 pub mod Outlets
 pub mod ShelfLaws
-pub mod Listings

@@ -6,7 +6,8 @@ ghost use Rattle.std.specs.Io.KnownBytes.{Appends};
 ghost use Rattle.tm_frame.specs.declared.layout.LayoutParts.{LayoutParts};
 ghost use Rattle.tm_frame.specs.Layout.{record_length_of};
 ghost use Rattle.tm_output.specs.declared.fault.RunFault.{RunFault};
-ghost use Rattle.tm_output.specs.Listing.{IsListed, IsStopped, ListingStopped, listing};
+ghost use Rattle.tm_output.specs.Listing.{IsListed, IsListingStop, ListingStopped, listing};
+ghost use Rattle.tm_output.specs.Outputs.{View};
 ghost use Rattle.tm_output.specs.Records.{record_count};
 
 /// Recordings that tell their octets: what `list_frames` says of the octets that were read holds of the whole recording. With `Ok` just its lines were
@@ -15,7 +16,6 @@ pub fn whole_recordings()
     ensures listed { (layout : LayoutParts) (left_old left_new out_old out_new : Option (List ℕ)) (count : ℕ) → 0 < record_length_of layout →
         IsListed layout left_old left_new out_old out_new count →
         IfSome left_old (λ octets. Appends out_old out_new (concat (listing layout octets)) × (count ≡ record_count (record_length_of layout) octets)) }
-    ensures stopped { (layout : LayoutParts) (left_old left_new out_old out_new : Option (List ℕ)) (fault : RunFault) → 0 < record_length_of layout →
-        IsStopped layout left_old left_new out_old out_new fault →
-        IfSome left_old (ListingStopped layout out_old out_new fault) }
+    ensures stopped { (layout : LayoutParts) (left_old left_new : Option (List ℕ)) (old new : View (Option (List ℕ))) (fault : RunFault) → 0 < record_length_of layout →
+        IsListingStop layout left_old left_new old new fault → IfSome left_old (ListingStopped layout old new fault) }
 {}

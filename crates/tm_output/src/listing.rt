@@ -1,18 +1,19 @@
 //! A line for each frame of a recording.
 
-ghost use Rattle.std.specs.Prelude.{◌≡◌, ◌<◌, ◌≤◌, drop, length, IfOk, IfErr, OnOk};
-ghost use Rattle.std.specs.List.{concat};
+ghost use Rattle.std.specs.Prelude.{◌≡◌, ◌<◌, ◌≤◌, ◌∷◌, [], drop, length, IfOk, IfErr, OnOk, OnErr};
 ghost use Rattle.std.specs.Io.KnownBytes.{Appends, Keeps};
 ghost use Rattle.tm_frame.specs.Layout.{record_length_of};
 ghost use Rattle.tm_output.specs.Faults.{FaultsCounted};
-ghost use Rattle.tm_output.specs.code.Listings.{WritesCounted, HasListed, LineStopped};
-ghost use Rattle.tm_output.specs.Listing.{IsListed, IsStopped, record_line, rest_lines};
+ghost use Rattle.tm_output.specs.declared.fault.RunFault.TheVariants.{Write};
+ghost use Rattle.tm_output.specs.Listing.{IsListed, IsListingStop, record_line, rest_lines};
+ghost use Rattle.tm_output.specs.Outputs.{Stopped, Took, line_piece, line_pieces, octets_way};
+ghost use Rattle.tm_output.specs.Seen.{out_alone};
 
 use crate::RunFault;
 use crate::lines::{put_bad, put_frame, put_short};
 use crate::room::{ROOM, line_in};
 use std::alloc::Global;
-use tm_devices::{Drain, Source, fill, put_all};
+use tm_devices::{DeviceFailed, Drain, Source, fill, put_all};
 use tm_frame::{Layout, read};
 use tm_settings::Settings;
 
@@ -36,14 +37,15 @@ fn put_record<W: Drain>(
     seen: u32,
     octets: &[u8],
     out: &mut W,
-) -> Result<(), RunFault>
+) -> Result<(), DeviceFailed>
     requires { length octets.now ≡ record_length_of layout.now }
-    ensures whole { OnOk result (Appends (W.written out.old) (W.written out.new) (record_line layout.now seen octets.now)) }
-    ensures stopped { IfErr result (LineStopped (W.written out.old) (W.written out.new) (record_line layout.now seen octets.now)) }
-    ensures counts { WritesCounted (W.failures out.old) (W.failures out.new) result }
+    ensures took { OnOk result (Took Appends (out_alone W.Drain out.old) (out_alone W.Drain out.new)
+        (line_piece (record_line layout.now seen octets.now) ∷ [])) }
+    ensures stopped { OnErr result (Stopped Appends octets_way (out_alone W.Drain out.old) (out_alone W.Drain out.new)
+        (line_piece (record_line layout.now seen octets.now) ∷ []) Write) }
 {
     let begin = make_record_line(room, layout, seen, octets);
-    put_all(out, line_in(room, begin)).map_err(|_| RunFault::Write)
+    put_all(out, line_in(room, begin))
 }
 
 // Writes the line of a rest, if there is one, and flushes.
@@ -52,17 +54,17 @@ fn put_end<W: Drain>(
     seen: u32,
     octets: usize,
     out: &mut W,
-) -> Result<(), RunFault>
-    ensures whole { OnOk result (Appends (W.written out.old) (W.written out.new) (concat (rest_lines seen octets))) }
+) -> Result<(), DeviceFailed>
+    ensures took { OnOk result (Took Appends (out_alone W.Drain out.old) (out_alone W.Drain out.new) (line_pieces (rest_lines seen octets))) }
     ensures flushed { OnOk result (Keeps (W.flushed out.new) (W.written out.new)) }
-    ensures stopped { IfErr result (LineStopped (W.written out.old) (W.written out.new) (concat (rest_lines seen octets))) }
-    ensures counts { WritesCounted (W.failures out.old) (W.failures out.new) result }
+    ensures stopped { OnErr result (Stopped Appends octets_way (out_alone W.Drain out.old) (out_alone W.Drain out.new)
+        (line_pieces (rest_lines seen octets)) Write) }
 {
     if octets > 0 {
         let begin = put_short(room, seen, octets);
-        put_all(out, line_in(room, begin)).map_err(|_| RunFault::Write)?;
+        put_all(out, line_in(room, begin))?;
     }
-    out.flush().map_err(|_| RunFault::Write)
+    out.flush()
 }
 
 // Lists records that are read one at a time into this buffer.
@@ -74,9 +76,10 @@ fn list_records<R: Source, W: Drain>(
 ) -> Result<u32, RunFault>
     requires exact { length buffer.old ≡ record_length_of layout.now }
     requires some { 0 < length buffer.old }
-    ensures listed { IfOk result (HasListed layout.now (R.left recording.old) (R.left recording.new) (W.written out.old) (W.written out.new)) }
+    ensures listed { IfOk result (IsListed layout.now (R.left recording.old) (R.left recording.new) (W.written out.old) (W.written out.new)) }
     ensures flushed { OnOk result (Keeps (W.flushed out.new) (W.written out.new)) }
-    ensures stopped { IfErr result (IsStopped layout.now (R.left recording.old) (R.left recording.new) (W.written out.old) (W.written out.new)) }
+    ensures stopped { IfErr result (IsListingStop layout.now (R.left recording.old) (R.left recording.new)
+        (out_alone W.Drain out.old) (out_alone W.Drain out.new)) }
     ensures counts { FaultsCounted (R.failures recording.old) (R.failures recording.new) (W.failures out.old) (W.failures out.new) result }
 {
     let mut room = [0; ROOM];
@@ -86,13 +89,17 @@ fn list_records<R: Source, W: Drain>(
             return Err(RunFault::Read);
         };
         if octets < buffer.len() {
-            put_end(&mut room, seen, octets, out)?;
+            if let Err(_) = put_end(&mut room, seen, octets, out) {
+                return Err(RunFault::Write);
+            }
             return Ok(seen);
         }
         if seen == u32::MAX {
             return Err(RunFault::TooMany);
         }
-        put_record(&mut room, layout, seen, buffer, out)?;
+        if let Err(_) = put_record(&mut room, layout, seen, buffer, out) {
+            return Err(RunFault::Write);
+        }
         seen += 1;
     }
 }
@@ -110,7 +117,8 @@ pub fn list_frames<R: Source, W: Drain>(
     ensures flushed { OnOk result (Keeps (W.flushed out.new) (W.written out.new)) }
 
     // After a fault there is one place up to which lines were written, and nothing was read past the record whose line was being written.
-    ensures stopped { IfErr result (IsStopped settings.now.layout (R.left recording.old) (R.left recording.new) (W.written out.old) (W.written out.new)) }
+    ensures stopped { IfErr result (IsListingStop settings.now.layout (R.left recording.old) (R.left recording.new)
+        (out_alone W.Drain out.old) (out_alone W.Drain out.new)) }
 
     // A device is blamed only where a call of it failed.
     ensures counts { FaultsCounted (R.failures recording.old) (R.failures recording.new) (W.failures out.old) (W.failures out.new) result }

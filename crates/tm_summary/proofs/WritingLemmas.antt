@@ -8,8 +8,9 @@ use Rattle.std.proofs.lemmas.List.{map-append, get_or_default}
 use Rattle.tm_devices.specs.Devices.{AppendsFront, raised}
 use Rattle.tm_output.specs.declared.fault.RunFault.{RunFault}
 use Rattle.tm_output.specs.declared.fault.RunFault.TheVariants.{Write, NoMemory}
-use Rattle.tm_output.specs.Outputs.{Piece, Stopped, Took, View, lines_way, view}
-use Rattle.tm_output.proofs.PieceLemmas.{no_room, stopped_more, stopped_put, took_none, took_stopped, took_took}
+use Rattle.tm_output.specs.Outputs.{Stopped, Took, View, line_piece, line_pieces, lines_way}
+use Rattle.tm_output.proofs.LinePieces.{lines_lines, lines_more, lines_stopped}
+use Rattle.tm_output.proofs.PieceLemmas.{no_room, took_none}
 use Rattle.tm_rules.specs.Channels.{is_chosen}
 use Rattle.tm_summary.specs.declared.application.ApplicationCounts.{ApplicationCounts}
 use Rattle.tm_summary.specs.declared.channel.ChannelCounts.{ChannelCounts}
@@ -17,7 +18,6 @@ use Rattle.tm_summary.specs.declared.channel.Loss.{Loss}
 use Rattle.tm_summary.specs.Adding.{no_application, no_channel, no_loss}
 use Rattle.tm_summary.specs.Lines.{application_lines_at, application_lines_of, channel_line, channel_lines_at, channel_lines_of, line_if, loss_line, loss_lines, loss_lines_at, numbered_reason}
 use Rattle.tm_summary.specs.Numbers.{below}
-use Rattle.tm_summary.specs.Pieces.{line_piece, line_pieces}
 
 abbrev pub TookLines : View (Option (List ℕ)) → View (Option (List ℕ)) → List (List ℕ) → Type 0
 TookLines old new lines = Took Appends old new (line_pieces lines)
@@ -31,28 +31,6 @@ lines_none v = took_none Appends Appends-nil Appends-trans v
 -- there was no memory to make a line
 pub made_none : (v : View (Option (List ℕ))) (text : List ℕ) → text ≢ [] → Stopped Appends lines_way v v (line_piece text ∷ []) NoMemory
 made_none v text some = no_room Appends Appends-nil Appends-trans lines_way v (line_piece text) (inl (refl, some))
-
--- a call of the drain failed
-pub made_stopped : {before after : Option (List ℕ)} {failures failures' : ℕ} (text : List ℕ) → AppendsFront before after text → failures' ≡ raised failures
-    → Stopped Appends lines_way (view before None failures 0) (view after None failures' 0) (line_piece text ∷ []) Write
-made_stopped text front counts = stopped_put Appends Appends-nil Appends-trans lines_way _ _ (line_piece text) Write (counts, front) tt refl
-
-module _ (old mid new : View (Option (List ℕ))) (xs ys : List (List ℕ)) where
-  all_pieces : line_pieces xs ++ line_pieces ys ≡ line_pieces (xs ++ ys)
-  all_pieces = sym (map-append line_piece xs ys)
-
-  pub lines_lines : TookLines old mid xs → TookLines mid new ys → TookLines old new (xs ++ ys)
-  lines_lines a b = subst (Took Appends old new) all_pieces (took_took Appends Appends-nil Appends-trans old mid new (line_pieces xs) (line_pieces ys) a b)
-
-  pub lines_stopped : (fault : RunFault) → TookLines old mid xs → StoppedLines mid new ys fault → StoppedLines old new (xs ++ ys) fault
-  lines_stopped fault a b =
-      subst (λ (ps : List (Piece ℕ)). Stopped Appends lines_way old new ps fault) all_pieces
-      (took_stopped Appends Appends-nil Appends-trans lines_way old mid new (line_pieces xs) (line_pieces ys) a fault b)
-
-  pub lines_more : (fault : RunFault) → StoppedLines old new xs fault → StoppedLines old new (xs ++ ys) fault
-  lines_more fault a =
-      subst (λ (ps : List (Piece ℕ)). Stopped Appends lines_way old new ps fault) all_pieces
-      (stopped_more Appends Appends-nil Appends-trans lines_way old new (line_pieces xs) (line_pieces ys) fault a)
 
 -- ---- the lines of the numbers below one
 
@@ -94,7 +72,7 @@ module _ (f : ℕ → List (List ℕ)) where
     place_stopped m fault less stopped =
         let split : Parted n m = parted n m less in
         subst (λ (lines : List (List ℕ)). StoppedLines old new lines fault) (sym split.parts)
-        (lines_more old new new (flat_map f (below n) ++ f n) split.rest fault (lines_stopped old now new (flat_map f (below n)) (f n) fault done stopped))
+        (lines_more old new (flat_map f (below n) ++ f n) split.rest fault (lines_stopped old now new (flat_map f (below n)) (f n) fault done stopped))
 
 -- ---- the lines of one place, whatever stands for a place that isn't there
 
@@ -120,22 +98,22 @@ channel_has chosen channel c is some = rw (is, lt-ltb 0 c.frames some) refl
 
 module _ (ks ls ms ns os : List (List ℕ)) where
   pub stop_first : {u v : View (Option (List ℕ))} (fault : RunFault) → StoppedLines u v ks fault → StoppedLines u v (ks ++ (ls ++ (ms ++ (ns ++ os)))) fault
-  stop_first {u} {v} fault h = lines_more u v v ks (ls ++ (ms ++ (ns ++ os))) fault h
+  stop_first {u} {v} fault h = lines_more u v ks (ls ++ (ms ++ (ns ++ os))) fault h
 
   pub stop_second : {u v w : View (Option (List ℕ))} (fault : RunFault) → TookLines u v ks → StoppedLines v w ls fault → StoppedLines u w (ks ++ (ls ++ (ms ++ (ns ++ os)))) fault
-  stop_second {u} {v} {w} fault a h = lines_stopped u v w ks (ls ++ (ms ++ (ns ++ os))) fault a (lines_more v w w ls (ms ++ (ns ++ os)) fault h)
+  stop_second {u} {v} {w} fault a h = lines_stopped u v w ks (ls ++ (ms ++ (ns ++ os))) fault a (lines_more v w ls (ms ++ (ns ++ os)) fault h)
 
   pub stop_third : {u v w x : View (Option (List ℕ))} (fault : RunFault) → TookLines u v ks → TookLines v w ls → StoppedLines w x ms fault
       → StoppedLines u x (ks ++ (ls ++ (ms ++ (ns ++ os)))) fault
   stop_third {u} {v} {w} {x} fault a b h =
       lines_stopped u v x ks (ls ++ (ms ++ (ns ++ os))) fault a
-      (lines_stopped v w x ls (ms ++ (ns ++ os)) fault b (lines_more w x x ms (ns ++ os) fault h))
+      (lines_stopped v w x ls (ms ++ (ns ++ os)) fault b (lines_more w x ms (ns ++ os) fault h))
 
   pub stop_fourth : {u v w x y : View (Option (List ℕ))} (fault : RunFault) → TookLines u v ks → TookLines v w ls → TookLines w x ms → StoppedLines x y ns fault
       → StoppedLines u y (ks ++ (ls ++ (ms ++ (ns ++ os)))) fault
   stop_fourth {u} {v} {w} {x} {y} fault a b c h =
       lines_stopped u v y ks (ls ++ (ms ++ (ns ++ os))) fault a
-      (lines_stopped v w y ls (ms ++ (ns ++ os)) fault b (lines_stopped w x y ms (ns ++ os) fault c (lines_more x y y ns os fault h)))
+      (lines_stopped v w y ls (ms ++ (ns ++ os)) fault b (lines_stopped w x y ms (ns ++ os) fault c (lines_more x y ns os fault h)))
 
   pub stop_fifth : {u v w x y z : View (Option (List ℕ))} (fault : RunFault) → TookLines u v ks → TookLines v w ls → TookLines w x ms → TookLines x y ns → StoppedLines y z os fault
       → StoppedLines u z (ks ++ (ls ++ (ms ++ (ns ++ os)))) fault

@@ -2,6 +2,5 @@ pub mod Kinds
 pub mod Numbers
 pub mod Adding
 pub mod Lines
-pub mod Pieces
 pub mod Tallies
 pub mod code

@@ -2,9 +2,9 @@
 
 ghost use Rattle.std.specs.Prelude.{◌≡◌, ◌≢◌, ◌<◌, ◌∷◌, ◌++◌, [], ℕ, List, length, nat_lt, OnOk, string_bytes};
 ghost use Rattle.std.specs.Io.KnownBytes.{Appends};
-ghost use Rattle.tm_output.specs.Outputs.{Written, lines_way};
+ghost use Rattle.tm_output.specs.Outputs.{Written, line_piece, line_pieces, lines_way};
+ghost use Rattle.tm_output.specs.Seen.{out_alone};
 ghost use Rattle.tm_summary.specs.Lines.{application_line, application_lines, application_lines_of, channel_line, channel_lines, channel_lines_of, fault_at, fault_line, fault_lines, line_if, loss_line, loss_lines, master_line, numbered_reason, recording_line, summary_lines};
-ghost use Rattle.tm_summary.specs.Pieces.{line_piece, line_pieces, out_alone};
 
 use crate::application::ApplicationCounts;
 use crate::channel::{ChannelCounts, Loss};

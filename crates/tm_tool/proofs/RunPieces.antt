@@ -17,9 +17,8 @@ use Rattle.tm_output.specs.Pieces.{Texts}
 use Rattle.tm_tool.specs.RecordingPieces.{Work, records_for, further, worked, record_pieces, end_pieces, pieces_after, pieces}
 use Rattle.tm_output.specs.Records.{AreRecords, record_count, records, rest_of}
 use Rattle.tm_tool.specs.Runs.{HasRead, HasReadAll, HasEnded, IsEnough, WantsFurther, Suffices, Outcome, Ran, devices_at, StopsAtRead, StopsAtRecord, StopsAtEnd, IsStoppedAt, behind, kept_of}
-use Rattle.tm_output.proofs.ListingLemmas.{AreRecords-append, concat-one}
 use Rattle.tm_output.proofs.PieceLemmas.{cut_all, cut_more, cut_none, took_took, took_stopped, stopped_more}
-use Rattle.tm_output.proofs.RecordLemmas.{records_counted, records_front, records_sized, records_whole, rest_front, rest_small, count_front, count_short, records_short, rest_short}
+use Rattle.tm_output.proofs.RecordLemmas.{AreRecords-append, always, concat-one, many_told, told, records_counted, records_front, records_sized, records_whole, rest_front, rest_small, count_front, count_short, records_short, rest_short}
 use Rattle.tm_tool.specs.code.Stepping.{IsRun}
 use Rattle.tm_tool.specs.code.Taking.{Reached}
 use Rattle.tm_tool.proofs.Running.{IsValid, behind-more, behind-none, records-append, wanted_reached, more_reached}
@@ -59,17 +58,6 @@ module _ (w : Work) (read : List (List ℕ)) (passed : w.state.records ≤ lengt
 end_none : {A : Type 0} (text : Texts A) (ending : Ending) (done count : ℕ) (w : Work) (rest : ℕ) → Suffices ending done count → end_pieces text ending w rest ≡ []
 end_none text (StopAfter n) done count w rest h = refl
 end_none text _ done count w rest h = absurd h
-
--- what is said of a recording of which these octets were read: nothing is left at its end
-pub told : (P : List ℕ → Type 0) (octets : List ℕ) (old new : Option (List ℕ)) → Consumes old new octets
-    → ((left : List ℕ) → (IsAtEnd new → left ≡ []) → P (octets ++ left)) → IfSome old P
-told P octets None new c h = tt
-told P octets (Some all) None c h = absurd c
-told P octets (Some all) (Some left) c h = subst P (sym c) (h left (λ end. end))
-
-pub always : {P : List ℕ → Type 0} (o : Option (List ℕ)) → ((x : List ℕ) → P x) → IfSome o P
-always None f = tt
-always (Some x) f = f x
 
 module _ {A K : Type 0} (grows : K → K → List A → Type 0) (grows-nil : (k : K) → grows k k [])
     (grows-trans : (j k l : K) (xs ys : List A) → grows j k xs → grows k l ys → grows j l (xs ++ ys))
@@ -343,13 +331,7 @@ module _ {A K : Type 0} (grows : K → K → List A → Type 0) (grows-nil : (k 
 
     -- the recording has more records than can be counted
     pub run_many : IsStoppedAt grows way text ending w first next old new TooMany → IfSome first (λ octets. 2 ^ 32 - 1 < record_count (record_length_of w.rules.layout) octets)
-    run_many h =
-        let n : ℕ = record_length_of w.rules.layout in
-        told _ (concat h.read ++ h.one) first next h.octets.octets (λ left end.
-        let longer : List (List ℕ) = h.read ++ h.one ∷ [] in
-        let all : record_count n ((concat h.read ++ h.one) ++ left) ≡ length longer + record_count n left =
-        rw (← concat-one h.read h.one) (count_front n some longer left (AreRecords-append n h.read (h.one ∷ []) h.octets.sized (h.exact, tt))) in
-        omega (arith, all, length-append h.read (h.one ∷ []), h.most))
+    run_many h = many_told (record_length_of w.rules.layout) first next h.read h.one some h.octets h.exact h.most
 
     -- the recording has fewer records than are done
     pub run_short : IsStoppedAt grows way text ending w first next old new ShortRecording → IfSome first (λ octets. record_count (record_length_of w.rules.layout) octets < w.state.records)

@@ -30,7 +30,7 @@ use Rattle.tm_tool.specs.RecordingPieces.{Work, items_of, worked, record_pieces}
 use Rattle.tm_tool.specs.Runs.{HasRead, WantsFurther, Suffices, StopsAtRecord, IsStoppedAt, behind}
 use Rattle.tm_tool.specs.code.Stepping.{RefusesRecord, StepStopped, TakesRecord, TookRecords, work_of}
 use Rattle.tm_tool.specs.code.Taking.{Enough, HasPassed, HasStepped, HasTaken, PassingStopped, Reached, TakesBehind, TakesRecords, TakingFails, TakingRefused, TakingStopped}
-use Rattle.tm_output.proofs.ListingLemmas.{AreRecords-append, concat-one}
+use Rattle.tm_output.proofs.RecordLemmas.{AreRecords-append, concat-one}
 use Rattle.tm_output.proofs.PieceLemmas.{took_none, took_took}
 
 pub none_valid : (rules : Rules) → IsLimit rules.max_packet → IsValidState rules empty

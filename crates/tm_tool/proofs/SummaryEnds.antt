@@ -9,23 +9,17 @@ use Rattle.tm_rules.specs.Rules.{Rules}
 use Rattle.tm_devices.specs.Devices.{raised}
 use Rattle.tm_output.specs.declared.fault.RunFault.{RunFault}
 use Rattle.tm_output.specs.declared.fault.RunFault.TheVariants.{Read, Write, Report, TooMany, NoMemory}
-use Rattle.tm_output.specs.Outputs.{AppendsCut, Piece, Stopped, Took, View, WantsMemory, lines_way, outs, view}
+use Rattle.tm_output.specs.Outputs.{AppendsCut, Stopped, Took, View, WantsMemory, line_pieces, lines_way, outs, view}
 use Rattle.tm_output.specs.Records.{AreRecords, record_count, records, rest_of}
-use Rattle.tm_output.proofs.ListingLemmas.{AreRecords-append, concat-one}
-use Rattle.tm_output.proofs.PieceLemmas.{cut_none, flush_out, took_failed}
-use Rattle.tm_output.proofs.RecordLemmas.{count_front, count_short, records_front, records_short, rest_front, rest_short}
+use Rattle.tm_output.proofs.LinePieces.{lines_out, same_cut}
+use Rattle.tm_output.proofs.LinePieces as pieces
+use Rattle.tm_output.proofs.RecordLemmas.{always, count_all, many_told, records_all, rest_all, told}
 use Rattle.tm_summary.specs.Lines.{summary_lines}
 use Rattle.tm_summary.specs.Numbers.{Numbers}
-use Rattle.tm_summary.specs.Pieces.{line_pieces}
 use Rattle.tm_tool.specs.Jobs.{new_job}
 use Rattle.tm_tool.specs.RecordingPieces.{Work}
 use Rattle.tm_tool.specs.Summaries.{IsSummarized, IsSummaryStop, StopsInLines, SummaryStopped, lines_after, summary}
 use Rattle.tm_tool.specs.code.Summing.{CountingStopped, HasSummed}
-use Rattle.tm_tool.proofs.RunPieces.{always, told}
-
-lines_out : (ls : List (List ℕ)) → outs (line_pieces ls) ≡ concat ls
-lines_out [] = refl
-lines_out (l ∷ ls) = ap (λ (x : List ℕ). l ++ x) (lines_out ls)
 
 never : 0 ≡ raised 0 → ⊥
 never e = cc
@@ -36,12 +30,7 @@ module _ (rules : Rules) where
       → summary rules (concat read ++ rest) ≡ lines_after rules read (length rest)
   unfolding summary
   summary_read read rest sized short =
-      let n : ℕ = record_length_of rules.layout in
-      let some : 0 < n = omega (arith, short) in
-      let all : records n (concat read ++ rest) ≡ read =
-      records_front n some read rest sized ∙ ap (λ (l : List (List ℕ)). read ++ l) (records_short n rest short) ∙ append-nil read in
-      let left : rest_of n (concat read ++ rest) ≡ rest = rest_front n some read rest sized ∙ rest_short n rest short in
-      rw (all, left) refl
+      rw (records_all (record_length_of rules.layout) read rest sized short, rest_all (record_length_of rules.layout) read rest sized short) refl
 
   -- counting stopped: nothing was written
   pub stopped_unwritten : (first next : Option (List ℕ)) (old new : View (Option (List ℕ))) (fault : RunFault) (w : Work) → w ≡ (new_job rules).work
@@ -88,23 +77,20 @@ module _ (rules : Rules) where
         → IsSummaryStop rules first next (view old None failures 0) (view new None failures'' 0) Write
     flush_stopped chosen same old mid new failures failures' failures'' took kept counts =
         lines_stopped chosen same old new failures failures'' Write
-        (took_failed Appends Appends-nil Appends-trans lines_way (view old None failures 0) (view mid None failures' 0) (view new None failures'' 0) _ Write took
-        (flush_out Appends (view mid None failures' 0) (view new None failures'' 0) (Appends-kept mid mid new [] (Appends-nil mid) kept) (Appends-nil None) lines_way refl counts refl))
+        (pieces.flush_stopped took kept lines_way refl counts)
 
     -- all lines were written
     pub summarized : (chosen : List Bool) → chosen ≡ rules.channels → (old mid new : Option (List ℕ)) (failures failures' : ℕ)
         → Took Appends (view old None failures 0) (view mid None failures' 0) (line_pieces (summary_lines chosen count numbers)) → Keeps mid new → IsSummarized rules first next old new count
     summarized chosen same old mid new failures failures' took kept =
-        let n : ℕ = record_length_of rules.layout in
         let text : outs (line_pieces (summary_lines chosen count numbers)) ≡ concat (summary rules (concat summed.read ++ summed.rest)) =
         lines_out (summary_lines chosen count numbers) ∙ ap concat (lines_are chosen same ∙ sym (summary_read summed.read summed.rest summed.all.octets.sized summed.all.short)) in
-        let some : 0 < n = omega (arith, summed.all.short) in
         record {
           read = concat summed.read ++ summed.rest;
           octets = summed.all.octets.octets;
           ended = summed.all.ended;
           written = Appends-kept old mid new _ (subst (Appends old mid) text took.whole.0) kept;
-          count_is = counted ∙ sym (count_front n some summed.read summed.rest summed.all.octets.sized ∙ ap (λ (k : ℕ). length summed.read + k) (count_short n summed.rest summed.all.short) ∙ omega arith);
+          count_is = counted ∙ sym (count_all (record_length_of rules.layout) summed.read summed.rest summed.all.octets.sized summed.all.short);
         }
 
   -- ---- of a recording that tells its octets
@@ -118,9 +104,6 @@ module _ (rules : Rules) where
         rw whole (h.written, h.count_is))
 
     module _ (old new : View (Option (List ℕ))) where
-      none_cut : (ps : List (Piece ℕ)) → new ≡ old → AppendsCut Appends old new ps
-      none_cut ps same = subst (λ (v : View (Option (List ℕ))). AppendsCut Appends old v ps) (sym same) ([], [], cut_none ps, Appends-nil old.out, Appends-nil old.report)
-
       lines_told : (fault : RunFault) → StopsInLines rules first next old new fault
           → IfSome first (λ octets. Stopped Appends lines_way old new (line_pieces (summary rules octets)) fault)
       lines_told fault h =
@@ -129,10 +112,10 @@ module _ (rules : Rules) where
           rw (whole, summary_read h.read h.rest h.all.octets.sized h.all.short) h.stopped)
 
       pub cut_told : (fault : RunFault) → IsSummaryStop rules first next old new fault → IfSome first (λ octets. AppendsCut Appends old new (line_pieces (summary rules octets)))
-      cut_told Read h = always first (λ octets. none_cut _ h.1)
+      cut_told Read h = always first (λ octets. same_cut old new _ h.1)
       cut_told Write h = IfSome_then first (lines_told Write h) (λ octets s. s.cut)
-      cut_told TooMany h = always first (λ octets. none_cut _ h.1)
-      cut_told NoMemory (inl h) = always first (λ octets. none_cut _ h.1)
+      cut_told TooMany h = always first (λ octets. same_cut old new _ h.1)
+      cut_told NoMemory (inl h) = always first (λ octets. same_cut old new _ h.1)
       cut_told NoMemory (inr h) = IfSome_then first (lines_told NoMemory h) (λ octets s. s.cut)
       cut_told _ h = absurd h
 
@@ -141,16 +124,8 @@ module _ (rules : Rules) where
       memory_told (inl h) = always first (λ octets. inl h.1)
       memory_told (inr h) = IfSome_then first (lines_told NoMemory h) (λ octets s. inr (s.memory refl))
 
-      pub many_told : 0 < record_length_of rules.layout → IsSummaryStop rules first next old new TooMany → IfSome first (λ octets. 2 ^ 32 - 1 < record_count (record_length_of rules.layout) octets)
-      many_told some h =
-          let n : ℕ = record_length_of rules.layout in
-          let read : List (List ℕ) = h.0.read in
-          let one : List ℕ = h.0.one in
-          told _ (concat read ++ one) first next h.0.octets.octets (λ left end.
-          let longer : List (List ℕ) = read ++ one ∷ [] in
-          let all : record_count n ((concat read ++ one) ++ left) ≡ length longer + record_count n left =
-          rw (← concat-one read one) (count_front n some longer left (AreRecords-append n read (one ∷ []) h.0.octets.sized (h.0.exact, tt))) in
-          omega (arith, all, length-append read (one ∷ []), h.0.most))
+      most_told : 0 < record_length_of rules.layout → IsSummaryStop rules first next old new TooMany → IfSome first (λ octets. 2 ^ 32 - 1 < record_count (record_length_of rules.layout) octets)
+      most_told some h = many_told (record_length_of rules.layout) first next h.0.read h.0.one some h.0.octets h.0.exact h.0.most
 
 -- what a fault says of it
 pub stop_told : (rules : Rules) → 0 < record_length_of rules.layout → (first next : Option (List ℕ)) (old new : View (Option (List ℕ))) (fault : RunFault) → IsSummaryStop rules first next old new fault
@@ -159,5 +134,5 @@ stop_told rules some None next old new fault h = tt
 stop_told rules some (Some octets) next old new fault h = record {
   cut = cut_told rules (Some octets) next old new fault h;
   memory = λ e. memory_told rules (Some octets) next old new (subst (IsSummaryStop rules (Some octets) next old new) e h);
-  too_many = λ e. many_told rules (Some octets) next old new some (subst (IsSummaryStop rules (Some octets) next old new) e h);
+  too_many = λ e. most_told rules (Some octets) next old new some (subst (IsSummaryStop rules (Some octets) next old new) e h);
 }

@@ -4,8 +4,8 @@ ghost use Rattle.std.specs.Prelude.{◌≡◌, ◌<◌, false, length, IfErr, If
 ghost use Rattle.std.specs.Io.KnownBytes.{Keeps};
 ghost use Rattle.tm_frame.specs.Layout.{record_length_of};
 ghost use Rattle.tm_output.specs.Faults.{FaultsCounted};
+ghost use Rattle.tm_output.specs.Seen.{out_alone};
 ghost use Rattle.tm_summary.specs.Numbers.{nothing, numbers_of};
-ghost use Rattle.tm_summary.specs.Pieces.{out_alone};
 ghost use Rattle.tm_summary.specs.Tallies.{SameReferences};
 ghost use Rattle.tm_tool.specs.Summaries.{IsSummarized, IsSummaryStop};
 ghost use Rattle.tm_tool.specs.code.Stepping.{IsGoing, work_of};

@@ -1,13 +1,14 @@
 -- The records that were read have their lines, and no call failed.
 use Rattle.std.proofs.Common.{◌≡◌, ◌-◌, ◌^◌, length}
 use Rattle.tm_frame.specs.Layout.{record_length_of}
+use Rattle.tm_output.specs.Seen.{out_alone}
 use Rattle.tm_output.proofs.ListingLemmas.{Stands}
 use Rattle.tm_output.proofs.listing.list_records.Given as goal
 
 abbrev pub invariant-loop-octets : goal.invariant-loop-octets
 invariant-loop-octets g l = record {
   exact : length l.buffer ≡ record_length_of l.layout;
-  stands : Stands l.layout (g.R.Source.left l.initial.recording) (g.R.Source.left l.recording) (g.W.Drain.written l.initial.out) (g.W.Drain.written l.out) l.seen;
+  stands : Stands l.layout (g.R.Source.left l.initial.recording) (g.R.Source.left l.recording) (out_alone g.W.Drain l.initial.out) (out_alone g.W.Drain l.out) l.seen;
   reads : g.R.Source.failures l.recording ≡ g.R.Source.failures l.initial.recording;
   writes : g.W.Drain.failures l.out ≡ g.W.Drain.failures l.initial.out;
 }

@@ -1,7 +1,8 @@
 use Rattle.std.proofs.Common.{◌<◌, ◌∷◌, [], List, ℕ, subst, sym, ◌∙◌, arith}
 use Rattle.tm_summary.specs.Lines.{channel_line, loss_lines}
-use Rattle.tm_summary.specs.Pieces.{out_alone}
-use Rattle.tm_summary.proofs.WritingLemmas.{StoppedLines, channel_has, lines_more, lines_stopped}
+use Rattle.tm_output.specs.Seen.{out_alone}
+use Rattle.tm_output.proofs.LinePieces.{lines_more, lines_stopped}
+use Rattle.tm_summary.proofs.WritingLemmas.{StoppedLines, channel_has}
 use Rattle.tm_summary.proofs.writing.put_channel.Goals as goal
 
 pub returns-in-Err : goal.returns-in-Err
@@ -9,7 +10,7 @@ returns-in-Err g c =
     let some : 0 < c.args.counts.now.frames = omega arith in
     subst (λ (ls : List (List ℕ)). StoppedLines (out_alone g.W.Drain c.args.out.now) (out_alone g.W.Drain c.put_counts.new.out) ls c.in-Err.fault)
     (channel_has c.args.chosen.now c.args.channel c.args.counts.now (sym c.has.ensures ∙ c.if-not-has.false) some)
-    (lines_more (out_alone g.W.Drain c.args.out.now) (out_alone g.W.Drain c.put_counts.new.out) (out_alone g.W.Drain c.put_counts.new.out)
+    (lines_more (out_alone g.W.Drain c.args.out.now) (out_alone g.W.Drain c.put_counts.new.out)
     (channel_line c.args.channel c.args.counts.now ∷ []) (loss_lines c.args.channel c.args.counts.now.losses) c.in-Err.fault c.in-Err.ensures)
 
 pub returns-in-Err-put_losses : goal.returns-in-Err-put_losses

@@ -2,7 +2,7 @@
 use Rattle.std.specs.List.{flat_map}
 use Rattle.tm_summary.specs.Lines.{fault_lines_at}
 use Rattle.tm_summary.specs.Numbers.{below}
-use Rattle.tm_summary.specs.Pieces.{out_alone}
+use Rattle.tm_output.specs.Seen.{out_alone}
 use Rattle.tm_summary.proofs.WritingLemmas.{TookLines}
 use Rattle.tm_summary.proofs.writing.put_faults.Given as goal
 

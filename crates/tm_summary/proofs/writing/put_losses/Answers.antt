@@ -1,6 +1,6 @@
 use Rattle.std.proofs.Common.{◌≡◌, ◌<◌, length, List, ℕ, subst, arith}
 use Rattle.tm_summary.specs.Lines.{loss_lines, loss_lines_at}
-use Rattle.tm_summary.specs.Pieces.{out_alone}
+use Rattle.tm_output.specs.Seen.{out_alone}
 use Rattle.tm_summary.proofs.WritingLemmas.{StoppedLines, TookLines, loss_one, place_more, place_stopped}
 use Rattle.tm_summary.proofs.writing.put_losses.Goals as goal
 

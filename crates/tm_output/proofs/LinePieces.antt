@@ -1,0 +1,84 @@
+-- Lines that are written one after the other to one output, and where writing stops.
+use Rattle.std.proofs.Common.{◌≡◌, ℕ, true, List, [], ◌∷◌, ◌++◌, refl, sym, ap, subst, append-nil, Option, None, Result, Ok, Err}
+use Rattle.std.specs.List.{concat}
+use Rattle.std.specs.Io.KnownBytes.{Appends, Keeps}
+use Rattle.std.proofs.KnownBytes.{Appends-nil, Appends-trans}
+use Rattle.std.proofs.lemmas.List.{map-append}
+use Rattle.std.specs.Result.{OnErr}
+use Rattle.tm_devices.specs.Devices.{AppendsFront, Counts, raised}
+use Rattle.tm_output.specs.declared.fault.RunFault.{RunFault}
+use Rattle.tm_output.specs.declared.fault.RunFault.TheVariants.{Write}
+use Rattle.tm_output.specs.Outputs.{AppendsCut, Piece, Stopped, Took, View, Way, line_piece, line_pieces, outs, reports, view}
+use Rattle.tm_output.proofs.PieceLemmas.{cut_all, cut_more, cut_none, flush_out, flushed, keeps_nil, stopped_more, stopped_put, took_failed, took_piece, took_stopped, took_took}
+
+pub lines_out : (ls : List (List ℕ)) → outs (line_pieces ls) ≡ concat ls
+lines_out [] = refl
+lines_out (l ∷ ls) = ap (λ (x : List ℕ). l ++ x) (lines_out ls)
+
+module _ {before after : Option (List ℕ)} {failures failures' : ℕ} (line : List ℕ) where
+  -- a line was written
+  pub line_took : Appends before after line → failures' ≡ failures → Took Appends (view before None failures 0) (view after None failures' 0) (line_piece line ∷ [])
+  line_took grown counts = took_piece Appends _ _ (line_piece line) grown tt (counts, refl)
+
+  -- a call of the drain failed in it
+  pub line_stopped : {way : Way} → AppendsFront before after line → failures' ≡ raised failures
+      → Stopped Appends way (view before None failures 0) (view after None failures' 0) (line_piece line ∷ []) Write
+  line_stopped {way} front counts = stopped_put Appends Appends-nil Appends-trans way _ _ (line_piece line) Write (counts, front) tt refl
+
+pub line_stopped_by : {T E : Type 0} (before after : Option (List ℕ)) (failures failures' : ℕ) (line : List ℕ) (way : Way) (r : Result T E)
+    → OnErr r (AppendsFront before after line) → Counts failures failures' r
+    → OnErr r (Stopped Appends way (view before None failures 0) (view after None failures' 0) (line_piece line ∷ []) Write)
+line_stopped_by before after failures failures' line way (Ok x) front counts = tt
+line_stopped_by before after failures failures' line way (Err e) front counts = line_stopped line front counts
+
+-- pieces were written, and then there was a flush
+module _ {old : View (Option (List ℕ))} {mid new : Option (List ℕ)} {failures failures' : ℕ} {ps : List (Piece ℕ)}
+    (took : Took Appends old (view mid None failures 0) ps) (kept : Keeps mid new) where
+  pub flush_took : failures' ≡ failures → Took Appends old (view new None failures' 0) ps
+  flush_took counts =
+      subst (Took Appends old (view new None failures' 0)) (append-nil ps)
+      (took_took Appends Appends-nil Appends-trans old _ _ ps [] took (flushed Appends _ _ (keeps_nil mid new kept) tt (counts, refl)))
+
+  pub flush_stopped : (way : Way) → way.flush ≡ true → failures' ≡ raised failures → Stopped Appends way old (view new None failures' 0) ps Write
+  flush_stopped way waits counts =
+      took_failed Appends Appends-nil Appends-trans way old _ _ ps Write took (flush_out Appends _ _ (keeps_nil mid new kept) tt way waits counts refl)
+
+pub flush_stopped_by : {T E : Type 0} {old : View (Option (List ℕ))} {mid : Option (List ℕ)} {failures : ℕ} {ps : List (Piece ℕ)} (new : Option (List ℕ)) (failures' : ℕ)
+    → Took Appends old (view mid None failures 0) ps → Keeps mid new → (way : Way) → way.flush ≡ true → (r : Result T E) → Counts failures failures' r
+    → OnErr r (Stopped Appends way old (view new None failures' 0) ps Write)
+flush_stopped_by new failures' took kept way waits (Ok x) counts = tt
+flush_stopped_by new failures' took kept way waits (Err e) counts = flush_stopped took kept way waits counts
+
+module _ (old new : View (Option (List ℕ))) where
+  -- nothing was written
+  pub same_cut : (ps : List (Piece ℕ)) → new ≡ old → AppendsCut Appends old new ps
+  same_cut ps same = subst (λ (v : View (Option (List ℕ))). AppendsCut Appends old v ps) (sym same) ([], [], cut_none ps, Appends-nil old.out, Appends-nil old.report)
+
+  -- all was
+  pub took_cut : (ps : List (Piece ℕ)) → Took Appends old new ps → AppendsCut Appends old new ps
+  took_cut ps took = (outs ps, reports ps, cut_all ps, took.whole.0, took.whole.1)
+
+-- ---- lines behind lines
+
+all_pieces : (xs ys : List (List ℕ)) → line_pieces xs ++ line_pieces ys ≡ line_pieces (xs ++ ys)
+all_pieces xs ys = sym (map-append line_piece xs ys)
+
+module _ (old mid new : View (Option (List ℕ))) (xs ys : List (List ℕ)) where
+  pub lines_lines : Took Appends old mid (line_pieces xs) → Took Appends mid new (line_pieces ys) → Took Appends old new (line_pieces (xs ++ ys))
+  lines_lines a b = subst (Took Appends old new) (all_pieces xs ys) (took_took Appends Appends-nil Appends-trans old mid new (line_pieces xs) (line_pieces ys) a b)
+
+  pub lines_stopped : {way : Way} (fault : RunFault) → Took Appends old mid (line_pieces xs) → Stopped Appends way mid new (line_pieces ys) fault
+      → Stopped Appends way old new (line_pieces (xs ++ ys)) fault
+  lines_stopped {way} fault a b =
+      subst (λ (ps : List (Piece ℕ)). Stopped Appends way old new ps fault) (all_pieces xs ys)
+      (took_stopped Appends Appends-nil Appends-trans way old mid new (line_pieces xs) (line_pieces ys) a fault b)
+
+module _ (old new : View (Option (List ℕ))) (xs ys : List (List ℕ)) where
+  pub lines_more : {way : Way} (fault : RunFault) → Stopped Appends way old new (line_pieces xs) fault → Stopped Appends way old new (line_pieces (xs ++ ys)) fault
+  lines_more {way} fault a =
+      subst (λ (ps : List (Piece ℕ)). Stopped Appends way old new ps fault) (all_pieces xs ys)
+      (stopped_more Appends Appends-nil Appends-trans way old new (line_pieces xs) (line_pieces ys) fault a)
+
+  pub cut_before : AppendsCut Appends old new (line_pieces xs) → AppendsCut Appends old new (line_pieces (xs ++ ys))
+  cut_before a =
+      subst (AppendsCut Appends old new) (all_pieces xs ys) (a.0, a.1, cut_more (line_pieces xs) (line_pieces ys) a.0 a.1 a.2, a.3, a.4)

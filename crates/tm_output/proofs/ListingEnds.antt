@@ -1,11 +1,11 @@
 -- How a listing ended, in the words of the whole recording.
-use Rattle.std.proofs.Common.{◌≡◌, ◌<◌, ◌+◌, ℕ, List, [], ◌∷◌, ◌++◌, length, refl, sym, ap, subst, ◌∙◌, append_assoc, append-nil, Option, None, Some, IfSome, inl, inr}
+use Rattle.std.proofs.Common.{◌≡◌, ◌<◌, ◌+◌, ℕ, List, [], ◌∷◌, ◌++◌, length, refl, ap, subst, ◌∙◌, append_assoc, append-nil, Option, None, Some, IfSome, inl, inr}
 use Rattle.std.specs.List.{concat}
 use Rattle.std.specs.Io.KnownBytes.{Appends, Consumes}
 use Rattle.tm_frame.specs.declared.layout.LayoutParts.{LayoutParts}
 use Rattle.tm_frame.specs.Layout.{record_length_of}
 use Rattle.tm_output.specs.declared.fault.RunFault.{RunFault}
-use Rattle.tm_output.specs.declared.fault.RunFault.TheVariants.{Read, Write, Report, ShortRecording, TooMany, NoMemory}
+use Rattle.tm_output.specs.declared.fault.RunFault.TheVariants.{Read, Write, TooMany, NoMemory}
 use Rattle.tm_output.specs.Outputs.{AppendsCut, View, line_pieces}
 use Rattle.tm_output.specs.Records.{AreRecords, record_count, records, rest_of}
 use Rattle.tm_output.specs.Listing.{IsListed, IsListingStop, ListingStopped, StopsInRecordLine, StopsInRestLine, lines_of, listing, record_line, record_lines, rest_lines}
@@ -77,6 +77,6 @@ stop_told layout some (Some octets) next old new fault h = record {
   cut = stopped_cut layout some (Some octets) next old new fault h;
   memory = λ e. (subst (IsListingStop layout (Some octets) next old new) e h).1;
   too_many = λ e.
-  let stop = subst (IsListingStop layout (Some octets) next old new) e h in
-  many_told (record_length_of layout) (Some octets) next stop.read stop.one some stop.octets stop.exact stop.most;
+      let stop = subst (IsListingStop layout (Some octets) next old new) e h in
+      many_told (record_length_of layout) (Some octets) next stop.read stop.one some stop.octets stop.exact stop.most;
 }

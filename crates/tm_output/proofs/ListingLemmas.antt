@@ -1,5 +1,5 @@
 -- How a listing stands while it goes on, and what follows at its end.
-use Rattle.std.proofs.Common.{◌≡◌, ◌<◌, ◌+◌, ◌-◌, ◌^◌, ℕ, List, [], ◌∷◌, ◌++◌, length, refl, sym, ap, subst, ◌∙◌, append_assoc, length-append, add-zero, arith, Option}
+use Rattle.std.proofs.Common.{◌≡◌, ◌<◌, ◌+◌, ◌-◌, ◌^◌, ℕ, List, [], ◌∷◌, ◌++◌, length, refl, sym, ap, subst, ◌∙◌, length-append, add-zero, arith, Option}
 use Rattle.std.specs.List.{concat}
 use Rattle.std.specs.Io.KnownBytes.{Appends, Consumes, IsAtEnd}
 use Rattle.std.proofs.KnownBytes.{Appends-nil, Appends-trans, Consumes-nil, Consumes-trans}
@@ -7,7 +7,7 @@ use Rattle.tm_frame.specs.declared.layout.LayoutParts.{LayoutParts}
 use Rattle.tm_frame.specs.Layout.{record_length_of}
 use Rattle.tm_output.specs.declared.fault.RunFault.TheVariants.{Write}
 use Rattle.tm_output.specs.Outputs.{Stopped, Took, View, line_piece, line_pieces, octets_way, outs}
-use Rattle.tm_output.specs.Records.{AreRecords, HasRead, records, rest_of}
+use Rattle.tm_output.specs.Records.{AreRecords, HasRead}
 use Rattle.tm_output.specs.Listing.{IsListed, StopsAtFailedRead, StopsAtOneMore, StopsInRecordLine, StopsInRestLine, lines_of, listing, record_line, record_lines, rest_lines}
 use Rattle.tm_output.proofs.LinePieces.{lines_lines, lines_out}
 use Rattle.tm_output.proofs.PieceLemmas.{took_none}
@@ -84,7 +84,6 @@ module _ (layout : LayoutParts) where
       }
 
     module _ (rest : ℕ) (size : length octets ≡ rest) (less : rest < record_length_of layout) (end : IsAtEnd next) where
-
       -- all was read, and the line of the rest written
       pub stands_end : {new : View (Option (List ℕ))} → Took Appends now new (line_pieces (rest_lines seen rest)) → IsListed layout first next old.out new.out seen
       stands_end {new} line =

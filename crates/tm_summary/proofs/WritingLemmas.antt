@@ -1,13 +1,12 @@
 -- Lines that are written one after the other, and where writing stops.
-use Rattle.std.proofs.Common.{◌≡◌, ◌<◌, ◌≤◌, ◌+◌, ℕ, zero, suc, List, [], ◌∷◌, ◌++◌, length, refl, sym, ap, subst, ◌∙◌, append_assoc, append-nil, arith, ⊎_elim, inl, Option, None, ◌≢◌, Bool, true, get_or, ltb, lt-ltb}
+use Rattle.std.proofs.Common.{◌≡◌, ◌<◌, ◌≤◌, ◌+◌, ℕ, zero, suc, List, [], ◌∷◌, ◌++◌, length, refl, sym, ap, subst, ◌∙◌, append_assoc, append-nil, arith, ⊎_elim, inl, Option, ◌≢◌, Bool, true, get_or, ltb, lt-ltb}
 use Rattle.std.specs.List.{flat_map}
 use Rattle.std.specs.Io.KnownBytes.{Appends}
 use Rattle.std.proofs.KnownBytes.{Appends-nil, Appends-trans}
 use Rattle.std.proofs.lemmas.Bool.{cases_lt}
-use Rattle.std.proofs.lemmas.List.{map-append, get_or_default}
-use Rattle.tm_devices.specs.Devices.{AppendsFront, raised}
+use Rattle.std.proofs.lemmas.List.{get_or_default}
 use Rattle.tm_output.specs.declared.fault.RunFault.{RunFault}
-use Rattle.tm_output.specs.declared.fault.RunFault.TheVariants.{Write, NoMemory}
+use Rattle.tm_output.specs.declared.fault.RunFault.TheVariants.{NoMemory}
 use Rattle.tm_output.specs.Outputs.{Stopped, Took, View, line_piece, line_pieces, lines_way}
 use Rattle.tm_output.proofs.LinePieces.{lines_lines, lines_more, lines_stopped}
 use Rattle.tm_output.proofs.PieceLemmas.{no_room, took_none}

@@ -1,16 +1,16 @@
 -- How a summary ended, in the words of the octets that were read, and of the whole recording.
 use Rattle.std.proofs.lemmas.Option.{IfSome_then}
-use Rattle.std.proofs.Common.{Bool, ◌≡◌, ◌⊎◌, ◌<◌, ◌+◌, ◌-◌, ◌^◌, ℕ, Option, Some, None, IfSome, List, [], ◌∷◌, ◌++◌, length, refl, sym, ap, subst, ◌∙◌, append-nil, length-append, arith, inl, inr}
+use Rattle.std.proofs.Common.{Bool, ◌≡◌, ◌⊎◌, ◌<◌, ◌-◌, ◌^◌, ℕ, Option, Some, None, IfSome, List, ◌++◌, length, refl, sym, ap, subst, ◌∙◌, append-nil, arith, inl, inr}
 use Rattle.std.specs.List.{concat}
 use Rattle.std.specs.Io.KnownBytes.{Appends, Keeps}
-use Rattle.std.proofs.KnownBytes.{Appends-kept, Appends-nil, Appends-trans}
+use Rattle.std.proofs.KnownBytes.{Appends-kept}
 use Rattle.tm_frame.specs.Layout.{record_length_of}
 use Rattle.tm_rules.specs.Rules.{Rules}
 use Rattle.tm_devices.specs.Devices.{raised}
 use Rattle.tm_output.specs.declared.fault.RunFault.{RunFault}
 use Rattle.tm_output.specs.declared.fault.RunFault.TheVariants.{Read, Write, Report, TooMany, NoMemory}
 use Rattle.tm_output.specs.Outputs.{AppendsCut, Stopped, Took, View, WantsMemory, line_pieces, lines_way, outs, view}
-use Rattle.tm_output.specs.Records.{AreRecords, record_count, records, rest_of}
+use Rattle.tm_output.specs.Records.{AreRecords, record_count}
 use Rattle.tm_output.proofs.LinePieces.{lines_out, same_cut}
 use Rattle.tm_output.proofs.LinePieces as pieces
 use Rattle.tm_output.proofs.RecordLemmas.{always, count_all, many_told, records_all, rest_all, told}

@@ -1,4 +1,4 @@
-use Rattle.std.proofs.Common.{rules, ◌∙◌, subst, refl, sym}
+use Rattle.std.proofs.Common.{rules, ◌∙◌, subst, refl}
 use Rattle.tm_devices.specs.Devices.{AppendsFront}
 use Rattle.tm_output.specs.Outputs.{Took, line_pieces, octets_way}
 use Rattle.std.specs.Io.KnownBytes.{Appends}

@@ -1,5 +1,5 @@
 -- Lines that are written one after the other to one output, and where writing stops.
-use Rattle.std.proofs.Common.{◌≡◌, ℕ, true, List, [], ◌∷◌, ◌++◌, refl, sym, ap, subst, append-nil, Option, None, Result, Ok, Err}
+use Rattle.std.proofs.Common.{◌≡◌, ℕ, true, List, [], ◌∷◌, ◌++◌, refl, sym, ap, subst, Option, None, Result, Ok, Err}
 use Rattle.std.specs.List.{concat}
 use Rattle.std.specs.Io.KnownBytes.{Appends, Keeps}
 use Rattle.std.proofs.KnownBytes.{Appends-nil, Appends-trans}
@@ -9,17 +9,13 @@ use Rattle.tm_devices.specs.Devices.{AppendsFront, Counts, raised}
 use Rattle.tm_output.specs.declared.fault.RunFault.{RunFault}
 use Rattle.tm_output.specs.declared.fault.RunFault.TheVariants.{Write}
 use Rattle.tm_output.specs.Outputs.{AppendsCut, Piece, Stopped, Took, View, Way, line_piece, line_pieces, outs, reports, view}
-use Rattle.tm_output.proofs.PieceLemmas.{cut_all, cut_more, cut_none, flush_out, flushed, keeps_nil, stopped_more, stopped_put, took_failed, took_piece, took_stopped, took_took}
+use Rattle.tm_output.proofs.PieceLemmas.{cut_all, cut_more, cut_none, flush_out, keeps_nil, stopped_more, stopped_put, took_failed, took_stopped, took_took}
 
 pub lines_out : (ls : List (List ℕ)) → outs (line_pieces ls) ≡ concat ls
 lines_out [] = refl
 lines_out (l ∷ ls) = ap (λ (x : List ℕ). l ++ x) (lines_out ls)
 
 module _ {before after : Option (List ℕ)} {failures failures' : ℕ} (line : List ℕ) where
-  -- a line was written
-  pub line_took : Appends before after line → failures' ≡ failures → Took Appends (view before None failures 0) (view after None failures' 0) (line_piece line ∷ [])
-  line_took grown counts = took_piece Appends _ _ (line_piece line) grown tt (counts, refl)
-
   -- a call of the drain failed in it
   pub line_stopped : {way : Way} → AppendsFront before after line → failures' ≡ raised failures
       → Stopped Appends way (view before None failures 0) (view after None failures' 0) (line_piece line ∷ []) Write
@@ -31,14 +27,9 @@ pub line_stopped_by : {T E : Type 0} (before after : Option (List ℕ)) (failure
 line_stopped_by before after failures failures' line way (Ok x) front counts = tt
 line_stopped_by before after failures failures' line way (Err e) front counts = line_stopped line front counts
 
--- pieces were written, and then there was a flush
+-- pieces were written, and then a flush failed
 module _ {old : View (Option (List ℕ))} {mid new : Option (List ℕ)} {failures failures' : ℕ} {ps : List (Piece ℕ)}
     (took : Took Appends old (view mid None failures 0) ps) (kept : Keeps mid new) where
-  pub flush_took : failures' ≡ failures → Took Appends old (view new None failures' 0) ps
-  flush_took counts =
-      subst (Took Appends old (view new None failures' 0)) (append-nil ps)
-      (took_took Appends Appends-nil Appends-trans old _ _ ps [] took (flushed Appends _ _ (keeps_nil mid new kept) tt (counts, refl)))
-
   pub flush_stopped : (way : Way) → way.flush ≡ true → failures' ≡ raised failures → Stopped Appends way old (view new None failures' 0) ps Write
   flush_stopped way waits counts =
       took_failed Appends Appends-nil Appends-trans way old _ _ ps Write took (flush_out Appends _ _ (keeps_nil mid new kept) tt way waits counts refl)

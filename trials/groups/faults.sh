@@ -377,6 +377,7 @@ many() {
     local head="544d5843 03 002a 0009 0000 0000 00 00 00 ff 010006" none="00 0000000000000000 0000"
     names
     settings nine 42 9 false
+    rm -f r
     truncate -s $((9 * 4294967296)) sparse
     forged last "$head ffffffff $none"
     gives "2^32 records" 1 "tmx: too many records" "timeout 10 $tmx packets --settings nine --report r --resume last sparse"

@@ -12,7 +12,7 @@ mod packet;
 mod room;
 
 pub use command::{Command, Ending};
-pub use fault::RunFault;
+pub use fault::{CheckpointFault, RunFault};
 pub use listing::list_frames;
 pub use outlet::{Outlet, PacketLines, PacketOctets, PacketRows, PacketShelf};
 pub use output::{Output, header_in};

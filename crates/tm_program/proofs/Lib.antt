@@ -1,3 +1,2 @@
 pub mod EndingLemmas
-pub mod FileLemmas
 pub mod ProgramLemmas

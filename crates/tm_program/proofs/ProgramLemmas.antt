@@ -1,14 +1,13 @@
 -- Faults of files and of runs, as faults that may come of a plan.
-use Rattle.std.proofs.Common.{ℕ, ◌≡◌, ◌⊎◌, ◌∙◌, List, Option, None, Some, ap, inl, inr, option_map, refl, subst, sym}
+use Rattle.std.proofs.Common.{ℕ, ◌≡◌, ◌⊎◌, ◌∙◌, List, Option, None, Some, inl, inr, option_map, refl, subst, sym}
 use Rattle.std.proofs.lemmas.Option.{same_Some}
 use Rattle.tm_shelf.specs.Names.{file_in}
-use Rattle.tm_program.specs.code.Clashes.{first_clash}
-use Rattle.tm_program.specs.code.Files.{IsFaultOf, IsFileFault}
+use Rattle.tm_files.specs.code.Files.{HasFault, IsFaultOf, IsFileFault, IsRunFault}
 use Rattle.tm_program.specs.Program.{IsAsked, IsInFolder, IsNamed, IsOfFolder, IsReadWhole, MayCome, MayEnd}
-use Rattle.tm_program.specs.code.Faults.{HasFault, HasFolderFault, HasReadFault, IsFolderFault, IsNoMemory, IsOfDefinition, IsOfOutputs, IsOfPut, IsOfResumed, IsOfSettings, IsOfStreams, IsRunFault}
+use Rattle.tm_program.specs.code.Faults.{HasFolderFault, HasReadFault, IsFolderFault, IsOfDefinition, IsOfOutputs, IsOfPut, IsOfResumed, IsOfSettings, IsOfStreams}
 use Rattle.tm_output.specs.declared.fault.RunFault.TheVariants.{NoMemory, Read, Report, ShortRecording, TooMany, Write}
-use Rattle.tm_program.specs.declared.fault.ToolFault.{ToolFault}
-use Rattle.tm_program.specs.declared.fault.ToolFault.TheVariants as tool
+use Rattle.tm_files.specs.declared.fault.ToolFault.{ToolFault}
+use Rattle.tm_files.specs.declared.fault.ToolFault.TheVariants as tool
 use Rattle.tm_words.specs.declared.request.Plan.{Plan}
 
 -- a file that the plan names can't be opened, made or written
@@ -169,67 +168,6 @@ put_there dir taken found (tool.File given) is h = inr (inr (in_folder dir taken
 put_there dir taken found (tool.TooLong given) is h = absurd h
 put_there dir taken found tool.Errors is h = absurd h
 put_there dir taken found (tool.Run f) is h = inl tt
-
--- the fault of a file is that of its name, unless memory is wanting
-pub fault_exactly : (name : List ℕ) (fault : ToolFault) → IsFileFault name fault → IsNoMemory fault ⊎ (Some (tool.File name) ≡ Some fault)
-fault_exactly name (tool.Usage f) h = absurd h
-fault_exactly name (tool.Settings f) h = absurd h
-fault_exactly name (tool.Definition f) h = absurd h
-fault_exactly name (tool.Checkpoint f) h = absurd h
-fault_exactly name (tool.File given) h = inr (ap (λ (n : List ℕ). Some (tool.File n)) (sym h))
-fault_exactly name (tool.TooLong given) h = absurd h
-fault_exactly name tool.Errors h = absurd h
-fault_exactly name (tool.Run Read) h = absurd h
-fault_exactly name (tool.Run Write) h = absurd h
-fault_exactly name (tool.Run Report) h = absurd h
-fault_exactly name (tool.Run ShortRecording) h = absurd h
-fault_exactly name (tool.Run TooMany) h = absurd h
-fault_exactly name (tool.Run NoMemory) h = inl tt
-
--- the first of two faults
-pub first_none : (one next : Option ToolFault) → one ≡ None → next ≡ None → first_clash one next ≡ None
-first_none one next is rest = rw is rest
-
-pub first_then : (one next : Option ToolFault) (fault : ToolFault) → one ≡ None → IsNoMemory fault ⊎ (next ≡ Some fault) → IsNoMemory fault ⊎ (first_clash one next ≡ Some fault)
-first_then one next fault is (inl h) = inl h
-first_then one next fault is (inr h) = inr (rw is h)
-
-pub first_here : (one next : Option ToolFault) (fault : ToolFault) → IsNoMemory fault ⊎ (one ≡ Some fault) → IsNoMemory fault ⊎ (first_clash one next ≡ Some fault)
-first_here one next fault (inl h) = inl h
-first_here one next fault (inr h) = inr (rw h refl)
-
--- want of memory is a fault of a run, and may come of each file
-pub starved_run : (fault : ToolFault) → IsNoMemory fault → IsRunFault fault
-starved_run (tool.Usage f) h = absurd h
-starved_run (tool.Settings f) h = absurd h
-starved_run (tool.Definition f) h = absurd h
-starved_run (tool.Checkpoint f) h = absurd h
-starved_run (tool.File given) h = absurd h
-starved_run (tool.TooLong given) h = absurd h
-starved_run tool.Errors h = absurd h
-starved_run (tool.Run f) h = tt
-
-pub starved_file : (name : List ℕ) (fault : ToolFault) → IsNoMemory fault → IsFileFault name fault
-starved_file name (tool.Usage f) h = absurd h
-starved_file name (tool.Settings f) h = absurd h
-starved_file name (tool.Definition f) h = absurd h
-starved_file name (tool.Checkpoint f) h = absurd h
-starved_file name (tool.File given) h = absurd h
-starved_file name (tool.TooLong given) h = absurd h
-starved_file name tool.Errors h = absurd h
-starved_file name (tool.Run Read) h = absurd h
-starved_file name (tool.Run Write) h = absurd h
-starved_file name (tool.Run Report) h = absurd h
-starved_file name (tool.Run ShortRecording) h = absurd h
-starved_file name (tool.Run TooMany) h = absurd h
-starved_file name (tool.Run NoMemory) h = tt
-
--- a file that there is
-pub starved_there : (file : Option (List ℕ)) (name : List ℕ) (fault : ToolFault) → file ≡ Some name → IsNoMemory fault → HasFault file fault
-starved_there file name fault is h = subst (λ o. HasFault o fault) (sym is) (starved_file name fault h)
-
-pub fault_there : (file : Option (List ℕ)) (name : List ℕ) (fault : ToolFault) → file ≡ Some name → IsFileFault name fault → HasFault file fault
-fault_there file name fault is h = subst (λ o. HasFault o fault) (sym is) h
 
 -- what may come of the plan of words may be their end
 pub plan_ends : (words : List (List ℕ)) (p : Plan) (fault : ToolFault) → IsAsked words p → MayCome p fault → MayEnd words fault

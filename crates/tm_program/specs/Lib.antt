@@ -1,3 +1,2 @@
-pub mod FaultLines
 pub mod Program
 pub mod code

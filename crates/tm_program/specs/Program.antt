@@ -1,10 +1,9 @@
 -- What comes of the words of the command line, so far as a contract can say it: what files hold and streams take has no place in one.
-use Rattle.std.specs.Prelude.{◌≡◌, ◌⊎◌, ⊤, ℕ, Bool, ◌||◌, true, false, List, [], ◌++◌, codes, Option, Some, None, IfSome, IsSome}
-use Rattle.std.specs.Str.{bytes_eq}
+use Rattle.std.specs.Prelude.{◌≡◌, ◌⊎◌, ⊤, ℕ, true, false, List, [], Option, Some, None, IsSome}
 use Rattle.tm_words.specs.CommandLine.{HasRequired, faults_of, is_taken, lacks_checkpoint, plan_of}
 use Rattle.tm_shelf.specs.Names.{file_in}
-use Rattle.tm_program.specs.declared.fault.ToolFault.{ToolFault}
-use Rattle.tm_program.specs.declared.fault.ToolFault.TheVariants as tool
+use Rattle.tm_files.specs.declared.fault.ToolFault.{ToolFault}
+use Rattle.tm_files.specs.declared.fault.ToolFault.TheVariants as tool
 use Rattle.tm_words.specs.declared.request.Plan.{Plan}
 use Rattle.tm_words.specs.declared.request.UsageFault.{UsageFault}
 use Rattle.tm_words.specs.declared.request.UsageFault.TheVariants as usage
@@ -27,31 +26,6 @@ IsOfFolder (Some dir) name = (name ≡ dir) ⊎ IsInFolder dir name
 -- the plan names a file or a folder of this name, or the folder of an application's file of this name
 abbrev pub IsNamed : Plan → List ℕ → Type 0
 IsNamed p name = IsReadWhole p name ⊎ (p.recording ≡ Some name) ⊎ (p.report ≡ Some name) ⊎ (p.checkpoint ≡ Some name) ⊎ IsOfFolder p.dir name
-
--- there is such a file, and it has this name
-abbrev pub has_name : List ℕ → Option (List ℕ) → Bool
-has_name name None = false
-has_name name (Some file) = bytes_eq file name
-
--- a file of this name is read, and so must not be written
-abbrev pub is_read : Plan → List ℕ → Bool
-is_read p name = has_name name p.recording || has_name name p.settings || has_name name p.definition
-
--- a file of this name has the checkpoint, before the run or after it
-abbrev pub is_checkpoint : Plan → List ℕ → Bool
-is_checkpoint p name = has_name name p.checkpoint || has_name name p.resume
-
--- the file in which a checkpoint is written before it takes its name
-abbrev pub beside : List ℕ → List ℕ
-beside name = name ++ codes ".new"
-
--- a file that the plan reads or writes has the name of the checkpoint or of the file beside it
-abbrev pub is_in_the_way : Plan → List ℕ → Bool
-is_in_the_way p name = is_read p name || is_read p (beside name) || has_name (beside name) p.report || has_name (beside name) p.resume
-
--- neither the checkpoint nor the report takes the place of a file that is read, or of one another
-abbrev pub AreClear : Plan → Type 0
-AreClear p = IfSome p.checkpoint (λ name. is_in_the_way p name ≡ false) × IfSome p.report (λ name. (is_read p name ≡ false) × (is_checkpoint p name ≡ false))
 
 -- ---- what comes of a plan
 

@@ -1,6 +1,3 @@
-pub mod Decisions
+pub mod Blames
 pub mod Endings
-pub mod Files
-pub mod Reports
 pub mod Faults
-pub mod Clashes

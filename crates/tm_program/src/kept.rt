@@ -4,12 +4,12 @@ ghost use Rattle.std.specs.Prelude.{◌≡◌, ◌⊎◌, None, Ok, Some, IfErr,
 ghost use Rattle.tm_tool.specs.Checkpoints.{checkpoint_of};
 ghost use Rattle.tm_tool.specs.Jobs.{JobState, new_job};
 ghost use Rattle.tm_program.specs.code.Endings.{ending_of};
-ghost use Rattle.tm_program.specs.code.Faults.{HasFault, IsNoMemory, IsOfResumed, IsResumed};
+ghost use Rattle.tm_program.specs.code.Faults.{IsOfResumed, IsResumed};
+ghost use Rattle.tm_files.specs.code.Files.{HasFault, IsNoMemory};
 
-use crate::fault::ToolFault;
-use crate::files::{read_file, replace};
 use std::alloc::Global;
 use std::rt::Files;
+use tm_files::{ToolFault, read_file, replace};
 use tm_tool::{Done, Ending, Job, Octets, RunFault, Settings};
 use tm_words::Plan;
 
@@ -83,7 +83,7 @@ fn wanted<'p>(
 }
 
 /// Writes the checkpoint that the plan wants of what a run kept. What the file then holds has no place in a contract.
-#[tactic(auto, using(crate::proofs::ProgramLemmas::starved_there))]
+#[tactic(auto, using(tm_files::proofs::FaultLemmas::starved_there))]
 pub fn keep<R: Files + AllocGlobal>(rt: &R, plan: &Plan, done: &Done) -> Result<(), ToolFault>
     ensures unwanted { (plan.now.checkpoint ≡ None) ⊎ (done.now.kept ≡ None) → result ≡ Ok tt }
     ensures refused { IfErr result (HasFault plan.now.checkpoint) }

@@ -1,18 +1,10 @@
-//! What the program does: fault lines and statuses, files, and the order of steps.
+//! What the program does: the order of its steps, from the words of the command line to the checkpoint of the run.
 #![tactic(auto)]
 
-mod decisions;
-mod fault;
-mod files;
 mod kept;
-mod lines;
-mod names;
-mod places;
-mod report;
 mod steps;
 
-pub use fault::{NoMemory, ToolFault};
-pub use lines::{fault_line, status};
 pub use steps::run;
+pub use tm_files::{NoMemory, ToolFault, fault_line, status};
 pub use tm_tool::{Octets, RunFault};
 pub use tm_words::UsageFault;

@@ -5,27 +5,25 @@ ghost use Rattle.tm_output.specs.Faults.{RunCounted};
 ghost use Rattle.tm_output.specs.Seen.{both, shelf_both};
 ghost use Rattle.tm_shelf.specs.Names.{file_in};
 ghost use Rattle.tm_shelf.specs.Shelves.{HoldsNone};
-ghost use Rattle.tm_program.specs.code.Decisions.{IsBlamed, IsBlamedOf, put_fault_of, split_end_of, stream_fault_of, is_job};
+ghost use Rattle.tm_files.specs.code.Decisions.{stream_fault_of, is_job};
+ghost use Rattle.tm_files.specs.code.Files.{HasFault, IsFileFault, IsNoMemory, IsRunFault};
+ghost use Rattle.tm_files.specs.code.Reports.{is_file};
+ghost use Rattle.tm_files.specs.Names.{AreClear};
+ghost use Rattle.tm_program.specs.code.Blames.{IsBlamed, IsBlamedOf, put_fault_of, split_end_of};
 ghost use Rattle.tm_program.specs.code.Endings.{HasDone, HasShown, IsDone, ending_of};
-ghost use Rattle.tm_program.specs.code.Files.{IsFileFault};
-ghost use Rattle.tm_program.specs.code.Reports.{is_file};
-ghost use Rattle.tm_program.specs.Program.{AreClear, IsAsked, MayCome, MayEnd};
-ghost use Rattle.tm_program.specs.code.Faults.{HasFault, HasFolderFault, IsFolderFault, IsNoMemory, IsOfDefinition, IsOfOutputs, IsOfPut, IsOfResumed, IsOfSettings, IsOfStreams, IsResumed, IsRunFault};
+ghost use Rattle.tm_program.specs.Program.{IsAsked, MayCome, MayEnd};
+ghost use Rattle.tm_program.specs.code.Faults.{HasFolderFault, IsFolderFault, IsOfDefinition, IsOfOutputs, IsOfPut, IsOfResumed, IsOfSettings, IsOfStreams, IsResumed};
 
-use crate::decisions::{
-    Destination, Opening, Recording, Stream, destination_by, is_job, opening_by, recording_by,
-    stream_fault, writes_errors, writes_output,
-};
-use crate::fault::ToolFault;
-use crate::files::{append, create, file_fault, open, read_file};
 use crate::kept::{ending_by, job_by, keep, resumed_by};
-use crate::names::{Checked, check_errors, check_names};
-use crate::places::places_by;
-use crate::report::Report;
 use std::alloc::Global;
 use std::io::{self, BufReader, BufWriter, Read, Write};
 use std::rt::Files;
 use tm_fields::Definition;
+use tm_files::{
+    Checked, Destination, Opening, Recording, Report, Stream, ToolFault, append, check_errors,
+    check_names, create, destination_by, file_fault, is_job, open, opening_by, places_by,
+    read_file, recording_by, stream_fault, writes_errors, writes_output,
+};
 use tm_places::Places;
 use tm_shelf::{FileShelf, ShelfFault, name_in};
 use tm_tool::{
@@ -94,7 +92,7 @@ fn list_to<S: Source, W: Drain>(
 }
 
 // Lists the frames of a recording, or sums it up, on standard output.
-#[tactic(auto, using(crate::proofs::ProgramLemmas::starved_run))]
+#[tactic(auto, using(tm_files::proofs::FaultLemmas::starved_run))]
 fn list<R: Print + AllocGlobal, S: Source + Drop>(
     rt: &R,
     action: Action,
@@ -151,7 +149,7 @@ fn give_to<S: Source, W: Drain, V: Drain>(
 }
 
 // Gives the packets of a recording on standard output.
-#[tactic(auto, using(crate::proofs::ProgramLemmas::starved_run))]
+#[tactic(auto, using(tm_files::proofs::FaultLemmas::starved_run))]
 fn give_packets<R: Print + AllocGlobal, S: Source + Drop, V: Write + Drop>(
     rt: &R,
     job: Job,
@@ -234,7 +232,7 @@ fn split_to<S: Source, H: Shelf, V: Drain>(
 }
 
 // Gives the packets of a recording to a file for each application.
-#[tactic(auto, using(crate::proofs::ProgramLemmas::starved_run, crate::proofs::ProgramLemmas::put_there))]
+#[tactic(auto, using(tm_files::proofs::FaultLemmas::starved_run, crate::proofs::ProgramLemmas::put_there))]
 fn split_packets<R: Files + AllocGlobal, S: Source + Drop, V: Write + Drop>(
     rt: &R,
     job: Job,
@@ -276,7 +274,7 @@ fn shelf_in<'a, R: Files + AllocGlobal>(
 }
 
 // The files for the applications, where the plan's packets go to a folder.
-#[tactic(auto, using(crate::proofs::ProgramLemmas::fault_there))]
+#[tactic(auto, using(tm_files::proofs::FaultLemmas::fault_there))]
 fn shelf_by<'a, R: Files + AllocGlobal>(
     rt: &'a R,
     plan: &'a Plan,
@@ -293,7 +291,7 @@ fn shelf_by<'a, R: Files + AllocGlobal>(
 }
 
 // Where the plan wants the report, once its names are checked.
-#[tactic(auto, using(crate::proofs::ProgramLemmas::fault_there))]
+#[tactic(auto, using(tm_files::proofs::FaultLemmas::fault_there))]
 fn report_by<R: Files + AllocGlobal, E: Write + Drop>(
     rt: &R,
     plan: &Plan,
@@ -383,7 +381,7 @@ fn inputs_by<R: Files + AllocGlobal>(rt: &R, plan: &Plan) -> Result<Inputs, Tool
 }
 
 // Goes on with the job over the recording, to where the plan wants the packets.
-#[tactic(auto, using(crate::proofs::ProgramLemmas::starved_run, crate::proofs::ProgramLemmas::folder_there, crate::proofs::ProgramLemmas::split_there))]
+#[tactic(auto, using(tm_files::proofs::FaultLemmas::starved_run, crate::proofs::ProgramLemmas::folder_there, crate::proofs::ProgramLemmas::split_there))]
 fn go_on<R: Files + Print + AllocGlobal, S: Source + Drop, V: Write + Drop>(
     rt: &R,
     plan: &Plan,
@@ -406,7 +404,7 @@ fn go_on<R: Files + Print + AllocGlobal, S: Source + Drop, V: Write + Drop>(
 
 // Does what the plan asks for with the recording, once the names of its files were checked, and answers what its job has done, if it has one. Names are
 // looked up anew once the report is made: before, it may have been none.
-#[tactic(auto, using(crate::proofs::ProgramLemmas::starved_run, crate::proofs::ProgramLemmas::run_ends, crate::proofs::EndingLemmas::done_from))]
+#[tactic(auto, using(tm_files::proofs::FaultLemmas::starved_run, crate::proofs::ProgramLemmas::run_ends, crate::proofs::EndingLemmas::done_from))]
 fn run_on<R: Files + Print + AllocGlobal, S: Source + Drop, E: Write + Drop>(
     rt: &R,
     plan: &Plan,
@@ -437,7 +435,7 @@ fn run_on<R: Files + Print + AllocGlobal, S: Source + Drop, E: Write + Drop>(
 }
 
 // Checks the names of the plan's files, and does what the plan asks for with the recording.
-#[tactic(auto, using(crate::proofs::ProgramLemmas::starved_run, crate::proofs::ProgramLemmas::names_come))]
+#[tactic(auto, using(tm_files::proofs::FaultLemmas::starved_run, crate::proofs::ProgramLemmas::names_come))]
 fn check_and_run<R: Files + Print + AllocGlobal, S: Source + Drop, E: Write + Drop>(
     rt: &R,
     plan: &Plan,

@@ -9,7 +9,7 @@ use Rattle.tm_packet.specs.Spelling.{state_of}
 use Rattle.tm_rules.specs.Channels.{all_channels}
 use Rattle.tm_reassembly.specs.Checkpoint.{block_read, blocks_read, state_decoding_of, master_read, old_decoding_of}
 use Rattle.tm_rules.specs.Rules.{Rules}
-use Rattle.tm_tool.specs.declared.fault.CheckpointFault.TheVariants as fault
+use Rattle.tm_output.specs.declared.fault.CheckpointFault.TheVariants as fault
 use Rattle.tm_tool.specs.declared.version.Version.TheVariants.{One, Two}
 use Rattle.tm_tool.specs.Checkpoints.{checkpoint_of, framed, resumed, spelled_in, with_check, work_without_master}
 use Rattle.tm_tool.specs.RecordingPieces.{Work}

@@ -22,8 +22,8 @@ use Rattle.tm_rules.specs.Rules.{Rules, IsLimit}
 use Rattle.tm_reassembly.specs.State.{State}
 use Rattle.tm_reassembly.specs.Valid.{IsValidState}
 use Rattle.tm_reassembly.proofs.Fits.{octets_front}
-use Rattle.tm_tool.specs.declared.fault.CheckpointFault.{CheckpointFault}
-use Rattle.tm_tool.specs.declared.fault.CheckpointFault.TheVariants as fault
+use Rattle.tm_output.specs.declared.fault.CheckpointFault.{CheckpointFault}
+use Rattle.tm_output.specs.declared.fault.CheckpointFault.TheVariants as fault
 use Rattle.tm_tool.specs.declared.version.Version.{Version}
 use Rattle.tm_tool.specs.declared.version.Version.TheVariants.{One, Two, Three}
 use Rattle.tm_tool.specs.Checkpoints.{IsWork, form_of, version_named, tells, kept_state, kept_in, magic, settings_in, head_octets, state_octets, with_check, spelled_in, checkpoint_of, check_holds, says_settings, framed_as, framed, inner, job_of, with_entries, with_state, state_in, resumed_as, resumed}

@@ -6,7 +6,7 @@ use Rattle.std.proofs.Math.Seq.{drop-append_seam, take-append_seam}
 use Rattle.tm_frame.specs.Layout.{record_length_of}
 use Rattle.tm_rules.specs.Rules.{Rules, IsLimit}
 use Rattle.tm_reassembly.specs.Valid.{AllOctets}
-use Rattle.tm_tool.specs.declared.fault.CheckpointFault.{CheckpointFault}
+use Rattle.tm_output.specs.declared.fault.CheckpointFault.{CheckpointFault}
 use Rattle.tm_output.specs.declared.command.Ending.{Ending}
 use Rattle.tm_output.specs.declared.command.Ending.TheVariants.{Close, StopAfter}
 use Rattle.tm_tool.specs.Checkpoints.{IsWork, checkpoint_of, resumed}

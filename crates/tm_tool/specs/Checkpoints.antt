@@ -15,8 +15,8 @@ use Rattle.tm_reassembly.specs.OlderForms as forgotten
 use Rattle.tm_rules.specs.Rules.{Rules}
 use Rattle.tm_reassembly.specs.State.{State}
 use Rattle.tm_reassembly.specs.Valid.{IsValidState}
-use Rattle.tm_tool.specs.declared.fault.CheckpointFault.{CheckpointFault}
-use Rattle.tm_tool.specs.declared.fault.CheckpointFault.TheVariants as fault
+use Rattle.tm_output.specs.declared.fault.CheckpointFault.{CheckpointFault}
+use Rattle.tm_output.specs.declared.fault.CheckpointFault.TheVariants as fault
 use Rattle.tm_tool.specs.declared.version.Form.{Form}
 use Rattle.tm_tool.specs.declared.version.Version.{Version}
 use Rattle.tm_tool.specs.declared.version.Version.TheVariants.{One, Two, Three}

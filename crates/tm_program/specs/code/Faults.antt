@@ -1,21 +1,16 @@
 -- Which faults the steps of a plan may end in, each by what it does.
 use Rattle.std.specs.Prelude.{◌≡◌, ◌≢◌, ◌⊎◌, ⊤, ℕ, true, List, Option, None, Some, Ok, IsSome}
+use Rattle.tm_files.specs.code.Decisions.{is_job}
+use Rattle.tm_files.specs.code.Files.{HasFault, IsFaultOf, IsRunFault}
+use Rattle.tm_files.specs.declared.fault.ToolFault.{ToolFault}
+use Rattle.tm_files.specs.declared.fault.ToolFault.TheVariants as tool
 use Rattle.tm_output.specs.declared.fault.RunFault.TheVariants.{NoMemory, Report, Write}
 use Rattle.tm_program.specs.Program.{IsInFolder}
-use Rattle.tm_program.specs.code.Decisions.{is_job}
-use Rattle.tm_program.specs.code.Files.{IsFaultOf, IsFileFault}
-use Rattle.tm_program.specs.declared.fault.ToolFault.{ToolFault}
-use Rattle.tm_program.specs.declared.fault.ToolFault.TheVariants as tool
 use Rattle.tm_settings.specs.Settings.{Rules}
 use Rattle.tm_tool.specs.Checkpoints.{resumed}
 use Rattle.tm_tool.specs.Jobs.{JobState}
 use Rattle.tm_words.specs.declared.request.Action.TheVariants.{Split}
 use Rattle.tm_words.specs.declared.request.Plan.{Plan}
-
--- there is such a file, and it can't be opened, made or written
-abbrev pub HasFault : Option (List ℕ) → ToolFault → Type 0
-HasFault None fault = ⊥
-HasFault (Some name) fault = IsFileFault name fault
 
 -- the folder of this name can't be written, an application's file in it is another file of the run, or memory is wanting
 abbrev pub IsFolderFault : List ℕ → ToolFault → Type 0
@@ -48,17 +43,7 @@ abbrev pub IsOfResumed : Plan → ToolFault → Type 0
 IsOfResumed p (tool.Checkpoint fault) = IsSome p.resume
 IsOfResumed p fault = HasReadFault p.resume fault
 
--- memory ran out
-abbrev pub IsNoMemory : ToolFault → Type 0
-IsNoMemory (tool.Run NoMemory) = ⊤
-IsNoMemory _ = ⊥
-
--- a fault of a run, or want of memory
-abbrev pub IsRunFault : ToolFault → Type 0
-IsRunFault (tool.Run fault) = ⊤
-IsRunFault _ = ⊥
-
--- likewise, or the file of this name is another file of the run
+-- a fault of a run, want of memory, or the file of this name, which is another file of the run
 abbrev pub IsOfPut : Option (List ℕ) → ToolFault → Type 0
 IsOfPut taken (tool.File name) = taken ≡ Some name
 IsOfPut taken fault = IsRunFault fault

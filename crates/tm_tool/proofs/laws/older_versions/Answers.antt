@@ -1,6 +1,6 @@
 use Rattle.std.proofs.Common.{refl, ap}
 use Rattle.std.specs.Prelude.{Result}
-use Rattle.tm_tool.specs.declared.fault.CheckpointFault.{CheckpointFault}
+use Rattle.tm_output.specs.declared.fault.CheckpointFault.{CheckpointFault}
 use Rattle.tm_tool.specs.Jobs.{JobState, head_pieces}
 use Rattle.tm_output.specs.Pieces.{text_of}
 use Rattle.tm_tool.specs.Resuming.{no_head, resumed_pieces, then_pieces}

@@ -1,6 +1,6 @@
 use Rattle.std.proofs.Common.{arith}
-use Rattle.tm_program.proofs.FileLemmas.{short_whole}
-use Rattle.tm_program.proofs.files.read_short.Goals as goal
+use Rattle.tm_files.proofs.FileLemmas.{short_whole}
+use Rattle.tm_files.proofs.files.read_short.Goals as goal
 
 pub returns-else-len-gt-MOST_OCTETS-clause-whole : goal.returns-else-len-gt-MOST_OCTETS-clause-whole
 returns-else-len-gt-MOST_OCTETS-clause-whole g c =

@@ -8,16 +8,16 @@ use Rattle.tm_fields.specs.declared.faults.DefinitionFault.{DefinitionFault}
 use Rattle.tm_fields.specs.declared.faults.DefinitionFault.TheVariants as definition
 use Rattle.tm_settings.specs.Keys.{key_name}
 use Rattle.tm_settings.specs.declared.key.Key.{Key}
-use Rattle.tm_tool.specs.declared.fault.CheckpointFault.{CheckpointFault}
-use Rattle.tm_tool.specs.declared.fault.CheckpointFault.TheVariants as checkpoint
+use Rattle.tm_output.specs.declared.fault.CheckpointFault.{CheckpointFault}
+use Rattle.tm_output.specs.declared.fault.CheckpointFault.TheVariants as checkpoint
 use Rattle.tm_settings.specs.declared.fault.SettingsFault.{SettingsFault}
 use Rattle.tm_settings.specs.declared.fault.SettingsFault.TheVariants as settings
 use Rattle.tm_output.specs.declared.fault.RunFault.{RunFault}
 use Rattle.tm_output.specs.declared.fault.RunFault.TheVariants as run
 use Rattle.tm_words.specs.declared.request.UsageFault.{UsageFault}
 use Rattle.tm_words.specs.declared.request.UsageFault.TheVariants as usage
-use Rattle.tm_program.specs.declared.fault.ToolFault.{ToolFault}
-use Rattle.tm_program.specs.declared.fault.ToolFault.TheVariants as tool
+use Rattle.tm_files.specs.declared.fault.ToolFault.{ToolFault}
+use Rattle.tm_files.specs.declared.fault.ToolFault.TheVariants as tool
 
 abbrev pub escaped_line : List ℕ → List ℕ → List ℕ → List ℕ
 escaped_line before octets after = before ++ escaped octets ++ after

@@ -2,16 +2,17 @@
 
 ghost use Rattle.std.specs.Prelude.{◌≡◌, ◌⊎◌, None, Some, false, true, IfErr, IfOk, IfSome, OnOk};
 ghost use Rattle.tm_places.specs.Places.{faults_clash};
-ghost use Rattle.tm_program.specs.code.Clashes.{checkpoint_clash, clash_of, output_clash, report_clash};
-ghost use Rattle.tm_program.specs.Program.{AreClear, beside, has_name, is_checkpoint, is_in_the_way, is_read};
-ghost use Rattle.tm_program.specs.code.Faults.{HasFault, IsNoMemory, IsRunFault};
+ghost use Rattle.tm_files.specs.code.Clashes.{checkpoint_clash, clash_of, output_clash, report_clash};
+ghost use Rattle.tm_files.specs.Names.{AreClear, beside, has_name, is_checkpoint, is_in_the_way, is_read};
+ghost use Rattle.tm_files.specs.code.Files.{HasFault, IsNoMemory, IsRunFault};
 
 use crate::decisions::{Stream, stream_fault, writes_output};
 use crate::fault::ToolFault;
 use crate::files::file_fault;
 use std::alloc::Global;
+use tm_fields::Octets;
+use tm_output::RunFault;
 use tm_places::Places;
-use tm_tool::{Octets, RunFault};
 use tm_words::Plan;
 
 /// The names of a plan were checked. Only `check_names` says so, and the report is opened by this alone: so not before.
@@ -70,7 +71,7 @@ fn is_in_the_way(plan: &Plan, name: &Octets, new_name: &Octets) -> bool
 }
 
 // The checkpoint must not take the place of a file that is read or of the report, nor the file beside it.
-#[tactic(auto, using(crate::proofs::ProgramLemmas::starved_there, crate::proofs::ProgramLemmas::fault_exactly))]
+#[tactic(auto, using(crate::proofs::FaultLemmas::starved_there, crate::proofs::FaultLemmas::fault_exactly))]
 fn check_checkpoint(alloc: Global, plan: &Plan, places: &Places) -> Result<(), ToolFault>
     ensures ok { OnOk result (IfSome plan.now.checkpoint (λ name. is_in_the_way plan.now name ≡ false)) }
     ensures refused { IfErr result (HasFault plan.now.checkpoint) }
@@ -91,7 +92,7 @@ fn check_checkpoint(alloc: Global, plan: &Plan, places: &Places) -> Result<(), T
 }
 
 // The report must not take the place of a file that is read or has a checkpoint.
-#[tactic(auto, using(crate::proofs::ProgramLemmas::fault_exactly))]
+#[tactic(auto, using(crate::proofs::FaultLemmas::fault_exactly))]
 fn check_report(alloc: Global, plan: &Plan, places: &Places) -> Result<(), ToolFault>
     ensures ok { OnOk result (IfSome plan.now.report (λ name. (is_read plan.now name ≡ false) × (is_checkpoint plan.now name ≡ false))) }
     ensures refused { IfErr result (HasFault plan.now.report) }
@@ -132,7 +133,7 @@ pub fn check_errors(places: &Places) -> Result<(), ToolFault>
 
 /// What the run writes must not take the place of what is read, nor of one another: first the checkpoint, then the report, then standard output.
 /// Two names are one file where they are the same, and where they stand for the same places.
-#[tactic(auto, using(crate::proofs::ProgramLemmas::first_none, crate::proofs::ProgramLemmas::first_then, crate::proofs::ProgramLemmas::first_here))]
+#[tactic(auto, using(crate::proofs::FaultLemmas::first_none, crate::proofs::FaultLemmas::first_then, crate::proofs::FaultLemmas::first_here))]
 pub fn check_names(alloc: Global, plan: &Plan, places: &Places) -> Result<Checked, ToolFault>
     ensures ok { OnOk result (AreClear plan.now) }
     ensures refused { IfErr result (λ fault. HasFault plan.now.report fault ⊎ HasFault plan.now.checkpoint fault ⊎ IsRunFault fault) }

@@ -1,12 +1,13 @@
 //! The line and the status of a fault.
 
 ghost use Rattle.std.specs.Prelude.{◌≡◌, IfOk};
-ghost use Rattle.tm_program.specs.FaultLines.{checkpoint_text, column_line, definition_text, escaped_line, key_line, fault_line_of, row_line, run_text, settings_text, status_of, usage_text};
+ghost use Rattle.tm_files.specs.FaultLines.{checkpoint_text, column_line, definition_text, escaped_line, key_line, fault_line_of, row_line, run_text, settings_text, status_of, usage_text};
 
 use crate::fault::{NoMemory, ToolFault};
 use std::alloc::Global;
 use tm_fields::{Column, DefinitionFault, push_escaped};
-use tm_tool::{CheckpointFault, Key, RunFault, SettingsFault};
+use tm_output::{CheckpointFault, RunFault};
+use tm_settings::{Key, SettingsFault};
 use tm_words::UsageFault;
 
 // A copy of a text.

@@ -3,10 +3,10 @@ use Rattle.std.specs.Prelude.{◌&&◌, ◌||◌, ℕ, List, Option, Some, None,
 use Rattle.tm_output.specs.declared.fault.RunFault.TheVariants as run
 use Rattle.tm_places.specs.Places.{beside_clashes, checkpoint_clashes, output_clashes, report_clashes}
 use Rattle.tm_places.specs.declared.places.Places.{Places}
-use Rattle.tm_program.specs.code.Decisions.{writes_output}
-use Rattle.tm_program.specs.Program.{is_checkpoint, is_in_the_way, is_read}
-use Rattle.tm_program.specs.declared.fault.ToolFault.{ToolFault}
-use Rattle.tm_program.specs.declared.fault.ToolFault.TheVariants as tool
+use Rattle.tm_files.specs.code.Decisions.{writes_output}
+use Rattle.tm_files.specs.Names.{is_checkpoint, is_in_the_way, is_read}
+use Rattle.tm_files.specs.declared.fault.ToolFault.{ToolFault}
+use Rattle.tm_files.specs.declared.fault.ToolFault.TheVariants as tool
 use Rattle.tm_words.specs.declared.request.Plan.{Plan}
 
 -- that of the checkpoint's file, and of the file beside it

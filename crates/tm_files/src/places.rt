@@ -2,14 +2,15 @@
 
 ghost use Rattle.std.specs.Prelude.{◌≡◌, None, false, IfErr, IfOk};
 ghost use Rattle.tm_places.specs.Place.{IsOther};
-ghost use Rattle.tm_program.specs.code.Faults.{IsNoMemory};
+ghost use Rattle.tm_files.specs.code.Files.{IsNoMemory};
 
 use crate::decisions::{Recording, Stream, recording_by, writes_errors, writes_output};
 use crate::fault::ToolFault;
 use crate::names::beside;
 use std::rt::Files;
+use tm_fields::Octets;
+use tm_output::RunFault;
 use tm_places::{Place, Places, place_of};
-use tm_tool::{Octets, RunFault};
 use tm_words::Plan;
 
 // What a path stands for.

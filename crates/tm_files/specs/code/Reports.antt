@@ -1,7 +1,7 @@
 -- Which writer takes the report, and what it holds.
 use Rattle.std.specs.Prelude.{ℕ, Bool, true, false, List, Option}
-use Rattle.tm_program.specs.declared.report.Report.{Report}
-use Rattle.tm_program.specs.declared.report.Report.TheVariants.{File, Errors}
+use Rattle.tm_files.specs.declared.report.Report.{Report}
+use Rattle.tm_files.specs.declared.report.Report.TheVariants.{File, Errors}
 
 -- the octets of the writer that it is, where that one tells them
 abbrev pub contents_of : {F E : Type 0} → (F → Option (List ℕ)) → (E → Option (List ℕ)) → Report F E → Option (List ℕ)

@@ -1,6 +1,6 @@
 //! Where the report goes.
 
-ghost use Rattle.tm_program.specs.code.Reports.{contents_of};
+ghost use Rattle.tm_files.specs.code.Reports.{contents_of};
 
 use std::io::{self, Write};
 

@@ -1,10 +1,11 @@
 //! What a plan decides of files and streams, before any is opened. The steps carry it out.
 
 ghost use Rattle.std.specs.Prelude.{◌≡◌};
-ghost use Rattle.tm_program.specs.code.Decisions.{is_job, IsDestination, IsOpening, IsRecording, stream_fault_of, writes_errors, writes_output};
+ghost use Rattle.tm_files.specs.code.Decisions.{is_job, IsDestination, IsOpening, IsRecording, stream_fault_of, writes_errors, writes_output};
 
 use crate::fault::ToolFault;
-use tm_tool::{Octets, RunFault};
+use tm_fields::Octets;
+use tm_output::RunFault;
 use tm_words::{Action, Plan};
 
 /// Where the recording comes from.

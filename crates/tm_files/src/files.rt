@@ -1,14 +1,15 @@
 //! Files that are opened by their names, and files that are read whole.
 
 ghost use Rattle.std.specs.Prelude.{◌≡◌, ◌<◌, ◌≤◌, length, vec_len, IfOk, IfErr, IfSome, MatchOption};
-ghost use Rattle.tm_program.specs.code.Files.{IsFaultOf, IsFileFault, most_octets};
+ghost use Rattle.tm_files.specs.code.Files.{IsFaultOf, IsFileFault, most_octets};
 
 use crate::fault::ToolFault;
 use std::alloc::Global;
 use std::fs::{self, File, OpenFile, OpenOptions};
 use std::io::{self, ErrorKind, Read, Write};
 use std::rt::Files;
-use tm_tool::{Octets, RunFault};
+use tm_fields::Octets;
+use tm_output::RunFault;
 
 // The octets that a file may have at the most.
 const MOST_OCTETS: usize = 1_048_576;

@@ -1,0 +1,4 @@
+pub mod Clashes
+pub mod Decisions
+pub mod Files
+pub mod Reports

@@ -1,0 +1,53 @@
+-- What a plan decides of files and streams.
+use Rattle.std.specs.Prelude.{◌≡◌, ℕ, Bool, true, false, List, Option, None, Some, is_some}
+use Rattle.tm_output.specs.declared.fault.RunFault.TheVariants as run
+use Rattle.tm_files.specs.declared.decisions.Destination.{Destination}
+use Rattle.tm_files.specs.declared.decisions.Destination.TheVariants as destination
+use Rattle.tm_files.specs.declared.decisions.Opening.{Opening}
+use Rattle.tm_files.specs.declared.decisions.Opening.TheVariants as opening
+use Rattle.tm_files.specs.declared.decisions.Recording.{Recording}
+use Rattle.tm_files.specs.declared.decisions.Recording.TheVariants as recording
+use Rattle.tm_files.specs.declared.decisions.Stream.{Stream}
+use Rattle.tm_files.specs.declared.decisions.Stream.TheVariants as stream
+use Rattle.tm_files.specs.declared.fault.ToolFault.{ToolFault}
+use Rattle.tm_files.specs.declared.fault.ToolFault.TheVariants as tool
+use Rattle.tm_words.specs.declared.request.Action.{Action}
+use Rattle.tm_words.specs.declared.request.Action.TheVariants.{Frames, Split, Summary}
+use Rattle.tm_words.specs.declared.request.Plan.{Plan}
+
+-- the recording comes from the file of exactly the name that the plan has, and from standard input exactly where it has none
+abbrev pub IsRecording : Plan → Recording → Type 0
+IsRecording p recording.Input = p.recording ≡ None
+IsRecording p (recording.File name) = p.recording ≡ Some name.now
+
+-- the report's file begins empty exactly where a new job begins, and is gone on with where a job is; it goes to standard error exactly where it has no file
+abbrev pub IsOpening : Plan → Opening → Type 0
+IsOpening p (opening.New name) = (p.report ≡ Some name.now) × (p.resume ≡ None)
+IsOpening p (opening.Behind name) = (p.report ≡ Some name.now) × (is_some p.resume ≡ true)
+IsOpening p opening.Errors = p.report ≡ None
+
+-- packets go to files of the plan's folder exactly where it splits, which are gone on with exactly where a job is
+abbrev pub IsDestination : Plan → Destination → Type 0
+IsDestination p (destination.Folder dir goes_on) = (p.action ≡ Split) × (p.dir ≡ Some dir.now) × (goes_on ≡ is_some p.resume)
+IsDestination p destination.Output = p.action ≡ Split → p.dir ≡ None
+
+-- packets or frames go to standard output
+abbrev pub writes_output : Action → Bool
+writes_output Split = false
+writes_output _ = true
+
+-- an action of a job, which has a report: all but a list of frames and a summary
+abbrev pub is_job : Action → Bool
+is_job Frames = false
+is_job Summary = false
+is_job _ = true
+
+-- the report goes to standard error
+abbrev pub writes_errors : Action → Option (List ℕ) → Bool
+writes_errors action None = is_job action
+writes_errors action (Some name) = false
+
+-- the fault of a standard stream that can't be written
+abbrev pub stream_fault_of : Stream → ToolFault
+stream_fault_of stream.Output = tool.Run run.Write
+stream_fault_of stream.Errors = tool.Run run.Report

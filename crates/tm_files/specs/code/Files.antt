@@ -1,0 +1,35 @@
+-- What a fault says of a file or of a run, and how long a file may be that is read whole.
+use Rattle.std.specs.Prelude.{◌≡◌, ⊤, ℕ, List, Option, None, Some}
+use Rattle.tm_output.specs.declared.fault.RunFault.TheVariants.{NoMemory}
+use Rattle.tm_files.specs.declared.fault.ToolFault.{ToolFault}
+use Rattle.tm_files.specs.declared.fault.ToolFault.TheVariants.{File, TooLong, Run}
+
+-- the file of this name can't be opened, made, read or written, or memory is wanting
+abbrev pub IsFileFault : List ℕ → ToolFault → Type 0
+IsFileFault name (File given) = given ≡ name
+IsFileFault name (Run NoMemory) = ⊤
+IsFileFault name _ = ⊥
+
+-- likewise, of a file that is read whole: it may be too long
+abbrev pub IsFaultOf : List ℕ → ToolFault → Type 0
+IsFaultOf name (TooLong given) = given ≡ name
+IsFaultOf name fault = IsFileFault name fault
+
+-- there is such a file, and it can't be opened, made or written
+abbrev pub HasFault : Option (List ℕ) → ToolFault → Type 0
+HasFault None fault = ⊥
+HasFault (Some name) fault = IsFileFault name fault
+
+-- memory ran out
+abbrev pub IsNoMemory : ToolFault → Type 0
+IsNoMemory (Run NoMemory) = ⊤
+IsNoMemory _ = ⊥
+
+-- a fault of a run, or want of memory
+abbrev pub IsRunFault : ToolFault → Type 0
+IsRunFault (Run fault) = ⊤
+IsRunFault _ = ⊥
+
+-- the most octets of such a file
+abbrev pub most_octets : ℕ
+most_octets = 1048576

@@ -1,0 +1,39 @@
+-- Which device a run's fault blames, and how splitting ends.
+use Rattle.std.specs.Prelude.{⊤, ℕ, Bool, true, false, List, Option, None, Some, Result, Ok, Err}
+use Rattle.tm_output.specs.Faults.{CausedByDevice, RunCaused}
+use Rattle.tm_output.specs.Outputs.{View}
+use Rattle.tm_output.specs.declared.fault.RunFault.{RunFault}
+use Rattle.tm_output.specs.declared.fault.RunFault.TheVariants as run
+use Rattle.tm_files.specs.declared.fault.ToolFault.{ToolFault}
+use Rattle.tm_files.specs.declared.fault.ToolFault.TheVariants as tool
+use Rattle.tm_shelf.specs.declared.files.ShelfFault.{ShelfFault}
+use Rattle.tm_shelf.specs.declared.files.ShelfFault.TheVariants as shelf
+
+-- A device is blamed only where a call of it failed: `Read` where the source's count of failures rose, `Write` where the drain's did, and no other count rises.
+abbrev pub IsBlamed : ℕ → ℕ → ℕ → ℕ → ToolFault → Type 0
+IsBlamed source_old source_new out_old out_new (tool.Run fault) = CausedByDevice source_old source_new out_old out_new fault
+IsBlamed source_old source_new out_old out_new _ = ⊥
+
+-- likewise, of a source and two outputs
+abbrev pub IsBlamedOf : {K : Type 0} → ℕ → ℕ → View K → View K → ToolFault → Type 0
+IsBlamedOf source_old source_new old new (tool.Run fault) = RunCaused source_old source_new old new fault
+IsBlamedOf source_old source_new old new _ = ⊥
+
+-- the fault of a put that was refused: whether memory was wanting, and else the name of its file where that is another file of the run
+abbrev pub put_fault_of : Bool → Option (List ℕ) → ToolFault
+put_fault_of true taken = tool.Run run.NoMemory
+put_fault_of false (Some name) = tool.File name
+put_fault_of false None = tool.Run run.Write
+
+-- what splitting ends with, of what its run says, of what writing says of that which was held, and of why the shelf last refused a put
+abbrev pub split_end_of : {D : Type 0} → Result D RunFault → Result ⊤ ShelfFault → Bool → Option (List ℕ) → Result D ToolFault
+split_end_of (Ok done) (Ok nothing) starved taken = Ok done
+split_end_of (Ok done) (Err shelf.NoMemory) starved taken = Err (tool.Run run.NoMemory)
+split_end_of (Ok done) (Err shelf.NotWritten) starved taken = Err (tool.Run run.Write)
+split_end_of (Ok done) (Err shelf.Taken) starved taken = Err (tool.Run run.Write)
+split_end_of (Err run.Write) written starved taken = Err (put_fault_of starved taken)
+split_end_of (Err run.Read) written starved taken = Err (tool.Run run.Read)
+split_end_of (Err run.Report) written starved taken = Err (tool.Run run.Report)
+split_end_of (Err run.ShortRecording) written starved taken = Err (tool.Run run.ShortRecording)
+split_end_of (Err run.TooMany) written starved taken = Err (tool.Run run.TooMany)
+split_end_of (Err run.NoMemory) written starved taken = Err (tool.Run run.NoMemory)

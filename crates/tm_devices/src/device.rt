@@ -1,7 +1,7 @@
 //! Where octets come from, and where they go to.
 
-ghost use Rattle.std.specs.Prelude.{◌≤◌, ℕ, List, length, Option, None, IfOk, OnOk, OnErr};
-ghost use Rattle.std.specs.Io.KnownBytes.{Keeps, ReadConsumes, WriteAppends};
+ghost use Rattle.std.specs.Prelude.{◌≡◌, ◌≤◌, ℕ, List, [], drop, length, take, Option, None, IfOk, OnOk, OnErr};
+ghost use Rattle.std.specs.Io.KnownBytes.{Consumes, Keeps, ReadConsumes, WriteAppends};
 ghost use Rattle.tm_devices.specs.Devices.{Counts, PassesOver, Puts, PutsFront, TakesSome};
 
 /// A call of a device failed.
@@ -15,6 +15,20 @@ pub trait Source {
 
     /// The octets that are left, of a device that tells them.
     ghost left: { Self → Option (List ℕ) } = { λ _. None };
+
+    /// The octets at hand: the next ones, as far as the device holds them already.
+    ghost at_hand: { Self → List ℕ } = { λ _. [] };
+
+    /// Lends the octets at hand.
+    fn at_hand(&self) -> &[u8]
+        ensures { result.now ≡ at_hand self.now };
+
+    /// Takes so many of the octets at hand. No call fails.
+    fn take_at_hand(&mut self, octets: usize)
+        requires { octets ≤ length (at_hand self.old) }
+        ensures octets { Consumes (left self.old) (left self.new) (take octets (at_hand self.old)) }
+        ensures rest { at_hand self.new ≡ drop octets (at_hand self.old) }
+        ensures counts { failures self.new ≡ failures self.old };
 
     /// Reads the next octets into the front of the buffer, and answers how many. It answers 0 for a
     /// buffer that isn't empty only at the end. A failed call reads nothing.

@@ -6,5 +6,5 @@ mod standard;
 mod transfer;
 
 pub use device::{DeviceFailed, Drain, Shelf, Source};
-pub use standard::{Reading, Seeking, Writing};
+pub use standard::{Buffered, Reading, Seeking, Writing};
 pub use transfer::{fill, put_all};

@@ -1,9 +1,10 @@
 //! Readers and writers of std as devices.
 
 ghost use Rattle.std.specs.Prelude.{◌≡◌, ◌+◌, Some, IfOk, IfSome, if◌then◌else◌};
+ghost use Rattle.std.specs.Io.Buffered.{reader_buffer};
 
 use crate::{DeviceFailed, Drain, Source};
-use std::io::{self, Read, Seek, SeekFrom, Write};
+use std::io::{self, BufRead, BufReader, Read, Seek, SeekFrom, Write};
 
 /// A reader of std. Each error of it is a failure.
 #[derive(Drop)]
@@ -27,6 +28,12 @@ impl<R: Read> Source for Reading<R> {
 
     ghost left = { λ s. R.remaining s.reader };
 
+    fn at_hand(&self) -> &[u8] {
+        &[]
+    }
+
+    fn take_at_hand(&mut self, _octets: usize) {}
+
     fn read(&mut self, buffer: &mut [u8]) -> Result<usize, DeviceFailed> {
         match self.reader.read(buffer) {
             Ok(n) => Ok(n),
@@ -38,19 +45,57 @@ impl<R: Read> Source for Reading<R> {
     }
 }
 
-/// A reader of std that can be moved, as a file: what lies ahead is passed over by a seek.
+/// A reader of std behind a buffer, which lends what it holds. Each error of it is a failure.
+#[derive(Drop)]
+pub struct Buffered<R> {
+    reading: Reading<BufReader<R>>,
+}
+
+impl<R: Read> Buffered<R> {
+    /// A source over the buffer, with no failure yet.
+    pub fn new(reader: BufReader<R>) -> Self
+        ensures left { ⟦<Buffered<R> as Source>⟧.left result ≡ ⟦<BufReader<R> as Read>⟧.remaining reader }
+        ensures failures { ⟦<Buffered<R> as Source>⟧.failures result ≡ 0 }
+    {
+        Buffered {
+            reading: Reading::new(reader),
+        }
+    }
+}
+
+impl<R: Read> Source for Buffered<R> {
+    ghost failures = { λ s. s.reading.failed };
+
+    ghost left = { λ s. ⟦<BufReader<R> as Read>⟧.remaining s.reading.reader };
+
+    ghost at_hand = { λ s. reader_buffer s.reading.reader };
+
+    fn at_hand(&self) -> &[u8] {
+        self.reading.reader.buffer()
+    }
+
+    fn take_at_hand(&mut self, octets: usize) {
+        self.reading.reader.consume(octets);
+    }
+
+    fn read(&mut self, buffer: &mut [u8]) -> Result<usize, DeviceFailed> {
+        self.reading.read(buffer)
+    }
+}
+
+/// A reader of std behind a buffer, which can be moved, as a file: what lies ahead is passed over by a seek.
 #[derive(Drop)]
 pub struct Seeking<R> {
-    reading: Reading<R>,
+    buffered: Buffered<R>,
 }
 
 impl<R: Read + Seek> Seeking<R> {
-    /// A source over the reader, with no failure yet.
-    pub fn new(reader: R) -> Self
+    /// A source over the buffer, with no failure yet.
+    pub fn new(reader: BufReader<R>) -> Self
         ensures { ⟦<Seeking<R> as Source>⟧.failures result ≡ 0 }
     {
         Seeking {
-            reading: Reading::new(reader),
+            buffered: Buffered::new(reader),
         }
     }
 }
@@ -78,17 +123,27 @@ fn moved_on<R: Seek>(reader: &mut R, octets: u64) -> io::Result<bool>
 }
 
 impl<R: Read + Seek> Source for Seeking<R> {
-    ghost failures = { λ s. s.reading.failed };
+    ghost failures = { λ s. s.buffered.reading.failed };
+
+    ghost at_hand = { λ s. reader_buffer s.buffered.reading.reader };
+
+    fn at_hand(&self) -> &[u8] {
+        self.buffered.at_hand()
+    }
+
+    fn take_at_hand(&mut self, octets: usize) {
+        self.buffered.take_at_hand(octets);
+    }
 
     fn read(&mut self, buffer: &mut [u8]) -> Result<usize, DeviceFailed> {
-        self.reading.read(buffer)
+        self.buffered.read(buffer)
     }
 
     fn pass_over(&mut self, octets: u64) -> Result<bool, DeviceFailed> {
-        match moved_on(&mut self.reading.reader, octets) {
+        match moved_on(&mut self.buffered.reading.reader, octets) {
             Ok(did) => Ok(did),
             Err(_) => {
-                self.reading.failed = self.reading.failed.saturating_add(1);
+                self.buffered.reading.failed = self.buffered.reading.failed.saturating_add(1);
                 Err(DeviceFailed)
             }
         }

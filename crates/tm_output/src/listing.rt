@@ -1,13 +1,15 @@
 //! A line for each frame of a recording.
 
-ghost use Rattle.std.specs.Prelude.{◌≡◌, ◌<◌, ◌≤◌, ◌∷◌, [], drop, length, IfOk, IfErr, OnOk, OnErr};
+ghost use Rattle.std.specs.Prelude.{◌≡◌, ◌≢◌, ◌<◌, ◌≤◌, ◌∷◌, [], drop, length, None, IfOk, IfErr, IfSome, OnOk, OnErr};
 ghost use Rattle.std.specs.Io.KnownBytes.{Appends, Keeps};
-ghost use Rattle.tm_frame.specs.Layout.{record_length_of};
+ghost use Rattle.tm_frame.specs.Layout.{most_records, record_length_of};
 ghost use Rattle.tm_output.specs.Faults.{FaultsCounted};
 ghost use Rattle.tm_output.specs.declared.fault.RunFault.TheVariants.{Write};
 ghost use Rattle.tm_output.specs.Listing.{IsListed, IsListingStop, record_line, rest_lines};
 ghost use Rattle.tm_output.specs.Outputs.{Stopped, Took, line_piece, line_pieces, octets_way};
 ghost use Rattle.tm_output.specs.Seen.{out_alone};
+ghost use Rattle.tm_output.specs.code.Listed.{NextListingStop};
+ghost use Rattle.tm_output.specs.code.Next.{EndsNext, ReadsNext};
 
 use crate::RunFault;
 use crate::lines::{put_bad, put_frame, put_short};
@@ -67,7 +69,51 @@ fn put_end<W: Drain>(
     out.flush()
 }
 
-// Lists records that are read one at a time into this buffer.
+// Lists the next record: where it is at hand as it stands there, else through this buffer. Answers how many octets are left where it is no whole one.
+fn list_next<R: Source, W: Drain>(
+    room: &mut [u8; ROOM],
+    layout: &Layout,
+    seen: u32,
+    buffer: &mut [u8],
+    recording: &mut R,
+    out: &mut W,
+) -> Result<Option<usize>, RunFault>
+    requires { length buffer.old ≡ record_length_of layout.now }
+    ensures exact { length buffer.new ≡ length buffer.old }
+    ensures listed { IfOk result (λ found. found ≡ None → (seen ≢ most_records)
+        × ReadsNext (length buffer.old) (R.left recording.old) (R.left recording.new) (λ one.
+        Took Appends (out_alone W.Drain out.old) (out_alone W.Drain out.new) (line_piece (record_line layout.now seen one) ∷ []))) }
+    ensures ended { IfOk result (λ found. IfSome found (λ count. (out.new ≡ out.old)
+        × EndsNext (length buffer.old) (R.left recording.old) (R.left recording.new) count)) }
+    ensures stopped { IfErr result (NextListingStop layout.now seen (R.left recording.old) (R.left recording.new)
+        (out_alone W.Drain out.old) (out_alone W.Drain out.new)) }
+    ensures counts { FaultsCounted (R.failures recording.old) (R.failures recording.new) (W.failures out.old) (W.failures out.new) result }
+{
+    let size = buffer.len();
+    if seen < u32::MAX && size <= recording.at_hand().len() {
+        let put = put_record(room, layout, seen, &recording.at_hand()[..size], out);
+        recording.take_at_hand(size);
+        return match put {
+            Ok(()) => Ok(None),
+            Err(_) => Err(RunFault::Write),
+        };
+    }
+    let Ok(octets) = fill(recording, buffer) else {
+        return Err(RunFault::Read);
+    };
+    if octets < size {
+        return Ok(Some(octets));
+    }
+    if seen == u32::MAX {
+        return Err(RunFault::TooMany);
+    }
+    match put_record(room, layout, seen, buffer, out) {
+        Ok(()) => Ok(None),
+        Err(_) => Err(RunFault::Write),
+    }
+}
+
+// Lists records one at a time, through this buffer where they are not at hand.
 fn list_records<R: Source, W: Drain>(
     layout: &Layout,
     buffer: &mut [u8],
@@ -85,22 +131,16 @@ fn list_records<R: Source, W: Drain>(
     let mut room = [0; ROOM];
     let mut seen = 0u32;
     loop {
-        let Ok(octets) = fill(recording, buffer) else {
-            return Err(RunFault::Read);
-        };
-        if octets < buffer.len() {
-            if let Err(_) = put_end(&mut room, seen, octets, out) {
-                return Err(RunFault::Write);
+        match list_next(&mut room, layout, seen, buffer, recording, out) {
+            Ok(None) => seen += 1,
+            Ok(Some(octets)) => {
+                if let Err(_) = put_end(&mut room, seen, octets, out) {
+                    return Err(RunFault::Write);
+                }
+                return Ok(seen);
             }
-            return Ok(seen);
+            Err(fault) => return Err(fault),
         }
-        if seen == u32::MAX {
-            return Err(RunFault::TooMany);
-        }
-        if let Err(_) = put_record(&mut room, layout, seen, buffer, out) {
-            return Err(RunFault::Write);
-        }
-        seen += 1;
     }
 }
 

@@ -27,8 +27,8 @@ use tm_files::{
 use tm_places::Places;
 use tm_shelf::{FileShelf, ShelfFault, name_in};
 use tm_tool::{
-    Command, Done, Drain, Ending, Job, Octets, Reading, RunFault, Seeking, Settings, Shelf, Source,
-    Writing, list_frames, run as run_job, split, summarize,
+    Buffered, Command, Done, Drain, Ending, Job, Octets, RunFault, Seeking, Settings, Shelf,
+    Source, Writing, list_frames, run as run_job, split, summarize,
 };
 use tm_words::{Action, Plan, plan};
 
@@ -515,7 +515,7 @@ fn run_plan<R: Files + Input + Print + AllocGlobal, E: Write + Drop>(
             check_and_run(rt, plan, inputs, source, errors)
         }
         Recording::Input => {
-            let source = Reading::new(buffered(rt.alloc(), rt.reader())?);
+            let source = Buffered::new(buffered(rt.alloc(), rt.reader())?);
             check_and_run(rt, plan, inputs, source, errors)
         }
     };

@@ -3,9 +3,11 @@
 use crate::bench::{Bench, By};
 use crate::runs::{BASE, octets_of, settings_of};
 use std::alloc::Global;
-use std::io::{self, Cursor, ErrorKind, Read, Seek, SeekFrom, Write};
+use std::io::{self, BufReader, Cursor, ErrorKind, Read, Seek, SeekFrom, Write};
 use tm_devices::fill;
-use tm_tool::{DeviceFailed, Drain, Reading, RunFault, Seeking, Source, Writing, list_frames};
+use tm_tool::{
+    Buffered, DeviceFailed, Drain, Reading, RunFault, Seeking, Source, Writing, list_frames,
+};
 
 // A frame of 24 octets with a packet of 7 octets and one of 11.
 const TWO_PACKETS: &str = "02A000001800 0064C000000055 0064C00100045555555555";
@@ -143,11 +145,27 @@ fn through_readers_and_writers(rt: HostRuntime) {
     assert!(rt; lines.as_slice() == WITH_REST_LINES.as_bytes());
 }
 
+// A buffer that holds no whole record, one, or all, so that records are read, or lent, or both.
+#[test]
+fn through_a_buffer(rt: HostRuntime) {
+    let alloc = rt.alloc();
+    let octets = octets_of(alloc, WITH_REST).expect(&rt, "octets");
+    for capacity in [7, 30, 65_536] {
+        let reader = BufReader::with_capacity(alloc, capacity, octets.as_slice());
+        let mut source = Buffered::new(reader.expect(&rt, "buffer"));
+        let mut lines = Vec::new(alloc);
+        let answer = listed(alloc, BASE, &mut source, &mut Writing::new(&mut lines));
+        assert!(rt; answer == Some(Ok(2)));
+        assert!(rt; lines.as_slice() == WITH_REST_LINES.as_bytes());
+    }
+}
+
 // The first record is passed over, and more than is left is not.
 #[test]
 fn passed_over_by_a_seek(rt: HostRuntime) {
     let octets = octets_of(rt.alloc(), WITH_REST).expect(&rt, "octets");
-    let mut source = Seeking::new(Cursor::new(octets.as_slice()));
+    let reader = BufReader::new(rt.alloc(), Cursor::new(octets.as_slice()));
+    let mut source = Seeking::new(reader.expect(&rt, "buffer"));
     let mut next = [0; 24];
     assert!(rt; source.pass_over(24) == Ok(true));
     assert!(rt; source.pass_over(1000) == Ok(false));
@@ -176,7 +194,8 @@ impl Seek for Stuck {
 
 #[test]
 fn failing_seek(rt: HostRuntime) {
-    assert!(rt; Seeking::new(Stuck).pass_over(0) == Err(DeviceFailed));
+    let reader = BufReader::new(rt.alloc(), Stuck).expect(&rt, "buffer");
+    assert!(rt; Seeking::new(reader).pass_over(0) == Err(DeviceFailed));
 }
 
 // A reader that fails.

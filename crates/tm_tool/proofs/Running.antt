@@ -29,7 +29,7 @@ use Rattle.tm_output.specs.Pieces.{Entries, Texts, noted, noted_all, piece_of, p
 use Rattle.tm_tool.specs.RecordingPieces.{Work, items_of, worked, record_pieces}
 use Rattle.tm_tool.specs.Runs.{HasRead, WantsFurther, Suffices, StopsAtRecord, IsStoppedAt, behind}
 use Rattle.tm_tool.specs.code.Stepping.{RefusesRecord, StepStopped, TakesRecord, TookRecords, work_of}
-use Rattle.tm_tool.specs.code.Taking.{Enough, HasPassed, HasStepped, HasTaken, PassingStopped, Reached, TakesBehind, TakesRecords, TakingFails, TakingRefused, TakingStopped}
+use Rattle.tm_tool.specs.code.Taking.{Enough, HasPassed, HasStepped, HasTaken, NextStopped, PassingStopped, Reached, TakesBehind, TakesRecords, TakingFails, TakingRefused, TakingStopped}
 use Rattle.tm_output.proofs.RecordLemmas.{AreRecords-append, concat-one}
 use Rattle.tm_output.proofs.PieceLemmas.{took_none, took_took}
 
@@ -230,6 +230,18 @@ module _ {V : Type 0} (takes : Work → List ℕ → V → V → Type 0) (ending
     work = taken.work;
     took = taken.took;
   }
+
+  -- the next record was not read, or not taken
+  pub taken_stopped : (refuses : Work → List ℕ → V → V → RunFault → Type 0) (first left next : Option (List ℕ)) (old now new : V) (work : Work) (failures_old failures_new : ℕ) (fault : RunFault)
+      → HasTaken (TakesRecords takes) w first left old now work → WantsFurther ending w.state.records work.state.records → work.rules ≡ w.rules
+      → NextStopped refuses work left next failures_old failures_new now new fault → TakingStopped (TakesRecords takes) refuses ending w first next failures_old failures_new old new fault
+  taken_stopped refuses first left next old now new work failures_old failures_new fault taken wanted rules (inl (fails, is, counted, same)) =
+      let short = subst (λ (r : Rules). length fails.part < record_length_of r.layout) rules fails.short in
+      let stopped = taken_read first left next old now work fails.part taken fails.octets wanted short in
+      inr (inl (subst (λ (v : V). TakingFails (TakesRecords takes) ending w first next old v) (sym same) stopped, is, counted))
+  taken_stopped refuses first left next old now new work failures_old failures_new fault taken wanted rules (inr (next_one, same)) =
+      let exact = next_one.exact ∙ ap (λ (r : Rules). record_length_of r.layout) rules in
+      inr (inr (taken_refused first left next old now work next_one.one taken next_one.octets wanted refuses new fault exact next_one.holds, same))
 
 -- ---- for a run: the pieces of records
 

@@ -15,7 +15,7 @@ mod work;
 pub use fault::NoMemory;
 pub use job::{Done, Job, run, split};
 pub use summary::summarize;
-pub use tm_devices::{DeviceFailed, Drain, Reading, Seeking, Shelf, Source, Writing};
+pub use tm_devices::{Buffered, DeviceFailed, Drain, Reading, Seeking, Shelf, Source, Writing};
 pub use tm_fields::Octets;
 pub use tm_output::{CheckpointFault, Command, Ending, RunFault, list_frames};
 pub use tm_settings::{Key, Settings, SettingsFault};

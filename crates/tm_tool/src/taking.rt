@@ -1,6 +1,6 @@
 //! The records of a recording, one by one into what takes them.
 
-ghost use Rattle.std.specs.Prelude.{◌≡◌, ◌<◌, ◌∷◌, [], ℕ, true, false, List, length, IfOk, IfErr, OnOk};
+ghost use Rattle.std.specs.Prelude.{◌≡◌, ◌<◌, ◌∷◌, [], ℕ, true, false, List, length, None, IfOk, IfErr, IfSome, OnOk};
 ghost use Rattle.tm_frame.specs.Layout.{record_length_of};
 ghost use Rattle.tm_reassembly.specs.Steps.{most_records};
 ghost use Rattle.tm_output.specs.declared.fault.RunFault.{RunFault};
@@ -8,7 +8,8 @@ ghost use Rattle.tm_output.specs.Pieces.{Entries};
 ghost use Rattle.tm_tool.specs.RecordingPieces.{Work, worked};
 ghost use Rattle.tm_tool.specs.Runs.{WantsFurther};
 ghost use Rattle.tm_tool.specs.code.Stepping.{IsGoing, work_of};
-ghost use Rattle.tm_tool.specs.code.Taking.{Enough, HasStepped, PassesRecords, TakesRecords, TakingStopped};
+ghost use Rattle.tm_tool.specs.code.Taking.{Enough, HasStepped, NextStopped, PassesRecords, TakesRecords, TakingStopped, TookNext};
+ghost use Rattle.tm_output.specs.code.Next.{EndsNext};
 
 use crate::{Ending, RunFault, Source};
 use tm_devices::fill;
@@ -91,6 +92,46 @@ fn wants_more(ending: Ending, done: u32, records: u32) -> bool
     }
 }
 
+// Takes the next record: where it is at hand as it stands there, else through this buffer. Answers how many octets are left where it is no whole one.
+fn take_next<R: Source, K: RecordTaker>(
+    reassembly: &mut Reassembly,
+    buffer: &mut [u8],
+    recording: &mut R,
+    taker: &mut K,
+) -> Result<Option<usize>, RunFault>
+    requires exact { length buffer.old ≡ record_length_of reassembly.old.rules.layout }
+    requires going { IsGoing reassembly.old }
+    ensures same { K.fixed taker.new ≡ K.fixed taker.old }
+    ensures exact { length buffer.new ≡ length buffer.old }
+    ensures took { IfOk result (λ found. found ≡ None → IsGoing reassembly.new × (reassembly.old.state.records < most_records)
+        × TookNext (K.takes (K.fixed taker.old)) (work_of reassembly.old (K.entries taker.old)) (R.left recording.old) (R.left recording.new) (K.held taker.old) (K.held taker.new) (work_of reassembly.new (K.entries taker.new))) }
+    ensures ended { IfOk result (λ found. IfSome found (λ count. (reassembly.new ≡ reassembly.old) × (taker.new ≡ taker.old)
+        × EndsNext (length buffer.old) (R.left recording.old) (R.left recording.new) count)) }
+    ensures counts { OnOk result (R.failures recording.new ≡ R.failures recording.old) }
+    ensures stopped { IfErr result (NextStopped (K.refuses (K.fixed taker.old)) (work_of reassembly.old (K.entries taker.old))
+        (R.left recording.old) (R.left recording.new) (R.failures recording.old) (R.failures recording.new) (K.held taker.old) (K.held taker.new)) }
+{
+    let size = buffer.len();
+    if size <= recording.at_hand().len() {
+        let taken = taker.take_record(reassembly, &recording.at_hand()[..size]);
+        recording.take_at_hand(size);
+        return match taken {
+            Ok(()) => Ok(None),
+            Err(fault) => Err(fault),
+        };
+    }
+    let Ok(octets) = fill(recording, buffer) else {
+        return Err(RunFault::Read);
+    };
+    if octets < size {
+        return Ok(Some(octets));
+    }
+    match taker.take_record(reassembly, buffer) {
+        Ok(()) => Ok(None),
+        Err(fault) => Err(fault),
+    }
+}
+
 // Takes the records that the ending wants, one at a time through this buffer, behind those that are done. Answers how many octets are
 // left then, of a record that is no whole one.
 pub(crate) fn take_records<R: Source, K: RecordTaker>(
@@ -120,14 +161,10 @@ pub(crate) fn take_records<R: Source, K: RecordTaker>(
         if !wants_more(ending, done, reassembly.records()) {
             return Ok(0);
         }
-        let Ok(octets) = fill(recording, buffer) else {
-            return Err(RunFault::Read);
-        };
-        if octets < buffer.len() {
-            return Ok(octets);
-        }
-        if let Err(fault) = taker.take_record(reassembly, buffer) {
-            return Err(fault);
+        match take_next(reassembly, buffer, recording, taker) {
+            Ok(None) => {}
+            Ok(Some(octets)) => return Ok(octets),
+            Err(fault) => return Err(fault),
         }
     }
 }

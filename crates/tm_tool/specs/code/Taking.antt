@@ -9,6 +9,7 @@ use Rattle.tm_output.specs.declared.fault.RunFault.TheVariants.{Read, Write, Rep
 use Rattle.tm_output.specs.declared.command.Ending.{Ending}
 use Rattle.tm_output.specs.declared.command.Ending.TheVariants.{Close, Keep, StopAfter}
 use Rattle.tm_output.specs.Records.{AreRecords}
+use Rattle.tm_output.specs.code.Next.{FailsNext, ReadsNext}
 use Rattle.tm_tool.specs.RecordingPieces.{Work, worked}
 use Rattle.tm_tool.specs.Runs.{HasEnded, HasRead, HasReadAll, WantsFurther, behind}
 
@@ -64,7 +65,20 @@ abbrev pub PassesRecords : {T : Type 0} → ℕ → ℕ → Option (List ℕ) �
 PassesRecords size count left_old left_new failures_old failures_new r =
     MatchResult r (λ _. HasPassed size count left_old left_new × (failures_new ≡ failures_old)) (PassingStopped size count left_old left_new failures_old failures_new)
 
--- ---- and those behind them are taken
+-- ---- the next record is taken
+
+-- it was taken behind this work
+abbrev pub TookNext : {V : Type 0} → (Work → List ℕ → V → V → Type 0) → Work → Option (List ℕ) → Option (List ℕ) → V → V → Work → Type 0
+TookNext takes w left_old left_new old new now =
+    ReadsNext (record_length_of w.rules.layout) left_old left_new (λ one. (now ≡ worked w (one ∷ [])) × takes w one old new)
+
+-- `Read` where the source's count rose, else it was read and not taken
+abbrev pub NextStopped : {V : Type 0} → (Work → List ℕ → V → V → RunFault → Type 0) → Work → Option (List ℕ) → Option (List ℕ) → ℕ → ℕ → V → V → RunFault → Type 0
+NextStopped refuses w left_old left_new failures_old failures_new old new fault =
+    (FailsNext (record_length_of w.rules.layout) left_old left_new × (fault ≡ Read) × (failures_new ≡ raised failures_old) × (new ≡ old))
+    ⊎ (ReadsNext (record_length_of w.rules.layout) left_old left_new (λ one. refuses w one old new fault) × (failures_new ≡ failures_old))
+
+-- ---- and those behind the ones that are done are taken
 
 -- records are taken one after the other behind this work, with `takes` of each one
 abbrev pub TakesBehind : {V : Type 0} → (Work → List ℕ → V → V → Type 0) → Work → List (List ℕ) → List (List ℕ) → V → V → Type 0

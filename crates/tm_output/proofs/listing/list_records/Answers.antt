@@ -1,29 +1,21 @@
-use Rattle.std.proofs.Common.{◌≡◌, length, take, arith, inr, subst, ◌∙◌, take_all, length-take-le}
-use Rattle.std.specs.Io.KnownBytes.{Consumes}
-use Rattle.tm_frame.specs.Layout.{record_length_of}
-use Rattle.tm_output.proofs.ListingLemmas.{stands_end, stands_end_stopped, stands_more}
+use Rattle.std.proofs.Common.{◌∙◌, arith}
+use Rattle.tm_output.proofs.ListingLemmas.{stands_end, stands_more}
 use Rattle.tm_output.proofs.listing.list_records.Goals as goal
 
-pub returns-in-Err-clause-stopped : goal.returns-in-Err-clause-stopped
-returns-in-Err-clause-stopped g c =
-    let rest = take c.in-Ok.octets c.fill.new.buffer in
-    let size : length rest ≡ c.in-Ok.octets = length-take-le c.in-Ok.octets c.fill.new.buffer c.in-Ok.ensures.bound in
-    inr (stands_end_stopped c.args.layout.now rest c.loop-octets.invariant.stands c.in-Ok.ensures.octets _ size (omega arith) (c.in-Ok.ensures.end (omega arith)) c.in-Err.ensures.stopped)
-
-pub returns-then-octets-buffer-clause-listed : goal.returns-then-octets-buffer-clause-listed
-returns-then-octets-buffer-clause-listed g c =
-    let rest = take c.in-Ok.octets c.fill.new.buffer in
-    let size : length rest ≡ c.in-Ok.octets = length-take-le c.in-Ok.octets c.fill.new.buffer c.in-Ok.ensures.bound in
-    stands_end c.args.layout.now rest c.loop-octets.invariant.stands c.in-Ok.ensures.octets _ size (omega arith) (c.in-Ok.ensures.end (omega arith)) c.in_default-put_end.ensures.took
-
-pub loop-octets-preserved : goal.loop-octets-preserved
-loop-octets-preserved g c =
-    let buffer = c.fill.new.buffer in
-    let exact : length buffer ≡ record_length_of c.args.layout.now = omega arith in
-    let read = subst (Consumes (g.R.Source.left c.loop-octets.recording) (g.R.Source.left c.fill.new.source)) (take_all c.in-Ok.octets buffer (omega arith)) c.in-Ok.ensures.octets in
+pub loop-seen-preserved : goal.loop-seen-preserved
+loop-seen-preserved g c =
+    let inv = c.loop-seen.invariant in
+    let next = (c.in-Ok-None.ensures.listed c.in-Ok-None.field-0-is).1 in
     record {
-      exact = exact;
-      stands = stands_more c.args.layout.now buffer c.loop-octets.invariant.stands read exact c.in_default-put_record.ensures.took;
-      reads = c.in-Ok.ensures.counts ∙ c.loop-octets.invariant.reads;
-      writes = c.in_default-put_record.ensures.took.counts.0 ∙ c.loop-octets.invariant.writes;
+      exact = c.in-Ok-None.ensures.exact ∙ inv.exact;
+      stands = stands_more c.args.layout.now next.one inv.stands next.octets (next.exact ∙ inv.exact) next.holds;
+      reads = c.in-Ok-None.ensures.counts.0 ∙ inv.reads;
+      writes = next.holds.counts.0 ∙ inv.writes;
     }
+
+pub returns-in-Ok-Some-clause-listed : goal.returns-in-Ok-Some-clause-listed
+returns-in-Ok-Some-clause-listed g c =
+    let (same, ended) = rw c.in-Ok-Some.field-0-is at c.in-Ok-Some.ensures.ended in
+    let stands = c.loop-seen.invariant.stands in
+    let took = rw same at c.in_default.ensures.took in
+    stands_end c.args.layout.now ended.rest stands ended.octets _ ended.left (omega (arith, ended.short, c.loop-seen.invariant.exact)) ended.end took

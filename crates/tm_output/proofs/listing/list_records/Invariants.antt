@@ -5,13 +5,13 @@ use Rattle.tm_output.specs.Seen.{out_alone}
 use Rattle.tm_output.proofs.ListingLemmas.{Stands}
 use Rattle.tm_output.proofs.listing.list_records.Given as goal
 
-abbrev pub invariant-loop-octets : goal.invariant-loop-octets
-invariant-loop-octets g l = record {
+abbrev pub invariant-loop-seen : goal.invariant-loop-seen
+invariant-loop-seen g l = record {
   exact : length l.buffer ≡ record_length_of l.layout;
   stands : Stands l.layout (g.R.Source.left l.initial.recording) (g.R.Source.left l.recording) (out_alone g.W.Drain l.initial.out) (out_alone g.W.Drain l.out) l.seen;
   reads : g.R.Source.failures l.recording ≡ g.R.Source.failures l.initial.recording;
   writes : g.W.Drain.failures l.out ≡ g.W.Drain.failures l.initial.out;
 }
 
-abbrev pub decreases-loop-octets : goal.decreases-loop-octets
-decreases-loop-octets g l = 2 ^ 32 - l.seen
+abbrev pub decreases-loop-seen : goal.decreases-loop-seen
+decreases-loop-seen g l = 2 ^ 32 - l.seen

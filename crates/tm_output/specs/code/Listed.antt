@@ -1,0 +1,21 @@
+-- Where listing the next record stops.
+use Rattle.std.specs.Prelude.{◌≡◌, ℕ, List, [], ◌∷◌, Option}
+use Rattle.std.specs.Io.KnownBytes.{Appends}
+use Rattle.tm_frame.specs.declared.layout.LayoutParts.{LayoutParts}
+use Rattle.tm_frame.specs.Layout.{most_records, record_length_of}
+use Rattle.tm_output.specs.declared.fault.RunFault.{RunFault}
+use Rattle.tm_output.specs.declared.fault.RunFault.TheVariants.{NoMemory, Read, Report, ShortRecording, TooMany, Write}
+use Rattle.tm_output.specs.Listing.{record_line}
+use Rattle.tm_output.specs.Outputs.{Stopped, View, line_piece, octets_way}
+use Rattle.tm_output.specs.code.Next.{FailsNext, ReadsNext}
+
+-- a read failed in it; it was read, and is one too many, or writing stopped in its line
+abbrev pub NextListingStop : LayoutParts → ℕ → Option (List ℕ) → Option (List ℕ) → View (Option (List ℕ)) → View (Option (List ℕ)) → RunFault → Type 0
+NextListingStop layout seen left_old left_new old new Read = FailsNext (record_length_of layout) left_old left_new × (new ≡ old)
+NextListingStop layout seen left_old left_new old new TooMany =
+    ReadsNext (record_length_of layout) left_old left_new (λ one. seen ≡ most_records) × (new ≡ old)
+NextListingStop layout seen left_old left_new old new Write =
+    ReadsNext (record_length_of layout) left_old left_new (λ one. Stopped Appends octets_way old new (line_piece (record_line layout seen one) ∷ []) Write)
+NextListingStop layout seen left_old left_new old new Report = ⊥
+NextListingStop layout seen left_old left_new old new ShortRecording = ⊥
+NextListingStop layout seen left_old left_new old new NoMemory = ⊥

@@ -1,5 +1,5 @@
 -- Packets that a sink is given, and their notes.
-use Rattle.std.proofs.Common.{◌≡◌, ◌≢◌, ◌<◌, ◌≤◌, ℕ, zero, suc, Ok, Err, Result, Option, Some, List, [], ◌∷◌, ◌++◌, length, take, refl, sym, ap, ◌∙◌, append-nil, arith}
+use Rattle.std.proofs.Common.{◌≡◌, ◌≢◌, ◌<◌, ◌≤◌, ℕ, zero, suc, Ok, Err, Result, Option, Some, List, [], ◌∷◌, ◌++◌, length, take, refl, sym, ap, subst, ◌∙◌, append-nil, arith}
 use Rattle.std.specs.Prelude.{slice_get}
 use Rattle.std.specs.List.{flat_map}
 use Rattle.std.proofs.lemmas.Bool.{eqb-true}
@@ -14,7 +14,7 @@ use Rattle.tm_items.specs.Item.{Item, Bad, MasterGap, Gap, Vca, Dropped, Packet,
 use Rattle.tm_items.specs.OnePacket.{IsOnePacket}
 use Rattle.tm_items.proofs.Reach.{reach-least}
 use Rattle.tm_output.specs.Lines.{note_lines}
-use Rattle.tm_output.specs.Pieces.{Entries, HasLine, item_line, notes_of, report_of}
+use Rattle.tm_output.specs.Pieces.{Entries, HasLine, item_line, notes_of, report_of, sent}
 use Rattle.tm_output.proofs.LineLemmas.{some_note}
 
 version_front : (octets : List ℕ) → 0 < length octets → packet_version_of (take 1 octets) ≡ packet_version_of octets
@@ -39,6 +39,17 @@ packet_not octets r fault one is refused = err_ok (sym refused ∙ is ∙ packet
 pub notes_one : (entries : Entries) (p : Sent) (notes : List Note) → sequence.notes entries (p ∷ []) ≡ notes ∷ [] → notes ≡ notes_of entries p
 unfolding notes_of
 notes_one entries p notes is = sym (ap (flat_map (λ (ns : List Note). ns)) is ∙ append-nil notes)
+
+-- of a packet that has no notes the report says nothing more than a remark
+pub no_report : (entries : Entries) (seen channel first place : ℕ) (header : Fields) (octets more : List ℕ) → header ≡ packet_header_of octets
+    → sequence.notes entries (record { channel = channel; header = header } ∷ []) ≡ [] ∷ [] → more ≡ []
+    → report_of entries (Packet seen channel first place octets) ++ more ≡ []
+unfolding report_of
+no_report entries seen channel first place header octets more is none silent =
+    let lines : note_lines seen channel (packet_header_of octets).application (notes_of entries (sent channel octets)) ≡ [] =
+    subst (λ (h : Fields). note_lines seen channel h.application (notes_of entries (record { channel = channel; header = h })) ≡ []) is
+    (sym (ap (note_lines seen channel header.application) (notes_one entries (record { channel = channel; header = header }) [] none))) in
+    ap (λ (l : List ℕ). l ++ more) lines ∙ silent
 
 pub some_front : (xs ys : List ℕ) → xs ≢ [] → xs ++ ys ≢ []
 some_front [] ys some e = some refl

@@ -1,12 +1,11 @@
-//! The printed lines. Those of records and packets are made in a room, those of notes are written after what a text holds.
+//! The printed lines. Each is made in a room, from its end to its beginning.
 
-ghost use Rattle.std.specs.Prelude.{◌≡◌, ◌+◌, ◌≤◌, ◌++◌, drop, length, OnOk, string_bytes};
+ghost use Rattle.std.specs.Prelude.{◌≡◌, ◌+◌, ◌≤◌, ◌++◌, codes, drop, length};
+ghost use Rattle.std.specs.Fmt.{decimal};
 ghost use Rattle.tm_output.specs.Lines.{bad_line, bit_text, drop_line, flags_word, frame_line, gap_line, kind_word, master_gap_line, note_line, packet_line, place_text, short_line, short_packet_line, type_word, vca_line, why_word, yes_or_no};
 
 use crate::Packet;
 use crate::room::{ROOM, end_line, put_long_number, put_number, put_text, put_word};
-use std::alloc::AllocError;
-use std::fmt::Write;
 use tm_frame::{Frame, FrameFault, Kind};
 use tm_items::Reason;
 use tm_packet::{Flags, Note, Why};
@@ -266,83 +265,116 @@ pub fn put_drop(
 }
 
 /// The line of a packet of too few bits for its fields.
-#[tactic(auto, unfolding(crate::specs::Lines::short_packet_line))]
-pub fn push_short_packet(
-    text: &mut String,
-    seen: u32,
-    channel: u8,
-    first: u32,
-    place: u16,
+pub fn put_short_packet(
+    room: &mut [u8; ROOM],
+    packet: &Packet<'_>,
     needed: u64,
     found: u64,
-) -> Result<(), AllocError>
-    ensures { OnOk result (string_bytes text.new ≡ string_bytes text.old ++ short_packet_line seen channel first place needed found) }
+) -> usize
+    ensures within { result ≤ 192 }
+    ensures line { drop result room.new ≡ short_packet_line packet.now.seen packet.now.channel packet.now.first packet.now.place needed found }
 {
-    write!(
-        text,
-        "shortpacket record={seen} channel={channel} from={first} at={place} needed={needed} found={found}\n"
-    )
+    let Packet {
+        seen,
+        channel,
+        first,
+        place,
+        ..
+    } = packet;
+    let at = end_line(room);
+    let at = put_long_number(room, at, found);
+    let at = put_text(room, at, b" found=");
+    let at = put_long_number(room, at, needed);
+    let at = put_text(room, at, b" needed=");
+    let at = put_number(room, at, u32::from(*place));
+    let at = put_text(room, at, b" at=");
+    let at = put_number(room, at, *first);
+    let at = put_text(room, at, b" from=");
+    let at = put_number(room, at, u32::from(*channel));
+    let at = put_text(room, at, b" channel=");
+    let at = put_number(room, at, *seen);
+    put_text(room, at, b"shortpacket record=")
 }
 
-fn flags_word(flags: Flags) -> &'static str
-    ensures { result.now ≡ flags_word flags }
-{
-    match flags {
-        Flags::Continuation => "continuation",
-        Flags::First => "first",
-        Flags::Last => "last",
-        Flags::Unsegmented => "unsegmented",
-    }
-}
+// ---- notes on sequence counts
 
-fn why_word(why: Why) -> &'static str
-    ensures { result.now ≡ why_word why }
+// Why a group is broken.
+fn put_why(room: &mut [u8; ROOM], end: usize, why: Why) -> usize
+    requires enough { 11 ≤ end }
+    requires within { end ≤ 192 }
+    ensures before { result ≤ end }
+    ensures most { end ≤ result + 11 }
+    ensures text { drop result room.new ≡ why_word why ++ drop end room.old }
 {
     match why {
-        Why::Gap => "gap",
-        Why::First => "first",
-        Why::Unsegmented => "unsegmented",
-        Why::Close => "end",
+        Why::Gap => put_text(room, end, b"gap"),
+        Why::First => put_text(room, end, b"first"),
+        Why::Unsegmented => put_text(room, end, b"unsegmented"),
+        Why::Close => put_text(room, end, b"end"),
     }
+}
+
+// The channel and application of a note, before what the note says of them, and the record.
+fn put_place_of_note(room: &mut [u8; ROOM], end: usize, seen: u32, channel: u8, apid: u16) -> usize
+    requires enough { 45 ≤ end }
+    requires within { end ≤ 192 }
+    ensures before { result ≤ end }
+    ensures most { end ≤ result + 45 }
+    ensures text { drop result room.new ≡ decimal seen ++ (codes " channel=" ++ (decimal channel ++ (codes " apid=" ++ (decimal apid ++ drop end room.old)))) }
+{
+    let at = put_number(room, end, u32::from(apid));
+    let at = put_text(room, at, b" apid=");
+    let at = put_number(room, at, u32::from(channel));
+    let at = put_text(room, at, b" channel=");
+    put_number(room, at, seen)
 }
 
 /// The line of a note on the sequence counts of a channel and application.
-#[tactic(auto, unfolding(crate::specs::Lines::note_line))]
-pub fn push_note(
-    text: &mut String,
-    seen: u32,
-    channel: u8,
-    apid: u16,
-    note: Note,
-) -> Result<(), AllocError>
-    ensures { OnOk result (string_bytes text.new ≡ string_bytes text.old ++ note_line seen channel apid note) }
+pub fn put_note(room: &mut [u8; ROOM], seen: u32, channel: u8, apid: u16, note: Note) -> usize
+    ensures within { result ≤ 192 }
+    ensures line { drop result room.new ≡ note_line seen channel apid note }
 {
+    let at = end_line(room);
     match note {
         Note::Gap {
             expected,
             found,
             missing,
-        } => write!(
-            text,
-            "seqgap record={seen} channel={channel} apid={apid} expected={expected} found={found} missing={missing}\n"
-        ),
-        Note::Broken { first, last, why } => {
-            let word = why_word(why);
-            write!(
-                text,
-                "broken record={seen} channel={channel} apid={apid} first={first} last={last} reason={word}\n"
-            )
+        } => {
+            let at = put_number(room, at, u32::from(missing));
+            let at = put_text(room, at, b" missing=");
+            let at = put_number(room, at, u32::from(found));
+            let at = put_text(room, at, b" found=");
+            let at = put_number(room, at, u32::from(expected));
+            let at = put_text(room, at, b" expected=");
+            let at = put_place_of_note(room, at, seen, channel, apid);
+            put_text(room, at, b"seqgap record=")
         }
-        Note::Whole { first, last } => write!(
-            text,
-            "group record={seen} channel={channel} apid={apid} first={first} last={last}\n"
-        ),
+        Note::Broken { first, last, why } => {
+            let at = put_why(room, at, why);
+            let at = put_text(room, at, b" reason=");
+            let at = put_number(room, at, u32::from(last));
+            let at = put_text(room, at, b" last=");
+            let at = put_number(room, at, u32::from(first));
+            let at = put_text(room, at, b" first=");
+            let at = put_place_of_note(room, at, seen, channel, apid);
+            put_text(room, at, b"broken record=")
+        }
+        Note::Whole { first, last } => {
+            let at = put_number(room, at, u32::from(last));
+            let at = put_text(room, at, b" last=");
+            let at = put_number(room, at, u32::from(first));
+            let at = put_text(room, at, b" first=");
+            let at = put_place_of_note(room, at, seen, channel, apid);
+            put_text(room, at, b"group record=")
+        }
         Note::Stray { count, flags } => {
-            let word = flags_word(flags);
-            write!(
-                text,
-                "stray record={seen} channel={channel} apid={apid} count={count} flag={word}\n"
-            )
+            let at = put_flags(room, at, flags);
+            let at = put_text(room, at, b" flag=");
+            let at = put_number(room, at, u32::from(count));
+            let at = put_text(room, at, b" count=");
+            let at = put_place_of_note(room, at, seen, channel, apid);
+            put_text(room, at, b"stray record=")
         }
     }
 }

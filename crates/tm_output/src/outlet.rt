@@ -1,6 +1,6 @@
 //! Where packets go: their octets into a drain or a shelf, or a line or a row for each into a drain.
 
-ghost use Rattle.std.specs.Prelude.{◌≡◌, ◌≢◌, ◌++◌, ◌==◌, [], ℕ, true, List, Option, OnOk, OnErr, IfErr, string_bytes};
+ghost use Rattle.std.specs.Prelude.{◌≡◌, ◌≢◌, ◌++◌, ◌==◌, [], ℕ, true, List, Option, OnOk, OnErr, IfErr};
 ghost use Rattle.std.specs.Io.KnownBytes.{Appends, Keeps};
 ghost use Rattle.std.proofs.KnownBytes.{Appends-nil, Appends-trans};
 ghost use Rattle.tm_items.specs.Item.{Item};
@@ -12,7 +12,7 @@ ghost use Rattle.tm_output.specs.Pieces.{HasLine, Texts, text_of};
 ghost use Rattle.tm_output.specs.code.ShelfLaws.{no_shelf, shelves_nil, shelves_trans};
 ghost use Rattle.tm_output.specs.Shelves.{Shelved, Shelves, shelf_text, shelf_way};
 
-use crate::lines::{push_short_packet, put_packet};
+use crate::lines::{put_packet, put_short_packet};
 use crate::room::{ROOM, line_in};
 use crate::{Packet, RunFault};
 use std::alloc::AllocError;
@@ -50,10 +50,15 @@ pub trait Outlet {
     /// All that is held was passed on.
     ghost passed: { Self → Type 0 };
 
-    /// Writes what the report says of a packet, behind the lines of its notes.
-    fn remark(&self, lines: &mut String, packet: &Packet<'_>) -> Result<(), AllocError>
+    /// The report says nothing of a packet behind the lines of its notes. Where it may, this is false.
+    fn is_silent(&self, packet: &Packet<'_>) -> bool
         requires { HasHeader packet.now }
-        ensures line { OnOk result (string_bytes lines.new ≡ string_bytes lines.old ++ (Self.text (Self.fixed self.now)).remark (item_with packet.now)) }
+        ensures { result ≡ true → (Self.text (Self.fixed self.now)).remark (item_with packet.now) ≡ [] };
+
+    /// Writes what the report says of a packet, behind the lines of its notes.
+    fn remark(&self, lines: &mut Vec<u8>, packet: &Packet<'_>) -> Result<(), AllocError>
+        requires { HasHeader packet.now }
+        ensures line { OnOk result (lines.new.items ≡ lines.old.items ++ (Self.text (Self.fixed self.now)).remark (item_with packet.now)) }
         ensures memory { OnErr result ((Self.text (Self.fixed self.now)).remark (item_with packet.now) ≢ []) };
 
     /// Writes what of a packet belongs here.
@@ -118,7 +123,11 @@ impl<W: Drain> Outlet for PacketOctets<'_, W> {
 
     ghost grows_trans = { Appends-trans };
 
-    fn remark(&self, _lines: &mut String, _packet: &Packet<'_>) -> Result<(), AllocError> {
+    fn is_silent(&self, _packet: &Packet<'_>) -> bool {
+        true
+    }
+
+    fn remark(&self, _lines: &mut Vec<u8>, _packet: &Packet<'_>) -> Result<(), AllocError> {
         Ok(())
     }
 
@@ -170,7 +179,11 @@ impl<W: Drain> Outlet for PacketLines<'_, W> {
 
     ghost grows_trans = { Appends-trans };
 
-    fn remark(&self, _lines: &mut String, _packet: &Packet<'_>) -> Result<(), AllocError> {
+    fn is_silent(&self, _packet: &Packet<'_>) -> bool {
+        true
+    }
+
+    fn remark(&self, _lines: &mut Vec<u8>, _packet: &Packet<'_>) -> Result<(), AllocError> {
         Ok(())
     }
 
@@ -224,7 +237,11 @@ impl<H: Shelf> Outlet for PacketShelf<'_, H> {
 
     ghost grows_trans = { shelves_trans };
 
-    fn remark(&self, _lines: &mut String, _packet: &Packet<'_>) -> Result<(), AllocError> {
+    fn is_silent(&self, _packet: &Packet<'_>) -> bool {
+        true
+    }
+
+    fn remark(&self, _lines: &mut Vec<u8>, _packet: &Packet<'_>) -> Result<(), AllocError> {
         Ok(())
     }
 
@@ -289,30 +306,22 @@ impl<W: Drain> Outlet for PacketRows<'_, '_, '_, W> {
 
     ghost grows_trans = { Appends-trans };
 
+    #[tactic(auto, unfolding(crate::specs::FieldRows::too_short))]
+    fn is_silent(&self, packet: &Packet<'_>) -> bool {
+        !self.is_wanted(&packet.header)
+    }
+
     #[tactic(auto, using(crate::proofs::LineLemmas::some_short_packet), unfolding(crate::specs::FieldRows::too_short))]
-    fn remark(&self, lines: &mut String, packet: &Packet<'_>) -> Result<(), AllocError> {
+    fn remark(&self, lines: &mut Vec<u8>, packet: &Packet<'_>) -> Result<(), AllocError> {
         let needed = self.rows.bits_needed();
         let octets = packet.octets.len();
         if !self.is_wanted(&packet.header) || octets >= needed.div_ceil(8) as usize {
             return Ok(());
         }
         let found = 8 * octets as u64;
-        let Packet {
-            seen,
-            channel,
-            first,
-            place,
-            ..
-        } = packet;
-        push_short_packet(
-            lines,
-            *seen,
-            *channel,
-            *first,
-            *place,
-            u64::from(needed),
-            found,
-        )
+        let mut room = [0; ROOM];
+        let begin = put_short_packet(&mut room, packet, u64::from(needed), found);
+        lines.extend_from_slice(line_in(&room, begin))
     }
 
     #[tactic(auto, unfolding(crate::specs::FieldRows::tabled))]

@@ -1,51 +1,66 @@
 //! Where the texts of items go.
 
-ghost use Rattle.std.specs.Prelude.{◌≡◌, ◌≢◌, ◌<◌, ◌≤◌, ◌++◌, ◌∷◌, [], drop, OnOk, OnErr, string_bytes};
+ghost use Rattle.std.specs.Prelude.{◌≡◌, ◌≢◌, ◌<◌, ◌≤◌, ◌++◌, ◌∷◌, [], drop, OnOk, OnErr};
 ghost use Rattle.std.specs.Io.KnownBytes.{Keeps};
 ghost use Rattle.tm_packet.specs.Merge as sequence;
 ghost use Rattle.tm_items.specs.Item as value;
 ghost use Rattle.tm_packet.specs.Header.{packet_header_of};
 ghost use Rattle.tm_items.specs.Sinks.{item_of};
 ghost use Rattle.tm_items.specs.OnePacket.{IsOnePacket};
-ghost use Rattle.tm_output.specs.Lines.{note_lines};
+ghost use Rattle.tm_output.specs.Lines.{note_line, note_lines};
 ghost use Rattle.tm_output.specs.Outputs.{Written};
 ghost use Rattle.tm_output.specs.Pieces.{HasLine, item_line, noted, notes_of, piece_of, unclosed_piece, unclosed_pieces};
 ghost use Rattle.tm_output.specs.code.Sinking.{Refuses, Takes};
 ghost use Rattle.tm_output.specs.Seen.{fixture, output_both};
 
-use crate::lines::{push_note, put_bad, put_drop, put_gap, put_master_gap, put_short, put_vca};
+use crate::lines::{put_bad, put_drop, put_gap, put_master_gap, put_note, put_short, put_vca};
 use crate::outlet::Outlet;
 use crate::room::{ROOM, line_in};
 use crate::{Packet, RunFault};
 use std::alloc::AllocError;
 use tm_devices::{Drain, put_all};
 use tm_items::{Item, Sink};
-use tm_packet::{Header, Notes, Tracker, Unclosed, read_header};
+use tm_packet::{Header, Note, Notes, Tracker, Unclosed, read_header};
 
 /// Writes the texts of the items that it takes. Lines are made in memory that is kept from item to item.
 #[derive(Drop)]
 pub struct Output<'a, O, V> {
     pub tracker: &'a mut Tracker,
-    pub notes: &'a mut String,
+    pub notes: &'a mut Vec<u8>,
     pub outlet: &'a mut O,
     pub report: &'a mut V,
+}
+
+// Makes the line of a note behind others.
+fn push_note(
+    lines: &mut Vec<u8>,
+    seen: u32,
+    channel: u8,
+    apid: u16,
+    note: Note,
+) -> Result<(), AllocError>
+    ensures { OnOk result (lines.new.items ≡ lines.old.items ++ note_line seen channel apid note) }
+{
+    let mut room = [0; ROOM];
+    let begin = put_note(&mut room, seen, channel, apid, note);
+    lines.extend_from_slice(line_in(&room, begin))
 }
 
 // Makes the lines of notes, one after the other.
 #[tactic(auto, using(crate::proofs::PacketLemmas::some_notes))]
 fn push_notes(
-    text: &mut String,
+    lines: &mut Vec<u8>,
     seen: u32,
     channel: u8,
     apid: u16,
     notes: &Notes,
 ) -> Result<(), AllocError>
-    ensures lines { OnOk result (string_bytes text.new ≡ string_bytes text.old ++ note_lines seen channel apid notes.now) }
+    ensures lines { OnOk result (lines.new.items ≡ lines.old.items ++ note_lines seen channel apid notes.now) }
     ensures memory { OnErr result (note_lines seen channel apid notes.now ≢ []) }
 {
     for i in 0..notes.len() {
         if let Some(note) = notes.get(i) {
-            if let Err(error) = push_note(text, seen, channel, apid, note) {
+            if let Err(error) = push_note(lines, seen, channel, apid, note) {
                 return Err(error);
             }
         }
@@ -100,52 +115,31 @@ pub fn header_in(octets: &[u8]) -> Header
     }
 }
 
-// Takes note of a packet, and makes the lines of its notes behind others. It stands apart: most packets have no notes.
-#[inline(never)]
-#[tactic(auto, using(crate::proofs::PacketLemmas::notes_one))]
-fn push_packet_notes(
-    tracker: &mut Tracker,
-    lines: &mut String,
-    seen: u32,
-    channel: u8,
-    header: Header,
-) -> Result<(), AllocError>
-    requires { channel < 8 }
-    ensures noted { tracker.new ≡ sequence.entries_after tracker.old (record { channel = channel; header = header } ∷ []) }
-    ensures lines { OnOk result (string_bytes lines.new ≡ string_bytes lines.old
-        ++ note_lines seen channel header.application (notes_of tracker.old (record { channel = channel; header = header }))) }
-    ensures memory { OnErr result (note_lines seen channel header.application (notes_of tracker.old (record { channel = channel; header = header })) ≢ []) }
-{
-    let notes = tracker.take(channel, header);
-    push_notes(lines, seen, channel, header.application(), &notes)
-}
-
 // Takes note of a packet, and makes the lines of its notes.
 #[tactic(auto, using(crate::proofs::PacketLemmas::notes_one))]
 fn note_packet(
     tracker: &mut Tracker,
-    lines: &mut String,
+    lines: &mut Vec<u8>,
     seen: u32,
     channel: u8,
     header: Header,
 ) -> Result<(), AllocError>
     requires { channel < 8 }
     ensures noted { tracker.new ≡ sequence.entries_after tracker.old (record { channel = channel; header = header } ∷ []) }
-    ensures lines { OnOk result (string_bytes lines.new
+    ensures lines { OnOk result (lines.new.items
         ≡ note_lines seen channel header.application (notes_of tracker.old (record { channel = channel; header = header }))) }
     ensures memory { OnErr result (note_lines seen channel header.application (notes_of tracker.old (record { channel = channel; header = header })) ≢ []) }
 {
     lines.clear();
-    if tracker.take_without_notes(channel, header) {
-        return Ok(());
-    }
-    push_packet_notes(tracker, lines, seen, channel, header)
+    let notes = tracker.take(channel, header);
+    push_notes(lines, seen, channel, header.application(), &notes)
 }
 
 impl<O: Outlet, V: Drain> Output<'_, O, V> {
-    // Takes a packet.
+    // Takes a packet of which the report may say something. It stands apart, since of most packets the report says nothing.
+    #[inline(never)]
     #[tactic(auto, unfolding(crate::specs::Pieces::report_of, crate::specs::Pieces::noted))]
-    fn put_packet(
+    fn put_reported(
         &mut self,
         seen: u32,
         channel: u8,
@@ -178,8 +172,47 @@ impl<O: Outlet, V: Drain> Output<'_, O, V> {
         if let Err(fault) = self.outlet.put(&packet) {
             return Err(fault);
         }
-        if let Err(_) = put_all(self.report, self.notes.as_bytes()) {
+        if let Err(_) = put_all(self.report, self.notes.as_slice()) {
             return Err(RunFault::Report);
+        }
+        Ok(())
+    }
+
+    // Takes a packet.
+    #[inline(always)]
+    #[tactic(auto, unfolding(crate::specs::Pieces::noted))]
+    fn put_packet(
+        &mut self,
+        seen: u32,
+        channel: u8,
+        first: u32,
+        place: u16,
+        octets: &[u8],
+    ) -> Result<(), RunFault>
+        requires channel { channel < 8 }
+        requires packet { IsOnePacket octets.now }
+        ensures same { fixture O.Outlet self.new ≡ fixture O.Outlet self.old }
+        ensures noted { self.new.tracker.now ≡ noted self.old.tracker.now (value.Packet seen channel first place octets.now) }
+        ensures written { Written O.grows O.way (output_both O.Outlet V.Drain self.old) (output_both O.Outlet V.Drain self.new)
+            (piece_of (O.text (O.fixed self.old.outlet.now)) self.old.tracker.now (value.Packet seen channel first place octets.now) ∷ []) result }
+    {
+        let header = header_in(octets);
+        let packet = Packet {
+            seen,
+            channel,
+            first,
+            place,
+            header,
+            octets,
+        };
+        if !self.outlet.is_silent(&packet) {
+            return self.put_reported(seen, channel, first, place, octets);
+        }
+        if !self.tracker.take_without_notes(channel, header) {
+            return self.put_reported(seen, channel, first, place, octets);
+        }
+        if let Err(fault) = self.outlet.put(&packet) {
+            return Err(fault);
         }
         Ok(())
     }
@@ -202,7 +235,7 @@ impl<O: Outlet, V: Drain> Output<'_, O, V> {
     }
 
     // Writes the line of a group that is open at a closed end.
-    #[tactic(auto, using(crate::proofs::LineLemmas::some_note), unfolding(crate::specs::Pieces::unclosed_piece))]
+    #[tactic(auto, unfolding(crate::specs::Pieces::unclosed_piece))]
     fn put_unclosed(&mut self, seen: u32, unclosed: Unclosed) -> Result<(), RunFault>
         requires { unclosed.key < 16384 }
         ensures same { fixture O.Outlet self.new ≡ fixture O.Outlet self.old }
@@ -210,13 +243,11 @@ impl<O: Outlet, V: Drain> Output<'_, O, V> {
         ensures written { Written O.grows O.way (output_both O.Outlet V.Drain self.old) (output_both O.Outlet V.Drain self.new)
             (unclosed_piece seen unclosed ∷ []) result }
     {
-        self.notes.clear();
         let channel = (unclosed.key / 2048) as u8;
         let apid = unclosed.key % 2048;
-        if let Err(_) = push_note(self.notes, seen, channel, apid, unclosed.note) {
-            return Err(RunFault::NoMemory);
-        }
-        if let Err(_) = put_all(self.report, self.notes.as_bytes()) {
+        let mut room = [0; ROOM];
+        let begin = put_note(&mut room, seen, channel, apid, unclosed.note);
+        if let Err(_) = put_all(self.report, line_in(&room, begin)) {
             return Err(RunFault::Report);
         }
         Ok(())
@@ -266,6 +297,8 @@ impl<O: Outlet, V: Drain> Sink for Output<'_, O, V> {
     ghost refuses = { Refuses O.grows O.text O.way (fixture O.Outlet) (λ s. s.tracker.now)
         (output_both O.Outlet V.Drain) };
 
+    // Of each call the compiler knows what kind of item is given, so what of this is not of that kind falls away there.
+    #[inline(always)]
     fn take(&mut self, item: Item<'_>) -> Result<(), RunFault> {
         match item {
             Item::Packet {

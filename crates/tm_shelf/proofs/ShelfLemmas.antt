@@ -3,8 +3,8 @@ use Rattle.std.proofs.Common.{◌≡◌, ◌+◌, ◌++◌, ◌∙◌, ℕ, List
 use Rattle.std.specs.Prelude.{◌⊎◌, OnOk, length, option_map, slice_get}
 use Rattle.std.proofs.lemmas.Option.{slice_get-map}
 use Rattle.tm_devices.specs.Devices.{PutsFront}
-use Rattle.tm_shelf.specs.code.Buffers.{AreEmpty, IsExtended}
-use Rattle.tm_shelf.specs.Shelves.{HoldsNone, IsAdded, buffer_octets}
+use Rattle.tm_shelf.specs.code.Buffers.{AreEmpty, IsDrained, IsExtended}
+use Rattle.tm_shelf.specs.Shelves.{HoldsNone, IsAdded, IsEmptied, buffer_octets}
 
 pub none_put : (new : Option (ℕ → List ℕ)) (application : ℕ) (octets : List ℕ) → PutsFront None new application octets
 none_put new application octets = ([], octets, refl, λ some. some, tt)
@@ -26,14 +26,23 @@ module _ {Z : Type 0} where
     λ other is_other. seen new other ∙ ap (option_map (λ octets. octets.items)) (is.1 other is_other) ∙ sym (seen old other),
   )
 
+  drained_seen : (old new : List (Vec ℕ Z)) (application : ℕ) → IsDrained old new application → IsEmptied (buffer_octets old) (buffer_octets new) application
+  drained_seen old new application is = (
+    seen new application ∙ is.0,
+    λ other is_other. seen new other ∙ ap (option_map (λ octets. octets.items)) (is.1 other is_other) ∙ sym (seen old other),
+  )
+
   -- likewise, where a call may fail
   pub none_of_call : {X Y : Type 0} (r : Result X Y) (buffers : List (Vec ℕ Z)) → OnOk r (AreEmpty buffers) → OnOk r (HoldsNone (buffer_octets buffers))
   none_of_call (Ok value) buffers empty = none_seen buffers empty
   none_of_call (Err fault) buffers empty = tt
 
   pub put_seen : {X Y : Type 0} (r : Result X Y) (old new : List (Vec ℕ Z)) (application : ℕ) (added : List ℕ) (before after : ℕ)
-      → OnOk r ((IsExtended old new application added × (after ≡ before + length added)) ⊎ AreEmpty new)
-      → OnOk r ((IsAdded (buffer_octets old) (buffer_octets new) application added × (after ≡ before + length added)) ⊎ HoldsNone (buffer_octets new))
+      → OnOk r (((IsExtended old new application added ⊎ IsDrained old new application) × (after ≡ before + length added)) ⊎ AreEmpty new)
+      → OnOk r (((IsAdded (buffer_octets old) (buffer_octets new) application added ⊎ IsEmptied (buffer_octets old) (buffer_octets new) application)
+      × (after ≡ before + length added)) ⊎ HoldsNone (buffer_octets new))
   put_seen (Ok value) old new application added before after h =
-      ⊎_elim (λ extended. inl (added_seen old new application added extended.0, extended.1)) (λ empty. inr (none_seen new empty)) h
+      ⊎_elim
+      (λ some. inl (⊎_elim (λ extended. inl (added_seen old new application added extended)) (λ drained. inr (drained_seen old new application drained)) some.0, some.1))
+      (λ empty. inr (none_seen new empty)) h
   put_seen (Err fault) old new application added before after h = tt

@@ -12,7 +12,7 @@ pub record ShelfState : Type 0 where
   pub begun : List Bool
   -- for each application the octets that are not written yet
   pub held : List (List ℕ)
-  -- how many octets came to be held since all that was held was last written
+  -- how many octets came since all that was held was last written
   pub octets : ℕ
   -- how many puts were refused, up to 2^64 - 1
   pub refused : ℕ
@@ -35,4 +35,10 @@ HoldsNone held = (application : ℕ) → application < 2048 → slice_get held a
 abbrev pub IsAdded : List (List ℕ) → List (List ℕ) → ℕ → List ℕ → Type 0
 IsAdded old new application added =
     (slice_get new application ≡ option_map (λ octets. octets ++ added) (slice_get old application))
+    × ((other : ℕ) → other ≢ application → slice_get new other ≡ slice_get old other)
+
+-- nothing is held of this application, and of the others the same as before
+abbrev pub IsEmptied : List (List ℕ) → List (List ℕ) → ℕ → Type 0
+IsEmptied old new application =
+    (slice_get new application ≡ Some [])
     × ((other : ℕ) → other ≢ application → slice_get new other ≡ slice_get old other)

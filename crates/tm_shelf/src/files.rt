@@ -2,7 +2,7 @@
 
 ghost use Rattle.std.specs.Prelude.{◌≡◌, ◌≢◌, ◌<◌, ◌+◌, ◌++◌, ◌⊎◌, ℕ, [], None, Some, true, false, length, vec_len, slice_get, string_bytes, replicate, IfErr, IfOk, MatchResult, OnOk};
 ghost use Rattle.tm_devices.specs.Devices.{Counts};
-ghost use Rattle.tm_shelf.specs.code.Buffers.{AreEmpty, IsExtended};
+ghost use Rattle.tm_shelf.specs.code.Buffers.{AreEmpty, IsDrained, IsExtended};
 ghost use Rattle.tm_shelf.specs.ShelfFaults.{is_starving, taken_by};
 ghost use Rattle.tm_shelf.specs.Names.{file_in};
 ghost use Rattle.tm_shelf.specs.code.Files.{IsClear};
@@ -16,8 +16,11 @@ use tm_places::{Place, Places, is_any, place_of, place_of_file};
 // So many applications there are.
 const APPLICATIONS: usize = 2048;
 
-// So many octets are held at the most before they are written.
+// So many octets come at the most before all that is held is written.
 const MOST_HELD: usize = 8_388_608;
+
+// So many octets of one application are written, and not held: so they are written while they are still in the processor's cache.
+const MANY_OF_ONE: usize = 65_536;
 
 /// Why octets don't come to their file.
 #[derive(Clone, Copy, Debug, PartialEq, Eq)]
@@ -122,27 +125,47 @@ impl<R: Files + AllocGlobal> Folder<'_, R> {
         }
     }
 
-    // Writes what is held of an application behind what its file has, and holds it no more.
-    fn write_one(&self, application: usize, held: &mut Vec<u8>) -> Result<(), ShelfFault>
+    // Writes what is held of an application behind what its file has, and then these octets. None is held any more.
+    fn write_one(
+        &self,
+        application: usize,
+        held: &mut Vec<u8>,
+        octets: &[u8],
+    ) -> Result<(), ShelfFault>
         ensures { OnOk result (held.new.items ≡ []) }
     {
         let mut file = self.open(application)?;
         let written = file.write_all(held.as_slice());
         held.clear();
-        match written {
-            Ok(()) => Ok(()),
-            Err(_) => Err(ShelfFault::NotWritten),
+        if written.is_err() || file.write_all(octets).is_err() {
+            return Err(ShelfFault::NotWritten);
         }
+        Ok(())
     }
 
-    // Likewise, where anything is held.
+    // Writes what is held of an application, if anything is.
     fn write_any(&self, application: usize, held: &mut Vec<u8>) -> Result<(), ShelfFault>
         ensures { OnOk result (held.new.items ≡ []) }
     {
         if held.is_empty() {
             return Ok(());
         }
-        self.write_one(application, held)
+        self.write_one(application, held, &[])
+    }
+
+    // Holds octets of an application behind those that are held, or writes all of these where they are many.
+    fn add(&self, held: &mut [Vec<u8>], application: usize, octets: &[u8]) -> Result<(), ShelfFault>
+        requires { application < length held.now }
+        ensures { OnOk result (IsExtended held.old held.new application octets.now ⊎ IsDrained held.old held.new application) }
+    {
+        let own = &mut held[application];
+        if own.len().saturating_add(octets.len()) >= MANY_OF_ONE {
+            return self.write_one(application, own, octets);
+        }
+        match own.extend_from_slice(octets) {
+            Ok(()) => Ok(()),
+            Err(_) => Err(ShelfFault::NoMemory),
+        }
     }
 
     // Writes what is held of all applications. Where a file can't be written the others still are.
@@ -172,18 +195,6 @@ fn none_held(alloc: Global) -> Result<Vec<Vec<u8>>, AllocError>
         held.push(Vec::new(alloc))?;
     }
     Ok(held)
-}
-
-// Holds octets behind those that are held of an application.
-fn add(held: &mut [Vec<u8>], application: usize, octets: &[u8]) -> Result<(), ShelfFault>
-    requires { application < length held.now }
-    ensures added { OnOk result (IsExtended held.old held.new application octets.now) }
-    ensures refused { IfErr result (λ fault. fault ≡ ShelfFault.NoMemory) }
-{
-    match held[application].extend_from_slice(octets) {
-        Ok(()) => Ok(()),
-        Err(_) => Err(ShelfFault::NoMemory),
-    }
 }
 
 /// The files of a folder, with what is not written yet. Octets are held in memory and written from time to time, with one file open at a time.
@@ -273,19 +284,20 @@ impl<'a, R: Files + AllocGlobal> HeldFiles<'a, R> {
         self.folder.write_all(self.held.as_mut_slice())
     }
 
-    // Holds octets of an application, whose file is made at the first, and writes what is held where that is much.
+    // Holds octets of an application, or writes them. Its file is made at the first. All that is held is written where much came since it last was.
     fn hold(&mut self, application: usize, octets: &[u8]) -> Result<(), ShelfFault>
         requires { application < 2048 }
         ensures begun { OnOk result (slice_get self.new.begun.items application ≡ Some true) }
         ensures others { (other : ℕ) → other ≢ application → slice_get self.new.begun.items other ≡ slice_get self.old.begun.items other }
-        ensures held { OnOk result ((IsExtended self.old.held.items self.new.held.items application octets.now × (self.new.octets ≡ self.old.octets + length octets.now))
-            ⊎ AreEmpty self.new.held.items) }
+        ensures held { OnOk result (((IsExtended self.old.held.items self.new.held.items application octets.now ⊎ IsDrained self.old.held.items self.new.held.items application)
+            × (self.new.octets ≡ self.old.octets + length octets.now)) ⊎ AreEmpty self.new.held.items) }
         ensures few { OnOk result (self.new.octets < 8388608) }
         ensures same { (self.new.folder ≡ self.old.folder) × (self.new.refused ≡ self.old.refused) × (self.new.starved ≡ self.old.starved) × (self.new.taken ≡ self.old.taken) }
     {
         let begun = &mut self.begun[application];
         self.folder.begin_once(application, begun, &mut self.made)?;
-        add(self.held.as_mut_slice(), application, octets)?;
+        let held = self.held.as_mut_slice();
+        self.folder.add(held, application, octets)?;
         self.octets = self.octets.saturating_add(octets.len());
         if self.octets < MOST_HELD {
             return Ok(());
@@ -297,8 +309,8 @@ impl<'a, R: Files + AllocGlobal> HeldFiles<'a, R> {
     pub fn put(&mut self, application: usize, octets: &[u8]) -> Result<(), ShelfFault>
         ensures begun { OnOk result (slice_get self.new.begun.items application ≡ Some true) }
         ensures others { (other : ℕ) → other ≢ application → slice_get self.new.begun.items other ≡ slice_get self.old.begun.items other }
-        ensures held { OnOk result ((IsExtended self.old.held.items self.new.held.items application octets.now × (self.new.octets ≡ self.old.octets + length octets.now))
-            ⊎ AreEmpty self.new.held.items) }
+        ensures held { OnOk result (((IsExtended self.old.held.items self.new.held.items application octets.now ⊎ IsDrained self.old.held.items self.new.held.items application)
+            × (self.new.octets ≡ self.old.octets + length octets.now)) ⊎ AreEmpty self.new.held.items) }
         ensures few { OnOk result (self.new.octets < 8388608) }
         ensures same { self.new.folder ≡ self.old.folder }
         ensures counts { Counts self.old.refused self.new.refused result }

@@ -3,7 +3,7 @@
 ghost use Rattle.std.specs.Prelude.{◌≡◌, ◌≢◌, ◌<◌, ◌+◌, ◌⊎◌, ℕ, None, Some, true, false, length, slice_get, replicate, IfOk, MatchResult, OnErr, OnOk};
 ghost use Rattle.tm_devices.specs.Devices.{Counts, Puts, PutsFront};
 ghost use Rattle.tm_shelf.specs.ShelfFaults.{is_starving, taken_by};
-ghost use Rattle.tm_shelf.specs.Shelves.{HoldsNone, IsAdded};
+ghost use Rattle.tm_shelf.specs.Shelves.{HoldsNone, IsAdded, IsEmptied};
 
 use crate::files::{HeldFiles, ShelfFault};
 use std::alloc::AllocError;
@@ -105,7 +105,8 @@ impl<R: Files + AllocGlobal> Shelf for FileShelf<'_, R> {
         ensures taken { MatchResult result (λ _. self.new.taken ≡ self.old.taken) (λ fault. self.new.taken ≡ taken_by application fault) }
         ensures begun { OnOk result (slice_get self.new.begun application ≡ Some true) }
         ensures others { (other : ℕ) → other ≢ application → slice_get self.new.begun other ≡ slice_get self.old.begun other }
-        ensures held { OnOk result ((IsAdded self.old.held self.new.held application octets.now × (self.new.octets ≡ self.old.octets + length octets.now)) ⊎ HoldsNone self.new.held) }
+        ensures held { OnOk result (((IsAdded self.old.held self.new.held application octets.now ⊎ IsEmptied self.old.held self.new.held application)
+            × (self.new.octets ≡ self.old.octets + length octets.now)) ⊎ HoldsNone self.new.held) }
         ensures few { OnOk result (self.new.octets < 8388608) }
         ensures same { (self.new.folder ≡ self.old.folder) × (self.new.goes_on ≡ self.old.goes_on) × (self.new.places ≡ self.old.places) }
     {

@@ -164,11 +164,11 @@ fn take_all<R: Source, O: Outlet, V: Drain>(
     })
 }
 
-// What notes are made with: the sequence counts, and a text for the lines of an item.
+// What notes are made with: the sequence counts, and room for the lines of an item.
 #[derive(Drop)]
 struct Noting {
     tracker: Tracker,
-    lines: String,
+    lines: Vec<u8>,
 }
 
 // The same, into an outlet and a report.
@@ -282,7 +282,7 @@ pub fn run_to_end<R: Source, O: Outlet, V: Drain>(
     } = work;
     let mut noting = Noting {
         tracker,
-        lines: String::new(alloc),
+        lines: Vec::new(alloc),
     };
     match take_all_into(
         reassembly,

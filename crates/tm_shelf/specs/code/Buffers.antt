@@ -15,3 +15,9 @@ module _ {Z : Type 0} where
   IsExtended old new application added =
       (option_map (λ octets. octets.items) (slice_get new application) ≡ option_map (λ octets. octets.items ++ added) (slice_get old application))
       × ((other : ℕ) → other ≢ application → slice_get new other ≡ slice_get old other)
+
+  -- that of this application is empty, and the others are as before
+  abbrev pub IsDrained : List (Vec ℕ Z) → List (Vec ℕ Z) → ℕ → Type 0
+  IsDrained old new application =
+      (option_map (λ octets. octets.items) (slice_get new application) ≡ Some [])
+      × ((other : ℕ) → other ≢ application → slice_get new other ≡ slice_get old other)

@@ -1,20 +1,18 @@
-use Rattle.std.proofs.Common.{inr, refl}
+use Rattle.std.proofs.Common.{refl, sym, subst}
+use Rattle.std.specs.Io.KnownBytes.{Appends}
 use Rattle.std.proofs.KnownBytes.{Appends-nil}
-use Rattle.tm_output.specs.Pieces.{report_of}
-use Rattle.tm_output.proofs.PacketLemmas.{some_front, some_back}
-use Rattle.tm_output.proofs.PieceLemmas.{no_room, stopped_put}
+use Rattle.tm_output.proofs.PacketLemmas.{no_report}
+use Rattle.tm_output.proofs.PieceLemmas.{stopped_put, took_piece}
 use Rattle.tm_output.proofs.output.Output.put_packet.Goals as goal
 
 pub returns-in-Err-clause-written : goal.returns-in-Err-clause-written
-unfolding report_of
 returns-in-Err-clause-written g c =
-    no_room g.O.Outlet.grows g.met.O.Outlet.grows_nil g.met.O.Outlet.grows_trans _ _ _ (inr (some_front _ _ (rw c.header_in-header.ensures at c.in-Err.ensures.memory)))
+    stopped_put g.O.Outlet.grows g.met.O.Outlet.grows_nil g.met.O.Outlet.grows_trans g.O.Outlet.way _ _ _ c.in-Err.fault c.in-Err.ensures.stopped (Appends-nil _) refl
 
-pub returns-in-Err-remark-clause-written : goal.returns-in-Err-remark-clause-written
-unfolding report_of
-returns-in-Err-remark-clause-written g c =
-    no_room g.O.Outlet.grows g.met.O.Outlet.grows_nil g.met.O.Outlet.grows_trans _ _ _ (inr (some_back _ _ c.in-Err-remark.ensures.memory))
-
-pub returns-in-Err-put-clause-written : goal.returns-in-Err-put-clause-written
-returns-in-Err-put-clause-written g c =
-    stopped_put g.O.Outlet.grows g.met.O.Outlet.grows_nil g.met.O.Outlet.grows_trans g.O.Outlet.way _ _ _ c.in-Err-put.fault c.in-Err-put.ensures.stopped (Appends-nil _) refl
+pub returns-clause-written : goal.returns-clause-written
+returns-clause-written g c =
+    let report = g.V.Drain.written c.args.self.now.report.now in
+    let none = no_report c.args.self.now.tracker.now c.args.seen c.args.channel c.args.first c.args.place c.header_in-header.result c.args.octets.now _
+    c.header_in-header.ensures (c.take_without_notes.ensures.none.0 c.if-not-take_without_notes.false) (c.is_silent.ensures c.if-not-is_silent.false) in
+    let whole = c.in_default.ensures.whole in
+    took_piece g.O.Outlet.grows _ _ _ whole.0 (subst (Appends report report) (sym none) (Appends-nil report)) (whole.1, refl)

@@ -44,6 +44,7 @@ faults() {
     memory_faults
     long_words
     repeated
+    many_applications
     wide_recording
     wide_row
     wide_packet
@@ -340,14 +341,42 @@ END
     ); then ok "long words with little memory: $said"; else no "long words with little memory: $said"; fi
 }
 
-# A recording 200 times over: packets that there is no memory to hold, and rows that aren't held.
+# A recording 200 times over: files that are written when they have much, so that little is held, and rows that aren't held.
 repeated() {
+    local file
     for _ in $(seq 200); do cat "$rec"; done >many.rec
-    gives "split with no memory to hold its packets" 3 "tmx: out of memory" "ulimit -v 8192; $split --report r many.rec"
+    rm -rf split
+    mkdir split
+    gives "split of 14 MB with 8 MiB" 0 "" "ulimit -v 8192; $split --report r many.rec"
+    tell "split of 14 MB with 8 MiB: each file 200 times over" "$(
+        for file in expected/split/*; do
+            for _ in $(seq 200); do cat "$file"; done | cmp - "split/${file##*/}" 2>&1
+        done
+    )"
     gives "50,200 rows with 6 MiB" 0 "" \
         "ulimit -v 6144; $tmx fields --settings $s --definition $example/attitude.csv --apid 100 --report r many.rec"
     tell "50,200 rows with 6 MiB: all of them, behind the head" "$([ "$(wc -l <out)" = 50201 ] || wc out)"
     rm many.rec
+}
+
+# Two packets of 2,042 octets for each of 2,047 applications: each file has little, and all together is much to hold.
+many_applications() {
+    local split="$tmx split --settings many.toml --dir split --report r many.rec"
+    settings many.toml 5 2048 false 'secondary = "never"' 'ocf = "never"'
+    python3 - <<'END'
+with open("many.rec", "wb") as file:
+    for seen in range(4094):
+        head = 5 << 36 | seen % 256 << 24 | seen % 256 << 16
+        file.write(head.to_bytes(6, "big") + bytes([seen % 2047 >> 8, seen % 2047 % 256, 0xC0 | seen // 2047 >> 8, seen // 2047]))
+        file.write((2035).to_bytes(2, "big") + bytes([seen % 251]) * 2036)
+END
+    python3 "$here/reference.py" expect many.toml many.rec many
+    rm -rf split
+    mkdir split
+    gives "split with no memory to hold its packets" 3 "tmx: out of memory" "ulimit -v 8192; $split"
+    gives "split to 2,047 files" 0 "" "$split"
+    tell "split to 2,047 files: all of it" "$(diff -r many/split split 2>&1)"
+    rm -rf many many.rec
 }
 
 # A thousand fields that each are nearly all of the longest packet: a row of 262 MB.

@@ -1,1 +1,4 @@
-pub mod Reach
+pub mod Reaching
+pub mod Headers
+pub mod Spans
+pub mod Leads

@@ -3,3 +3,4 @@ pub mod Reasons
 pub mod OnePacket
 pub mod Sinks
 pub mod Among
+pub mod code

@@ -1,9 +1,7 @@
-//! What is reported of records, and who takes it.
+//! What is reported of records.
 
-ghost use Rattle.std.specs.Prelude.{◌≡◌, IfErr, OnOk};
+ghost use Rattle.std.specs.Prelude.{◌≡◌};
 ghost use Rattle.tm_items.specs.Reasons.{reason_word};
-ghost use Rattle.tm_items.specs.Item as value;
-ghost use Rattle.tm_items.specs.Sinks.{item_of, ItemFits};
 
 use tm_frame::FrameFault;
 
@@ -97,22 +95,4 @@ pub enum Item<'a> {
         seen: u32,
         octets: u32,
     },
-}
-
-/// Takes items one by one.
-pub trait Sink {
-    /// Why an item is refused.
-    type Fault;
-
-    /// The sink may take the item, and is `new` then.
-    ghost takes: { Self → value.Item → Self → Type 0 };
-
-    /// The sink may refuse the item with this fault, and is `new` then.
-    ghost refuses: { Self → value.Item → Self.Fault → Self → Type 0 };
-
-    /// Takes an item, or refuses it. Its channel is at most 7, and a packet's octets are one whole packet of version 0.
-    fn take(&mut self, item: Item<'_>) -> Result<(), Self::Fault>
-        requires fits { ItemFits (item_of item) }
-        ensures taken { OnOk result (takes self.old (item_of item.entry) self.new) }
-        ensures refused { IfErr result (λ fault. refuses self.old (item_of item.entry) fault self.new) };
 }

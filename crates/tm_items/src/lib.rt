@@ -2,5 +2,9 @@
 #![tactic(auto)]
 
 mod items;
+mod packets;
+mod sink;
 
-pub use items::{Item, Reason, Sink};
+pub use items::{Item, Reason};
+pub use packets::reach;
+pub use sink::Sink;

@@ -9,3 +9,4 @@ pub mod OpenGroups
 pub mod RowLemmas
 pub mod ShelfLemmas
 pub mod RoomLemmas
+pub mod SpanLemmas

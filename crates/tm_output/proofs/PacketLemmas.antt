@@ -12,12 +12,12 @@ use Rattle.tm_packet.specs.Merge.{Sent}
 use Rattle.tm_packet.proofs.HeaderLemmas.{reading_ok}
 use Rattle.tm_items.specs.Item.{Item, Bad, MasterGap, Gap, Vca, Dropped, Packet, Short}
 use Rattle.tm_items.specs.OnePacket.{IsOnePacket}
-use Rattle.tm_items.proofs.Reach.{reach-least}
+use Rattle.tm_items.proofs.Reaching.{reach-least}
 use Rattle.tm_output.specs.Lines.{note_lines}
 use Rattle.tm_output.specs.Pieces.{Entries, HasLine, item_line, notes_of, report_of, sent}
 use Rattle.tm_output.proofs.LineLemmas.{some_note}
 
-version_front : (octets : List ℕ) → 0 < length octets → packet_version_of (take 1 octets) ≡ packet_version_of octets
+pub version_front : (octets : List ℕ) → 0 < length octets → packet_version_of (take 1 octets) ≡ packet_version_of octets
 version_front [] some = absurd (omega arith)
 version_front (x ∷ xs) some =
     part-word 1 (x ∷ []) 0 3 (omega arith) (omega arith) (omega arith) ∙ sym (part-word 1 (x ∷ xs) 0 3 (omega arith) (omega arith) (omega arith))

@@ -5,6 +5,7 @@ use Rattle.tm_devices.specs.declared.device.Shelf as shelf
 use Rattle.tm_output.specs.declared.outlet.Outlet as outlet
 use Rattle.tm_output.specs.declared.output.Output.{Output}
 use Rattle.tm_output.specs.Outputs.{View, view}
+use Rattle.tm_output.specs.Pieces.{Entries}
 
 -- what is known of two drains
 abbrev pub both : {W V : Type 0} → drain.Ghosts W → drain.Ghosts V → W → V → View (Option (List ℕ))
@@ -42,3 +43,13 @@ fixture o output = record {
   report = output.report.ghost_name;
   texts = o.fixed output.outlet.now;
 }
+
+-- what is known of an output: what stays the same, the entries of its tracker, and its two devices
+pub record OutputState (K M : Type 0) : Type 0 where
+  pub fixture : Fixture M
+  pub entries : Entries
+  pub view : View K
+
+abbrev pub output_state : {O V : Type 0} (o : outlet.Ghosts O) → drain.Ghosts V → Output O V → OutputState o.Held o.Fixed
+output_state o v output =
+    record { fixture = fixture o output; entries = output.tracker.now; view = output_both o v output }

@@ -4,3 +4,4 @@ pub mod Outlets
 pub mod ShelfLaws
 pub mod Next
 pub mod Listed
+pub mod Quiet

@@ -1,15 +1,17 @@
 //! Where packets go: their octets into a drain or a shelf, or a line or a row for each into a drain.
 
-ghost use Rattle.std.specs.Prelude.{◌≡◌, ◌≢◌, ◌++◌, ◌==◌, [], ℕ, true, List, Option, OnOk, OnErr, IfErr};
+ghost use Rattle.std.specs.Prelude.{◌≡◌, ◌≢◌, ◌++◌, ◌==◌, [], ℕ, Bool, true, false, List, Option, OnOk, OnErr, IfErr};
 ghost use Rattle.std.specs.Io.KnownBytes.{Appends, Keeps};
 ghost use Rattle.std.proofs.KnownBytes.{Appends-nil, Appends-trans};
 ghost use Rattle.tm_items.specs.Item.{Item};
-ghost use Rattle.tm_devices.specs.Devices.{Counts};
+ghost use Rattle.tm_items.specs.code.Spans.{span_items};
+ghost use Rattle.tm_devices.specs.Devices.{Counts, raised};
 ghost use Rattle.tm_output.specs.code.Packets.{HasHeader, item_with};
-ghost use Rattle.tm_output.specs.code.Outlets.{GivesNone, PutStopped, no_text};
-ghost use Rattle.tm_output.specs.Outputs.{Way, lines_way, octets_way};
+ghost use Rattle.tm_output.specs.code.Outlets.{GivesNone, PutStopped, appends_split, no_text};
+ghost use Rattle.tm_output.specs.code.Quiet.{outs_of};
+ghost use Rattle.tm_output.specs.Outputs.{PutsPart, Way, lines_way, octets_way};
 ghost use Rattle.tm_output.specs.Pieces.{HasLine, Texts, text_of};
-ghost use Rattle.tm_output.specs.code.ShelfLaws.{no_shelf, shelves_nil, shelves_trans};
+ghost use Rattle.tm_output.specs.code.ShelfLaws.{no_shelf, shelves_nil, shelves_split, shelves_trans};
 ghost use Rattle.tm_output.specs.Shelves.{Shelved, Shelves, shelf_text, shelf_way};
 
 use crate::lines::{put_packet, put_short_packet};
@@ -70,6 +72,27 @@ pub trait Outlet {
         ensures stopped { IfErr result (PutStopped Self.grows Self.way (Self.held self.old) (Self.held self.new) (Self.failures self.old) (Self.failures self.new)
             ((Self.text (Self.fixed self.old)).out (item_with packet.now))) };
 
+    /// Packets that lie end to end may be put at once.
+    ghost joins: { Bool };
+
+    fn joins(&self) -> bool
+        ensures { result ≡ joins };
+
+    /// Writes at once what of packets that lie end to end belongs here.
+    fn put_span(
+        &mut self,
+        seen: u32,
+        channel: u8,
+        place: u16,
+        octets: &[u8],
+    ) -> Result<(), DeviceFailed>
+        requires { joins ≡ true }
+        ensures same { Self.fixed self.new ≡ Self.fixed self.old }
+        ensures whole { OnOk result (Self.grows (Self.held self.old) (Self.held self.new)
+            (outs_of (Self.text (Self.fixed self.old)) (span_items seen channel place octets.now)) × (Self.failures self.new ≡ Self.failures self.old)) }
+        ensures stopped { OnErr result ((Self.failures self.new ≡ raised (Self.failures self.old)) × PutsPart Self.grows (Self.held self.old) (Self.held self.new)
+            (outs_of (Self.text (Self.fixed self.old)) (span_items seen channel place octets.now))) };
+
     /// Passes on all that was written.
     fn flush(&mut self) -> Result<(), DeviceFailed>
         ensures same { Self.fixed self.new ≡ Self.fixed self.old }
@@ -86,6 +109,9 @@ pub trait Outlet {
 
     /// What is added after other parts is added to them.
     ghost grows_trans: { (j k l : Held) (xs ys : List Part) → grows j k xs → grows k l ys → grows j l (xs ++ ys) };
+
+    /// What is added at once may be added in two steps.
+    ghost grows_split: { (j l : Held) (xs ys : List Part) → grows j l (xs ++ ys) → (k : Held) × grows j k xs × grows k l ys };
 }
 
 /// Packets' octets into a drain.
@@ -123,6 +149,8 @@ impl<W: Drain> Outlet for PacketOctets<'_, W> {
 
     ghost grows_trans = { Appends-trans };
 
+    ghost grows_split = { appends_split };
+
     fn is_silent(&self, _packet: &Packet<'_>) -> bool {
         true
     }
@@ -137,6 +165,23 @@ impl<W: Drain> Outlet for PacketOctets<'_, W> {
             Ok(()) => Ok(()),
             Err(_) => Err(RunFault::Write),
         }
+    }
+
+    ghost joins = { true };
+
+    fn joins(&self) -> bool {
+        true
+    }
+
+    #[tactic(auto, using(crate::proofs::SpanLemmas::span_octets))]
+    fn put_span(
+        &mut self,
+        _seen: u32,
+        _channel: u8,
+        _place: u16,
+        octets: &[u8],
+    ) -> Result<(), DeviceFailed> {
+        put_all(self.out, octets)
     }
 
     fn flush(&mut self) -> Result<(), DeviceFailed> {
@@ -179,6 +224,8 @@ impl<W: Drain> Outlet for PacketLines<'_, W> {
 
     ghost grows_trans = { Appends-trans };
 
+    ghost grows_split = { appends_split };
+
     fn is_silent(&self, _packet: &Packet<'_>) -> bool {
         true
     }
@@ -195,6 +242,22 @@ impl<W: Drain> Outlet for PacketLines<'_, W> {
             Ok(()) => Ok(()),
             Err(_) => Err(RunFault::Write),
         }
+    }
+
+    ghost joins = { false };
+
+    fn joins(&self) -> bool {
+        false
+    }
+
+    fn put_span(
+        &mut self,
+        _seen: u32,
+        _channel: u8,
+        _place: u16,
+        _octets: &[u8],
+    ) -> Result<(), DeviceFailed> {
+        unreachable!()
     }
 
     fn flush(&mut self) -> Result<(), DeviceFailed> {
@@ -237,6 +300,8 @@ impl<H: Shelf> Outlet for PacketShelf<'_, H> {
 
     ghost grows_trans = { shelves_trans };
 
+    ghost grows_split = { shelves_split };
+
     fn is_silent(&self, _packet: &Packet<'_>) -> bool {
         true
     }
@@ -251,6 +316,22 @@ impl<H: Shelf> Outlet for PacketShelf<'_, H> {
             return Err(RunFault::Write);
         }
         Ok(())
+    }
+
+    ghost joins = { false };
+
+    fn joins(&self) -> bool {
+        false
+    }
+
+    fn put_span(
+        &mut self,
+        _seen: u32,
+        _channel: u8,
+        _place: u16,
+        _octets: &[u8],
+    ) -> Result<(), DeviceFailed> {
+        unreachable!()
     }
 
     fn flush(&mut self) -> Result<(), DeviceFailed> {
@@ -306,6 +387,8 @@ impl<W: Drain> Outlet for PacketRows<'_, '_, '_, W> {
 
     ghost grows_trans = { Appends-trans };
 
+    ghost grows_split = { appends_split };
+
     #[tactic(auto, unfolding(crate::specs::FieldRows::too_short))]
     fn is_silent(&self, packet: &Packet<'_>) -> bool {
         !self.is_wanted(&packet.header)
@@ -343,6 +426,22 @@ impl<W: Drain> Outlet for PacketRows<'_, '_, '_, W> {
             Err(RowFault::ShortPacket { .. }) => Ok(()),
             Err(RowFault::NoMemory) => Err(RunFault::NoMemory),
         }
+    }
+
+    ghost joins = { false };
+
+    fn joins(&self) -> bool {
+        false
+    }
+
+    fn put_span(
+        &mut self,
+        _seen: u32,
+        _channel: u8,
+        _place: u16,
+        _octets: &[u8],
+    ) -> Result<(), DeviceFailed> {
+        unreachable!()
     }
 
     fn flush(&mut self) -> Result<(), DeviceFailed> {

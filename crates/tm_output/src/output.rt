@@ -1,17 +1,20 @@
 //! Where the texts of items go.
 
-ghost use Rattle.std.specs.Prelude.{◌≡◌, ◌≢◌, ◌<◌, ◌≤◌, ◌++◌, ◌∷◌, [], drop, OnOk, OnErr};
+ghost use Rattle.std.specs.Prelude.{◌≡◌, ◌≢◌, ◌+◌, ◌^◌, ◌<◌, ◌≤◌, ◌++◌, ◌∷◌, [], true, false, drop, length, IfErr, IfOk, OnOk, OnErr};
 ghost use Rattle.std.specs.Io.KnownBytes.{Keeps};
 ghost use Rattle.tm_packet.specs.Merge as sequence;
 ghost use Rattle.tm_items.specs.Item as value;
 ghost use Rattle.tm_packet.specs.Header.{packet_header_of};
-ghost use Rattle.tm_items.specs.Sinks.{item_of};
+ghost use Rattle.tm_items.specs.Sinks.{RefusesOne, item_of};
+ghost use Rattle.tm_items.specs.code.Spans.{IsSpan, span_items};
 ghost use Rattle.tm_items.specs.OnePacket.{IsOnePacket};
 ghost use Rattle.tm_output.specs.Lines.{note_line, note_lines};
 ghost use Rattle.tm_output.specs.Outputs.{Written};
 ghost use Rattle.tm_output.specs.Pieces.{HasLine, item_line, noted, notes_of, piece_of, unclosed_piece, unclosed_pieces};
+ghost use Rattle.tm_output.specs.code.Packets.{HasHeader, item_with};
+ghost use Rattle.tm_output.specs.code.Quiet.{HasNoted, IsFirstPacket, IsQuiet, IsTaken};
 ghost use Rattle.tm_output.specs.code.Sinking.{Refuses, Takes};
-ghost use Rattle.tm_output.specs.Seen.{fixture, output_both};
+ghost use Rattle.tm_output.specs.Seen.{OutputState, fixture, output_both, output_state};
 
 use crate::lines::{put_bad, put_drop, put_gap, put_master_gap, put_note, put_short, put_vca};
 use crate::outlet::Outlet;
@@ -135,41 +138,95 @@ fn note_packet(
     push_notes(lines, seen, channel, header.application(), &notes)
 }
 
+// The first of packets that lie end to end in a record's data field, from `place` on.
+#[inline(always)]
+#[tactic(auto, using(crate::proofs::SpanLemmas::first_not))]
+fn first_packet(seen: u32, channel: u8, place: u16, octets: &[u8]) -> Packet<'_>
+    requires some { 0 < length octets.now }
+    requires packets { IsSpan octets.now }
+    ensures { IsFirstPacket seen channel place octets.now result }
+{
+    let header = match read_header(octets) {
+        Ok(header) => header,
+        Err(_) => unreachable!(),
+    };
+    Packet {
+        seen,
+        channel,
+        first: seen,
+        place,
+        header,
+        octets: &octets[..header.length() as usize],
+    }
+}
+
+// Takes note of a packet if the report says nothing of it, as of most, and answers whether it says nothing.
+#[inline(always)]
+#[tactic(auto, unfolding(crate::specs::Pieces::noted))]
+fn note_if_quiet<O: Outlet>(tracker: &mut Tracker, outlet: &O, packet: &Packet<'_>) -> bool
+    requires channel { packet.now.channel < 8 }
+    requires header { HasHeader packet.now }
+    ensures quiet { result ≡ true → IsQuiet (O.text (O.fixed outlet.now)) tracker.old (item_with packet.now) }
+    ensures noted { result ≡ true → tracker.new ≡ noted tracker.old (item_with packet.now) }
+    ensures left { result ≡ false → tracker.new ≡ tracker.old }
+{
+    if !outlet.is_silent(packet) {
+        return false;
+    }
+    tracker.take_without_notes(packet.channel, packet.header)
+}
+
+// Takes note of the packets in front of which the report says nothing, and answers how many octets they have.
+#[inline(always)]
+fn note_quiet<O: Outlet>(
+    tracker: &mut Tracker,
+    outlet: &O,
+    seen: u32,
+    channel: u8,
+    place: u16,
+    octets: &[u8],
+) -> usize
+    requires channel { channel < 8 }
+    requires places { place + length octets.now < 2 ^ 16 }
+    requires packets { IsSpan octets.now }
+    ensures { HasNoted (O.text (O.fixed outlet.now)) tracker.old tracker.new seen channel place octets.now result }
+{
+    let mut at = 0;
+    while at < octets.len() {
+        let packet = first_packet(seen, channel, place + at as u16, &octets[at..]);
+        if !note_if_quiet(tracker, outlet, &packet) {
+            return at;
+        }
+        at += packet.octets.len();
+    }
+    at
+}
+
 impl<O: Outlet, V: Drain> Output<'_, O, V> {
     // Takes a packet of which the report may say something. It stands apart, since of most packets the report says nothing.
     #[inline(never)]
     #[tactic(auto, unfolding(crate::specs::Pieces::report_of, crate::specs::Pieces::noted))]
-    fn put_reported(
-        &mut self,
-        seen: u32,
-        channel: u8,
-        first: u32,
-        place: u16,
-        octets: &[u8],
-    ) -> Result<(), RunFault>
-        requires channel { channel < 8 }
-        requires packet { IsOnePacket octets.now }
+    fn put_reported(&mut self, packet: &Packet<'_>) -> Result<(), RunFault>
+        requires channel { packet.now.channel < 8 }
+        requires header { HasHeader packet.now }
         ensures same { fixture O.Outlet self.new ≡ fixture O.Outlet self.old }
-        ensures noted { self.new.tracker.now ≡ noted self.old.tracker.now (value.Packet seen channel first place octets.now) }
+        ensures noted { self.new.tracker.now ≡ noted self.old.tracker.now (item_with packet.now) }
         ensures written { Written O.grows O.way (output_both O.Outlet V.Drain self.old) (output_both O.Outlet V.Drain self.new)
-            (piece_of (O.text (O.fixed self.old.outlet.now)) self.old.tracker.now (value.Packet seen channel first place octets.now) ∷ []) result }
+            (piece_of (O.text (O.fixed self.old.outlet.now)) self.old.tracker.now (item_with packet.now) ∷ []) result }
     {
-        let header = header_in(octets);
-        if let Err(_) = note_packet(self.tracker, self.notes, seen, channel, header) {
+        if let Err(_) = note_packet(
+            self.tracker,
+            self.notes,
+            packet.seen,
+            packet.channel,
+            packet.header,
+        ) {
             return Err(RunFault::NoMemory);
         }
-        let packet = Packet {
-            seen,
-            channel,
-            first,
-            place,
-            header,
-            octets,
-        };
-        if let Err(_) = self.outlet.remark(self.notes, &packet) {
+        if let Err(_) = self.outlet.remark(self.notes, packet) {
             return Err(RunFault::NoMemory);
         }
-        if let Err(fault) = self.outlet.put(&packet) {
+        if let Err(fault) = self.outlet.put(packet) {
             return Err(fault);
         }
         if let Err(_) = put_all(self.report, self.notes.as_slice()) {
@@ -181,40 +238,56 @@ impl<O: Outlet, V: Drain> Output<'_, O, V> {
     // Takes a packet.
     #[inline(always)]
     #[tactic(auto, unfolding(crate::specs::Pieces::noted))]
-    fn put_packet(
-        &mut self,
-        seen: u32,
-        channel: u8,
-        first: u32,
-        place: u16,
-        octets: &[u8],
-    ) -> Result<(), RunFault>
-        requires channel { channel < 8 }
-        requires packet { IsOnePacket octets.now }
+    fn put_packet(&mut self, packet: &Packet<'_>) -> Result<(), RunFault>
+        requires channel { packet.now.channel < 8 }
+        requires header { HasHeader packet.now }
         ensures same { fixture O.Outlet self.new ≡ fixture O.Outlet self.old }
-        ensures noted { self.new.tracker.now ≡ noted self.old.tracker.now (value.Packet seen channel first place octets.now) }
+        ensures noted { self.new.tracker.now ≡ noted self.old.tracker.now (item_with packet.now) }
         ensures written { Written O.grows O.way (output_both O.Outlet V.Drain self.old) (output_both O.Outlet V.Drain self.new)
-            (piece_of (O.text (O.fixed self.old.outlet.now)) self.old.tracker.now (value.Packet seen channel first place octets.now) ∷ []) result }
+            (piece_of (O.text (O.fixed self.old.outlet.now)) self.old.tracker.now (item_with packet.now) ∷ []) result }
     {
-        let header = header_in(octets);
-        let packet = Packet {
-            seen,
-            channel,
-            first,
-            place,
-            header,
-            octets,
-        };
-        if !self.outlet.is_silent(&packet) {
-            return self.put_reported(seen, channel, first, place, octets);
+        if !note_if_quiet(self.tracker, self.outlet, packet) {
+            return self.put_reported(packet);
         }
-        if !self.tracker.take_without_notes(channel, header) {
-            return self.put_reported(seen, channel, first, place, octets);
-        }
-        if let Err(fault) = self.outlet.put(&packet) {
+        if let Err(fault) = self.outlet.put(packet) {
             return Err(fault);
         }
         Ok(())
+    }
+
+    // Takes one or some of the packets in front, and answers how many octets they have.
+    #[inline(always)]
+    fn put_first(
+        &mut self,
+        seen: u32,
+        channel: u8,
+        place: u16,
+        octets: &[u8],
+    ) -> Result<usize, RunFault>
+        requires channel { channel < 8 }
+        requires some { 0 < length octets.now }
+        requires places { place + length octets.now < 2 ^ 16 }
+        requires packets { IsSpan octets.now }
+        ensures many { IfOk result (λ many. (0 < many) × (many ≤ length octets.now)) }
+        ensures taken { IfOk result (λ many. IsTaken (Takes O.grows O.text O.way) (output_state O.Outlet V.Drain self.old) (output_state O.Outlet V.Drain self.new)
+            seen channel place octets.now many) }
+        ensures refused { IfErr result (λ fault. RefusesOne (Takes O.grows O.text O.way) (Refuses O.grows O.text O.way)
+            (output_state O.Outlet V.Drain self.old) (span_items seen channel place octets.now) fault (output_state O.Outlet V.Drain self.new)) }
+    {
+        if self.outlet.joins() {
+            let quiet = note_quiet(self.tracker, self.outlet, seen, channel, place, octets);
+            if quiet > 0 {
+                return match self.outlet.put_span(seen, channel, place, &octets[..quiet]) {
+                    Ok(()) => Ok(quiet),
+                    Err(_) => Err(RunFault::Write),
+                };
+            }
+        }
+        let packet = first_packet(seen, channel, place, octets);
+        match self.put_packet(&packet) {
+            Ok(()) => Ok(packet.octets.len()),
+            Err(fault) => Err(fault),
+        }
     }
 
     // Writes the line of an item that is no packet.
@@ -291,11 +364,13 @@ impl<O: Outlet, V: Drain> Output<'_, O, V> {
 impl<O: Outlet, V: Drain> Sink for Output<'_, O, V> {
     type Fault = RunFault;
 
-    ghost takes = { Takes O.grows O.text O.way (fixture O.Outlet) (λ s. s.tracker.now)
-        (output_both O.Outlet V.Drain) };
+    ghost Known = { OutputState O.Held O.Fixed };
 
-    ghost refuses = { Refuses O.grows O.text O.way (fixture O.Outlet) (λ s. s.tracker.now)
-        (output_both O.Outlet V.Drain) };
+    ghost known = { output_state O.Outlet V.Drain };
+
+    ghost takes = { Takes O.grows O.text O.way };
+
+    ghost refuses = { Refuses O.grows O.text O.way };
 
     // Of each call the compiler knows what kind of item is given, so what of this is not of that kind falls away there.
     #[inline(always)]
@@ -307,7 +382,18 @@ impl<O: Outlet, V: Drain> Sink for Output<'_, O, V> {
                 first,
                 place,
                 octets,
-            } => self.put_packet(seen, channel, first, place, octets),
+            } => {
+                let header = header_in(octets);
+                let packet = Packet {
+                    seen,
+                    channel,
+                    first,
+                    place,
+                    header,
+                    octets,
+                };
+                self.put_packet(&packet)
+            }
             Item::Bad { .. }
             | Item::MasterGap { .. }
             | Item::Gap { .. }
@@ -315,5 +401,22 @@ impl<O: Outlet, V: Drain> Sink for Output<'_, O, V> {
             | Item::Dropped { .. }
             | Item::Short { .. } => self.put_line(item),
         }
+    }
+
+    fn take_span(
+        &mut self,
+        seen: u32,
+        channel: u8,
+        place: u16,
+        octets: &[u8],
+    ) -> Result<(), RunFault> {
+        let mut at = 0;
+        while at < octets.len() {
+            match self.put_first(seen, channel, place + at as u16, &octets[at..]) {
+                Ok(many) => at += many,
+                Err(fault) => return Err(fault),
+            }
+        }
+        Ok(())
     }
 }

@@ -10,7 +10,7 @@ use Rattle.tm_reassembly.specs.code.Fits.{AllReadingsFit, PlaceFits, PlacesFit}
 use Rattle.tm_reassembly.specs.Verdict.{Verdict, verdict, completed_at_once, Grow, GrowFrom, is_whole}
 use Rattle.tm_reassembly.specs.Parts.{text, far_end, begins_packet}
 use Rattle.tm_items.specs.OnePacket.{reach}
-use Rattle.tm_items.proofs.Reach.{reach-settled, reach-unsettled}
+use Rattle.tm_items.proofs.Reaching.{reach-settled, reach-unsettled}
 use Rattle.tm_reassembly.proofs.Settled.{open-settled, agreement-settled, long-settled, whole-settled}
 use Rattle.tm_reassembly.proofs.Split.{breaker-settled}
 use Rattle.tm_reassembly.proofs.Joining.{FitFrom}

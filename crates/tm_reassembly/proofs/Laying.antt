@@ -12,7 +12,7 @@ use Rattle.tm_reassembly.specs.Parts.{Part, agrees, agrees_at, begins_packet, re
 use Rattle.tm_items.specs.OnePacket.{reach}
 use Rattle.tm_reassembly.specs.code.Field.{end_place_of, field_parts, unfinished, parts_in, left_in, tail_at, frame_parts, frame_tail, tail_parts, tail_left, step_parts, step_tail, ended_parts, chain_parts_at, chain_tail_at}
 use Rattle.tm_reassembly.specs.Tiles.{Spot, field_spots, spot_octets, BeginsAt, IsHeld}
-use Rattle.tm_items.proofs.Reach.{reach-least}
+use Rattle.tm_items.proofs.Reaching.{reach-least}
 use Rattle.tm_reassembly.proofs.Split.{whole_part, unread_part, field_parts-whole, field_parts-version, field_parts-unfinished, unfinished-whole, unfinished-version, unfinished-last}
 use Rattle.tm_reassembly.proofs.Chained.{IsOpenTail}
 

@@ -18,7 +18,6 @@ pub mod Tiled
 pub mod OneOpen
 pub mod Places
 pub mod Starts
-pub mod Headers
 pub mod Fits
 pub mod States
 pub mod Raw

@@ -12,7 +12,7 @@ use Rattle.tm_reassembly.specs.Parts.{text, far_end, is_long, begins_packet, agr
 use Rattle.tm_items.specs.OnePacket.{reach, is_packet}
 use Rattle.tm_reassembly.specs.Verdict.{is_whole}
 use Rattle.tm_reassembly.specs.Absolute.{reach_at, IsVersionZero, IsLong, BeginsPacket, AgreesAt, Agrees, IsOpen, IsWhole, Iff}
-use Rattle.tm_items.proofs.Reach.{reach-short, reach-long}
+use Rattle.tm_items.proofs.Reaching.{reach-short, reach-long}
 use Rattle.tm_reassembly.proofs.Long.{and_not, agrees-place, agrees-short, begins-zero, begins-short}
 use Rattle.tm_reassembly.proofs.Settled.{own-long-settled}
 

@@ -1,69 +1,18 @@
--- The loop that reads a field: what is still to be given from `at` on leads to all that is to be given.
-use Rattle.std.proofs.Common.{◌++◌, ◌≡◌, ℕ, suc, zero, pred, ◌+◌, ◌-◌, ◌<◌, ◌≤◌, true, List, [], ◌∷◌, length, take, drop, refl, sym, ap, subst, ◌∙◌, inl, inr, arith}
-use Rattle.std.proofs.lemmas.List.{length-drop, drop-drop, take_all}
-use Rattle.tm_items.proofs.Reach.{reach-least}
+-- The loop that reads a field: what lies before `at` is whole packets, end to end.
+use Rattle.std.proofs.Common.{◌++◌, ◌≡◌, ℕ, suc, zero, pred, ◌+◌, ◌-◌, ◌<◌, ◌≤◌, true, List, [], ◌∷◌, length, take, drop, refl, sym, ap, subst, ◌∙◌, append_assoc, arith}
+use Rattle.std.proofs.lemmas.List.{length-drop, length-take-le, drop-drop, take_all}
+use Rattle.tm_items.proofs.Reaching.{reach-least}
 use Rattle.tm_reassembly.proofs.Split.{whole_part, field_parts-whole, unfinished-whole}
 use Rattle.tm_items.specs.Item.{Item, Packet}
 use Rattle.tm_reassembly.specs.Parts.{Part, begins_packet}
-use Rattle.tm_items.specs.OnePacket.{reach}
-use Rattle.tm_reassembly.specs.code.Field.{field_parts, unfinished, part_items}
-use Rattle.tm_items.specs.Sinks.{TakesAll, RefusesOne}
-
--- what follows from taking the rest of the items, or from refusing one of them
-pub record Leads {S F : Type 0} (takes : S → Item → S → Type 0) (refuses : S → Item → F → S → Type 0) (start now : S) (all rest : List Item) : Type 0 where
-  pub taken : (new : S) → TakesAll takes now rest new → TakesAll takes start all new
-  pub refused : (fault : F) (new : S) → RefusesOne takes refuses now rest fault new → RefusesOne takes refuses start all fault new
-
-pub leads_start : {S F : Type 0} {takes : S → Item → S → Type 0} {refuses : S → Item → F → S → Type 0} (s : S) (all rest : List Item)
-    → all ≡ rest → Leads takes refuses s s all rest
-leads_start s all rest e =
-    record { taken = λ new h. rw e h; refused = λ fault new h. rw e h }
-
-module _ {S F : Type 0} {takes : S → Item → S → Type 0} {refuses : S → Item → F → S → Type 0} {start now : S} {all rest : List Item} (l : Leads takes refuses start now all rest) where
-  pub leads_take : (mid : S) (x : Item) (more : List Item) → rest ≡ x ∷ more → takes now x mid → Leads takes refuses start mid all more
-  leads_take mid x more e t =
-      record {
-        taken = λ new h. l.taken new (subst (λ (xs : List Item). TakesAll takes now xs new) (sym e) (mid, t, h));
-        refused = λ fault new h. l.refused fault new (subst (λ (xs : List Item). RefusesOne takes refuses now xs fault new) (sym e) (inr (mid, t, h)));
-      }
+use Rattle.tm_items.specs.OnePacket.{IsOnePacket, reach}
+use Rattle.tm_items.specs.code.Spans.{IsSpan, span_items}
+use Rattle.tm_items.proofs.Spans.{one-front, span-longer}
+use Rattle.tm_reassembly.specs.code.Field.{IsWholeFront, field_parts, unfinished, items_from, part_items}
 
 drop-pred : (n x : ℕ) (xs : List ℕ) → 0 < n → drop n (x ∷ xs) ≡ drop (pred n) xs
 drop-pred zero x xs h = absurd (omega arith)
 drop-pred (suc n) x xs h = refl
-
--- taking two lists, one after the other
-pub TakesAll-append : {S : Type 0} (takes : S → Item → S → Type 0) (old mid new : S) (xs ys : List Item)
-    → TakesAll takes old xs mid → TakesAll takes mid ys new → TakesAll takes old (xs ++ ys) new
-TakesAll-append {S} takes old mid new [] ys h k = subst (λ (s : S). TakesAll takes s ys new) h k
-TakesAll-append takes old mid new (x ∷ xs) ys h k = (h.0, h.1, TakesAll-append takes h.0 mid new xs ys h.2 k)
-
-pub RefusesOne-left : {S F : Type 0} (takes : S → Item → S → Type 0) (refuses : S → Item → F → S → Type 0) (old new : S) (xs ys : List Item) (fault : F)
-    → RefusesOne takes refuses old xs fault new → RefusesOne takes refuses old (xs ++ ys) fault new
-RefusesOne-left takes refuses old new [] ys fault h = absurd h
-RefusesOne-left takes refuses old new (x ∷ xs) ys fault (inl h) = inl h
-RefusesOne-left takes refuses old new (x ∷ xs) ys fault (inr h) = inr (h.0, h.1, RefusesOne-left takes refuses h.0 new xs ys fault h.2)
-
-pub RefusesOne-right : {S F : Type 0} (takes : S → Item → S → Type 0) (refuses : S → Item → F → S → Type 0) (old mid new : S) (xs ys : List Item) (fault : F)
-    → TakesAll takes old xs mid → RefusesOne takes refuses mid ys fault new → RefusesOne takes refuses old (xs ++ ys) fault new
-RefusesOne-right {S} takes refuses old mid new [] ys fault h k = subst (λ (s : S). RefusesOne takes refuses s ys fault new) h k
-RefusesOne-right takes refuses old mid new (x ∷ xs) ys fault h k =
-    inr (h.0, h.1, RefusesOne-right takes refuses h.0 mid new xs ys fault h.2 k)
-
--- a list of items taken, of those that are still to be given
-pub leads_all : {S F : Type 0} {takes : S → Item → S → Type 0} {refuses : S → Item → F → S → Type 0} {start now : S} {all rest : List Item}
-    → Leads takes refuses start now all rest → (mid : S) (xs more : List Item) → rest ≡ xs ++ more → TakesAll takes now xs mid
-    → Leads takes refuses start mid all more
-leads_all {takes = takes} {refuses = refuses} {now = now} l mid xs more e t =
-    record {
-      taken = λ new h. l.taken new (subst (λ (ys : List Item). TakesAll takes now ys new) (sym e) (TakesAll-append takes now mid new xs more t h));
-      refused = λ fault new h. l.refused fault new (subst (λ (ys : List Item). RefusesOne takes refuses now ys fault new) (sym e) (RefusesOne-right takes refuses now mid new xs more fault t h));
-    }
-
-pub leads_refused : {S F : Type 0} {takes : S → Item → S → Type 0} {refuses : S → Item → F → S → Type 0} {start now : S} {all rest : List Item}
-    → Leads takes refuses start now all rest → (fault : F) (new : S) (xs more : List Item) → rest ≡ xs ++ more → RefusesOne takes refuses now xs fault new
-    → RefusesOne takes refuses start all fault new
-leads_refused {takes = takes} {refuses = refuses} {now = now} l fault new xs more e r =
-    l.refused fault new (subst (λ (ys : List Item). RefusesOne takes refuses now ys fault new) (sym e) (RefusesOne-left takes refuses now new xs more fault r))
 
 module _ (limit : ℕ) where
   -- octets that hold no start may be dropped
@@ -74,10 +23,6 @@ module _ (limit : ℕ) where
   pub unfinished-skip : (skip : ℕ) (octets : List ℕ) → unfinished limit skip octets ≡ unfinished limit 0 (drop skip octets)
   unfinished-skip (suc skip) (x ∷ xs) = unfinished-skip skip xs
   unfinished-skip skip octets = refl
-
-  -- the items that a field gives from a place on
-  abbrev pub items_from : ℕ → ℕ → List ℕ → ℕ → List Item
-  items_from seen channel field at = part_items channel (field_parts limit seen (length field) 0 (drop at field))
 
   -- one packet, and the rest of the field
   field_parts-packet : (number stop : ℕ) (o : List ℕ) → 0 < length o → begins_packet limit o ≡ true → reach o ≤ length o
@@ -101,7 +46,7 @@ module _ (limit : ℕ) where
   -- one packet in a field
   pub items_from-packet : (seen channel : ℕ) (field : List ℕ) (at r : ℕ) → at < length field → begins_packet limit (drop at field) ≡ true
       → r ≡ reach (drop at field) → r ≤ length field - at
-      → items_from seen channel field at ≡ Packet seen channel seen at (take r (drop at field)) ∷ items_from seen channel field (at + r)
+      → items_from limit seen channel field at ≡ Packet seen channel seen at (take r (drop at field)) ∷ items_from limit seen channel field (at + r)
   items_from-packet seen channel field at r h p e fits =
       let o = drop at field in
       let len : length (drop at field) ≡ length field - at = length-drop at field in
@@ -122,7 +67,7 @@ module _ (limit : ℕ) where
   -- what the code tests, and what follows
   pub read_packet : (seen channel : ℕ) (field : List ℕ) (at n : ℕ) (t : List ℕ) → t ≡ take (length field - at) (drop at field)
       → at < length field → begins_packet limit t ≡ true → n ≡ reach t → n ≤ length t
-      → (items_from seen channel field at ≡ Packet seen channel seen at (take n t) ∷ items_from seen channel field (at + n))
+      → (items_from limit seen channel field at ≡ Packet seen channel seen at (take n t) ∷ items_from limit seen channel field (at + n))
       × (unfinished limit 0 (drop at field) ≡ unfinished limit 0 (drop (at + n) field))
   read_packet seen channel field at n t e h p r fits =
       let len : length (drop at field) ≡ length field - at = length-drop at field in
@@ -133,6 +78,56 @@ module _ (limit : ℕ) where
       let r' : n ≡ reach (drop at field) = r ∙ ap reach e' in
       let short : n ≤ length field - at = omega arith in (
         items_from-packet seen channel field at n h p' r' short
-            ∙ ap (λ (o : List ℕ). Packet seen channel seen at (take n o) ∷ items_from seen channel field (at + n)) here,
+            ∙ ap (λ (o : List ℕ). Packet seen channel seen at (take n o) ∷ items_from limit seen channel field (at + n)) here,
         unfinished_from-packet field at n h p' r' short,
       )
+
+  -- up to here a field was read, from a place on: whole packets lie end to end there
+  pub record IsReadTo (seen channel : ℕ) (field : List ℕ) (place at : ℕ) : Type 0 where
+    pub from : place ≤ at
+    pub inside : at ≤ length field
+    pub span : IsSpan (take (at - place) (drop place field))
+    pub items : part_items channel (field_parts limit seen (length field) place field)
+        ≡ span_items seen channel place (take (at - place) (drop place field)) ++ items_from limit seen channel field at
+    pub left : unfinished limit 0 (drop at field) ≡ unfinished limit place field
+
+  pub read_none : (seen channel : ℕ) (field : List ℕ) (place : ℕ) → place ≤ length field → IsReadTo seen channel field place place
+  read_none seen channel field place inside =
+      let none : place - place ≡ 0 = omega arith in
+      record {
+        from = omega arith;
+        inside = inside;
+        span = rw none tt;
+        items = ap (part_items channel) (field_parts-skip seen (length field) place field) ∙ rw none refl;
+        left = sym (unfinished-skip place field);
+      }
+
+  pub read_more : (seen channel : ℕ) (field : List ℕ) (place at n : ℕ) (t : List ℕ) → t ≡ take (length field - at) (drop at field)
+      → IsReadTo seen channel field place at → IsWholeFront limit t n → IsReadTo seen channel field place (at + n)
+  read_more seen channel field place at n t is read whole =
+      let len : length t ≡ length field - at =
+      ap length is ∙ length-take-le (length field - at) (drop at field) (omega (arith, length-drop at field)) in
+      let more = read_packet seen channel field at n t is (omega (arith, whole.some, read.inside)) whole.begins whole.reaches whole.whole in
+      let all : t ≡ drop at field = is ∙ take_all (length field - at) (drop at field) (omega (arith, length-drop at field)) in
+      let there : place + (at - place) ≡ at = omega (arith, read.from) in
+      let here : drop (at - place) (drop place field) ≡ t = drop-drop (at - place) place field ∙ ap (λ (k : ℕ). drop k field) there ∙ sym all in
+      let one : IsOnePacket (take n t) = one-front t n whole.reaches whole.whole whole.version in
+      let before = span_items seen channel place (take (at - place) (drop place field)) in
+      let further : (at - place) + n ≡ (at + n) - place = omega (arith, read.from) in
+      let longer = span-longer seen channel place (at - place) n (drop place field) (omega (arith, read.inside, length-drop place field)) read.span
+      (subst (λ (o : List ℕ). IsOnePacket (take n o)) (sym here) one) in
+      record {
+        from = omega (arith, read.from);
+        inside = omega (arith, whole.whole, len, read.inside);
+        span = subst (λ (k : ℕ). IsSpan (take k (drop place field))) further longer.span;
+        items =
+            read.items
+            ∙ ap (λ (xs : List Item). before ++ xs) more.0
+            ∙ sym (append_assoc before (Packet seen channel seen at (take n t) ∷ []) (items_from limit seen channel field (at + n)))
+            ∙ ap (λ (xs : List Item). xs ++ items_from limit seen channel field (at + n))
+            (ap (λ (k : ℕ). before ++ Packet seen channel seen k (take n t) ∷ []) (sym there)
+            ∙ ap (λ (o : List ℕ). before ++ Packet seen channel seen (place + (at - place)) (take n o) ∷ []) (sym here)
+            ∙ sym longer.items
+            ∙ ap (λ (k : ℕ). span_items seen channel place (take k (drop place field))) further);
+        left = sym more.1 ∙ read.left;
+      }

@@ -1,6 +1,6 @@
 -- At which record items are seen: what a member gives is seen at it, and no step leaves a tail that is not open.
 use Rattle.std.proofs.lemmas.List.{length-take-le}
-use Rattle.tm_items.proofs.Reach.{reach-least}
+use Rattle.tm_items.proofs.Reaching.{reach-least}
 use Rattle.tm_reassembly.proofs.Each.{Each, Each-append, Each-weaken, filter-all, filter-none}
 use Rattle.std.proofs.Common.{◌≡◌, ℕ, suc, zero, pred, ◌<◌, Bool, true, false, Option, Some, None, List, [], ◌∷◌, ◌++◌, length, refl, ap, ◌∙◌, leb, eqb, take, ◌≤◌, ◌+◌, arith, length-append}
 use Rattle.std.specs.List.{flat_map}

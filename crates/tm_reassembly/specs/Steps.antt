@@ -47,17 +47,17 @@ pub record IsGivenUp (old new : Progress) : Type 0 where
   pub rules : new.rules ≡ old.rules
   pub records : new.state.records ≡ old.state.records
 
-module _ {S F : Type 0} (takes : S → Item → S → Type 0) (refuses : S → Item → F → S → Type 0) where
+module _ {S K F : Type 0} (known : S → K) (takes : K → Item → K → Type 0) (refuses : K → Item → F → K → Type 0) where
   -- how a step may be refused: asked in the order failed, too many, sink
   abbrev pub StepRefused : Progress → Progress → S → S → List Item → fault.StepFault F → Type 0
   StepRefused old new sink_old sink_new xs (Sink f) =
-      (old.failed ≡ false) × (old.state.records < most_records) × IsGivenUp old new × RefusesOne takes refuses sink_old xs f sink_new
+      (old.failed ≡ false) × (old.state.records < most_records) × IsGivenUp old new × RefusesOne takes refuses (known sink_old) xs f (known sink_new)
   StepRefused old new sink_old sink_new xs Failed = (old.failed ≡ true) × (new ≡ old) × (sink_new ≡ sink_old)
   StepRefused old new sink_old sink_new xs TooMany =
       (old.failed ≡ false) × (old.state.records ≡ most_records) × (new ≡ old) × (sink_new ≡ sink_old)
 
   -- how a closed end may be refused
   abbrev pub CloseRefused : Progress → S → S → List Item → fault.StepFault F → Type 0
-  CloseRefused old sink_old sink_new xs (Sink f) = (old.failed ≡ false) × RefusesOne takes refuses sink_old xs f sink_new
+  CloseRefused old sink_old sink_new xs (Sink f) = (old.failed ≡ false) × RefusesOne takes refuses (known sink_old) xs f (known sink_new)
   CloseRefused old sink_old sink_new xs Failed = (old.failed ≡ true) × (sink_new ≡ sink_old)
   CloseRefused old sink_old sink_new xs TooMany = ⊥

@@ -72,11 +72,11 @@ impl Kept {
     ) -> Result<(), S::Fault>
         requires channel { channel < 8 }
         requires open { IsOpenTail self.old.limit (tail_in self.old.last) }
-        ensures taken { OnOk result (TakesAll S.takes sink.old (kept_items self.old.limit channel self.old.last (member seen frame.now)) sink.new) }
+        ensures taken { OnOk result (TakesAll S.takes (S.known sink.old) (kept_items self.old.limit channel self.old.last (member seen frame.now)) (S.known sink.new)) }
         ensures left { OnOk result (self.new.last ≡ last_after self.old.limit self.old.last (member seen frame.now)) }
         ensures limit { self.new.limit ≡ self.old.limit }
         ensures room { self.old.room ≤ self.new.room }
-        ensures refused { IfErr result (λ fault. RefusesOne S.takes S.refuses sink.old (kept_items self.old.limit channel self.old.last (member seen frame.now)) fault sink.new) }
+        ensures refused { IfErr result (λ fault. RefusesOne S.takes S.refuses (S.known sink.old) (kept_items self.old.limit channel self.old.last (member seen frame.now)) fault (S.known sink.new)) }
     {
         let count = frame.count();
         match give_gap(seen, channel, self.count, count, sink) {
@@ -100,16 +100,16 @@ impl Kept {
         requires channel { channel < 8 }
         requires open { IsOpenTail self.old.limit (tail_in self.old.last) }
         requires counted { frame_count_in self.old.last ≡ Some frame.now.count }
-        ensures taken { OnOk result (TakesAll S.takes sink.old
-            (vca_at channel (member seen frame.now) ++ part_items channel (chain_parts_at self.old.limit gap (is_vca_kind frame.now.kind) (tail_in self.old.last) (member seen frame.now))) sink.new) }
+        ensures taken { OnOk result (TakesAll S.takes (S.known sink.old)
+            (vca_at channel (member seen frame.now) ++ part_items channel (chain_parts_at self.old.limit gap (is_vca_kind frame.now.kind) (tail_in self.old.last) (member seen frame.now))) (S.known sink.new)) }
         ensures left { OnOk result (self.new.last ≡ Some (record {
           count = frame.now.count;
           tail = chain_tail_at self.old.limit gap (is_vca_kind frame.now.kind) (tail_in self.old.last) (member seen frame.now);
         })) }
         ensures limit { self.new.limit ≡ self.old.limit }
         ensures room { self.old.room ≤ self.new.room }
-        ensures refused { IfErr result (λ fault. RefusesOne S.takes S.refuses sink.old
-            (vca_at channel (member seen frame.now) ++ part_items channel (chain_parts_at self.old.limit gap (is_vca_kind frame.now.kind) (tail_in self.old.last) (member seen frame.now))) fault sink.new) }
+        ensures refused { IfErr result (λ fault. RefusesOne S.takes S.refuses (S.known sink.old)
+            (vca_at channel (member seen frame.now) ++ part_items channel (chain_parts_at self.old.limit gap (is_vca_kind frame.now.kind) (tail_in self.old.last) (member seen frame.now))) fault (S.known sink.new)) }
     {
         match frame.kind() {
             Kind::Vca => self.take_vca(seen, channel, gap, sink),
@@ -130,13 +130,13 @@ impl Kept {
         sink: &mut S,
     ) -> Result<(), S::Fault>
         requires { channel < 8 }
-        ensures taken { OnOk result (TakesAll S.takes sink.old
-            (value.Vca seen channel ∷ part_items channel (chain_parts_at self.old.limit gap true (tail_in self.old.last) (counted seen 0))) sink.new) }
+        ensures taken { OnOk result (TakesAll S.takes (S.known sink.old)
+            (value.Vca seen channel ∷ part_items channel (chain_parts_at self.old.limit gap true (tail_in self.old.last) (counted seen 0))) (S.known sink.new)) }
         ensures left { OnOk result (self.new.last ≡ last_of (frame_count_in self.old.last) None) }
         ensures limit { self.new.limit ≡ self.old.limit }
         ensures room { self.old.room ≤ self.new.room }
-        ensures refused { IfErr result (λ fault. RefusesOne S.takes S.refuses sink.old
-            (value.Vca seen channel ∷ part_items channel (chain_parts_at self.old.limit gap true (tail_in self.old.last) (counted seen 0))) fault sink.new) }
+        ensures refused { IfErr result (λ fault. RefusesOne S.takes S.refuses (S.known sink.old)
+            (value.Vca seen channel ∷ part_items channel (chain_parts_at self.old.limit gap true (tail_in self.old.last) (counted seen 0))) fault (S.known sink.new)) }
     {
         let reason = if gap { Reason::Gap } else { Reason::Vca };
         match sink.take(Item::Vca { seen, channel }) {
@@ -160,11 +160,11 @@ impl Kept {
         requires place { PlaceFits place (length field.now) }
         requires open { IsOpenTail self.old.limit (tail_in self.old.last) }
         requires counted { IsSome (frame_count_in self.old.last) }
-        ensures taken { OnOk result (TakesAll S.takes sink.old (part_items channel (chain_parts_at self.old.limit gap false (tail_in self.old.last) (member_at seen place field.now))) sink.new) }
+        ensures taken { OnOk result (TakesAll S.takes (S.known sink.old) (part_items channel (chain_parts_at self.old.limit gap false (tail_in self.old.last) (member_at seen place field.now))) (S.known sink.new)) }
         ensures left { OnOk result (self.new.last ≡ last_of (frame_count_in self.old.last) (chain_tail_at self.old.limit gap false (tail_in self.old.last) (member_at seen place field.now))) }
         ensures limit { self.new.limit ≡ self.old.limit }
         ensures room { self.old.room ≤ self.new.room }
-        ensures refused { IfErr result (λ fault. RefusesOne S.takes S.refuses sink.old (part_items channel (chain_parts_at self.old.limit gap false (tail_in self.old.last) (member_at seen place field.now))) fault sink.new) }
+        ensures refused { IfErr result (λ fault. RefusesOne S.takes S.refuses (S.known sink.old) (part_items channel (chain_parts_at self.old.limit gap false (tail_in self.old.last) (member_at seen place field.now))) fault (S.known sink.new)) }
     {
         if !gap {
             return self.tail.take_field(seen, channel, place, field, sink);
@@ -180,8 +180,8 @@ impl Kept {
     /// Gives the tail that is held, as lost by the closed end.
     pub fn close<S: Sink>(&self, seen: u32, channel: u8, sink: &mut S) -> Result<(), S::Fault>
         requires { channel < 8 }
-        ensures taken { OnOk result (TakesAll S.takes sink.old (close_last seen channel self.now.last) sink.new) }
-        ensures refused { IfErr result (λ fault. RefusesOne S.takes S.refuses sink.old (close_last seen channel self.now.last) fault sink.new) }
+        ensures taken { OnOk result (TakesAll S.takes (S.known sink.old) (close_last seen channel self.now.last) (S.known sink.new)) }
+        ensures refused { IfErr result (λ fault. RefusesOne S.takes S.refuses (S.known sink.old) (close_last seen channel self.now.last) fault (S.known sink.new)) }
     {
         match self.tail.give_lost(seen, channel, Reason::Close, sink) {
             Ok(()) => Ok(()),
@@ -260,9 +260,9 @@ fn give_gap<S: Sink>(
     sink: &mut S,
 ) -> Result<bool, S::Fault>
     requires { channel < 8 }
-    ensures taken { OnOk result (TakesAll S.takes sink.old (gap_at (gap_item channel) before (counted seen found)) sink.new) }
+    ensures taken { OnOk result (TakesAll S.takes (S.known sink.old) (gap_at (gap_item channel) before (counted seen found)) (S.known sink.new)) }
     ensures answer { IfOk result (λ gap. gap ≡ has_frame_gap before (counted seen found)) }
-    ensures refused { IfErr result (λ fault. RefusesOne S.takes S.refuses sink.old (gap_at (gap_item channel) before (counted seen found)) fault sink.new) }
+    ensures refused { IfErr result (λ fault. RefusesOne S.takes S.refuses (S.known sink.old) (gap_at (gap_item channel) before (counted seen found)) fault (S.known sink.new)) }
 {
     let Some(expected) = missed(before, found) else {
         return Ok(false);
@@ -288,8 +288,8 @@ pub fn give_master_gap<S: Sink>(
     found: u8,
     sink: &mut S,
 ) -> Result<(), S::Fault>
-    ensures taken { OnOk result (TakesAll S.takes sink.old (gap_at master_gap_item before (counted seen found)) sink.new) }
-    ensures refused { IfErr result (λ fault. RefusesOne S.takes S.refuses sink.old (gap_at master_gap_item before (counted seen found)) fault sink.new) }
+    ensures taken { OnOk result (TakesAll S.takes (S.known sink.old) (gap_at master_gap_item before (counted seen found)) (S.known sink.new)) }
+    ensures refused { IfErr result (λ fault. RefusesOne S.takes S.refuses (S.known sink.old) (gap_at master_gap_item before (counted seen found)) fault (S.known sink.new)) }
 {
     let Some(expected) = missed(before, found) else {
         return Ok(());

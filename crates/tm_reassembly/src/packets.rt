@@ -1,8 +1,8 @@
 //! The packets that begin in one data field.
 
-ghost use Rattle.std.specs.Prelude.{◌≡◌, ◌+◌, ◌^◌, ◌<◌, ◌≤◌, ◌==◌, true, false, length, take, drop, None, Some, ◌++◌, IfOk, IfErr, OnOk};
+ghost use Rattle.std.specs.Prelude.{◌≡◌, ◌+◌, ◌^◌, ◌<◌, ◌≤◌, ◌==◌, true, false, length, take, drop, None, Some, ◌++◌, IfOk, IfErr, IfSome, OnOk};
 ghost use Rattle.tm_items.specs.OnePacket as one_packet;
-ghost use Rattle.tm_reassembly.specs.code.Field.{field_parts, unfinished, left_in, frame_parts, part_items};
+ghost use Rattle.tm_reassembly.specs.code.Field.{HasNoWholeFront, IsWholeFront, field_parts, unfinished, items_from, left_in, frame_parts, part_items};
 ghost use Rattle.tm_reassembly.specs.code.Kept.{member_at};
 ghost use Rattle.tm_reassembly.specs.Parts as model;
 ghost use Rattle.tm_reassembly.specs.Parts.{begins_packet, unread_reason, lead_part, front_of};
@@ -10,29 +10,16 @@ ghost use Rattle.tm_rules.specs.Rules.{IsLimit};
 ghost use Rattle.tm_items.specs.Sinks.{TakesAll, RefusesOne};
 ghost use Rattle.tm_reassembly.specs.code.Fits.{PlaceFits};
 
-use tm_items::{Item, Reason, Sink};
-use tm_packet::{packet_version, read_header};
+use tm_items::{Item, Reason, Sink, reach};
+use tm_packet::packet_version;
 
 /// Whether octets begin with version 0.
-#[tactic(auto, using(crate::proofs::Headers::version_first))]
+#[tactic(auto, using(tm_items::proofs::Headers::version_first))]
 pub fn is_packet(octets: &[u8]) -> bool
     requires { 0 < length octets.now }
     ensures { result ≡ one_packet.is_packet octets.now }
 {
     packet_version(octets[0]) == 0
-}
-
-/// How many octets the packet at the front has, by its header; 7, the fewest, where the header is not there yet.
-#[tactic(auto, using(crate::proofs::Headers::reach_read, crate::proofs::Headers::reach_unread))]
-pub fn reach(octets: &[u8]) -> usize
-    requires { one_packet.is_packet octets.now ≡ true }
-    ensures value { result ≡ one_packet.reach octets.now }
-    ensures most { result ≤ 65542 }
-{
-    match read_header(octets) {
-        Ok(header) => header.length() as usize,
-        Err(_) => 7,
-    }
 }
 
 /// Whether a packet of `far` octets is long at a frame that ends `stop` octets behind its start: it has more octets than the limit, and its
@@ -119,10 +106,10 @@ pub fn give_lead<S: Sink>(
 ) -> Result<(), S::Fault>
     requires channel { channel < 8 }
     requires most { length lead.now ≤ 2042 }
-    ensures taken { OnOk result (TakesAll S.takes sink.old
-        (part_items channel (lead_part (member_at seen None lead.now) reason lead.now)) sink.new) }
-    ensures refused { IfErr result (λ fault. RefusesOne S.takes S.refuses sink.old
-        (part_items channel (lead_part (member_at seen None lead.now) reason lead.now)) fault sink.new) }
+    ensures taken { OnOk result (TakesAll S.takes (S.known sink.old)
+        (part_items channel (lead_part (member_at seen None lead.now) reason lead.now)) (S.known sink.new)) }
+    ensures refused { IfErr result (λ fault. RefusesOne S.takes S.refuses (S.known sink.old)
+        (part_items channel (lead_part (member_at seen None lead.now) reason lead.now)) fault (S.known sink.new)) }
 {
     match lead {
         [] => Ok(()),
@@ -143,6 +130,63 @@ pub fn give_lead<S: Sink>(
     }
 }
 
+// How many octets the packet has that begins here, where it is read and lies whole in these octets.
+fn whole_front(limit: usize, octets: &[u8]) -> Option<usize>
+    ensures whole { IfSome result (λ far. IsWholeFront limit octets.now far) }
+    ensures none { result ≡ None → HasNoWholeFront limit octets.now }
+{
+    if octets.is_empty() {
+        return None;
+    }
+    match measure(limit, octets) {
+        Ok(far) if far <= octets.len() => Some(far),
+        Ok(_) | Err(_) => None,
+    }
+}
+
+// Gives what of a field stands behind its last whole packet: its unread part, if it has one. Answers as `read_field` does.
+fn give_unread<S: Sink>(
+    limit: usize,
+    seen: u32,
+    channel: u8,
+    field: &[u8],
+    at: usize,
+    sink: &mut S,
+) -> Result<usize, S::Fault>
+    requires channel { channel < 8 }
+    requires most { length field.now ≤ 2042 }
+    requires inside { at ≤ length field.now }
+    requires limit { IsLimit limit }
+    requires none { HasNoWholeFront limit (drop at field.now) }
+    ensures taken { OnOk result (TakesAll S.takes (S.known sink.old)
+        (items_from limit seen channel field.now at) (S.known sink.new)) }
+    ensures rest { IfOk result (λ left. drop left field.now ≡ unfinished limit 0 (drop at field.now)) }
+    ensures inside { IfOk result (λ left. left ≤ length field.now) }
+    ensures short { IfOk result (λ left. length field.now < left + limit) }
+    ensures refused { IfErr result (λ fault. RefusesOne S.takes S.refuses (S.known sink.old)
+        (items_from limit seen channel field.now at) fault (S.known sink.new)) }
+{
+    let left = &field[at..];
+    if left.is_empty() {
+        return Ok(at);
+    }
+    let Err(reason) = measure(limit, left) else {
+        return Ok(at);
+    };
+    let unread = Item::Dropped {
+        seen,
+        channel,
+        first: seen,
+        place: at as u16,
+        octets: left.len() as u32,
+        reason,
+    };
+    match sink.take(unread) {
+        Ok(()) => Ok(field.len()),
+        Err(fault) => Err(fault),
+    }
+}
+
 /// Gives the packets that lie whole in a field from `place` on, and its unread part. Answers where its unfinished packet begins, of which
 /// there are fewer octets than a packet may have.
 pub fn read_field<S: Sink>(
@@ -157,50 +201,22 @@ pub fn read_field<S: Sink>(
     requires most { length field.now ≤ 2042 }
     requires inside { place ≤ length field.now }
     requires limit { IsLimit limit }
-    ensures taken { OnOk result (TakesAll S.takes sink.old
-        (part_items channel (field_parts limit seen (length field.now) place field.now)) sink.new) }
+    ensures taken { OnOk result (TakesAll S.takes (S.known sink.old)
+        (part_items channel (field_parts limit seen (length field.now) place field.now)) (S.known sink.new)) }
     ensures rest { IfOk result (λ at. drop at field.now ≡ unfinished limit place field.now) }
     ensures inside { IfOk result (λ at. at ≤ length field.now) }
     ensures short { IfOk result (λ at. length field.now < at + limit) }
-    ensures refused { IfErr result (λ fault. RefusesOne S.takes S.refuses sink.old
-        (part_items channel (field_parts limit seen (length field.now) place field.now)) fault sink.new) }
+    ensures refused { IfErr result (λ fault. RefusesOne S.takes S.refuses (S.known sink.old)
+        (part_items channel (field_parts limit seen (length field.now) place field.now)) fault (S.known sink.new)) }
 {
     let mut at = place;
-    while at < field.len() {
-        let rest = &field[at..];
-        let end = match measure(limit, rest) {
-            Ok(end) => end,
-            Err(reason) => {
-                let unread = Item::Dropped {
-                    seen,
-                    channel,
-                    first: seen,
-                    place: at as u16,
-                    octets: rest.len() as u32,
-                    reason,
-                };
-                return match sink.take(unread) {
-                    Ok(()) => Ok(field.len()),
-                    Err(fault) => Err(fault),
-                };
-            }
-        };
-        if end > rest.len() {
-            return Ok(at);
-        }
-        let packet = Item::Packet {
-            seen,
-            channel,
-            first: seen,
-            place: at as u16,
-            octets: &rest[..end],
-        };
-        if let Err(fault) = sink.take(packet) {
-            return Err(fault);
-        }
-        at += end;
+    while let Some(far) = whole_front(limit, &field[at..]) {
+        at += far;
     }
-    Ok(field.len())
+    if let Err(fault) = sink.take_span(seen, channel, place as u16, &field[place..at]) {
+        return Err(fault);
+    }
+    give_unread(limit, seen, channel, field, at, sink)
 }
 
 /// Gives what a field has where no packet is open: what stands before its place is lost for this reason, and then come its packets
@@ -218,13 +234,13 @@ pub fn give_field<S: Sink>(
     requires most { length field.now ≤ 2042 }
     requires place { PlaceFits place (length field.now) }
     requires limit { IsLimit limit }
-    ensures taken { OnOk result (TakesAll S.takes sink.old
-        (part_items channel (lead_part (member_at seen place field.now) reason (front_of place field.now) ++ frame_parts limit (member_at seen place field.now))) sink.new) }
+    ensures taken { OnOk result (TakesAll S.takes (S.known sink.old)
+        (part_items channel (lead_part (member_at seen place field.now) reason (front_of place field.now) ++ frame_parts limit (member_at seen place field.now))) (S.known sink.new)) }
     ensures rest { IfOk result (λ at. drop at field.now ≡ left_in limit place field.now) }
     ensures inside { IfOk result (λ at. at ≤ length field.now) }
     ensures short { IfOk result (λ at. length field.now < at + limit) }
-    ensures refused { IfErr result (λ fault. RefusesOne S.takes S.refuses sink.old
-        (part_items channel (lead_part (member_at seen place field.now) reason (front_of place field.now) ++ frame_parts limit (member_at seen place field.now))) fault sink.new) }
+    ensures refused { IfErr result (λ fault. RefusesOne S.takes S.refuses (S.known sink.old)
+        (part_items channel (lead_part (member_at seen place field.now) reason (front_of place field.now) ++ frame_parts limit (member_at seen place field.now))) fault (S.known sink.new)) }
 {
     match place {
         None => match give_lead(seen, channel, reason, field, sink) {

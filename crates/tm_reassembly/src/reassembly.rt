@@ -89,10 +89,10 @@ impl Reassembly {
     /// records stays.
     pub fn step<S: Sink>(&mut self, octets: &[u8], sink: &mut S) -> Result<(), StepFault<S::Fault>>
         requires { length octets.now ≡ record_length_of self.old.rules.layout }
-        ensures taken { OnOk result (TakesAll S.takes sink.old (step_items self.old octets.now) sink.new) }
+        ensures taken { OnOk result (TakesAll S.takes (S.known sink.old) (step_items self.old octets.now) (S.known sink.new)) }
         ensures left { OnOk result (self.new ≡ stepped self.old octets.now) }
         ensures asked { OnOk result ((self.old.failed ≡ false) × (self.old.state.records < most_records)) }
-        ensures refused { IfErr result (StepRefused S.takes S.refuses self.old self.new sink.old sink.new (step_items self.old octets.now)) }
+        ensures refused { IfErr result (StepRefused S.known S.takes S.refuses self.old self.new sink.old sink.new (step_items self.old octets.now)) }
     {
         if self.failed() {
             return Err(StepFault::Failed);
@@ -127,9 +127,9 @@ impl Reassembly {
     /// `Failed` where a step was refused by its sink; else `Sink` where the sink refused an item, having taken those before it.
     pub fn finish<S: Sink>(self, rest: usize, sink: &mut S) -> Result<(), StepFault<S::Fault>>
         requires { rest < record_length_of self.rules.layout }
-        ensures taken { OnOk result (TakesAll S.takes sink.old (closing self.state rest) sink.new) }
+        ensures taken { OnOk result (TakesAll S.takes (S.known sink.old) (closing self.state rest) (S.known sink.new)) }
         ensures asked { OnOk result (self.failed ≡ false) }
-        ensures refused { IfErr result (CloseRefused S.takes S.refuses self sink.old sink.new (closing self.state rest)) }
+        ensures refused { IfErr result (CloseRefused S.known S.takes S.refuses self sink.old sink.new (closing self.state rest)) }
     {
         prove!(rest < self.rules.layout.record_length());
         if self.failed {
@@ -392,13 +392,13 @@ fn take_record<S: Sink>(
     requires record { length octets.now ≡ record_length_of rules.now.layout }
     requires state { IsValidState rules.now (record { records = seen; master = master.old; channels = lasts kept.old }) }
     requires limit { HaveLimit rules.now.max_packet kept.old }
-    ensures taken { OnOk result (TakesAll S.takes sink.old
-        (items rules.now (record { records = seen; master = master.old; channels = lasts kept.old }) (octets.now ∷ [])) sink.new) }
+    ensures taken { OnOk result (TakesAll S.takes (S.known sink.old)
+        (items rules.now (record { records = seen; master = master.old; channels = lasts kept.old }) (octets.now ∷ [])) (S.known sink.new)) }
     ensures left { OnOk result (record { records = seen + 1; master = master.new; channels = lasts kept.new }
         ≡ after rules.now (record { records = seen; master = master.old; channels = lasts kept.old }) (octets.now ∷ [])) }
     ensures limit { OnOk result (HaveLimit rules.now.max_packet kept.new) }
-    ensures refused { IfErr result (λ fault. RefusesOne S.takes S.refuses sink.old
-        (items rules.now (record { records = seen; master = master.old; channels = lasts kept.old }) (octets.now ∷ [])) fault sink.new) }
+    ensures refused { IfErr result (λ fault. RefusesOne S.takes S.refuses (S.known sink.old)
+        (items rules.now (record { records = seen; master = master.old; channels = lasts kept.old }) (octets.now ∷ [])) fault (S.known sink.new)) }
 {
     match read(&rules.layout, octets) {
         Ok(frame) => {
@@ -423,8 +423,8 @@ fn take_record<S: Sink>(
 
 // The items of a closed end: of the rest, and of the tails.
 fn close<S: Sink>(seen: u32, rest: u32, kept: &[Kept; 8], sink: &mut S) -> Result<(), S::Fault>
-    ensures taken { OnOk result (TakesAll S.takes sink.old (closing (record { records = seen; master = None; channels = lasts kept.now }) rest) sink.new) }
-    ensures refused { IfErr result (λ fault. RefusesOne S.takes S.refuses sink.old (closing (record { records = seen; master = None; channels = lasts kept.now }) rest) fault sink.new) }
+    ensures taken { OnOk result (TakesAll S.takes (S.known sink.old) (closing (record { records = seen; master = None; channels = lasts kept.now }) rest) (S.known sink.new)) }
+    ensures refused { IfErr result (λ fault. RefusesOne S.takes S.refuses (S.known sink.old) (closing (record { records = seen; master = None; channels = lasts kept.now }) rest) fault (S.known sink.new)) }
 {
     if rest > 0 {
         if let Err(fault) = sink.take(Item::Short { seen, octets: rest }) {
@@ -437,8 +437,8 @@ fn close<S: Sink>(seen: u32, rest: u32, kept: &[Kept; 8], sink: &mut S) -> Resul
 // The tails that are held, by rising channel.
 #[tactic(auto, using(crate::proofs::Slots::close_more))]
 fn close_channels<S: Sink>(seen: u32, kept: &[Kept; 8], sink: &mut S) -> Result<(), S::Fault>
-    ensures taken { OnOk result (TakesAll S.takes sink.old (close_channels seen 0 (lasts kept.now)) sink.new) }
-    ensures refused { IfErr result (λ fault. RefusesOne S.takes S.refuses sink.old (close_channels seen 0 (lasts kept.now)) fault sink.new) }
+    ensures taken { OnOk result (TakesAll S.takes (S.known sink.old) (close_channels seen 0 (lasts kept.now)) (S.known sink.new)) }
+    ensures refused { IfErr result (λ fault. RefusesOne S.takes S.refuses (S.known sink.old) (close_channels seen 0 (lasts kept.now)) fault (S.known sink.new)) }
 {
     for channel in 0..8 {
         if let Err(fault) = kept[channel].close(seen, channel as u8, sink) {

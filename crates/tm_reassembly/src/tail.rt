@@ -96,8 +96,8 @@ impl Tail {
         sink: &mut S,
     ) -> Result<(), S::Fault>
         requires { channel < 8 }
-        ensures taken { OnOk result (TakesAll S.takes sink.old (part_items channel (ended_parts self.now.tail reason seen)) sink.new) }
-        ensures refused { IfErr result (λ fault. RefusesOne S.takes S.refuses sink.old (part_items channel (ended_parts self.now.tail reason seen)) fault sink.new) }
+        ensures taken { OnOk result (TakesAll S.takes (S.known sink.old) (part_items channel (ended_parts self.now.tail reason seen)) (S.known sink.new)) }
+        ensures refused { IfErr result (λ fault. RefusesOne S.takes S.refuses (S.known sink.old) (part_items channel (ended_parts self.now.tail reason seen)) fault (S.known sink.new)) }
     {
         if self.octets.is_empty() {
             return Ok(());
@@ -125,11 +125,11 @@ impl Tail {
         sink: &mut S,
     ) -> Result<(), S::Fault>
         requires { channel < 8 }
-        ensures taken { OnOk result (TakesAll S.takes sink.old (part_items channel (ended_parts self.old.tail reason seen)) sink.new) }
+        ensures taken { OnOk result (TakesAll S.takes (S.known sink.old) (part_items channel (ended_parts self.old.tail reason seen)) (S.known sink.new)) }
         ensures left { OnOk result (self.new.tail ≡ None) }
         ensures limit { self.new.limit ≡ self.old.limit }
         ensures room { self.old.room ≤ self.new.room }
-        ensures refused { IfErr result (λ fault. RefusesOne S.takes S.refuses sink.old (part_items channel (ended_parts self.old.tail reason seen)) fault sink.new) }
+        ensures refused { IfErr result (λ fault. RefusesOne S.takes S.refuses (S.known sink.old) (part_items channel (ended_parts self.old.tail reason seen)) fault (S.known sink.new)) }
     {
         match self.give_lost(seen, channel, reason, sink) {
             Ok(()) => {
@@ -154,13 +154,13 @@ impl Tail {
         requires channel { channel < 8 }
         requires most { length field.now ≤ 2042 }
         requires place { PlaceFits place (length field.now) }
-        ensures taken { OnOk result (TakesAll S.takes sink.old
-            (part_items channel (lead_part (member_at seen place field.now) reason (front_of place field.now) ++ frame_parts self.old.limit (member_at seen place field.now))) sink.new) }
+        ensures taken { OnOk result (TakesAll S.takes (S.known sink.old)
+            (part_items channel (lead_part (member_at seen place field.now) reason (front_of place field.now) ++ frame_parts self.old.limit (member_at seen place field.now))) (S.known sink.new)) }
         ensures left { OnOk result (self.new.tail ≡ frame_tail self.old.limit (member_at seen place field.now)) }
         ensures limit { self.new.limit ≡ self.old.limit }
         ensures room { self.old.room ≤ self.new.room }
-        ensures refused { IfErr result (λ fault. RefusesOne S.takes S.refuses sink.old
-            (part_items channel (lead_part (member_at seen place field.now) reason (front_of place field.now) ++ frame_parts self.old.limit (member_at seen place field.now))) fault sink.new) }
+        ensures refused { IfErr result (λ fault. RefusesOne S.takes S.refuses (S.known sink.old)
+            (part_items channel (lead_part (member_at seen place field.now) reason (front_of place field.now) ++ frame_parts self.old.limit (member_at seen place field.now))) fault (S.known sink.new)) }
     {
         match give_field(self.limit, seen, channel, reason, place, field, sink) {
             Ok(at) => {
@@ -184,11 +184,11 @@ impl Tail {
         requires most { length field.now ≤ 2042 }
         requires place { PlaceFits place (length field.now) }
         requires open { IsOpenTail self.old.limit self.old.tail }
-        ensures taken { OnOk result (TakesAll S.takes sink.old (part_items channel (step_parts self.old.limit self.old.tail (member_at seen place field.now))) sink.new) }
+        ensures taken { OnOk result (TakesAll S.takes (S.known sink.old) (part_items channel (step_parts self.old.limit self.old.tail (member_at seen place field.now))) (S.known sink.new)) }
         ensures left { OnOk result (self.new.tail ≡ step_tail self.old.limit self.old.tail (member_at seen place field.now)) }
         ensures limit { self.new.limit ≡ self.old.limit }
         ensures room { self.old.room ≤ self.new.room }
-        ensures refused { IfErr result (λ fault. RefusesOne S.takes S.refuses sink.old (part_items channel (step_parts self.old.limit self.old.tail (member_at seen place field.now))) fault sink.new) }
+        ensures refused { IfErr result (λ fault. RefusesOne S.takes S.refuses (S.known sink.old) (part_items channel (step_parts self.old.limit self.old.tail (member_at seen place field.now))) fault (S.known sink.new)) }
     {
         if self.octets.is_empty() {
             return self.begin(seen, channel, Reason::NoStart, place, field, sink);
@@ -238,11 +238,11 @@ impl Tail {
         requires most { length (octets_in self.old.tail) + length last.now ≤ self.old.limit }
         requires some { 0 < length (octets_in self.old.tail) }
         requires whole { IsOnePacket (octets_in self.old.tail ++ last.now) }
-        ensures taken { OnOk result (TakesAll S.takes sink.old (part_items channel (completed self.old.tail last.now seen)) sink.new) }
+        ensures taken { OnOk result (TakesAll S.takes (S.known sink.old) (part_items channel (completed self.old.tail last.now seen)) (S.known sink.new)) }
         ensures left { OnOk result (self.new.tail ≡ None) }
         ensures limit { self.new.limit ≡ self.old.limit }
         ensures room { self.old.room ≤ self.new.room }
-        ensures refused { IfErr result (λ fault. RefusesOne S.takes S.refuses sink.old (part_items channel (completed self.old.tail last.now seen)) fault sink.new) }
+        ensures refused { IfErr result (λ fault. RefusesOne S.takes S.refuses (S.known sink.old) (part_items channel (completed self.old.tail last.now seen)) fault (S.known sink.new)) }
     {
         self.grow(last);
         let packet = Item::Packet {
@@ -274,13 +274,13 @@ impl Tail {
         requires some { 0 < length (octets_in self.old.tail) }
         requires whole { IsOnePacket (octets_in self.old.tail ++ take start field.now) }
         requires room { length (octets_in self.old.tail) + start ≤ self.old.limit }
-        ensures taken { OnOk result (TakesAll S.takes sink.old
-            (part_items channel (completed self.old.tail (take start field.now) seen ++ frame_parts self.old.limit (member_at seen (Some start) field.now))) sink.new) }
+        ensures taken { OnOk result (TakesAll S.takes (S.known sink.old)
+            (part_items channel (completed self.old.tail (take start field.now) seen ++ frame_parts self.old.limit (member_at seen (Some start) field.now))) (S.known sink.new)) }
         ensures left { OnOk result (self.new.tail ≡ frame_tail self.old.limit (member_at seen (Some start) field.now)) }
         ensures limit { self.new.limit ≡ self.old.limit }
         ensures room { self.old.room ≤ self.new.room }
-        ensures refused { IfErr result (λ fault. RefusesOne S.takes S.refuses sink.old
-            (part_items channel (completed self.old.tail (take start field.now) seen ++ frame_parts self.old.limit (member_at seen (Some start) field.now))) fault sink.new) }
+        ensures refused { IfErr result (λ fault. RefusesOne S.takes S.refuses (S.known sink.old)
+            (part_items channel (completed self.old.tail (take start field.now) seen ++ frame_parts self.old.limit (member_at seen (Some start) field.now))) fault (S.known sink.new)) }
     {
         let start = start as usize;
         if let Err(fault) = self.complete(seen, channel, &field[..start], sink) {
@@ -308,13 +308,13 @@ impl Tail {
         requires channel { channel < 8 }
         requires most { length field.now ≤ 2042 }
         requires place { PlaceFits place (length field.now) }
-        ensures taken { OnOk result (TakesAll S.takes sink.old
-            (part_items channel (ended_parts self.old.tail reason seen ++ lead_part (member_at seen place field.now) reason (front_of place field.now) ++ frame_parts self.old.limit (member_at seen place field.now))) sink.new) }
+        ensures taken { OnOk result (TakesAll S.takes (S.known sink.old)
+            (part_items channel (ended_parts self.old.tail reason seen ++ lead_part (member_at seen place field.now) reason (front_of place field.now) ++ frame_parts self.old.limit (member_at seen place field.now))) (S.known sink.new)) }
         ensures left { OnOk result (self.new.tail ≡ frame_tail self.old.limit (member_at seen place field.now)) }
         ensures limit { self.new.limit ≡ self.old.limit }
         ensures room { self.old.room ≤ self.new.room }
-        ensures refused { IfErr result (λ fault. RefusesOne S.takes S.refuses sink.old
-            (part_items channel (ended_parts self.old.tail reason seen ++ lead_part (member_at seen place field.now) reason (front_of place field.now) ++ frame_parts self.old.limit (member_at seen place field.now))) fault sink.new) }
+        ensures refused { IfErr result (λ fault. RefusesOne S.takes S.refuses (S.known sink.old)
+            (part_items channel (ended_parts self.old.tail reason seen ++ lead_part (member_at seen place field.now) reason (front_of place field.now) ++ frame_parts self.old.limit (member_at seen place field.now))) fault (S.known sink.new)) }
     {
         if let Err(fault) = self.end(seen, channel, reason, sink) {
             return Err(fault);

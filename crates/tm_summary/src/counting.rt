@@ -87,7 +87,13 @@ impl Counting<'_> {
 }
 
 impl Sink for Counting<'_> {
+    ghost use Rattle.tm_summary.specs.declared.counting.Counting.{Counting};
+
     type Fault = RunFault;
+
+    ghost Known = { Counting };
+
+    ghost known = { λ s. s };
 
     ghost takes = { TakesTally };
 

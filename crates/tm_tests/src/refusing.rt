@@ -117,6 +117,10 @@ fn words_of(alloc: Global, item: Item<'_>) -> Result<String, AllocError> {
 impl Sink for Wanted<'_> {
     type Fault = Refused;
 
+    ghost Known = { Unit {0} };
+
+    ghost known = { λ _. tt };
+
     ghost takes = { λ old item new. Unit {0} };
 
     ghost refuses = { λ old item fault new. Unit {0} };

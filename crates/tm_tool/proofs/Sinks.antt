@@ -3,9 +3,9 @@ use Rattle.std.proofs.Common.{◌≡◌, List, [], ◌∷◌, ◌++◌, refl, sy
 use Rattle.tm_items.specs.Item.{Item}
 use Rattle.tm_items.specs.Sinks.{TakesAll, RefusesOne}
 use Rattle.tm_output.specs.declared.fault.RunFault.{RunFault}
-use Rattle.tm_output.specs.Outputs.{View, Piece, Took, Stopped, Way}
+use Rattle.tm_output.specs.Outputs.{Piece, Took, Stopped, Way}
 use Rattle.tm_output.specs.Pieces.{Entries, Texts, piece_of, noted, noted_all, pieces_of}
-use Rattle.tm_output.specs.Seen.{Fixture}
+use Rattle.tm_output.specs.Seen.{Fixture, OutputState}
 use Rattle.tm_output.specs.code.Sinking.{Takes, Refuses}
 use Rattle.tm_output.proofs.PieceLemmas.{took_none, took_took, took_stopped, stopped_more}
 
@@ -13,24 +13,23 @@ use Rattle.tm_output.proofs.PieceLemmas.{took_none, took_took, took_stopped, sto
 pub same_texts : {M : Type 0} {s t : Fixture M} → t ≡ s → t.texts ≡ s.texts
 same_texts {M} same = ap (λ (f : Fixture M). f.texts) same
 
-module _ {A K S M : Type 0} (grows : K → K → List A → Type 0) (grows-nil : (k : K) → grows k k [])
+module _ {A K M : Type 0} (grows : K → K → List A → Type 0) (grows-nil : (k : K) → grows k k [])
     (grows-trans : (j k l : K) (xs ys : List A) → grows j k xs → grows k l ys → grows j l (xs ++ ys))
-    (text : M → Texts A) (way : Way)
-    (fixed : S → Fixture M) (entries : S → Entries) (seen : S → View K) where
-  pub record TookAll (s : S) (xs : List Item) (t : S) : Type 0 where
-    pub same : fixed t ≡ fixed s
-    pub noted_is : entries t ≡ noted_all (entries s) xs
-    pub took : Took grows (seen s) (seen t) (pieces_of (text (fixed s).texts) (entries s) xs)
+    (text : M → Texts A) (way : Way) where
+  pub record TookAll (s : OutputState K M) (xs : List Item) (t : OutputState K M) : Type 0 where
+    pub same : t.fixture ≡ s.fixture
+    pub noted_is : t.entries ≡ noted_all s.entries xs
+    pub took : Took grows s.view t.view (pieces_of (text s.fixture.texts) s.entries xs)
 
-  pub record StoppedAmong (s : S) (xs : List Item) (fault : RunFault) (t : S) : Type 0 where
-    pub same : fixed t ≡ fixed s
-    pub stopped : Stopped grows way (seen s) (seen t) (pieces_of (text (fixed s).texts) (entries s) xs) fault
+  pub record StoppedAmong (s : OutputState K M) (xs : List Item) (fault : RunFault) (t : OutputState K M) : Type 0 where
+    pub same : t.fixture ≡ s.fixture
+    pub stopped : Stopped grows way s.view t.view (pieces_of (text s.fixture.texts) s.entries xs) fault
 
-  took_first : (s : S) → TookAll s [] s
-  took_first s = record { same = refl; noted_is = refl; took = took_none grows grows-nil grows-trans (seen s) }
+  took_first : (s : OutputState K M) → TookAll s [] s
+  took_first s = record { same = refl; noted_is = refl; took = took_none grows grows-nil grows-trans s.view }
 
-  module _ (s mid t : S) (x : Item) (xs : List Item) (one : Takes grows text way fixed entries seen s x mid) where
-    more_pieces : pieces_of (text (fixed mid).texts) (entries mid) xs ≡ pieces_of (text (fixed s).texts) (noted (entries s) x) xs
+  module _ (s mid t : OutputState K M) (x : Item) (xs : List Item) (one : Takes grows text way s x mid) where
+    more_pieces : pieces_of (text mid.fixture.texts) mid.entries xs ≡ pieces_of (text s.fixture.texts) (noted s.entries x) xs
     more_pieces =
         rw (one.same, one.noted_is) refl
 
@@ -38,29 +37,29 @@ module _ {A K S M : Type 0} (grows : K → K → List A → Type 0) (grows-nil :
     took_more more = record {
       same = more.same ∙ one.same;
       noted_is = more.noted_is ∙ ap (λ (e : Entries). noted_all e xs) one.noted_is;
-      took = took_took grows grows-nil grows-trans (seen s) (seen mid) (seen t) (piece_of (text (fixed s).texts) (entries s) x ∷ [])
-          (pieces_of (text (fixed s).texts) (noted (entries s) x) xs) one.took (subst (Took grows (seen mid) (seen t)) more_pieces more.took);
+      took = took_took grows grows-nil grows-trans s.view mid.view t.view (piece_of (text s.fixture.texts) s.entries x ∷ [])
+          (pieces_of (text s.fixture.texts) (noted s.entries x) xs) one.took (subst (Took grows mid.view t.view) more_pieces more.took);
     }
 
     stopped_later : (fault : RunFault) → StoppedAmong mid xs fault t → StoppedAmong s (x ∷ xs) fault t
     stopped_later fault more = record {
       same = more.same ∙ one.same;
-      stopped = took_stopped grows grows-nil grows-trans way (seen s) (seen mid) (seen t) (piece_of (text (fixed s).texts) (entries s) x ∷ [])
-          (pieces_of (text (fixed s).texts) (noted (entries s) x) xs) one.took fault
-          (subst (λ (ps : List (Piece A)). Stopped grows way (seen mid) (seen t) ps fault) more_pieces more.stopped);
+      stopped = took_stopped grows grows-nil grows-trans way s.view mid.view t.view (piece_of (text s.fixture.texts) s.entries x ∷ [])
+          (pieces_of (text s.fixture.texts) (noted s.entries x) xs) one.took fault
+          (subst (λ (ps : List (Piece A)). Stopped grows way mid.view t.view ps fault) more_pieces more.stopped);
     }
 
-  pub took_all : (s : S) (xs : List Item) (t : S) → TakesAll (Takes grows text way fixed entries seen) s xs t → TookAll s xs t
+  pub took_all : (s : OutputState K M) (xs : List Item) (t : OutputState K M) → TakesAll (Takes grows text way) s xs t → TookAll s xs t
   took_all s [] t h = subst (TookAll s []) (sym h) (took_first s)
   took_all s (x ∷ xs) t h = took_more s h.0 t x xs h.1 (took_all h.0 xs t h.2)
 
-  pub stopped_among : (s : S) (xs : List Item) (fault : RunFault) (t : S)
-      → RefusesOne (Takes grows text way fixed entries seen) (Refuses grows text way fixed entries seen) s xs fault t
+  pub stopped_among : (s : OutputState K M) (xs : List Item) (fault : RunFault) (t : OutputState K M)
+      → RefusesOne (Takes grows text way) (Refuses grows text way) s xs fault t
       → StoppedAmong s xs fault t
   stopped_among s [] fault t h = absurd h
   stopped_among s (x ∷ xs) fault t (inl h) = record {
     same = h.same;
-    stopped = stopped_more grows grows-nil grows-trans way (seen s) (seen t) (piece_of (text (fixed s).texts) (entries s) x ∷ [])
-        (pieces_of (text (fixed s).texts) (noted (entries s) x) xs) fault h.stopped;
+    stopped = stopped_more grows grows-nil grows-trans way s.view t.view (piece_of (text s.fixture.texts) s.entries x ∷ [])
+        (pieces_of (text s.fixture.texts) (noted s.entries x) xs) fault h.stopped;
   }
   stopped_among s (x ∷ xs) fault t (inr h) = stopped_later s h.0 t x xs h.1 fault (stopped_among h.0 xs fault t h.2)

@@ -39,7 +39,7 @@ false_true : false ≡ true → ⊥
 false_true e = cc
 
 -- a closed end is refused by none
-pub end_taken : (p : Progress) (s t : Counting) (xs : List Item) (fault : StepFault RunFault) → p.failed ≡ false → CloseRefused TakesTally RefusesTally p s t xs fault → ⊥
+pub end_taken : (p : Progress) (s t : Counting) (xs : List Item) (fault : StepFault RunFault) → p.failed ≡ false → CloseRefused (λ (c : Counting). c) TakesTally RefusesTally p s t xs fault → ⊥
 end_taken p s t xs (Sink f) going h = none_refused s xs f t h.1
 end_taken p s t xs Failed going h = false_true (sym going ∙ h.0)
 end_taken p s t xs TooMany going h = h

@@ -1,5 +1,7 @@
 -- Where packets go: what is known of it, and how it grows.
-use Rattle.std.specs.Prelude.{◌≡◌, ◌≢◌, refl, ℕ, true, List, []}
+use Rattle.std.specs.Prelude.{◌≡◌, ◌≢◌, refl, ℕ, true, List, [], ◌++◌, Option, None, Some}
+use Rattle.std.specs.Io.KnownBytes.{Appends}
+use Rattle.std.proofs.Common.{sym, ◌∙◌, append_assoc}
 use Rattle.tm_fields.specs.declared.field.Field.{Field}
 use Rattle.tm_items.specs.Item.{Item, Bad, MasterGap, Gap, Vca, Dropped, Packet, Short}
 use Rattle.tm_devices.specs.Devices.{raised}
@@ -72,3 +74,9 @@ pub no_text : (command : Command) (x : Item) → HasLine x → GivesNone (text_o
 no_text Extract x has = (octets_none x has, refl)
 no_text Packets x has = (listed_none x has, refl)
 no_text (Fields definition application) x has = no_row definition.now application x has
+
+-- octets that are added at once may be added in two steps
+pub appends_split : (j l : Option (List ℕ)) (xs ys : List ℕ) → Appends j l (xs ++ ys) → (k : Option (List ℕ)) × Appends j k xs × Appends k l ys
+appends_split None l xs ys h = (None, tt, tt)
+appends_split (Some held) None xs ys h = absurd h
+appends_split (Some held) (Some more) xs ys h = (Some (held ++ xs), refl, h ∙ sym (append_assoc held xs ys))

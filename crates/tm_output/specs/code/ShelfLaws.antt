@@ -25,6 +25,16 @@ shelves_trans (Some f) (Some g) (Some h) xs ys a b = λ k.
     b k ∙ ap (λ (l : List ℕ). l ++ of_application k ys) (a k) ∙ append_assoc (f k) (of_application k xs) (of_application k ys)
     ∙ ap (λ (l : List ℕ). f k ++ l) (sym (of_application-append k xs ys))
 
+pub shelves_split : (o q : Option (ℕ → List ℕ)) (xs ys : List Shelved) → Shelves o q (xs ++ ys)
+    → (p : Option (ℕ → List ℕ)) × Shelves o p xs × Shelves p q ys
+shelves_split None q xs ys h = (None, tt, tt)
+shelves_split (Some f) None xs ys h = absurd h
+shelves_split (Some f) (Some h) xs ys e = (
+  Some (λ k. f k ++ of_application k xs),
+  (λ k. refl),
+  λ k. e k ∙ ap (λ (l : List ℕ). f k ++ l) (of_application-append k xs ys) ∙ sym (append_assoc (f k) (of_application k xs) (of_application k ys)),
+)
+
 of_shelved : (b : Bool) (k application : ℕ) (octets : List ℕ) → (application == k) ≡ b → of_application k (shelved application octets) ≡ (if b then octets else [])
 of_shelved true k application [] e = refl
 of_shelved false k application [] e = refl

@@ -2,20 +2,19 @@
 use Rattle.std.specs.Prelude.{◌≡◌, List, [], ◌∷◌}
 use Rattle.tm_items.specs.Item.{Item}
 use Rattle.tm_output.specs.declared.fault.RunFault.{RunFault}
-use Rattle.tm_output.specs.Outputs.{View, Way, Took, Stopped}
-use Rattle.tm_output.specs.Pieces.{Entries, Texts, noted, piece_of}
-use Rattle.tm_output.specs.Seen.{Fixture}
+use Rattle.tm_output.specs.Outputs.{Way, Took, Stopped}
+use Rattle.tm_output.specs.Pieces.{Texts, noted, piece_of}
+use Rattle.tm_output.specs.Seen.{OutputState}
 
--- Of a sink are known what stays the same, which says what is given of an item, the entries of its tracker, and its two outputs.
-module _ {A K S M : Type 0} (grows : K → K → List A → Type 0) (text : M → Texts A) (way : Way)
-    (fixed : S → Fixture M) (entries : S → Entries) (seen : S → View K) where
+-- what stays the same says what is given of an item
+module _ {A K M : Type 0} (grows : K → K → List A → Type 0) (text : M → Texts A) (way : Way) where
   -- it takes an item: its two texts were written
-  pub record Takes (s : S) (x : Item) (t : S) : Type 0 where
-    pub same : fixed t ≡ fixed s
-    pub noted_is : entries t ≡ noted (entries s) x
-    pub took : Took grows (seen s) (seen t) (piece_of (text (fixed s).texts) (entries s) x ∷ [])
+  pub record Takes (s : OutputState K M) (x : Item) (t : OutputState K M) : Type 0 where
+    pub same : t.fixture ≡ s.fixture
+    pub noted_is : t.entries ≡ noted s.entries x
+    pub took : Took grows s.view t.view (piece_of (text s.fixture.texts) s.entries x ∷ [])
 
   -- it refuses an item: writing stopped at one place of its two texts
-  pub record Refuses (s : S) (x : Item) (fault : RunFault) (t : S) : Type 0 where
-    pub same : fixed t ≡ fixed s
-    pub stopped : Stopped grows way (seen s) (seen t) (piece_of (text (fixed s).texts) (entries s) x ∷ []) fault
+  pub record Refuses (s : OutputState K M) (x : Item) (fault : RunFault) (t : OutputState K M) : Type 0 where
+    pub same : t.fixture ≡ s.fixture
+    pub stopped : Stopped grows way s.view t.view (piece_of (text s.fixture.texts) s.entries x ∷ []) fault

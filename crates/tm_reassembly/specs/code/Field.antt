@@ -1,6 +1,6 @@
 -- What one frame gives by itself, with no other frame in view. These stand in private contracts alone; that they agree with the
 -- definitions, which look at whole runs, is proved.
-use Rattle.std.specs.Prelude.{ℕ, suc, zero, pred, ◌+◌, ◌-◌, nat_le, Bool, true, false, Option, Some, None, List, [], ◌∷◌, ◌++◌, length, take, if◌then◌else◌}
+use Rattle.std.specs.Prelude.{◌≡◌, ◌<◌, ◌≤◌, ℕ, suc, zero, pred, ◌+◌, ◌-◌, nat_le, Bool, true, false, Option, Some, None, List, [], ◌∷◌, ◌++◌, length, take, drop, if◌then◌else◌}
 use Rattle.std.specs.List.{flat_map}
 use Rattle.tm_items.specs.declared.items.Reason.TheVariants as why
 use Rattle.tm_items.specs.declared.items.Reason.{Reason}
@@ -8,7 +8,7 @@ use Rattle.tm_reassembly.specs.State.{Tail}
 use Rattle.tm_reassembly.specs.Chain.{ChainMember}
 use Rattle.tm_reassembly.specs.Parts.{Part, Given, Lost, begins_packet, agrees, reason_at, unread_reason, front_of, lead, lead_part}
 use Rattle.tm_items.specs.Item.{Item}
-use Rattle.tm_items.specs.OnePacket.{reach}
+use Rattle.tm_items.specs.OnePacket.{is_packet, reach}
 use Rattle.tm_reassembly.specs.Items.{part_item}
 
 -- the tail that these last octets of a field are, if there are any
@@ -112,3 +112,19 @@ module _ (limit : ℕ) where
 -- the items of parts
 abbrev pub part_items : ℕ → List Part → List Item
 part_items channel ps = flat_map (λ p. part_item channel p p.fate) ps
+
+-- the items that a field gives from a place on
+abbrev pub items_from : ℕ → ℕ → ℕ → List ℕ → ℕ → List Item
+items_from limit seen channel field at = part_items channel (field_parts limit seen (length field) 0 (drop at field))
+
+-- a packet of so many octets begins with these, is read, and lies whole in them
+pub record IsWholeFront (limit : ℕ) (octets : List ℕ) (far : ℕ) : Type 0 where
+  pub some : 0 < length octets
+  pub version : is_packet octets ≡ true
+  pub begins : begins_packet limit octets ≡ true
+  pub reaches : far ≡ reach octets
+  pub whole : far ≤ length octets
+
+-- none does
+abbrev pub HasNoWholeFront : ℕ → List ℕ → Type 0
+HasNoWholeFront limit octets = begins_packet limit octets ≡ true → length octets < reach octets

@@ -2,7 +2,7 @@ use Rattle.std.proofs.Common.{◌+◌, drop, arith}
 use Rattle.std.specs.Prelude.{slice_index_or}
 use Rattle.tm_reassembly.specs.Items.{close_last, close_channels}
 use Rattle.tm_reassembly.specs.code.Kept.{lasts}
-use Rattle.tm_reassembly.proofs.ReadField.{leads_all, leads_refused}
+use Rattle.tm_items.proofs.Leads.{leads_all, leads_refused}
 use Rattle.tm_reassembly.proofs.Slots.{close_more}
 use Rattle.tm_reassembly.proofs.reassembly.close_channels.Goals as goal
 

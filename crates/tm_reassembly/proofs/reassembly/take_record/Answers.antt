@@ -4,7 +4,7 @@ use Rattle.tm_items.specs.Item.{Item}
 use Rattle.tm_rules.specs.Rules.{chooses}
 use Rattle.tm_items.specs.Sinks.{TakesAll, RefusesOne}
 use Rattle.tm_reassembly.proofs.OneRecord.{open_slot, items_slot, after_slot, items_good, items_unchosen, after_unchosen, limit_slot, items_bad_record, after_bad_record, refused_bad_record, read_as, chosen_as}
-use Rattle.tm_reassembly.proofs.ReadField.{TakesAll-append, RefusesOne-left, RefusesOne-right}
+use Rattle.tm_items.proofs.Leads.{TakesAll-append, RefusesOne-left, RefusesOne-right}
 use Rattle.tm_reassembly.proofs.reassembly.take_record.Goals as goal
 
 pub take_frame-requires-clause-open : goal.take_frame-requires-clause-open
@@ -14,7 +14,7 @@ pub returns-in-Err-give_master_gap-clause-refused : goal.returns-in-Err-give_mas
 returns-in-Err-give_master_gap-clause-refused g c =
     let e = read_as c.args.octets.now c.rules.view_is c.in-Ok.ensures in
     let r = items_good c.args.rules.now c.args.seen c.args.master.now c.args.kept.now c.requires.state c.requires.limit c.args.octets.now c.in-Ok.frame e c.master_count-count.result c.master_count-count.ensures in
-    subst (λ (xs : List Item). RefusesOne g.S.Sink.takes g.S.Sink.refuses c.args.sink.now xs c.in-Err-give_master_gap.fault c.give_master_gap.new.sink) r.1
+    subst (λ (xs : List Item). RefusesOne g.S.Sink.takes g.S.Sink.refuses (g.S.Sink.known c.args.sink.now) xs c.in-Err-give_master_gap.fault (g.S.Sink.known c.give_master_gap.new.sink)) r.1
     (RefusesOne-left g.S.Sink.takes g.S.Sink.refuses _ _ _ r.0 _ c.in-Err-give_master_gap.ensures.refused)
 
 pub returns-then-has-clause-taken : goal.returns-then-has-clause-taken
@@ -23,7 +23,7 @@ returns-then-has-clause-taken g c =
     let is_chosen = chosen_as c.channel-channel.result c.rules.view_is c.has.ensures c.if-has.true in
     on_ok_weaker c.take_frame.result
     (λ h.
-    subst (λ (xs : List Item). TakesAll g.S.Sink.takes c.args.sink.now xs c.take_frame.new.sink)
+    subst (λ (xs : List Item). TakesAll g.S.Sink.takes (g.S.Sink.known c.args.sink.now) xs (g.S.Sink.known c.take_frame.new.sink))
     (items_slot c.args.rules.now c.args.seen c.args.master.now c.args.kept.now c.requires.state c.requires.limit c.args.octets.now c.in-Ok.frame e c.master_count-count.result c.master_count-count.ensures c.channel-channel.result c.index-kept-channel.result c.channel-channel.ensures.value is_chosen)
     (TakesAll-append g.S.Sink.takes _ _ _ _ _ c.in_default.ensures.taken h))
     c.take_frame.ensures.taken
@@ -44,7 +44,7 @@ returns-then-has-clause-refused g c =
     let is_chosen = chosen_as c.channel-channel.result c.rules.view_is c.has.ensures c.if-has.true in
     IfErr-weaker c.take_frame.result _ _
     (λ fault h.
-    subst (λ (xs : List Item). RefusesOne g.S.Sink.takes g.S.Sink.refuses c.args.sink.now xs fault c.take_frame.new.sink)
+    subst (λ (xs : List Item). RefusesOne g.S.Sink.takes g.S.Sink.refuses (g.S.Sink.known c.args.sink.now) xs fault (g.S.Sink.known c.take_frame.new.sink))
     (items_slot c.args.rules.now c.args.seen c.args.master.now c.args.kept.now c.requires.state c.requires.limit c.args.octets.now c.in-Ok.frame e c.master_count-count.result c.master_count-count.ensures c.channel-channel.result c.index-kept-channel.result c.channel-channel.ensures.value is_chosen)
     (RefusesOne-right g.S.Sink.takes g.S.Sink.refuses _ _ _ _ _ fault c.in_default.ensures.taken h))
     c.take_frame.ensures.refused
@@ -53,7 +53,7 @@ pub returns-else-has-clause-taken : goal.returns-else-has-clause-taken
 returns-else-has-clause-taken g c =
     let e = read_as c.args.octets.now c.rules.view_is c.in-Ok.ensures in
     let is_chosen = chosen_as c.channel-channel.result c.rules.view_is c.has.ensures c.if-has.false in
-    subst (λ (xs : List Item). TakesAll g.S.Sink.takes c.args.sink.now xs c.give_master_gap.new.sink) (items_unchosen c.args.rules.now c.args.seen c.args.master.now c.args.kept.now c.requires.state c.requires.limit c.args.octets.now c.in-Ok.frame e c.master_count-count.result c.master_count-count.ensures (ap (chooses c.args.rules.now) (sym c.channel-channel.ensures.value) ∙ is_chosen))
+    subst (λ (xs : List Item). TakesAll g.S.Sink.takes (g.S.Sink.known c.args.sink.now) xs (g.S.Sink.known c.give_master_gap.new.sink)) (items_unchosen c.args.rules.now c.args.seen c.args.master.now c.args.kept.now c.requires.state c.requires.limit c.args.octets.now c.in-Ok.frame e c.master_count-count.result c.master_count-count.ensures (ap (chooses c.args.rules.now) (sym c.channel-channel.ensures.value) ∙ is_chosen))
     c.in_default.ensures.taken
 
 pub returns-else-has-clause-left : goal.returns-else-has-clause-left
@@ -65,9 +65,9 @@ returns-else-has-clause-left g c =
 pub returns-in-Ok-take-clause-taken : goal.returns-in-Ok-take-clause-taken
 returns-in-Ok-take-clause-taken g c =
     let e = read_as c.args.octets.now c.rules.view_is c.in-Err.ensures in
-    subst (λ (xs : List Item). TakesAll g.S.Sink.takes c.args.sink.now xs c.take.new.self)
+    subst (λ (xs : List Item). TakesAll g.S.Sink.takes (g.S.Sink.known c.args.sink.now) xs (g.S.Sink.known c.take.new.self))
     (items_bad_record c.args.rules.now c.args.seen c.args.master.now _ c.requires.state c.args.octets.now c.in-Err.fault e)
-    (c.take.new.self, c.in-Ok-take.ensures.taken, refl)
+    (g.S.Sink.known c.take.new.self, c.in-Ok-take.ensures.taken, refl)
 
 pub returns-in-Ok-take-clause-left : goal.returns-in-Ok-take-clause-left
 returns-in-Ok-take-clause-left g c =

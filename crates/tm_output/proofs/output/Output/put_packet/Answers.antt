@@ -1,7 +1,6 @@
 use Rattle.std.proofs.Common.{refl, sym, subst}
 use Rattle.std.specs.Io.KnownBytes.{Appends}
 use Rattle.std.proofs.KnownBytes.{Appends-nil}
-use Rattle.tm_output.proofs.PacketLemmas.{no_report}
 use Rattle.tm_output.proofs.PieceLemmas.{stopped_put, took_piece}
 use Rattle.tm_output.proofs.output.Output.put_packet.Goals as goal
 
@@ -12,7 +11,6 @@ returns-in-Err-clause-written g c =
 pub returns-clause-written : goal.returns-clause-written
 returns-clause-written g c =
     let report = g.V.Drain.written c.args.self.now.report.now in
-    let none = no_report c.args.self.now.tracker.now c.args.seen c.args.channel c.args.first c.args.place c.header_in-header.result c.args.octets.now _
-    c.header_in-header.ensures (c.take_without_notes.ensures.none.0 c.if-not-take_without_notes.false) (c.is_silent.ensures c.if-not-is_silent.false) in
+    let none = c.note_if_quiet.ensures.quiet c.if-not-note_if_quiet.false in
     let whole = c.in_default.ensures.whole in
     took_piece g.O.Outlet.grows _ _ _ whole.0 (subst (Appends report report) (sym none) (Appends-nil report)) (whole.1, refl)

@@ -8,7 +8,7 @@ use Rattle.tm_output.proofs.output.Output.put_reported.Goals as goal
 pub returns-in-Err-clause-written : goal.returns-in-Err-clause-written
 unfolding report_of
 returns-in-Err-clause-written g c =
-    no_room g.O.Outlet.grows g.met.O.Outlet.grows_nil g.met.O.Outlet.grows_trans _ _ _ (inr (some_front _ _ (rw c.header_in-header.ensures at c.in-Err.ensures.memory)))
+    no_room g.O.Outlet.grows g.met.O.Outlet.grows_nil g.met.O.Outlet.grows_trans _ _ _ (inr (some_front _ _ (rw c.requires.header at c.in-Err.ensures.memory)))
 
 pub returns-in-Err-remark-clause-written : goal.returns-in-Err-remark-clause-written
 unfolding report_of

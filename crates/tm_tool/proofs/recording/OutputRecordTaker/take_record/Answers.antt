@@ -8,7 +8,7 @@ use Rattle.tm_tool.proofs.recording.OutputRecordTaker.take_record.Goals as goal
 pub returns-in-Ok : goal.returns-in-Ok
 returns-in-Ok g c =
     let octets : AreOctets c.args.octets.now = record { below = λ i. omega (arith, c.type_inv.octets i) } in
-    let all = took_all g.O.Outlet.grows g.met.O.Outlet.grows_nil g.met.O.Outlet.grows_trans g.O.Outlet.text g.O.Outlet.way _ _ _ _ _ _ c.in-Ok.ensures.taken in
+    let all = took_all g.O.Outlet.grows g.met.O.Outlet.grows_nil g.met.O.Outlet.grows_trans g.O.Outlet.text g.O.Outlet.way _ _ _ c.in-Ok.ensures.taken in
     record {
       same = all.same;
       work = stepped_work c.args.reassembly.now _ _ _ _ c.in-Ok.ensures.left all.noted_is;
@@ -20,7 +20,7 @@ returns-in-Ok g c =
 
 pub returns-in-Err-Sink : goal.returns-in-Err-Sink
 returns-in-Err-Sink g c =
-    let all = stopped_among g.O.Outlet.grows g.met.O.Outlet.grows_nil g.met.O.Outlet.grows_trans g.O.Outlet.text g.O.Outlet.way _ _ _ _ _ _ _ (rw c.in-Err-Sink.field-0-is at c.in-Err-Sink.ensures.refused).3 in
+    let all = stopped_among g.O.Outlet.grows g.met.O.Outlet.grows_nil g.met.O.Outlet.grows_trans g.O.Outlet.text g.O.Outlet.way _ _ _ _ (rw c.in-Err-Sink.field-0-is at c.in-Err-Sink.ensures.refused).3 in
     record {
       same = all.same;
       work = tt;

@@ -7,7 +7,7 @@ use Rattle.tm_bits.proofs.PartLemmas.{part-word}
 use Rattle.tm_packet.specs.declared.header.PacketFault.{PacketFault}
 use Rattle.tm_packet.specs.Header.{Fields, packet_version_of, packet_header_of, header_reading_of}
 use Rattle.tm_items.specs.OnePacket.{is_packet, reach}
-use Rattle.tm_items.proofs.Reach.{reach-short, reach-long}
+use Rattle.tm_items.proofs.Reaching.{reach-short, reach-long}
 
 pub version_first : (octets : List ℕ) → 0 < length octets → packet_version_of (take 1 octets) ≡ packet_version_of (get_or octets 0 0 ∷ [])
 version_first [] h = absurd (omega arith)
@@ -22,7 +22,7 @@ part-front n octets from to room ordered inside =
     ∙ sym (part-word n octets from to room ordered inside)
 
 -- what reading a header says of the length
-reading-ok : (octets : List ℕ) (h : Fields) → header_reading_of octets ≡ Ok h → (6 ≤ length octets) × (h ≡ packet_header_of octets)
+pub reading-ok : (octets : List ℕ) (h : Fields) → header_reading_of octets ≡ Ok h → (6 ≤ length octets) × (h ≡ packet_header_of octets)
 reading-ok octets h e =
     ⊎_elim
     (λ short. absurd (err_ok (sym (cond-true (ltb (length octets) 6) _ _ (lt-ltb (length octets) 6 short)) ∙ e)))
@@ -42,7 +42,7 @@ reading-ok octets h e =
     same : {g : Fields} → ◌≡◌ {A = Result Fields PacketFault} (Ok g) (Ok h) → g ≡ h
     same p = cc
 
-reading-err : (octets : List ℕ) (fault : PacketFault) → packet_version_of octets ≡ 0 → header_reading_of octets ≡ Err fault → length octets < 6
+pub reading-err : (octets : List ℕ) (fault : PacketFault) → packet_version_of octets ≡ 0 → header_reading_of octets ≡ Err fault → length octets < 6
 reading-err octets fault zero e =
     ⊎_elim (λ short. short)
     (λ long.
@@ -70,3 +70,15 @@ reach_unread octets fault p e = ⊎_elim (λ short. sym (reach-short octets shor
         let zero : packet_version_of octets ≡ 0 = sym (part-front 1 octets 0 3 (omega arith) (omega arith) (omega arith)) ∙ eqb-true (packet_version_of (take 1 octets)) 0 p in
         let short = reading-err octets fault zero e in
         omega arith
+
+-- more octets behind a header change nothing
+pub header-front : (n : ℕ) (octets : List ℕ) → n ≤ length octets → 6 ≤ n → packet_header_of (take n octets) ≡ packet_header_of octets
+header-front n octets inside long =
+    rw (
+      part-front n octets 3 4 inside (omega arith) (omega arith),
+      part-front n octets 4 5 inside (omega arith) (omega arith),
+      part-front n octets 5 16 inside (omega arith) (omega arith),
+      part-front n octets 16 18 inside (omega arith) (omega arith),
+      part-front n octets 18 32 inside (omega arith) (omega arith),
+      part-front n octets 32 48 inside (omega arith) (omega arith),
+    ) refl

@@ -1,0 +1,19 @@
+//! Packets, by their headers.
+
+ghost use Rattle.std.specs.Prelude.{◌≡◌, ◌≤◌, true};
+ghost use Rattle.tm_items.specs.OnePacket as one_packet;
+
+use tm_packet::read_header;
+
+/// How many octets the packet at the front has, by its header; 7, the fewest, where the header is not there yet.
+#[tactic(auto, using(crate::proofs::Headers::reach_read, crate::proofs::Headers::reach_unread))]
+pub fn reach(octets: &[u8]) -> usize
+    requires { one_packet.is_packet octets.now ≡ true }
+    ensures value { result ≡ one_packet.reach octets.now }
+    ensures most { result ≤ 65542 }
+{
+    match read_header(octets) {
+        Ok(header) => header.length() as usize,
+        Err(_) => 7,
+    }
+}

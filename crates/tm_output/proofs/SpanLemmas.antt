@@ -1,0 +1,298 @@
+-- Packets that lie end to end: the first of them, those of which the report says nothing, and their octets.
+use Rattle.std.proofs.Common.{◌≡◌, ◌≢◌, ℕ, ◌+◌, ◌-◌, ◌<◌, ◌≤◌, Ok, Err, Result, List, [], ◌∷◌, ◌++◌, length, take, drop, refl, sym, ap, subst, ◌∙◌, append-nil, arith, inl, inr, ⊎_elim}
+use Rattle.std.proofs.KnownBytes.{Appends-nil}
+use Rattle.std.proofs.lemmas.Bool.{cases_lt, eqb-true}
+use Rattle.std.proofs.lemmas.List.{take_all, length-drop, length-take-le, drop-drop}
+use Rattle.tm_packet.specs.declared.header.PacketFault.{PacketFault}
+use Rattle.tm_packet.specs.Header.{Fields, packet_header_of, header_reading_of, packet_version_of}
+use Rattle.tm_items.specs.Item.{Item, Packet}
+use Rattle.tm_items.specs.OnePacket.{IsOnePacket, reach}
+use Rattle.tm_items.specs.Sinks.{RefusesOne, TakesAll}
+use Rattle.tm_items.specs.code.Spans.{ArePackets, IsSpan, placed, packets_in, span_items}
+use Rattle.tm_items.proofs.Headers.{header-front, reach_read, reading-ok, reading-err}
+use Rattle.tm_items.proofs.Reaching.{reach-least}
+use Rattle.tm_items.proofs.Leads.{RefusesOne-left}
+use Rattle.tm_items.proofs.Spans.{joined, joined-all, packets-first, packets-one, span-both, span-first, span-longer}
+use Rattle.tm_devices.specs.Devices.{raised}
+use Rattle.tm_output.specs.declared.fault.RunFault.TheVariants.{Write}
+use Rattle.tm_output.specs.Outputs.{PutsPart, SameCounts, Way, view}
+use Rattle.tm_output.specs.Pieces.{Entries, Texts, noted, noted_all, packet_octets, piece_of, text_of}
+use Rattle.tm_output.specs.Seen.{OutputState}
+use Rattle.tm_output.specs.declared.command.Command.TheVariants.{Extract}
+use Rattle.tm_output.specs.code.Packets.{item_with}
+use Rattle.tm_output.specs.code.Quiet.{AreQuiet, HasNoted, IsFirstPacket, IsQuiet, IsTaken, outs_of}
+use Rattle.tm_output.specs.declared.packet.Packet as lent
+use Rattle.tm_output.specs.code.Sinking.{Refuses, Takes}
+use Rattle.tm_output.proofs.PacketLemmas.{version_front}
+use Rattle.tm_output.proofs.PieceLemmas.{stopped_put, took_piece}
+
+-- ---- the first
+
+pub record IsFirstReach (far : ℕ) (octets : List ℕ) (header : Fields) : Type 0 where
+  pub reached : far ≡ reach octets
+  pub inside : far ≤ length octets
+  pub own : header ≡ packet_header_of (take far octets)
+  pub length_is : length (take far octets) ≡ reach octets
+
+pub first_is : (far : ℕ) (octets : List ℕ) (h : Fields) → 0 < length octets → IsSpan octets → header_reading_of octets ≡ Ok h → far ≡ h.data_length + 7
+    → IsFirstReach far octets h
+first_is far octets h some span read far_is =
+    let first = span-first octets some span in
+    let reached : far ≡ reach octets = far_is ∙ reach_read octets h read in
+    record {
+      reached = reached;
+      inside = omega (arith, first.inside);
+      own = (reading-ok octets h read).1 ∙ sym (header-front far octets (omega (arith, first.inside)) (omega (arith, reach-least octets)));
+      length_is = length-take-le far octets (omega (arith, first.inside)) ∙ reached;
+    }
+
+pub first_not : (octets : List ℕ) (r : Result Fields PacketFault) (fault : PacketFault) → 0 < length octets → IsSpan octets
+    → r ≡ header_reading_of octets → r ≡ Err fault → ⊥
+first_not octets r fault some span is refused =
+    let first = span-first octets some span in
+    let zero : packet_version_of octets ≡ 0 = sym (version_front octets some) ∙ eqb-true (packet_version_of (take 1 octets)) 0 first.version in
+    let short = reading-err octets fault zero (sym is ∙ refused) in
+    omega (arith, reach-least octets, first.inside)
+
+-- ---- octets
+
+octets_placed : (seen channel place : ℕ) (ps : List (List ℕ)) → outs_of (text_of Extract) (placed seen channel place ps) ≡ joined ps
+unfolding packet_octets
+octets_placed seen channel place [] = refl
+octets_placed seen channel place (p ∷ ps) = ap (λ (l : List ℕ). p ++ l) (octets_placed seen channel (place + length p) ps)
+
+-- as they are
+pub span_octets : (seen channel place : ℕ) (octets : List ℕ) → outs_of (text_of Extract) (span_items seen channel place octets) ≡ octets
+span_octets seen channel place octets = octets_placed seen channel place (packets_in octets) ∙ joined-all octets
+
+-- ---- of which the report says nothing
+
+noted_more : (entries : Entries) (xs : List Item) (x : Item) → noted_all entries (xs ++ x ∷ []) ≡ noted (noted_all entries xs) x
+noted_more entries [] x = refl
+noted_more entries (y ∷ ys) x = noted_more (noted entries y) ys x
+
+quiet_more : {A : Type 0} (text : Texts A) (entries : Entries) (xs : List Item) (x : Item) → AreQuiet text entries xs
+    → IsQuiet text (noted_all entries xs) x → AreQuiet text entries (xs ++ x ∷ [])
+quiet_more text entries [] x quiet none = (none, tt)
+quiet_more text entries (y ∷ ys) x quiet none = (quiet.0, quiet_more text (noted entries y) ys x quiet.1 none)
+
+module _ {A : Type 0} (text : Texts A) (old : Entries) (seen channel place : ℕ) (octets : List ℕ) where
+  pub noted_none : IsSpan octets → HasNoted text old old seen channel place octets 0
+  noted_none span = record {
+    inside = omega arith;
+    front = tt;
+    rest = span;
+    noted_is = refl;
+    quiet = tt;
+  }
+
+  -- and the next one
+  pub noted_next : (now next : Entries) (at : ℕ) (left : List ℕ) (packet : lent.Packet) → left ≡ take (length octets - at) (drop at octets) → at < length octets
+      → HasNoted text old now seen channel place octets at → IsFirstPacket seen channel (place + at) left packet
+      → IsQuiet text now (item_with packet) → next ≡ noted now (item_with packet)
+      → HasNoted text old next seen channel place octets (at + length packet.octets.now)
+  noted_next now next at left packet is some done head silent after =
+      let far = length packet.octets.now in
+      let len : length (drop at octets) ≡ length octets - at = length-drop at octets in
+      let all : left ≡ drop at octets = is ∙ take_all (length octets - at) (drop at octets) (omega arith) in
+      let there : 0 < length left = omega (arith, ap length all) in
+      let first = span-first left there (subst IsSpan (sym all) done.rest) in
+      let reached : reach left ≡ far = sym head.length_is in
+      let x = Packet seen channel seen (place + at) (take far left) in
+      let own : item_with packet ≡ x = head.item ∙ ap (λ (n : ℕ). Packet seen channel seen (place + at) (take n left)) reached in
+      let one : IsOnePacket (take far (drop at octets)) = rw (← all, ← reached) first.one in
+      let longer = span-longer seen channel place at far octets (omega arith) done.front one in
+      let before = span_items seen channel place (take at octets) in
+      let items : span_items seen channel place (take (at + far) octets) ≡ before ++ x ∷ [] =
+      longer.items ∙ ap (λ (o : List ℕ). before ++ Packet seen channel seen (place + at) (take far o) ∷ []) (sym all) in
+      record {
+        inside = omega (arith, first.inside, reached, ap length all);
+        front = longer.span;
+        rest = subst IsSpan (rw (reached, all) (drop-drop far at octets)) first.others;
+        noted_is =
+            after
+            ∙ ap (noted now) own
+            ∙ ap (λ (e : Entries). noted e x) done.noted_is
+            ∙ sym (noted_more old before x)
+            ∙ ap (noted_all old) (sym items);
+        quiet = subst (AreQuiet text old) (sym items)
+            (quiet_more text old before x done.quiet (subst (λ (e : Entries). IsQuiet text e x) done.noted_is (subst (IsQuiet text now) own silent)));
+      }
+
+-- no octets were noted, and so nothing
+pub nothing_noted : {A : Type 0} (text : Texts A) (old new : Entries) (seen channel place : ℕ) (octets : List ℕ) (many : ℕ)
+    → HasNoted text old new seen channel place octets many → many ≡ 0 → new ≡ old
+nothing_noted text old new seen channel place octets many done none =
+    done.noted_is ∙ ap (λ (n : ℕ). noted_all old (span_items seen channel place (take n octets))) none
+
+-- ---- taken
+
+-- the list is a front and what is behind it, by where the front ends
+front_by : {A : Type 0} (xs ys front rest : List A) → xs ++ ys ≡ front ++ rest → length xs ≤ length front
+    → (more : List A) × (front ≡ xs ++ more) × (ys ≡ more ++ rest)
+front_by [] ys front rest e h = (front, refl, e)
+front_by (x ∷ xs) ys [] rest e h = absurd (omega arith)
+front_by {A = A} (x ∷ xs) ys (z ∷ front) rest e h =
+    let r = front_by xs ys front rest (behind e) (omega arith) in
+    (r.0, joined_at r.0 (first e) r.1, r.2)
+  where
+    first : x ∷ xs ++ ys ≡ z ∷ front ++ rest → x ≡ z
+    first p = cc
+
+    behind : x ∷ xs ++ ys ≡ z ∷ front ++ rest → xs ++ ys ≡ front ++ rest
+    behind p = cc
+
+    joined_at : (more : List A) → x ≡ z → front ≡ xs ++ more → z ∷ front ≡ x ∷ xs ++ more
+    joined_at more p q = cc
+
+longer_some : {A : Type 0} (xs front more : List A) → xs ≡ front ++ more → length front < length xs → more ≢ []
+longer_some xs front more e short none =
+    let same : length xs ≡ length front = ap length e ∙ ap (λ l. length (front ++ l)) none ∙ ap length (append-nil front) in
+    omega arith
+
+none_behind : {A : Type 0} (xs ys : List A) → xs ++ ys ≡ [] → ys ≡ []
+none_behind [] ys e = e
+none_behind (x ∷ xs) ys e = cc
+
+module _ {A K M : Type 0} (grows : K → K → List A → Type 0) (grows-nil : (k : K) → grows k k [])
+    (grows-trans : (j k l : K) (xs ys : List A) → grows j k xs → grows k l ys → grows j l (xs ++ ys))
+    (grows-split : (j l : K) (xs ys : List A) → grows j l (xs ++ ys) → (k : K) × grows j k xs × grows k l ys)
+    (text : M → Texts A) (way : Way) where
+  module _ (s t : OutputState K M) (seen channel place : ℕ) (octets : List ℕ) (packet : lent.Packet) (some : 0 < length octets)
+      (head : IsFirstPacket seen channel place octets packet) where
+    -- the first packet, alone
+    pub one_taken : IsSpan octets → Takes grows text way s (item_with packet) t → IsTaken (Takes grows text way) s t seen channel place octets (length packet.octets.now)
+    one_taken span taken =
+        let first = span-first octets some span in
+        let far = length packet.octets.now in
+        let one : IsOnePacket (take far octets) = rw head.length_is first.one in
+        let alone = packets-one (take far octets) one in
+        let own : item_with packet ≡ Packet seen channel seen place (take far octets) = head.item ∙ ap (λ (n : ℕ). Packet seen channel seen place (take n octets)) (sym head.length_is) in
+        record {
+          front = subst ArePackets (sym alone) (one, tt);
+          rest = rw head.length_is first.others;
+          taken = subst (λ (ps : List (List ℕ)). TakesAll (Takes grows text way) s (placed seen channel place ps) t) (sym alone)
+              (t, subst (λ (x : Item). Takes grows text way s x t) own taken, refl);
+        }
+
+  module _ (s : OutputState K M) (x : Item) (quiet : IsQuiet (text s.fixture.texts) s.entries x) where
+    -- it is taken where what belongs to `out` was added, and nothing else
+    quiet_taken : (t : OutputState K M) → t.fixture ≡ s.fixture → t.entries ≡ noted s.entries x → t.view.report ≡ s.view.report → SameCounts s.view t.view
+        → grows s.view.out t.view.out ((text s.fixture.texts).out x) → Takes grows text way s x t
+    quiet_taken t same noted_is report counts grown = record {
+      same = same;
+      noted_is = noted_is;
+      took = took_piece grows s.view t.view (piece_of (text s.fixture.texts) s.entries x) grown
+          (rw (report, quiet) (Appends-nil s.view.report)) counts;
+    }
+
+    -- the state between it and the next
+    abbrev between : K → OutputState K M
+    between k = record { fixture = s.fixture; entries = noted s.entries x; view = view k s.view.report s.view.out_failures s.view.report_failures }
+
+  -- packets of which the report says nothing, by one write
+  pub all_taken : (s t : OutputState K M) (x : Item) (xs : List Item) → AreQuiet (text s.fixture.texts) s.entries (x ∷ xs)
+      → t.fixture ≡ s.fixture → t.entries ≡ noted_all s.entries (x ∷ xs) → t.view.report ≡ s.view.report → SameCounts s.view t.view
+      → grows s.view.out t.view.out (outs_of (text s.fixture.texts) (x ∷ xs)) → TakesAll (Takes grows text way) s (x ∷ xs) t
+  all_taken s t x [] quiet same noted_is report counts grown =
+      (t, quiet_taken s x quiet.0 t same noted_is report counts (subst (grows s.view.out t.view.out) (append-nil ((text s.fixture.texts).out x)) grown), refl)
+  all_taken s t x (y ∷ ys) quiet same noted_is report counts grown =
+      let (k, before, behind) = grows-split s.view.out t.view.out ((text s.fixture.texts).out x) (outs_of (text s.fixture.texts) (y ∷ ys)) grown in
+      let mid = between s x quiet.0 k in
+      (mid, quiet_taken s x quiet.0 mid refl refl refl (refl, refl) before, all_taken mid t y ys quiet.1 same noted_is report counts behind)
+
+  -- it is refused where a write stopped in what belongs to `out`
+  stopped_here : (s t : OutputState K M) (x : Item) → t.fixture ≡ s.fixture → t.view.report ≡ s.view.report → t.view.out_failures ≡ raised s.view.out_failures
+      → t.view.report_failures ≡ s.view.report_failures → PutsPart grows s.view.out t.view.out ((text s.fixture.texts).out x) → Refuses grows text way s x Write t
+  stopped_here s t x same report out_failed report_failed part = record {
+    same = same;
+    stopped = stopped_put grows grows-nil grows-trans way s.view t.view (piece_of (text s.fixture.texts) s.entries x) Write (out_failed, part)
+        (rw report (Appends-nil s.view.report)) report_failed;
+  }
+
+  -- and where one write of all of them stopped, one of them is refused
+  pub one_stopped : (s t : OutputState K M) (x : Item) (xs : List Item) → AreQuiet (text s.fixture.texts) s.entries (x ∷ xs)
+      → t.fixture ≡ s.fixture → t.view.report ≡ s.view.report → t.view.out_failures ≡ raised s.view.out_failures → t.view.report_failures ≡ s.view.report_failures
+      → PutsPart grows s.view.out t.view.out (outs_of (text s.fixture.texts) (x ∷ xs))
+      → RefusesOne (Takes grows text way) (Refuses grows text way) s (x ∷ xs) Write t
+  one_stopped s t x [] quiet same report out_failed report_failed part =
+      inl (stopped_here s t x same report out_failed report_failed (subst (PutsPart grows s.view.out t.view.out) (append-nil ((text s.fixture.texts).out x)) part))
+  one_stopped s t x (y ∷ ys) quiet same report out_failed report_failed part =
+      let own = (text s.fixture.texts).out x in
+      let others = outs_of (text s.fixture.texts) (y ∷ ys) in
+      let (front, rest, split, proper, grown) = part in
+      ⊎_elim
+      (λ short.
+      let (more, fits, left) = front_by front rest own others (sym split) (omega arith) in
+      inl (stopped_here s t x same report out_failed report_failed (front, more, fits, (λ some. longer_some own front more fits short), grown)))
+      (λ long.
+      let (more, fits, left) = front_by own others front rest split long in
+      let (k, before, behind) = grows-split s.view.out t.view.out own more (subst (grows s.view.out t.view.out) fits grown) in
+      let mid = between s x quiet.0 k in
+      inr (
+        mid,
+        quiet_taken s x quiet.0 mid refl refl refl (refl, refl) before,
+        one_stopped mid t y ys quiet.1 same report out_failed report_failed
+            (more, rest, left, (λ some. proper (λ none. some (none_behind own others none))), behind),
+      ))
+      (cases_lt (length front) (length own))
+
+  module _ (s t : OutputState K M) (seen channel place many : ℕ) (octets : List ℕ) (some : many ≡ 0 → ⊥)
+      (done : HasNoted (text s.fixture.texts) s.entries t.entries seen channel place octets many)
+      (same : t.fixture ≡ s.fixture) (report : t.view.report ≡ s.view.report) where
+    abbrev items : List Item
+    items = placed seen channel place (take (reach (take many octets)) (take many octets) ∷ packets_in (drop (reach (take many octets)) (take many octets)))
+
+    there : 0 < length (take many octets)
+    there = omega (arith, length-take-le many octets done.inside)
+
+    first : span_items seen channel place (take many octets) ≡ items
+    first = ap (placed seen channel place) (packets-first (take many octets) there)
+
+    -- the packets in front that are noted
+    pub span_taken : SameCounts s.view t.view
+        → grows s.view.out t.view.out (outs_of (text s.fixture.texts) (span_items seen channel place (take many octets)))
+        → IsTaken (Takes grows text way) s t seen channel place octets many
+    span_taken counts grown = record {
+      front = done.front;
+      rest = done.rest;
+      taken = subst (λ (xs : List Item). TakesAll (Takes grows text way) s xs t) (sym first)
+          (all_taken s t _ _ (subst (AreQuiet (text s.fixture.texts) s.entries) first done.quiet) same
+          (done.noted_is ∙ ap (noted_all s.entries) first) report counts
+          (subst (λ (xs : List Item). grows s.view.out t.view.out (outs_of (text s.fixture.texts) xs)) first grown));
+    }
+
+    pub span_stopped : t.view.out_failures ≡ raised s.view.out_failures → t.view.report_failures ≡ s.view.report_failures
+        → PutsPart grows s.view.out t.view.out (outs_of (text s.fixture.texts) (span_items seen channel place (take many octets)))
+        → RefusesOne (Takes grows text way) (Refuses grows text way) s (span_items seen channel place octets) Write t
+    span_stopped out_failed report_failed part =
+        subst (λ (xs : List Item). RefusesOne (Takes grows text way) (Refuses grows text way) s xs Write t)
+        (sym (span-both seen channel place many octets done.inside done.front))
+        (RefusesOne-left (Takes grows text way) (Refuses grows text way) s t (span_items seen channel place (take many octets))
+        (span_items seen channel (place + many) (drop many octets)) Write
+        (subst (λ (xs : List Item). RefusesOne (Takes grows text way) (Refuses grows text way) s xs Write t) (sym first)
+        (one_stopped s t _ _ (subst (AreQuiet (text s.fixture.texts) s.entries) first done.quiet) same report out_failed report_failed
+        (subst (λ (xs : List Item). PutsPart grows s.view.out t.view.out (outs_of (text s.fixture.texts) xs)) first part))))
+
+-- what is left of packets that lie end to end, once so many octets of them were taken
+pub record IsLeft (seen channel place at many : ℕ) (octets left : List ℕ) : Type 0 where
+  pub items : span_items seen channel (place + at) (drop at octets)
+      ≡ span_items seen channel (place + at) (take many left) ++ span_items seen channel (place + (at + many)) (drop (at + many) octets)
+  pub rest : IsSpan (drop (at + many) octets)
+  pub inside : at + many ≤ length octets
+
+pub span_left : (seen channel place at many : ℕ) (octets left : List ℕ) → left ≡ take (length octets - at) (drop at octets) → at ≤ length octets
+    → many ≤ length left → IsSpan (take many left) → IsSpan (drop many left) → IsLeft seen channel place at many octets left
+span_left seen channel place at many octets left is inside fits front rest =
+    let len : length (drop at octets) ≡ length octets - at = length-drop at octets in
+    let all : left ≡ drop at octets = is ∙ take_all (length octets - at) (drop at octets) (omega arith) in
+    let behind : drop many left ≡ drop (at + many) octets = ap (drop many) all ∙ drop-drop many at octets in
+    let next : (place + at) + many ≡ place + (at + many) = omega arith in
+    record {
+      items =
+          ap (span_items seen channel (place + at)) (sym all)
+          ∙ span-both seen channel (place + at) many left fits front
+          ∙ rw (behind, next) refl;
+      rest = subst IsSpan behind rest;
+      inside = omega (arith, fits, ap length all);
+    }

@@ -1,0 +1,12 @@
+use Rattle.std.proofs.Common.{refl}
+use Rattle.tm_items.proofs.Leads.{leads_all}
+use Rattle.tm_output.proofs.SpanLemmas.{span_left}
+use Rattle.tm_output.proofs.output.OutputSink.take_span.Goals as goal
+
+pub loop-at-preserved : goal.loop-at-preserved
+loop-at-preserved g c =
+    let inv = c.loop-at.invariant in
+    let taken = c.in-Ok.ensures.taken in
+    let left = span_left c.args.seen c.args.channel c.args.place c.loop-at.at c.in-Ok.many c.args.octets.now _ refl inv.2
+    c.in-Ok.ensures.many.1 taken.front taken.rest in
+    (leads_all inv.0 _ _ _ left.items taken.taken, left.rest, left.inside)

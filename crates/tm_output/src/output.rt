@@ -10,10 +10,10 @@ ghost use Rattle.tm_items.specs.code.Spans.{IsSpan, span_items};
 ghost use Rattle.tm_items.specs.OnePacket.{IsOnePacket};
 ghost use Rattle.tm_output.specs.Lines.{note_line, note_lines};
 ghost use Rattle.tm_output.specs.Outputs.{Written};
-ghost use Rattle.tm_output.specs.Pieces.{HasLine, item_line, noted, notes_of, piece_of, unclosed_piece, unclosed_pieces};
+ghost use Rattle.tm_output.specs.Pieces.{HasLine, item_line, noted, notes_of, unclosed_piece, unclosed_pieces};
 ghost use Rattle.tm_output.specs.code.Packets.{HasHeader, item_with};
 ghost use Rattle.tm_output.specs.code.Quiet.{HasNoted, IsFirstPacket, IsQuiet, IsTaken};
-ghost use Rattle.tm_output.specs.code.Sinking.{Refuses, Takes};
+ghost use Rattle.tm_output.specs.code.Sinking.{Refuses, Takes, WritesItem};
 ghost use Rattle.tm_output.specs.Seen.{OutputState, fixture, output_both, output_state};
 
 use crate::lines::{put_bad, put_drop, put_gap, put_master_gap, put_note, put_short, put_vca};
@@ -211,8 +211,8 @@ impl<O: Outlet, V: Drain> Output<'_, O, V> {
         requires header { HasHeader packet.now }
         ensures same { fixture O.Outlet self.new ≡ fixture O.Outlet self.old }
         ensures noted { self.new.tracker.now ≡ noted self.old.tracker.now (item_with packet.now) }
-        ensures written { Written O.grows O.way (output_both O.Outlet V.Drain self.old) (output_both O.Outlet V.Drain self.new)
-            (piece_of (O.text (O.fixed self.old.outlet.now)) self.old.tracker.now (item_with packet.now) ∷ []) result }
+        ensures written { WritesItem O.grows O.text O.way (output_state O.Outlet V.Drain self.old) (output_state O.Outlet V.Drain self.new)
+            (item_with packet.now) result }
     {
         if let Err(_) = note_packet(
             self.tracker,
@@ -243,8 +243,8 @@ impl<O: Outlet, V: Drain> Output<'_, O, V> {
         requires header { HasHeader packet.now }
         ensures same { fixture O.Outlet self.new ≡ fixture O.Outlet self.old }
         ensures noted { self.new.tracker.now ≡ noted self.old.tracker.now (item_with packet.now) }
-        ensures written { Written O.grows O.way (output_both O.Outlet V.Drain self.old) (output_both O.Outlet V.Drain self.new)
-            (piece_of (O.text (O.fixed self.old.outlet.now)) self.old.tracker.now (item_with packet.now) ∷ []) result }
+        ensures written { WritesItem O.grows O.text O.way (output_state O.Outlet V.Drain self.old) (output_state O.Outlet V.Drain self.new)
+            (item_with packet.now) result }
     {
         if !note_if_quiet(self.tracker, self.outlet, packet) {
             return self.put_reported(packet);
@@ -296,8 +296,8 @@ impl<O: Outlet, V: Drain> Output<'_, O, V> {
         requires { HasLine (item_of item) }
         ensures same { fixture O.Outlet self.new ≡ fixture O.Outlet self.old }
         ensures noted { self.new.tracker.now ≡ noted self.old.tracker.now (item_of item.entry) }
-        ensures written { Written O.grows O.way (output_both O.Outlet V.Drain self.old) (output_both O.Outlet V.Drain self.new)
-            (piece_of (O.text (O.fixed self.old.outlet.now)) self.old.tracker.now (item_of item.entry) ∷ []) result }
+        ensures written { WritesItem O.grows O.text O.way (output_state O.Outlet V.Drain self.old) (output_state O.Outlet V.Drain self.new)
+            (item_of item.entry) result }
     {
         let mut room = [0; ROOM];
         let begin = make_line(&mut room, item);

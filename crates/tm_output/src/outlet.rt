@@ -1,6 +1,6 @@
 //! Where packets go: their octets into a drain or a shelf, or a line or a row for each into a drain.
 
-ghost use Rattle.std.specs.Prelude.{◌≡◌, ◌≢◌, ◌++◌, ◌==◌, [], ℕ, Bool, true, false, List, Option, OnOk, OnErr, IfErr};
+ghost use Rattle.std.specs.Prelude.{◌≡◌, ◌≢◌, ◌++◌, ◌==◌, [], ℕ, Bool, true, false, List, Option, OnOk, OnErr, IfErr, IfOk};
 ghost use Rattle.std.specs.Io.KnownBytes.{Appends, Keeps};
 ghost use Rattle.std.proofs.KnownBytes.{Appends-nil, Appends-trans};
 ghost use Rattle.tm_items.specs.Item.{Item};
@@ -78,18 +78,19 @@ pub trait Outlet {
     fn joins(&self) -> bool
         ensures { result ≡ joins };
 
-    /// Writes at once what of packets that lie end to end belongs here.
+    /// Writes at once what of packets that lie end to end belongs here, if these are joined, and answers whether it did. If not, nothing changes.
     fn put_span(
         &mut self,
         seen: u32,
         channel: u8,
         place: u16,
         octets: &[u8],
-    ) -> Result<(), DeviceFailed>
-        requires { joins ≡ true }
+    ) -> Result<bool, DeviceFailed>
         ensures same { Self.fixed self.new ≡ Self.fixed self.old }
-        ensures whole { OnOk result (Self.grows (Self.held self.old) (Self.held self.new)
+        ensures joined { IfOk result (λ put. put ≡ Self.joins) }
+        ensures whole { IfOk result (λ put. put ≡ true → Self.grows (Self.held self.old) (Self.held self.new)
             (outs_of (Self.text (Self.fixed self.old)) (span_items seen channel place octets.now)) × (Self.failures self.new ≡ Self.failures self.old)) }
+        ensures apart { IfOk result (λ put. put ≡ false → self.new ≡ self.old) }
         ensures stopped { OnErr result ((Self.failures self.new ≡ raised (Self.failures self.old)) × PutsPart Self.grows (Self.held self.old) (Self.held self.new)
             (outs_of (Self.text (Self.fixed self.old)) (span_items seen channel place octets.now))) };
 
@@ -180,8 +181,11 @@ impl<W: Drain> Outlet for PacketOctets<'_, W> {
         _channel: u8,
         _place: u16,
         octets: &[u8],
-    ) -> Result<(), DeviceFailed> {
-        put_all(self.out, octets)
+    ) -> Result<bool, DeviceFailed> {
+        match put_all(self.out, octets) {
+            Ok(()) => Ok(true),
+            Err(fault) => Err(fault),
+        }
     }
 
     fn flush(&mut self) -> Result<(), DeviceFailed> {
@@ -256,8 +260,8 @@ impl<W: Drain> Outlet for PacketLines<'_, W> {
         _channel: u8,
         _place: u16,
         _octets: &[u8],
-    ) -> Result<(), DeviceFailed> {
-        unreachable!()
+    ) -> Result<bool, DeviceFailed> {
+        Ok(false)
     }
 
     fn flush(&mut self) -> Result<(), DeviceFailed> {
@@ -330,8 +334,8 @@ impl<H: Shelf> Outlet for PacketShelf<'_, H> {
         _channel: u8,
         _place: u16,
         _octets: &[u8],
-    ) -> Result<(), DeviceFailed> {
-        unreachable!()
+    ) -> Result<bool, DeviceFailed> {
+        Ok(false)
     }
 
     fn flush(&mut self) -> Result<(), DeviceFailed> {
@@ -440,8 +444,8 @@ impl<W: Drain> Outlet for PacketRows<'_, '_, '_, W> {
         _channel: u8,
         _place: u16,
         _octets: &[u8],
-    ) -> Result<(), DeviceFailed> {
-        unreachable!()
+    ) -> Result<bool, DeviceFailed> {
+        Ok(false)
     }
 
     fn flush(&mut self) -> Result<(), DeviceFailed> {

@@ -278,7 +278,8 @@ impl<O: Outlet, V: Drain> Output<'_, O, V> {
             let quiet = note_quiet(self.tracker, self.outlet, seen, channel, place, octets);
             if quiet > 0 {
                 return match self.outlet.put_span(seen, channel, place, &octets[..quiet]) {
-                    Ok(()) => Ok(quiet),
+                    Ok(true) => Ok(quiet),
+                    Ok(false) => unreachable!(),
                     Err(_) => Err(RunFault::Write),
                 };
             }

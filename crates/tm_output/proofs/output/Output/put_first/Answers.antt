@@ -1,4 +1,4 @@
-use Rattle.std.proofs.Common.{◌≡◌, ap, arith, refl, rules, subst, ◌∙◌}
+use Rattle.std.proofs.Common.{◌≡◌, ap, arith, refl, rules, subst, sym, ◌∙◌}
 use Rattle.tm_output.specs.Pieces.{Entries}
 use Rattle.tm_output.specs.Seen.{OutputState, output_state}
 use Rattle.tm_output.specs.code.Packets.{item_with}
@@ -7,8 +7,8 @@ use Rattle.tm_output.proofs.SpanLemmas.{nothing_noted, one_taken, span_taken, sp
 use Rattle.tm_output.proofs.output.Output.put_first.Goals.{then-joins+else-quiet-gt0, else-joins}
 use Rattle.tm_output.proofs.output.Output.put_first.Goals as goal
 
-pub returns-in-Ok-put_packet-clause-taken : goal.returns-in-Ok-put_packet-clause-taken
-returns-in-Ok-put_packet-clause-taken g c =
+pub returns-in-Ok-clause-taken : goal.returns-in-Ok-clause-taken
+returns-in-Ok-clause-taken g c =
     let s = output_state g.O.Outlet g.V.Drain c.args.self.now in
     let t = output_state g.O.Outlet g.V.Drain c.put_packet.new.self in
     let same : output_state g.O.Outlet g.V.Drain c.if-joins.self ≡ s =
@@ -22,11 +22,11 @@ returns-in-Ok-put_packet-clause-taken g c =
     one_taken g.O.Outlet.grows g.met.O.Outlet.grows_nil g.met.O.Outlet.grows_trans g.met.O.Outlet.grows_split g.O.Outlet.text g.O.Outlet.way s t
     c.args.seen c.args.channel c.args.place c.args.octets.now c.first_packet-packet.result c.requires.some c.first_packet-packet.ensures c.requires.packets
     (subst (λ (x : OutputState g.O.Outlet.Held g.O.Outlet.Fixed). Takes g.O.Outlet.grows g.O.Outlet.text g.O.Outlet.way x (item_with c.first_packet-packet.result) t) same
-    (record { same = c.in-Ok-put_packet.ensures.same; noted_is = c.in-Ok-put_packet.ensures.noted; took = c.in-Ok-put_packet.ensures.written }))
+    (record { same = c.in-Ok.ensures.same; noted_is = c.in-Ok.ensures.noted; took = c.in-Ok.ensures.written }))
 
-pub returns-in-Ok-clause-taken : goal.returns-in-Ok-clause-taken
-returns-in-Ok-clause-taken g c =
-    let whole = c.in-Ok.ensures.whole in
+pub returns-in-Ok-true-clause-taken : goal.returns-in-Ok-true-clause-taken
+returns-in-Ok-true-clause-taken g c =
+    let whole = c.in-Ok-true.ensures.whole (c.in-Ok-true.ensures.joined ∙ sym c.joins.ensures ∙ c.if-joins.true) in
     span_taken g.O.Outlet.grows g.met.O.Outlet.grows_nil g.met.O.Outlet.grows_trans g.met.O.Outlet.grows_split g.O.Outlet.text g.O.Outlet.way
     (output_state g.O.Outlet g.V.Drain c.args.self.now) _
     c.args.seen c.args.channel c.args.place c.note_quiet-quiet.result c.args.octets.now (λ none. omega (arith, c.if-quiet-gt0.true)) c.note_quiet-quiet.ensures (search rules) refl

@@ -56,6 +56,9 @@ struct Calls<'l> {
     has_octets: bool,
     has_puts: bool,
     has_rows: bool,
+    // The octets of packets that lie end to end go out at once. While such packets are followed they have so many octets so far.
+    has_spans: bool,
+    span: Option<usize>,
     // At most so many octets are read per call, and written.
     per_call: usize,
     // The octets of a record, and of the rest behind all records.
@@ -115,8 +118,25 @@ impl Calls<'_> {
         } else {
             line.len()
         };
+        if let Some(span) = self.span {
+            self.span = Some(span.saturating_add(octets));
+            return Ok(());
+        }
         self.push_all(Device::Out, octets)?;
         self.report(notes)
+    }
+
+    // Packets that lie end to end begin here.
+    fn begin_span(&mut self) {
+        self.span = if self.has_spans { Some(0) } else { None };
+    }
+
+    // They end here.
+    fn end_span(&mut self) -> Result<(), AllocError> {
+        match self.span.take() {
+            Some(octets) => self.push_all(Device::Out, octets),
+            None => Ok(()),
+        }
     }
 
     // Follows an order, as a row has it. An idle packet has no row of fields.
@@ -126,6 +146,8 @@ impl Calls<'_> {
                 '/' => self.push_all(Device::Recording, self.record)?,
                 '.' => self.end()?,
                 '-' => self.report(1)?,
+                '(' => self.begin_span(),
+                ')' => self.end_span()?,
                 'i' if self.has_rows => {}
                 _ => self.give(letter.to_digit(10).unwrap_or(0))?,
             }
@@ -162,6 +184,8 @@ pub(crate) fn calls_of(
         has_octets,
         has_puts: matches!(by, By::Split),
         has_rows: matches!(by, By::Run(Command::Fields(_, _))),
+        has_spans: matches!(by, By::Run(Command::Extract)),
+        span: None,
         per_call: bench.source.per_call,
         record,
         rest: bench.source.octets.len() % record,

@@ -30,7 +30,8 @@ pub(crate) struct Row {
     // What all three write to the report.
     pub(crate) report: &'static str,
     // What is done, in this order: `/` reads a record, and `.` finds the end. A digit is a packet with so many lines in the report, `i` is
-    // an idle packet, and `-` is a line of the report alone.
+    // an idle packet, and `-` is a line of the report alone. Between `(` and `)` are packets that lie end to end in one data field, of which the
+    // report says nothing.
     pub(crate) order: &'static str,
 }
 
@@ -47,7 +48,7 @@ pub(crate) const TWO_PACKETS: Row = Row {
     rows: "0,0,100,0,85\n\
         0,0,100,1,85\n",
     report: "",
-    order: "/00.",
+    order: "/(00).",
 };
 
 const EMPTY_RECORDING: Row = Row {
@@ -76,7 +77,7 @@ const SKIPPED_OCTETS: Row = Row {
     rows: "0,0,100,0,85\n\
         0,0,100,1,85\n",
     report: "",
-    order: "/00.",
+    order: "/(00).",
 };
 
 pub(crate) const TWO_CHANNELS: Row = Row {
@@ -331,7 +332,7 @@ const GROUP_BROKEN_BY_GAP: Row = Row {
     report: "seqgap record=0 channel=0 apid=100 expected=1 found=2 missing=1\n\
         broken record=0 channel=0 apid=100 first=16383 last=0 reason=gap\n\
         stray record=0 channel=0 apid=100 count=2 flag=last\n",
-    order: "/003.",
+    order: "/(00)3.",
 };
 
 const GROUPS: Row = Row {
@@ -367,7 +368,7 @@ const GROUPS: Row = Row {
     report: "group record=0 channel=0 apid=100 first=5 last=7\n\
         broken record=1 channel=0 apid=100 first=8 last=8 reason=unsegmented\n\
         broken record=3 channel=0 apid=100 first=10 last=10 reason=end\n",
-    order: "/001/01/0i.-",
+    order: "/(00)1/01/(0i).-",
 };
 
 pub(crate) const FIELDS: Row = Row {
@@ -438,7 +439,7 @@ const SPLIT_WITH_IDLE: Row = Row {
         packet record=0 channel=0 from=0 at=7 type=tm secondary=no apid=2047 flags=unsegmented count=0 octets=11\n",
     rows: "0,0,100,0,85\n",
     report: "",
-    order: "/0i.",
+    order: "/(0i).",
 };
 
 const HELD_AFTER_FIRST_RECORD: Row = Row {
@@ -512,7 +513,7 @@ pub(crate) const LONG_SPLIT_HEADER: Row = Row {
     report: "drop record=1 channel=0 from=0 at=15 octets=3 reason=length\n\
         drop record=1 channel=0 from=1 at=0 octets=11 reason=length\n\
         seqgap record=1 channel=0 apid=100 expected=2 found=3 missing=1\n",
-    order: "/00/--1.",
+    order: "/(00)/--1.",
 };
 
 const LONG_SPLIT_HEADER_AND_POINTER: Row = Row {
@@ -536,7 +537,7 @@ const LONG_SPLIT_HEADER_AND_POINTER: Row = Row {
     report: "drop record=1 channel=0 from=0 at=15 octets=3 reason=pointer\n\
         drop record=1 channel=0 from=1 at=0 octets=10 reason=pointer\n\
         seqgap record=1 channel=0 apid=100 expected=2 found=3 missing=1\n",
-    order: "/00/--1.",
+    order: "/(00)/--1.",
 };
 
 const LONG: Row = Row {

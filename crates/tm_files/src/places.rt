@@ -81,18 +81,49 @@ fn stream_by<R: Files + AllocGlobal>(
     }
 }
 
+// What the names of the files that are read stand for: the recording, the settings, the definition, and the checkpoint to go on from.
+fn read_by<R: Files + AllocGlobal>(
+    rt: &R,
+    plan: &Plan,
+) -> Result<(Place, Place, Place, Place), ToolFault>
+    ensures { IfErr result IsNoMemory }
+{
+    Ok((
+        input_by(rt, plan)?,
+        at_any(rt, &plan.settings)?,
+        at_any(rt, &plan.definition)?,
+        at_any(rt, &plan.resume)?,
+    ))
+}
+
+// Likewise of those that are written: the report, the checkpoint, and the file beside it.
+fn written_by<R: Files + AllocGlobal>(
+    rt: &R,
+    plan: &Plan,
+) -> Result<(Place, Place, Place), ToolFault>
+    ensures { IfErr result IsNoMemory }
+{
+    Ok((
+        at_any(rt, &plan.report)?,
+        at_any(rt, &plan.checkpoint)?,
+        beside_by(rt, plan)?,
+    ))
+}
+
 /// What the names of the plan's files, and the standard streams that it reads and writes, stand for now.
 pub fn places_by<R: Files + AllocGlobal>(rt: &R, plan: &Plan) -> Result<Places, ToolFault>
     ensures { IfErr result IsNoMemory }
 {
+    let (recording, settings, definition, resumed) = read_by(rt, plan)?;
+    let (report, checkpoint, beside) = written_by(rt, plan)?;
     Ok(Places {
-        recording: input_by(rt, plan)?,
-        settings: at_any(rt, &plan.settings)?,
-        definition: at_any(rt, &plan.definition)?,
-        resumed: at_any(rt, &plan.resume)?,
-        report: at_any(rt, &plan.report)?,
-        checkpoint: at_any(rt, &plan.checkpoint)?,
-        beside: beside_by(rt, plan)?,
+        recording,
+        settings,
+        definition,
+        resumed,
+        report,
+        checkpoint,
+        beside,
         output: stream_by(rt, Stream::Output, writes_output(plan))?,
         errors: stream_by(rt, Stream::Errors, writes_errors(plan))?,
         faults: stream_by(rt, Stream::Errors, true)?,

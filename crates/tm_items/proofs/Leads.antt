@@ -26,11 +26,6 @@ pub record Leads {S F : Type 0} (takes : S → Item → S → Type 0) (refuses :
   pub taken : (new : S) → TakesAll takes now rest new → TakesAll takes start all new
   pub refused : (fault : F) (new : S) → RefusesOne takes refuses now rest fault new → RefusesOne takes refuses start all fault new
 
-pub leads_start : {S F : Type 0} {takes : S → Item → S → Type 0} {refuses : S → Item → F → S → Type 0} (s : S) (all rest : List Item)
-    → all ≡ rest → Leads takes refuses s s all rest
-leads_start s all rest e =
-    record { taken = λ new h. rw e h; refused = λ fault new h. rw e h }
-
 module _ {S F : Type 0} {takes : S → Item → S → Type 0} {refuses : S → Item → F → S → Type 0} {start now : S} {all rest : List Item} (l : Leads takes refuses start now all rest) where
   pub leads_take : (mid : S) (x : Item) (more : List Item) → rest ≡ x ∷ more → takes now x mid → Leads takes refuses start mid all more
   leads_take mid x more e t =

@@ -2,15 +2,14 @@
 use Rattle.std.proofs.Common.{◌≡◌, ◌<◌, ◌+◌, ◌-◌, ◌^◌, ℕ, List, [], ◌∷◌, ◌++◌, length, refl, sym, ap, subst, ◌∙◌, length-append, add-zero, arith, Option}
 use Rattle.std.specs.List.{concat}
 use Rattle.std.specs.Io.KnownBytes.{Appends, Consumes, IsAtEnd}
-use Rattle.std.proofs.KnownBytes.{Appends-nil, Appends-trans, Consumes-nil, Consumes-trans}
+use Rattle.std.proofs.KnownBytes.{Consumes-trans}
 use Rattle.tm_frame.specs.declared.layout.LayoutParts.{LayoutParts}
 use Rattle.tm_frame.specs.Layout.{record_length_of}
 use Rattle.tm_output.specs.declared.fault.RunFault.TheVariants.{Write}
 use Rattle.tm_output.specs.Outputs.{Stopped, Took, View, line_piece, line_pieces, octets_way, outs}
 use Rattle.tm_output.specs.Records.{AreRecords, HasRead}
-use Rattle.tm_output.specs.Listing.{IsListed, StopsAtFailedRead, StopsAtOneMore, StopsInRecordLine, StopsInRestLine, lines_of, listing, record_line, record_lines, rest_lines}
+use Rattle.tm_output.specs.Listing.{IsListed, StopsAtOneMore, StopsInRecordLine, StopsInRestLine, lines_of, listing, record_line, record_lines, rest_lines}
 use Rattle.tm_output.proofs.LinePieces.{lines_lines, lines_out}
-use Rattle.tm_output.proofs.PieceLemmas.{took_none}
 use Rattle.tm_output.proofs.RecordLemmas.{AreRecords-append, concat-one, count_all, records_all, rest_all}
 
 pub record_lines-append : (layout : LayoutParts) (seen : ℕ) (a b : List (List ℕ))
@@ -44,16 +43,9 @@ module _ (layout : LayoutParts) where
     pub count_is : seen ≡ length read
     pub took : Took Appends old now (line_pieces (record_lines layout 0 read))
 
-  pub stands_first : (left : Option (List ℕ)) (old : View (Option (List ℕ))) → Stands left left old old 0
-  stands_first left old = record { read = []; sized = tt; octets = Consumes-nil left; count_is = refl; took = took_none Appends Appends-nil Appends-trans old }
-
   module _ {first left next : Option (List ℕ)} {old now : View (Option (List ℕ))} {seen : ℕ} (octets : List ℕ) (stands : Stands first left old now seen) (got : Consumes left next octets) where
     has_read : HasRead (record_length_of layout) first next stands.read octets
     has_read = record { sized = stands.sized; octets = Consumes-trans first left next (concat stands.read) octets stands.octets got }
-
-    -- a read failed in a record
-    pub stands_read : length octets < record_length_of layout → StopsAtFailedRead layout first next old now
-    stands_read short = record { read = stands.read; part = octets; octets = has_read; short = short; took = stands.took }
 
     module _ (exact : length octets ≡ record_length_of layout) where
       -- one record too many was read

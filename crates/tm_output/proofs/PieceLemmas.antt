@@ -227,13 +227,5 @@ module _ {A K : Type 0} (grows : K → K → List A → Type 0) (old new : View 
     refused = λ e f. absurd (true_false (sym waits ∙ f));
   }
 
-  pub flush_report : (way : Way) → new.out_failures ≡ old.out_failures → new.report_failures ≡ raised old.report_failures → Stopped grows way old new [] Report
-  flush_report way out report = record {
-    cut = ([], [], (refl, refl), a, b);
-    cause = (out, report);
-    memory = λ e. absurd (report_memory e);
-    refused = λ e. absurd (report_write e);
-  }
-
   pub flushed : SameCounts old new → Took grows old new []
   flushed counts = record { whole = (a, b); counts = counts }

@@ -132,9 +132,6 @@ pub after-one : (s : List (Option PairEntry)) (p : Sent) → is_idle p.header �
 after-one s p h inside = after_from-one 0 (key_of p) s p h (omega arith) inside
 
 -- the notes of one header
-pub notes-idle : (s : List (Option PairEntry)) (p : Sent) → is_idle p.header ≡ true → notes s (p ∷ []) ≡ [] ∷ []
-notes-idle s p h = rw h refl
-
 pub notes-one : (s : List (Option PairEntry)) (p : Sent) → is_idle p.header ≡ false
     → notes s (p ∷ []) ≡ single_notes (entry_at s (key_of p)) p.header ∷ []
 notes-one s p h =

@@ -402,40 +402,58 @@ fn go_on<R: Files + Print + AllocGlobal, S: Source + Drop, V: Write + Drop>(
     }
 }
 
-// Does what the plan asks for with the recording, once the names of its files were checked, and answers what its job has done, if it has one. Names are
-// looked up anew once the report is made: before, it may have been none.
-#[tactic(auto, using(tm_files::proofs::FaultLemmas::starved_run, crate::proofs::ProgramLemmas::run_ends, crate::proofs::EndingLemmas::done_from))]
-fn run_on<R: Files + Print + AllocGlobal, S: Source + Drop, E: Write + Drop>(
+// Does the job over the recording: that of the checkpoint, or else a new one. Names are looked up anew, now that the report is made: before, it may have been none.
+#[tactic(auto, using(tm_files::proofs::FaultLemmas::starved_run))]
+fn do_job<R: Files + Print + AllocGlobal, S: Source + Drop, V: Write + Drop>(
+    rt: &R,
+    plan: &Plan,
+    inputs: Inputs,
+    source: S,
+    report: V,
+) -> Result<Done, ToolFault>
+    ensures done { IfOk result (λ done. HasDone plan.now inputs.settings inputs.resumed done.records (option_map (λ kept. kept.work) done.kept)) }
+    ensures refused { IfErr result (λ fault. IsRunFault fault ⊎ HasFolderFault plan.now.dir fault) }
+{
+    let Inputs {
+        settings,
+        definition,
+        resumed,
+    } = inputs;
+    let places = places_by(rt, plan)?;
+    let job = job_by(rt, resumed, &settings)?;
+    go_on(rt, plan, definition.as_ref(), job, source, report, &places)
+}
+
+// Does what the plan wants of the job over the recording, once the names of its files were checked, and answers what is done.
+#[tactic(auto, using(crate::proofs::ProgramLemmas::run_ends))]
+fn run_job_on<R: Files + Print + AllocGlobal, S: Source + Drop, E: Write + Drop>(
     rt: &R,
     plan: &Plan,
     inputs: Inputs,
     source: S,
     errors: E,
     checked: Checked,
-) -> Result<Option<Done>, ToolFault>
-    ensures done { IfOk result (λ found. MatchOption found (is_job plan.now.action ≡ false)
-        (λ done. HasDone plan.now inputs.settings inputs.resumed done.records (option_map (λ kept. kept.work) done.kept))) }
+) -> Result<Done, ToolFault>
+    ensures done { IfOk result (λ done. HasDone plan.now inputs.settings inputs.resumed done.records (option_map (λ kept. kept.work) done.kept)) }
     ensures refused { IfErr result (IsOfOutputs plan.now) }
 {
-    if !is_job(plan.action) {
-        list(rt, plan.action, &inputs.settings, source)?;
-        return Ok(None);
-    }
-    let Inputs {
-        settings,
-        definition,
-        resumed,
-    } = inputs;
     let report = report_by(rt, plan, checked, errors)?;
-    let places = places_by(rt, plan)?;
-    let job = job_by(rt, resumed, &settings)?;
-    let done = go_on(rt, plan, definition.as_ref(), job, source, report, &places)?;
+    let done = do_job(rt, plan, inputs, source, report)?;
     keep(rt, plan, &done)?;
-    Ok(Some(done))
+    Ok(done)
 }
 
-// Checks the names of the plan's files, and does what the plan asks for with the recording.
+// The names of the plan's files, as the folders are now, are checked.
 #[tactic(auto, using(tm_files::proofs::FaultLemmas::starved_run, crate::proofs::ProgramLemmas::names_come))]
+fn checked_by<R: Files + AllocGlobal>(rt: &R, plan: &Plan) -> Result<Checked, ToolFault>
+    ensures ok { OnOk result (AreClear plan.now) }
+    ensures refused { IfErr result (IsOfOutputs plan.now) }
+{
+    let places = places_by(rt, plan)?;
+    check_names(rt.alloc(), plan, &places)
+}
+
+// Checks the names of the plan's files, does what the plan asks for with the recording, and answers what its job has done, if it has one.
 fn check_and_run<R: Files + Print + AllocGlobal, S: Source + Drop, E: Write + Drop>(
     rt: &R,
     plan: &Plan,
@@ -448,9 +466,12 @@ fn check_and_run<R: Files + Print + AllocGlobal, S: Source + Drop, E: Write + Dr
         (λ done. HasDone plan.now inputs.settings inputs.resumed done.records (option_map (λ kept. kept.work) done.kept))) }
     ensures refused { IfErr result (IsOfOutputs plan.now) }
 {
-    let places = places_by(rt, plan)?;
-    let checked = check_names(rt.alloc(), plan, &places)?;
-    run_on(rt, plan, inputs, source, errors, checked)
+    let checked = checked_by(rt, plan)?;
+    if is_job(plan.action) {
+        return Ok(Some(run_job_on(rt, plan, inputs, source, errors, checked)?));
+    }
+    list(rt, plan.action, &inputs.settings, source)?;
+    Ok(None)
 }
 
 // The plan of the words.
@@ -495,8 +516,30 @@ fn check_streams<R: Print, E: Write>(rt: &R, plan: &Plan, errors: &mut E) -> Res
     Ok(())
 }
 
+// Checks that the plan can be begun, and reads its files but for the recording.
+#[tactic(auto, using(crate::proofs::ProgramLemmas::definition_comes, crate::proofs::ProgramLemmas::errors_come, crate::proofs::ProgramLemmas::resumed_comes, crate::proofs::ProgramLemmas::settings_come, crate::proofs::ProgramLemmas::streams_come))]
+fn begin<R: Files + Print + AllocGlobal, E: Write>(
+    rt: &R,
+    plan: &Plan,
+    errors: &mut E,
+) -> Result<Inputs, ToolFault>
+    requires { IsSome plan.now.settings }
+    ensures { IfErr result (MayCome plan.now) }
+{
+    check_errors(&places_by(rt, plan)?)?;
+    check_streams(rt, plan, errors)?;
+    inputs_by(rt, plan)
+}
+
+// The recording in this file.
+fn source_in<R: Files + AllocGlobal>(rt: &R, name: &Octets) -> Result<Seeking<R::File>, ToolFault>
+    ensures { IfErr result (IsFileFault name.now) }
+{
+    Ok(Seeking::new(buffered(rt.alloc(), open(rt, name)?)?))
+}
+
 // Does what the plan asks for.
-#[tactic(auto, using(crate::proofs::ProgramLemmas::definition_comes, crate::proofs::ProgramLemmas::errors_come, crate::proofs::ProgramLemmas::file_comes, crate::proofs::ProgramLemmas::outputs_come, crate::proofs::ProgramLemmas::resumed_comes, crate::proofs::ProgramLemmas::run_comes, crate::proofs::ProgramLemmas::settings_come, crate::proofs::ProgramLemmas::streams_come))]
+#[tactic(auto, using(tm_files::proofs::FaultLemmas::starved_run, crate::proofs::ProgramLemmas::file_comes, crate::proofs::ProgramLemmas::outputs_come, crate::proofs::ProgramLemmas::run_comes))]
 fn run_plan<R: Files + Input + Print + AllocGlobal, E: Write + Drop>(
     rt: &R,
     plan: &Plan,
@@ -506,14 +549,9 @@ fn run_plan<R: Files + Input + Print + AllocGlobal, E: Write + Drop>(
     ensures ok { OnOk result (AreClear plan.now) }
     ensures refused { IfErr result (MayCome plan.now) }
 {
-    check_errors(&places_by(rt, plan)?)?;
-    check_streams(rt, plan, &mut errors)?;
-    let inputs = inputs_by(rt, plan)?;
+    let inputs = begin(rt, plan, &mut errors)?;
     let done = match recording_by(plan) {
-        Recording::File(name) => {
-            let source = Seeking::new(buffered(rt.alloc(), open(rt, name)?)?);
-            check_and_run(rt, plan, inputs, source, errors)
-        }
+        Recording::File(name) => check_and_run(rt, plan, inputs, source_in(rt, name)?, errors),
         Recording::Input => {
             let source = Buffered::new(buffered(rt.alloc(), rt.reader())?);
             check_and_run(rt, plan, inputs, source, errors)

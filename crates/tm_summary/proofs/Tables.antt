@@ -17,10 +17,6 @@ module _ {A : Type 0} where
   length-values : (n : ℕ) (f : ℕ → A) → length (map f (below n)) ≡ n
   length-values n f = length-map (below n) f ∙ length-below n
 
-  pub length-table : (n : ℕ) (f : ℕ → A) → length (for_numbers n f) ≡ n
-  unfolding for_numbers
-  length-table n f = length-values n f
-
   values-more : (n : ℕ) (f : ℕ → A) → map f (below (suc n)) ≡ map f (below n) ++ f n ∷ []
   values-more n f = map-append f (below n) (n ∷ [])
 
@@ -55,10 +51,6 @@ module _ {A : Type 0} where
       let same : k ≡ n = omega (arith, h, more) in
       get_or_at (map f (below n)) (f n) [] d k (length-values n f ∙ sym same) ∙ ap f (sym same))
       (cases_lt k n)
-
-  pub table-get : (n k : ℕ) (f : ℕ → A) (d : A) → k < n → get_or (for_numbers n f) k d ≡ f k
-  unfolding for_numbers
-  table-get n k f d h = values-get n k f d h
 
   values-set : (n k : ℕ) (f g : ℕ → A) → ((j : ℕ) → j ≢ k → f j ≡ g j) → k < n → map f (below n) ≡ set (map g (below n)) k (f k)
   values-set zero k f g other h = absurd (omega arith)

@@ -9,7 +9,7 @@ use Rattle.tm_output.specs.declared.fault.RunFault.{RunFault}
 use Rattle.tm_output.specs.declared.fault.RunFault.TheVariants.{NoMemory}
 use Rattle.tm_output.specs.Outputs.{Stopped, Took, View, line_piece, line_pieces, lines_way}
 use Rattle.tm_output.proofs.LinePieces.{lines_lines, lines_more, lines_stopped}
-use Rattle.tm_output.proofs.PieceLemmas.{no_room, took_none}
+use Rattle.tm_output.proofs.PieceLemmas.{no_room}
 use Rattle.tm_rules.specs.Channels.{is_chosen}
 use Rattle.tm_summary.specs.declared.application.ApplicationCounts.{ApplicationCounts}
 use Rattle.tm_summary.specs.declared.channel.ChannelCounts.{ChannelCounts}
@@ -23,9 +23,6 @@ TookLines old new lines = Took Appends old new (line_pieces lines)
 
 abbrev pub StoppedLines : View (Option (List ℕ)) → View (Option (List ℕ)) → List (List ℕ) → RunFault → Type 0
 StoppedLines old new lines fault = Stopped Appends lines_way old new (line_pieces lines) fault
-
-pub lines_none : (v : View (Option (List ℕ))) → TookLines v v []
-lines_none v = took_none Appends Appends-nil Appends-trans v
 
 -- there was no memory to make a line
 pub made_none : (v : View (Option (List ℕ))) (text : List ℕ) → text ≢ [] → Stopped Appends lines_way v v (line_piece text ∷ []) NoMemory

@@ -1,5 +1,5 @@
 -- How a run ended, in the words of the whole recording.
-use Rattle.std.proofs.Common.{◌≡◌, ◌⊎◌, ◌<◌, ◌≤◌, ◌+◌, ◌-◌, ◌^◌, ℕ, false, List, [], ◌∷◌, ◌++◌, length, take, refl, sym, ap, subst, ◌∙◌, append_assoc, append-nil, length-append, length-drop, take_all, arith, inl, inr, ⊎_elim, Option, IfSome, Result, Err}
+use Rattle.std.proofs.Common.{◌≡◌, ◌⊎◌, ◌<◌, ◌≤◌, ◌+◌, ◌-◌, ◌^◌, ℕ, false, List, [], ◌∷◌, ◌++◌, length, take, refl, sym, ap, subst, ◌∙◌, append_assoc, append-nil, length-append, length-drop, take_all, arith, inl, inr, ⊎_elim, Option, IfSome}
 use Rattle.std.specs.List.{concat}
 use Rattle.std.specs.Io.KnownBytes.{Consumes, IsAtEnd}
 use Rattle.std.proofs.lemmas.Bool.{cases_lt}
@@ -22,10 +22,6 @@ use Rattle.tm_output.proofs.RecordLemmas.{AreRecords-append, always, concat-one,
 use Rattle.tm_tool.specs.code.Stepping.{IsRun}
 use Rattle.tm_tool.specs.code.Taking.{Reached}
 use Rattle.tm_tool.proofs.Running.{IsValid, behind-more, behind-none, records-append, wanted_reached, more_reached}
-
--- a refusal has one fault
-pub same_fault : {T : Type 0} {f h : RunFault} → ◌≡◌ {A = Result T RunFault} (Err f) (Err h) → f ≡ h
-same_fault e = cc
 
 -- ---- which records an ending takes
 

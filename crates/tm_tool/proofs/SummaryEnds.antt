@@ -19,7 +19,7 @@ use Rattle.tm_summary.specs.Numbers.{Numbers}
 use Rattle.tm_tool.specs.Jobs.{new_job}
 use Rattle.tm_tool.specs.RecordingPieces.{Work}
 use Rattle.tm_tool.specs.Summaries.{IsSummarized, IsSummaryStop, StopsInLines, SummaryStopped, lines_after, summary}
-use Rattle.tm_tool.specs.code.Summing.{CountingStopped, HasSummed}
+use Rattle.tm_tool.specs.code.Summing.{HasSummed}
 
 never : 0 ≡ raised 0 → ⊥
 never e = cc
@@ -31,13 +31,6 @@ module _ (rules : Rules) where
   unfolding summary
   summary_read read rest sized short =
       rw (records_all (record_length_of rules.layout) read rest sized short, rest_all (record_length_of rules.layout) read rest sized short) refl
-
-  -- counting stopped: nothing was written
-  pub stopped_unwritten : (first next : Option (List ℕ)) (old new : View (Option (List ℕ))) (fault : RunFault) (w : Work) → w ≡ (new_job rules).work
-      → CountingStopped w first next fault → new ≡ old → IsSummaryStop rules first next old new fault
-  stopped_unwritten first next old new Read w is h same = (subst (λ (x : Work). CountingStopped x first next Read) is h, same)
-  stopped_unwritten first next old new TooMany w is h same = (subst (λ (x : Work). CountingStopped x first next TooMany) is h, same)
-  stopped_unwritten first next old new _ w is h same = absurd h
 
   module _ (first next : Option (List ℕ)) (w : Work) (is : w ≡ (new_job rules).work) (numbers : Numbers) (count : ℕ) (h : HasSummed w first next numbers count) where
     summed : HasSummed (new_job rules).work first next numbers count

@@ -1,0 +1,24 @@
+use Rattle.std.proofs.Common.{◌≡◌, ◌<◌, ℕ, List, None, append_assoc, ap, arith, length, sym, ◌∙◌}
+use Rattle.std.specs.Prelude.{slice_get}
+use Rattle.std.proofs.lemmas.List.{drop_more}
+use Rattle.std.proofs.lemmas.Option.{get_or_from_slice_get, slice_get_cases}
+use Rattle.tm_output.specs.Lines.{note_lines}
+use Rattle.tm_output.proofs.PacketLemmas.{some_notes}
+use Rattle.tm_output.proofs.output.push_notes.Goals.{in-Some+in_default-push_note, in_default}
+use Rattle.tm_output.proofs.output.push_notes.Goals as goal
+
+pub returns-in-Err-clause-memory : goal.returns-in-Err-clause-memory
+returns-in-Err-clause-memory c = some_notes _ _ _ _ c.loop-i.i c.in-Some.note (sym c.get.ensures ∙ c.in-Some.is)
+
+none_past : {X : Type 0} (xs : List X) (i : ℕ) → i < length xs → slice_get xs i ≡ None → ⊥
+none_past xs i within none = grind (arith, slice_get_cases)
+
+pub loop-i-preserved : goal.loop-i-preserved
+loop-i-preserved c =
+    elim c.match-get.branch [
+      | in-Some+in_default-push_note w ↦
+          let is = get_or_from_slice_get c.args.notes.now c.loop-i.i w.in-Some.note w.in-Some.note (sym c.get.ensures ∙ w.in-Some.is) in
+          let next = ap (note_lines c.args.seen c.args.channel c.args.apid) (drop_more c.args.notes.now c.loop-i.i w.in-Some.note (omega arith)) in
+          rw (w.lines-is, w.in_default-push_note.ensures, append_assoc) (rw (next, is) at c.loop-i.invariant)
+      | in_default w ↦ absurd (none_past c.args.notes.now c.loop-i.i (omega arith) (sym c.get.ensures ∙ w.in_default.is))
+    ]

@@ -516,19 +516,17 @@ fn check_streams<R: Print, E: Write>(rt: &R, plan: &Plan, errors: &mut E) -> Res
     Ok(())
 }
 
-// Checks that the plan can be begun, and reads its files but for the recording.
-#[tactic(auto, using(crate::proofs::ProgramLemmas::definition_comes, crate::proofs::ProgramLemmas::errors_come, crate::proofs::ProgramLemmas::resumed_comes, crate::proofs::ProgramLemmas::settings_come, crate::proofs::ProgramLemmas::streams_come))]
-fn begin<R: Files + Print + AllocGlobal, E: Write>(
+// Standard error is no file that is read, and the standard streams to which the plan writes are open.
+#[tactic(auto, using(crate::proofs::ProgramLemmas::errors_come, crate::proofs::ProgramLemmas::streams_come))]
+fn check_standard<R: Files + Print + AllocGlobal, E: Write>(
     rt: &R,
     plan: &Plan,
     errors: &mut E,
-) -> Result<Inputs, ToolFault>
-    requires { IsSome plan.now.settings }
+) -> Result<(), ToolFault>
     ensures { IfErr result (MayCome plan.now) }
 {
     check_errors(&places_by(rt, plan)?)?;
-    check_streams(rt, plan, errors)?;
-    inputs_by(rt, plan)
+    check_streams(rt, plan, errors)
 }
 
 // The recording in this file.
@@ -539,7 +537,7 @@ fn source_in<R: Files + AllocGlobal>(rt: &R, name: &Octets) -> Result<Seeking<R:
 }
 
 // Does what the plan asks for.
-#[tactic(auto, using(tm_files::proofs::FaultLemmas::starved_run, crate::proofs::ProgramLemmas::file_comes, crate::proofs::ProgramLemmas::outputs_come, crate::proofs::ProgramLemmas::run_comes))]
+#[tactic(auto, using(tm_files::proofs::FaultLemmas::starved_run, crate::proofs::ProgramLemmas::definition_comes, crate::proofs::ProgramLemmas::file_comes, crate::proofs::ProgramLemmas::outputs_come, crate::proofs::ProgramLemmas::resumed_comes, crate::proofs::ProgramLemmas::run_comes, crate::proofs::ProgramLemmas::settings_come))]
 fn run_plan<R: Files + Input + Print + AllocGlobal, E: Write + Drop>(
     rt: &R,
     plan: &Plan,
@@ -549,7 +547,8 @@ fn run_plan<R: Files + Input + Print + AllocGlobal, E: Write + Drop>(
     ensures ok { OnOk result (AreClear plan.now) }
     ensures refused { IfErr result (MayCome plan.now) }
 {
-    let inputs = begin(rt, plan, &mut errors)?;
+    check_standard(rt, plan, &mut errors)?;
+    let inputs = inputs_by(rt, plan)?;
     let done = match recording_by(plan) {
         Recording::File(name) => check_and_run(rt, plan, inputs, source_in(rt, name)?, errors),
         Recording::Input => {

@@ -7,10 +7,10 @@ ghost use Rattle.tm_fields.specs.Reading.{begin_named, begin_of, defined_field_o
 use crate::columns::{Columns, value_at};
 use crate::faults::DefinitionFault;
 use crate::field::{DataType, Field, GREATEST_END};
-use crate::octets::Octets;
 use crate::words::{data_type_named, is_array_text, is_text, number_in};
 use csv::ByteRecord;
 use std::alloc::{AllocError, Global};
+use tm_octets::Octets;
 
 // The type in a row.
 fn read_type(row: u32, text: &[u8]) -> Result<DataType, DefinitionFault>

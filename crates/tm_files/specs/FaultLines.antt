@@ -8,12 +8,12 @@ use Rattle.tm_fields.specs.declared.faults.DefinitionFault.{DefinitionFault}
 use Rattle.tm_fields.specs.declared.faults.DefinitionFault.TheVariants as definition
 use Rattle.tm_settings.specs.Keys.{key_name}
 use Rattle.tm_settings.specs.declared.key.Key.{Key}
-use Rattle.tm_output.specs.declared.fault.CheckpointFault.{CheckpointFault}
-use Rattle.tm_output.specs.declared.fault.CheckpointFault.TheVariants as checkpoint
+use Rattle.tm_faults.specs.declared.fault.CheckpointFault.{CheckpointFault}
+use Rattle.tm_faults.specs.declared.fault.CheckpointFault.TheVariants as checkpoint
 use Rattle.tm_settings.specs.declared.fault.SettingsFault.{SettingsFault}
 use Rattle.tm_settings.specs.declared.fault.SettingsFault.TheVariants as settings
-use Rattle.tm_output.specs.declared.fault.RunFault.{RunFault}
-use Rattle.tm_output.specs.declared.fault.RunFault.TheVariants as run
+use Rattle.tm_faults.specs.declared.fault.RunFault.{RunFault}
+use Rattle.tm_faults.specs.declared.fault.RunFault.TheVariants as run
 use Rattle.tm_words.specs.declared.request.UsageFault.{UsageFault}
 use Rattle.tm_words.specs.declared.request.UsageFault.TheVariants as usage
 use Rattle.tm_files.specs.declared.fault.ToolFault.{ToolFault}

@@ -4,8 +4,8 @@ ghost use Rattle.std.specs.Prelude.{◌≡◌};
 ghost use Rattle.tm_files.specs.code.Decisions.{is_job, IsDestination, IsOpening, IsRecording, stream_fault_of, writes_errors, writes_output};
 
 use crate::fault::ToolFault;
-use tm_fields::Octets;
-use tm_output::RunFault;
+use tm_faults::RunFault;
+use tm_octets::Octets;
 use tm_words::{Action, Plan};
 
 /// Where the recording comes from.

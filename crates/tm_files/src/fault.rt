@@ -1,8 +1,9 @@
 //! Why the program ends before its end.
 
 use std::alloc::{AllocError, AllocFailed};
-use tm_fields::{DefinitionFault, Octets};
-use tm_output::{CheckpointFault, RunFault};
+use tm_faults::{CheckpointFault, RunFault};
+use tm_fields::DefinitionFault;
+use tm_octets::Octets;
 use tm_settings::SettingsFault;
 use tm_words::UsageFault;
 

@@ -5,8 +5,8 @@ ghost use Rattle.tm_files.specs.FaultLines.{checkpoint_text, column_line, defini
 
 use crate::fault::{NoMemory, ToolFault};
 use std::alloc::Global;
+use tm_faults::{CheckpointFault, RunFault};
 use tm_fields::{Column, DefinitionFault, push_escaped};
-use tm_output::{CheckpointFault, RunFault};
 use tm_settings::{Key, SettingsFault};
 use tm_words::UsageFault;
 

@@ -10,8 +10,8 @@ use crate::decisions::{Stream, stream_fault, writes_output};
 use crate::fault::ToolFault;
 use crate::files::file_fault;
 use std::alloc::Global;
-use tm_fields::Octets;
-use tm_output::RunFault;
+use tm_faults::RunFault;
+use tm_octets::Octets;
 use tm_places::Places;
 use tm_words::Plan;
 

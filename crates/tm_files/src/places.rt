@@ -8,8 +8,8 @@ use crate::decisions::{Recording, Stream, recording_by, writes_errors, writes_ou
 use crate::fault::ToolFault;
 use crate::names::beside;
 use std::rt::Files;
-use tm_fields::Octets;
-use tm_output::RunFault;
+use tm_faults::RunFault;
+use tm_octets::Octets;
 use tm_places::{Place, Places, place_of};
 use tm_words::Plan;
 

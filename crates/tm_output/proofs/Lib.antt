@@ -8,5 +8,4 @@ pub mod PacketLemmas
 pub mod OpenGroups
 pub mod RowLemmas
 pub mod ShelfLemmas
-pub mod RoomLemmas
 pub mod SpanLemmas

@@ -2,7 +2,7 @@
 use Rattle.std.proofs.Common.{◌≢◌, ℕ, []}
 use Rattle.tm_packet.specs.declared.notes.Note.{Note}
 use Rattle.tm_packet.specs.declared.notes.Note.TheVariants.{Gap, Broken, Whole, Stray}
-use Rattle.tm_output.specs.Lines.{note_line, short_packet_line}
+use Rattle.tm_lines.specs.Lines.{note_line, short_packet_line}
 
 pub some_short_packet : (seen channel first place needed found : ℕ) → short_packet_line seen channel first place needed found ≢ []
 unfolding short_packet_line

@@ -8,13 +8,13 @@ use Rattle.tm_packet.specs.declared.header.PacketFault.{PacketFault}
 use Rattle.tm_packet.specs.declared.notes.Note.{Note}
 use Rattle.tm_packet.specs.Header.{Fields, packet_header_of, header_reading_of, packet_version_of}
 use Rattle.tm_packet.specs.Merge as sequence
-use Rattle.tm_packet.specs.Merge.{Sent}
+use Rattle.tm_packet.specs.Merge.{Entries, Sent}
 use Rattle.tm_packet.proofs.HeaderLemmas.{reading_ok}
 use Rattle.tm_items.specs.Item.{Item, Bad, MasterGap, Gap, Vca, Dropped, Packet, Short}
 use Rattle.tm_items.specs.OnePacket.{IsOnePacket}
 use Rattle.tm_items.proofs.Reaching.{reach-least}
-use Rattle.tm_output.specs.Lines.{note_lines}
-use Rattle.tm_output.specs.Pieces.{Entries, HasLine, item_line, notes_of, report_of, sent}
+use Rattle.tm_lines.specs.Lines.{note_lines}
+use Rattle.tm_output.specs.Pieces.{HasLine, item_line, notes_of, report_of, sent}
 use Rattle.tm_output.proofs.LineLemmas.{some_note}
 
 pub version_front : (octets : List ℕ) → 0 < length octets → packet_version_of (take 1 octets) ≡ packet_version_of octets

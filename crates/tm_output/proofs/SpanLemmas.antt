@@ -14,14 +14,15 @@ use Rattle.tm_items.proofs.Reaching.{reach-least}
 use Rattle.tm_items.proofs.Leads.{RefusesOne-left}
 use Rattle.tm_items.proofs.Spans.{joined, joined-all, packets-first, packets-one, span-both, span-first, span-longer}
 use Rattle.tm_devices.specs.Devices.{raised}
-use Rattle.tm_output.specs.declared.fault.RunFault.TheVariants.{Write}
+use Rattle.tm_faults.specs.declared.fault.RunFault.TheVariants.{Write}
 use Rattle.tm_output.specs.Outputs.{PutsPart, SameCounts, Way, view}
-use Rattle.tm_output.specs.Pieces.{Entries, Texts, noted, noted_all, packet_octets, piece_of, text_of}
+use Rattle.tm_packet.specs.Merge.{Entries}
+use Rattle.tm_output.specs.Pieces.{Texts, noted, noted_all, packet_octets, piece_of, text_of}
 use Rattle.tm_output.specs.Seen.{OutputState}
 use Rattle.tm_output.specs.declared.command.Command.TheVariants.{Extract}
 use Rattle.tm_output.specs.code.Packets.{item_with}
 use Rattle.tm_output.specs.code.Quiet.{AreQuiet, HasNoted, IsFirstPacket, IsQuiet, IsTaken, outs_of}
-use Rattle.tm_output.specs.declared.packet.Packet as lent
+use Rattle.tm_lines.specs.declared.packet.Packet as lent
 use Rattle.tm_output.specs.code.Sinking.{Refuses, Takes}
 use Rattle.tm_output.proofs.PacketLemmas.{version_front}
 use Rattle.tm_output.proofs.PieceLemmas.{stopped_put, took_piece}

@@ -7,7 +7,7 @@ use Rattle.tm_fields.specs.declared.lead.Lead.{Lead}
 use Rattle.tm_fields.specs.Rows.{row_from}
 use Rattle.tm_packet.specs.Header.{packet_header_of}
 use Rattle.tm_items.specs.Item.{Item, Packet}
-use Rattle.tm_output.specs.Lines.{short_packet_line}
+use Rattle.tm_lines.specs.Lines.{short_packet_line}
 
 -- what the row of a packet begins with
 abbrev pub lead_of : ℕ → ℕ → List ℕ → Lead

@@ -1,5 +1,4 @@
 pub mod Records
-pub mod Lines
 pub mod Faults
 pub mod Listing
 pub mod Outputs

@@ -1,23 +1,18 @@
 -- The pieces of items: for each item what belongs to `out`, and its lines for the report.
-use Rattle.std.specs.Prelude.{⊤, ℕ, ◌/◌, ◌%◌, List, [], ◌∷◌, ◌++◌, length, map, Option}
+use Rattle.std.specs.Prelude.{⊤, ℕ, ◌/◌, ◌%◌, List, [], ◌∷◌, ◌++◌, length, map}
 use Rattle.std.specs.List.{flat_map}
 use Rattle.tm_fields.specs.declared.field.Field.{Field}
 use Rattle.tm_packet.specs.declared.notes.Note.{Note}
-use Rattle.tm_packet.specs.declared.tracker.PairEntry.{PairEntry}
 use Rattle.tm_packet.specs.declared.tracker.Unclosed.{Unclosed}
 use Rattle.tm_packet.specs.Header.{packet_header_of}
 use Rattle.tm_packet.specs.Merge as sequence
-use Rattle.tm_packet.specs.Merge.{Sent}
+use Rattle.tm_packet.specs.Merge.{Entries, Sent}
 use Rattle.tm_items.specs.Item.{Item, Bad, MasterGap, Gap, Vca, Dropped, Packet, Short}
 use Rattle.tm_output.specs.declared.command.Command.{Command}
 use Rattle.tm_output.specs.declared.command.Command.TheVariants.{Extract, Packets, Fields}
 use Rattle.tm_output.specs.FieldRows.{tabled, too_short}
-use Rattle.tm_output.specs.Lines.{bad_line, drop_line, gap_line, master_gap_line, note_line, note_lines, packet_line, short_line, vca_line}
+use Rattle.tm_lines.specs.Lines.{bad_line, drop_line, gap_line, master_gap_line, note_line, note_lines, packet_line, short_line, vca_line}
 use Rattle.tm_output.specs.Outputs.{Piece, Way, lines_way, octets_way}
-
--- for each key what is kept of the sequence counts of its channel and application
-abbrev pub Entries : Type 0
-Entries = List (Option PairEntry)
 
 -- the packet of a channel as its sequence counts see it
 abbrev pub sent : ℕ → List ℕ → Sent

@@ -5,7 +5,7 @@ use Rattle.tm_devices.specs.declared.device.Shelf as shelf
 use Rattle.tm_output.specs.declared.outlet.Outlet as outlet
 use Rattle.tm_output.specs.declared.output.Output.{Output}
 use Rattle.tm_output.specs.Outputs.{View, view}
-use Rattle.tm_output.specs.Pieces.{Entries}
+use Rattle.tm_packet.specs.Merge.{Entries}
 
 -- what is known of two drains
 abbrev pub both : {W V : Type 0} → drain.Ghosts W → drain.Ghosts V → W → V → View (Option (List ℕ))

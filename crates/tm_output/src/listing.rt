@@ -4,19 +4,18 @@ ghost use Rattle.std.specs.Prelude.{◌≡◌, ◌≢◌, ◌<◌, ◌≤◌, �
 ghost use Rattle.std.specs.Io.KnownBytes.{Appends, Keeps};
 ghost use Rattle.tm_frame.specs.Layout.{most_records, record_length_of};
 ghost use Rattle.tm_output.specs.Faults.{FaultsCounted};
-ghost use Rattle.tm_output.specs.declared.fault.RunFault.TheVariants.{Write};
+ghost use Rattle.tm_faults.specs.declared.fault.RunFault.TheVariants.{Write};
 ghost use Rattle.tm_output.specs.Listing.{IsListed, IsListingStop, record_line, rest_lines};
 ghost use Rattle.tm_output.specs.Outputs.{Stopped, Took, line_piece, line_pieces, octets_way};
 ghost use Rattle.tm_output.specs.Seen.{out_alone};
 ghost use Rattle.tm_output.specs.code.Listed.{NextListingStop};
 ghost use Rattle.tm_output.specs.code.Next.{EndsNext, ReadsNext};
 
-use crate::RunFault;
-use crate::lines::{put_bad, put_frame, put_short};
-use crate::room::{ROOM, line_in};
 use std::alloc::Global;
 use tm_devices::{DeviceFailed, Drain, Source, fill, put_all};
+use tm_faults::RunFault;
 use tm_frame::{Layout, read};
+use tm_lines::{ROOM, line_in, put_bad, put_frame, put_short};
 use tm_settings::Settings;
 
 // Makes the line of a record at the end of the room, and answers where it begins.

@@ -14,12 +14,12 @@ ghost use Rattle.tm_output.specs.Pieces.{HasLine, Texts, text_of};
 ghost use Rattle.tm_output.specs.code.ShelfLaws.{no_shelf, shelves_nil, shelves_split, shelves_trans};
 ghost use Rattle.tm_output.specs.Shelves.{Shelved, Shelves, shelf_text, shelf_way};
 
-use crate::lines::{put_packet, put_short_packet};
-use crate::room::{ROOM, line_in};
-use crate::{Packet, RunFault};
+use crate::Packet;
 use std::alloc::AllocError;
 use tm_devices::{DeviceFailed, Drain, Shelf, put_all};
+use tm_faults::RunFault;
 use tm_fields::{Lead, RowFault, Rows};
+use tm_lines::{ROOM, line_in, put_packet, put_short_packet};
 use tm_packet::Header;
 
 /// Where packets go.

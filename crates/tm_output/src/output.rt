@@ -3,12 +3,11 @@
 ghost use Rattle.std.specs.Prelude.{◌≡◌, ◌≢◌, ◌+◌, ◌^◌, ◌<◌, ◌≤◌, ◌++◌, ◌∷◌, [], true, false, drop, length, IfErr, IfOk, OnOk, OnErr};
 ghost use Rattle.std.specs.Io.KnownBytes.{Keeps};
 ghost use Rattle.tm_packet.specs.Merge as sequence;
-ghost use Rattle.tm_items.specs.Item as value;
 ghost use Rattle.tm_packet.specs.Header.{packet_header_of};
 ghost use Rattle.tm_items.specs.Sinks.{RefusesOne, item_of};
 ghost use Rattle.tm_items.specs.code.Spans.{IsSpan, span_items};
 ghost use Rattle.tm_items.specs.OnePacket.{IsOnePacket};
-ghost use Rattle.tm_output.specs.Lines.{note_line, note_lines};
+ghost use Rattle.tm_lines.specs.Lines.{note_line, note_lines};
 ghost use Rattle.tm_output.specs.Outputs.{Written};
 ghost use Rattle.tm_output.specs.Pieces.{HasLine, item_line, noted, notes_of, unclosed_piece, unclosed_pieces};
 ghost use Rattle.tm_output.specs.code.Packets.{HasHeader, item_with};
@@ -16,13 +15,15 @@ ghost use Rattle.tm_output.specs.code.Quiet.{HasNoted, IsFirstPacket, IsQuiet, I
 ghost use Rattle.tm_output.specs.code.Sinking.{Refuses, Takes, WritesItem};
 ghost use Rattle.tm_output.specs.Seen.{OutputState, fixture, output_both, output_state};
 
-use crate::lines::{put_bad, put_drop, put_gap, put_master_gap, put_note, put_short, put_vca};
+use crate::Packet;
 use crate::outlet::Outlet;
-use crate::room::{ROOM, line_in};
-use crate::{Packet, RunFault};
 use std::alloc::AllocError;
 use tm_devices::{Drain, put_all};
+use tm_faults::RunFault;
 use tm_items::{Item, Sink};
+use tm_lines::{
+    ROOM, line_in, put_bad, put_drop, put_gap, put_master_gap, put_note, put_short, put_vca,
+};
 use tm_packet::{Header, Note, Notes, Tracker, Unclosed, read_header};
 
 /// Writes the texts of the items that it takes. Lines are made in memory that is kept from item to item.

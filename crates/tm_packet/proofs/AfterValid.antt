@@ -13,7 +13,7 @@ use Rattle.tm_packet.specs.declared.tracker.PairEntry.{PairEntry}
 use Rattle.tm_packet.specs.Header.{Fields, AreInRange, packet_header_of}
 use Rattle.tm_packet.specs.Sequence.{opened_by, opened, first_in, goes_on}
 use Rattle.tm_packet.specs.code.Single.{member_after, single_after}
-use Rattle.tm_packet.specs.Merge.{Sent, key_of, is_idle, entry_at, entries_after}
+use Rattle.tm_packet.specs.Merge.{Entries, entries_after, entry_at, is_idle, key_of, Sent}
 use Rattle.tm_packet.specs.Valid.{Fits, FirstFits, IsEntry, EntryFits, AreValidEntries}
 use Rattle.tm_packet.proofs.Merging.{after-idle, after-one, after-append, after_from-none}
 
@@ -67,7 +67,7 @@ not_idle channel p fits h e =
     eqb-false p.header.application 2047 h idle
 
 -- an entry with counts may be put at the key of a packet that isn't idle
-set-valid : (s : List (Option PairEntry)) (p : Sent) (kept : PairEntry) → AreValidEntries s → Fits p → is_idle p.header ≡ false → IsEntry kept
+set-valid : (s : Entries) (p : Sent) (kept : PairEntry) → AreValidEntries s → Fits p → is_idle p.header ≡ false → IsEntry kept
     → AreValidEntries (set s (key_of p) (Some kept))
 set-valid s p kept valid fits h k =
     let all = valid.places in
@@ -83,7 +83,7 @@ set-valid s p kept valid fits h k =
     }
 
 -- a header leaves a valid state valid
-pub after-valid : (s : List (Option PairEntry)) (p : Sent) → AreValidEntries s → Fits p → p.header.count < 16384 → AreValidEntries (entries_after s (p ∷ []))
+pub after-valid : (s : Entries) (p : Sent) → AreValidEntries s → Fits p → p.header.count < 16384 → AreValidEntries (entries_after s (p ∷ []))
 after-valid s p valid fits small =
     ⊎_elim (λ h. subst AreValidEntries (sym (after-idle s p h)) valid)
     (λ h.
@@ -102,7 +102,7 @@ AllSent [] = Unit {0}
 AllSent (p ∷ ps) = Fits p × (p.header.count < 16384) × AllSent ps
 
 -- and so do more
-pub all_after-valid : (s : List (Option PairEntry)) (ps : List Sent) → AreValidEntries s → AllSent ps → AreValidEntries (entries_after s ps)
+pub all_after-valid : (s : Entries) (ps : List Sent) → AreValidEntries s → AllSent ps → AreValidEntries (entries_after s ps)
 all_after-valid s [] valid h = subst AreValidEntries (sym (after_from-none 0 s)) valid
 all_after-valid s (p ∷ ps) valid h =
     subst AreValidEntries (sym (after-append s (p ∷ []) ps)) (all_after-valid (entries_after s (p ∷ [])) ps (after-valid s p valid h.0 h.1) h.2)

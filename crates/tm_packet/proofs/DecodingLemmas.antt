@@ -7,7 +7,7 @@ use Rattle.tm_packet.specs.declared.tracker.PairEntry.{PairEntry}
 use Rattle.tm_packet.specs.declared.tracker.Numbers.{Numbers}
 use Rattle.tm_packet.specs.declared.tracker.TrackerFault.{TrackerFault}
 use Rattle.tm_packet.specs.declared.tracker.TrackerFault.TheVariants.{Order, Value}
-use Rattle.tm_packet.specs.Merge.{no_entries}
+use Rattle.tm_packet.specs.Merge.{Entries, no_entries}
 use Rattle.tm_packet.specs.Spelling.{DecodedEntries, entries_decoding_of, decoding_with, raw_of, raws, has_values, rises, fault_after, first_count_of, entries_at_keys, state_of}
 use Rattle.tm_bits.specs.Bits.{two_at}
 
@@ -126,12 +126,12 @@ unfolding no_entries state_of
 state-none = sym (places-none 16384 0)
 
 -- no entries are read, and all places are empty
-pub state-begin : (s : List (Option PairEntry)) (n : ℕ) (xs : List ℕ) → s ≡ no_entries → s ≡ state_of (raws (n - n) (drop (2 + 6 * n) xs))
+pub state-begin : (s : Entries) (n : ℕ) (xs : List ℕ) → s ≡ no_entries → s ≡ state_of (raws (n - n) (drop (2 + 6 * n) xs))
 state-begin s n xs h =
     let none : n - n ≡ 0 = omega arith in rw (h, none) state-none
 
 -- the entries from one on are put where those after it are
-pub state-step : (old new : List (Option PairEntry)) (n at : ℕ) (xs : List ℕ) (r : Numbers) → 1 ≤ at → at ≤ n
+pub state-step : (old new : Entries) (n at : ℕ) (xs : List ℕ) (r : Numbers) → 1 ≤ at → at ≤ n
     → old ≡ state_of (raws (n - at) (drop (2 + 6 * at) xs)) → r ≡ raw_of (drop (2 + 6 * (at - 1)) xs) → r.key < 16384
     → new ≡ set old r.key (Some (last_in r))
     → new ≡ state_of (raws (n - (at - 1)) (drop (2 + 6 * (at - 1)) xs))

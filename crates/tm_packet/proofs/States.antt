@@ -3,7 +3,7 @@ use Rattle.std.proofs.Common.{◌≡◌, ℕ, ◌+◌, ◌-◌, ◌*◌, ◌<◌
 use Rattle.std.proofs.Math.ListN.{replicate}
 use Rattle.std.proofs.lemmas.List.{length-replicate}
 use Rattle.tm_packet.specs.declared.tracker.PairEntry.{PairEntry}
-use Rattle.tm_packet.specs.Merge.{entry_at, no_entries}
+use Rattle.tm_packet.specs.Merge.{Entries, entry_at, no_entries}
 use Rattle.tm_packet.specs.Valid.{AreValidEntries, EntryFits}
 
 pub get_or-any : {A : Type 0} (xs : List A) (i : ℕ) (d e : A) → i < length xs → get_or xs i d ≡ get_or xs i e
@@ -30,6 +30,6 @@ length-no_entries = length-replicate {A = Option PairEntry} 16384 None
 pub valid-none : AreValidEntries no_entries
 valid-none = record { places = length-no_entries; fit = λ key. none_fits (entry_at no_entries key) (none_at key); idle = λ channel. none_at (2048 * channel + 2047) }
 
-pub filled : (xs : List (Option PairEntry)) (n : ℕ) → xs ≡ [] → n ≡ 0 → take 16384 xs ++ replicate (16384 - n) None ≡ no_entries
+pub filled : (xs : Entries) (n : ℕ) → xs ≡ [] → n ≡ 0 → take 16384 xs ++ replicate (16384 - n) None ≡ no_entries
 unfolding no_entries
 filled xs n e h = rw (e, h) refl

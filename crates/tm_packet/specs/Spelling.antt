@@ -2,6 +2,7 @@
 use Rattle.std.specs.Prelude.{ℕ, zero, suc, ◌+◌, ◌*◌, ◌%◌, Bool, true, not, ◌==◌, ◌&&◌, ◌||◌, nat_lt, Option, Some, None, Result, Ok, Err, List, [], ◌∷◌, ◌++◌, length, drop, if◌then◌else◌}
 use Rattle.tm_bits.specs.Bits.{two_octets, two_at}
 use Rattle.tm_packet.specs.declared.tracker.PairEntry.{PairEntry}
+use Rattle.tm_packet.specs.Merge.{Entries}
 use Rattle.tm_packet.specs.declared.tracker.Numbers.{Numbers}
 use Rattle.tm_packet.specs.declared.tracker.TrackerFault.{TrackerFault}
 use Rattle.tm_packet.specs.declared.tracker.TrackerFault.TheVariants.{Short, Order, Value}
@@ -26,7 +27,7 @@ entry_of key None = []
 entry_of key (Some last) = record { key = key; last = last } ∷ []
 
 -- the entries that there are, by rising key
-abbrev pub entries_from : ℕ → List (Option PairEntry) → List KeyedEntry
+abbrev pub entries_from : ℕ → Entries → List KeyedEntry
 entries_from key [] = []
 entries_from key (l ∷ ls) = entry_of key l ++ entries_from (key + 1) ls
 
@@ -36,7 +37,7 @@ spelled [] = []
 spelled (e ∷ es) = entry_octets e ++ spelled es
 
 -- the number of entries, and the entries
-abbrev pub entries_spelling : List (Option PairEntry) → List ℕ
+abbrev pub entries_spelling : Entries → List ℕ
 entries_spelling entries = two_octets (length (entries_from 0 entries)) ++ spelled (entries_from 0 entries)
 
 -- the three numbers of six octets
@@ -74,17 +75,17 @@ entry_at_key key [] = None
 entry_at_key key (r ∷ rs) = if r.key == key then Some (record { count = r.count; first = first_count_of r.first }) else entry_at_key key rs
 
 -- what the entries say of each key from one on
-abbrev pub entries_at_keys : ℕ → ℕ → List Numbers → List (Option PairEntry)
+abbrev pub entries_at_keys : ℕ → ℕ → List Numbers → Entries
 entries_at_keys zero key rs = []
 entries_at_keys (suc n) key rs = entry_at_key key rs ∷ entries_at_keys n (key + 1) rs
 
 -- what the entries say of all keys
-unfoldable pub state_of : List Numbers → List (Option PairEntry)
+unfoldable pub state_of : List Numbers → Entries
 state_of rs = entries_at_keys 16384 0 rs
 
 -- the entries of all keys, and the number of octets that were read
 pub record DecodedEntries : Type 0 where
-  pub entries : List (Option PairEntry)
+  pub entries : Entries
   pub octets : ℕ
 
 -- a fault, or what is read where there is none

@@ -1,20 +1,19 @@
 //! Laws of the definitions. These functions make no calls: their contracts are the laws.
 
-ghost use Rattle.std.specs.Prelude.{◌≡◌, ◌≤◌, ℕ, Option, Ok, List, [], ◌++◌, length, take};
+ghost use Rattle.std.specs.Prelude.{◌≡◌, ◌≤◌, ℕ, Ok, List, [], ◌++◌, length, take};
 ghost use Rattle.tm_packet.specs.Spelling.{DecodedEntries, entries_spelling, entries_decoding_of};
 ghost use Rattle.tm_bits.specs.Bits.{AreOctets, bits_of};
 ghost use Rattle.tm_packet.specs.Header.{packet_version_of, packet_header_of, header_bits};
-ghost use Rattle.tm_packet.specs.declared.tracker.PairEntry.{PairEntry};
 ghost use Rattle.tm_packet.specs.Merge as sequence;
-ghost use Rattle.tm_packet.specs.Merge.{Sent};
+ghost use Rattle.tm_packet.specs.Merge.{Entries, Sent};
 ghost use Rattle.tm_packet.specs.Valid.{AreValidEntries, AllHeadersFit};
 
 /// Joining, from every state: the notes of headers and more headers are those of the first, and then those of the others from the entries that the
 /// first leave; and so are the entries.
 pub fn joining()
-    ensures notes_join { (s : List (Option PairEntry)) (a b : List Sent) → AreValidEntries s → AllHeadersFit b →
+    ensures notes_join { (s : Entries) (a b : List Sent) → AreValidEntries s → AllHeadersFit b →
         sequence.notes s (a ++ b) ≡ sequence.notes s a ++ sequence.notes (sequence.entries_after s a) b }
-    ensures entries_join { (s : List (Option PairEntry)) (a b : List Sent) →
+    ensures entries_join { (s : Entries) (a b : List Sent) →
         sequence.entries_after s (a ++ b) ≡ sequence.entries_after (sequence.entries_after s a) b }
 {}
 
@@ -28,9 +27,9 @@ pub fn round_trip()
 /// Spelling: what is spelled is read again as the same entries, whatever follows it, and no spelling is a proper prefix of another.
 /// Octets that are read as entries begin with their spelling, which is the octets that were read.
 pub fn spellings()
-    ensures read_again { (s : List (Option PairEntry)) (rest : List ℕ) → AreValidEntries s →
+    ensures read_again { (s : Entries) (rest : List ℕ) → AreValidEntries s →
         entries_decoding_of (entries_spelling s ++ rest) ≡ Ok (record { entries = s; octets = length (entries_spelling s) }) }
-    ensures no_prefix { (s t : List (Option PairEntry)) (rest : List ℕ) → AreValidEntries s → AreValidEntries t →
+    ensures no_prefix { (s t : Entries) (rest : List ℕ) → AreValidEntries s → AreValidEntries t →
         entries_spelling s ++ rest ≡ entries_spelling t → (s ≡ t) × (rest ≡ []) }
     ensures spelled_again { (octets : List ℕ) (d : DecodedEntries) → AreOctets octets →
         entries_decoding_of octets ≡ Ok d → (d.octets ≤ length octets) × (take d.octets octets ≡ entries_spelling d.entries) }

@@ -59,10 +59,9 @@ pub struct Tracker {
 }
 
 impl Model for Tracker {
-    ghost use Rattle.std.specs.Prelude.{List, Option};
-    ghost use Rattle.tm_packet.specs.declared.tracker.PairEntry.{PairEntry};
+    ghost use Rattle.tm_packet.specs.Merge.{Entries};
 
-    ghost Value = { List (Option PairEntry) };
+    ghost Value = { Entries };
 
     ghost use Rattle.tm_packet.specs.Valid.{AreValidEntries};
 

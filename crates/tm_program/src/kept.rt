@@ -1,8 +1,8 @@
 //! The checkpoint that a run goes on from, and the one that it leaves.
 
 ghost use Rattle.std.specs.Prelude.{◌≡◌, ◌⊎◌, None, Ok, Some, IfErr, IfOk, IfSome, MatchOption, is_some};
-ghost use Rattle.tm_tool.specs.Checkpoints.{checkpoint_of};
-ghost use Rattle.tm_tool.specs.Jobs.{JobState, new_job};
+ghost use Rattle.tm_checkpoint.specs.Checkpoints.{checkpoint_of};
+ghost use Rattle.tm_checkpoint.specs.Works.{JobState, new_job};
 ghost use Rattle.tm_program.specs.code.Endings.{ending_of};
 ghost use Rattle.tm_program.specs.code.Faults.{IsOfResumed, IsResumed};
 ghost use Rattle.tm_files.specs.code.Files.{HasFault, IsNoMemory};

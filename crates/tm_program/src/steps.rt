@@ -136,7 +136,7 @@ fn give_to<S: Source, W: Drain, V: Drain>(
     report: &mut V,
     ending: Ending,
 ) -> Result<Done, ToolFault>
-    ensures done { IfOk result (λ done. IsDone ending job.work done.records (option_map (λ kept. kept.work) done.kept)) }
+    ensures done { IfOk result (IsDone ending job.work) }
     ensures blamed { IfErr result (IsBlamedOf (S.failures source.old) (S.failures source.new)
         (both W.Drain V.Drain out.old report.old)
         (both W.Drain V.Drain out.new report.new)) }
@@ -157,7 +157,7 @@ fn give_packets<R: Print + AllocGlobal, S: Source + Drop, V: Write + Drop>(
     mut ends: Ends<S, V>,
     ending: Ending,
 ) -> Result<Done, ToolFault>
-    ensures done { IfOk result (λ done. IsDone ending job.work done.records (option_map (λ kept. kept.work) done.kept)) }
+    ensures done { IfOk result (IsDone ending job.work) }
     ensures refused { IfErr result IsRunFault }
 {
     let alloc = rt.alloc();
@@ -223,7 +223,7 @@ fn split_to<S: Source, H: Shelf, V: Drain>(
     report: &mut V,
     ending: Ending,
 ) -> Result<Done, RunFault>
-    ensures done { IfOk result (λ done. IsDone ending job.work done.records (option_map (λ kept. kept.work) done.kept)) }
+    ensures done { IfOk result (IsDone ending job.work) }
     ensures counts { RunCounted (S.failures source.old) (S.failures source.new)
         (shelf_both H.Shelf V.Drain shelf.old report.old)
         (shelf_both H.Shelf V.Drain shelf.new report.new) result }
@@ -240,7 +240,7 @@ fn split_packets<R: Files + AllocGlobal, S: Source + Drop, V: Write + Drop>(
     mut ends: Ends<S, V>,
     ending: Ending,
 ) -> Result<Done, ToolFault>
-    ensures done { IfOk result (λ done. IsDone ending job.work done.records (option_map (λ kept. kept.work) done.kept)) }
+    ensures done { IfOk result (IsDone ending job.work) }
     ensures written { OnOk result (HoldsNone shelf.new.held) }
     ensures refused { IfErr result (λ fault. IsRunFault fault ⊎ IsFolderFault shelf.old.folder fault) }
 {
@@ -391,7 +391,7 @@ fn go_on<R: Files + Print + AllocGlobal, S: Source + Drop, V: Write + Drop>(
     report: V,
     places: &Places,
 ) -> Result<Done, ToolFault>
-    ensures done { IfOk result (λ done. IsDone (ending_of plan.now) job.work done.records (option_map (λ kept. kept.work) done.kept)) }
+    ensures done { IfOk result (IsDone (ending_of plan.now) job.work) }
     ensures refused { IfErr result (λ fault. IsRunFault fault ⊎ HasFolderFault plan.now.dir fault) }
 {
     let ending = ending_by(plan);
@@ -411,7 +411,7 @@ fn do_job<R: Files + Print + AllocGlobal, S: Source + Drop, V: Write + Drop>(
     source: S,
     report: V,
 ) -> Result<Done, ToolFault>
-    ensures done { IfOk result (λ done. HasDone plan.now inputs.settings inputs.resumed done.records (option_map (λ kept. kept.work) done.kept)) }
+    ensures done { IfOk result (HasDone plan.now inputs.settings inputs.resumed) }
     ensures refused { IfErr result (λ fault. IsRunFault fault ⊎ HasFolderFault plan.now.dir fault) }
 {
     let Inputs {
@@ -434,7 +434,7 @@ fn run_job_on<R: Files + Print + AllocGlobal, S: Source + Drop, E: Write + Drop>
     errors: E,
     checked: Checked,
 ) -> Result<Done, ToolFault>
-    ensures done { IfOk result (λ done. HasDone plan.now inputs.settings inputs.resumed done.records (option_map (λ kept. kept.work) done.kept)) }
+    ensures done { IfOk result (HasDone plan.now inputs.settings inputs.resumed) }
     ensures refused { IfErr result (IsOfOutputs plan.now) }
 {
     let report = report_by(rt, plan, checked, errors)?;
@@ -463,7 +463,7 @@ fn check_and_run<R: Files + Print + AllocGlobal, S: Source + Drop, E: Write + Dr
 ) -> Result<Option<Done>, ToolFault>
     ensures ok { OnOk result (AreClear plan.now) }
     ensures done { IfOk result (λ found. MatchOption found (is_job plan.now.action ≡ false)
-        (λ done. HasDone plan.now inputs.settings inputs.resumed done.records (option_map (λ kept. kept.work) done.kept))) }
+        (HasDone plan.now inputs.settings inputs.resumed)) }
     ensures refused { IfErr result (IsOfOutputs plan.now) }
 {
     let checked = checked_by(rt, plan)?;

@@ -4,7 +4,8 @@ use Rattle.std.proofs.Math.Seq.{take-append-add}
 use Rattle.std.proofs.lemmas.Bool.{le-leb, eq-eqb, eqb-true, cond-true}
 use Rattle.tm_reassembly.specs.State.{Tail, octets_in}
 use Rattle.tm_reassembly.specs.Parts.{Given, agrees_at, is_long}
-use Rattle.tm_items.specs.OnePacket.{reach}
+use Rattle.tm_items.specs.OnePacket.{IsOnePacket, is_packet, reach}
+use Rattle.tm_items.proofs.Spans.{one-front}
 use Rattle.tm_reassembly.specs.code.Field.{step_parts, frame_parts}
 use Rattle.tm_reassembly.proofs.Long.{and_not}
 use Rattle.tm_reassembly.specs.code.Kept.{tail_of_octets, grown, completed, member_at}
@@ -24,6 +25,15 @@ grown_octets first place (x ∷ xs) more h = refl
 pub octets_again : (first place : ℕ) (octets : List ℕ) → octets_in (tail_of_octets first place octets) ≡ octets
 octets_again first place [] = refl
 octets_again first place (x ∷ xs) = refl
+
+-- a tail and a front of the field are the packet whose end was reckoned from both
+pub whole_with : (octets field : List ℕ) (far start : ℕ) → is_packet octets ≡ true → 0 < length octets → start ≤ length field
+    → far ≡ reach (octets ++ field) → far ≡ length octets + start → IsOnePacket (octets ++ take start field)
+whole_with [] field far start version some inside e stop = absurd (omega arith)
+whole_with (x ∷ xs) field far start version some inside e stop =
+    let reaches : far ≤ length ((x ∷ xs) ++ field) = omega (arith, length-append (x ∷ xs) field) in
+    subst (λ (o : List ℕ). IsOnePacket o) (ap (λ (n : ℕ). take n ((x ∷ xs) ++ field)) stop ∙ take-append-add (x ∷ xs) field start)
+    (one-front ((x ∷ xs) ++ field) far e reaches version)
 
 -- a packet that ends at the frame's place
 pub step_completed : (limit : ℕ) (tail : Option Tail) (seen start : ℕ) (field : List ℕ) → 0 < length (octets_in tail) → start ≤ length field

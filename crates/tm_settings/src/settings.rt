@@ -14,8 +14,8 @@ use crate::values::{channels_at, integer_at, limit_at, presence_at, skip_at, tru
 use crate::{Key, SettingsFault};
 use std::alloc::Global;
 use std::marker::Model;
-use tm_fields::Octets;
 use tm_frame::{Layout, LayoutParts};
+use tm_octets::Octets;
 use tm_rules::Channels;
 use toml::Table;
 

@@ -4,10 +4,10 @@ use Rattle.tm_packet.specs.declared.notes.Note.{Note}
 use Rattle.tm_packet.specs.Header.{Fields, packet_header_of}
 use Rattle.tm_packet.specs.Merge as sequence
 use Rattle.tm_items.specs.Item.{Item, Bad, MasterGap, Gap, Vca, Dropped, Packet, Short}
-use Rattle.tm_output.specs.Pieces.{Entries, HasLine, noted, notes_of}
+use Rattle.tm_output.specs.Pieces.{HasLine, noted, notes_of}
 use Rattle.tm_output.proofs.PacketLemmas.{notes_one}
 use Rattle.tm_summary.specs.Adding.{with_item, with_packet}
-use Rattle.tm_packet.specs.Merge.{pair_key}
+use Rattle.tm_packet.specs.Merge.{Entries, pair_key}
 use Rattle.tm_summary.specs.Numbers.{Numbers}
 use Rattle.tm_summary.specs.Tallies.{with_given, noted_numbers}
 

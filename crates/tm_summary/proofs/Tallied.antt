@@ -8,10 +8,10 @@ use Rattle.tm_packet.specs.Merge as sequence
 use Rattle.tm_packet.proofs.AfterValid.{header-range}
 use Rattle.tm_items.specs.Item.{Item, Bad, MasterGap, Gap, Vca, Dropped, Packet, Short}
 use Rattle.tm_items.specs.Sinks.{ItemFits}
-use Rattle.tm_output.specs.Pieces.{Entries, noted, notes_of, sent}
+use Rattle.tm_output.specs.Pieces.{noted, notes_of, sent}
 use Rattle.tm_summary.specs.Tallies.{AllFit, and_items, and_notes, noted_at, notes_among, notes_in, open_notes, with_all, with_given, noted_numbers, with_open}
 use Rattle.tm_summary.specs.Kinds.{Noted}
-use Rattle.tm_packet.specs.Merge.{pair_key}
+use Rattle.tm_packet.specs.Merge.{Entries, pair_key}
 use Rattle.tm_summary.specs.Numbers.{Numbers, Tally, and_item, and_note, numbers_of}
 use Rattle.tm_summary.proofs.WithOne.{item_counted, note_counted}
 

@@ -5,8 +5,8 @@ use Rattle.std.specs.Io.KnownBytes.{Appends}
 use Rattle.std.proofs.KnownBytes.{Appends-nil, Appends-trans}
 use Rattle.std.proofs.lemmas.Bool.{cases_lt}
 use Rattle.std.proofs.lemmas.List.{get_or_default}
-use Rattle.tm_output.specs.declared.fault.RunFault.{RunFault}
-use Rattle.tm_output.specs.declared.fault.RunFault.TheVariants.{NoMemory}
+use Rattle.tm_faults.specs.declared.fault.RunFault.{RunFault}
+use Rattle.tm_faults.specs.declared.fault.RunFault.TheVariants.{NoMemory}
 use Rattle.tm_output.specs.Outputs.{Stopped, Took, View, line_piece, line_pieces, lines_way}
 use Rattle.tm_output.proofs.LinePieces.{lines_lines, lines_more, lines_stopped}
 use Rattle.tm_output.proofs.PieceLemmas.{no_room}

@@ -10,8 +10,9 @@ ghost use Rattle.tm_summary.specs.Tallies.{RefusesTally, SameReferences, TakesTa
 ghost use Rattle.tm_summary.specs.Kinds.{is_bad};
 
 use crate::counts::Counts;
+use tm_faults::RunFault;
 use tm_items::{Item, Sink};
-use tm_output::{RunFault, header_in};
+use tm_output::header_in;
 use tm_packet::{Notes, Tracker};
 
 /// Counts the items that it takes, and the notes of their packets. It remembers whether one of them was a bad frame.

@@ -5,7 +5,7 @@ ghost use Rattle.tm_frame.specs.Frame.{GoodFrame};
 ghost use Rattle.tm_packet.specs.Merge as sequence;
 ghost use Rattle.tm_items.specs.Item.{Item};
 ghost use Rattle.tm_items.specs.Sinks.{ItemFits};
-ghost use Rattle.tm_output.specs.Pieces.{Entries};
+ghost use Rattle.tm_packet.specs.Merge.{Entries};
 ghost use Rattle.tm_summary.specs.Adding.{with_frame, with_item, with_note};
 ghost use Rattle.tm_summary.specs.Kinds.{Noted};
 ghost use Rattle.tm_summary.specs.Numbers.{Tally, and_frame, and_item, and_note, numbers_of};

@@ -4,7 +4,7 @@ ghost use Rattle.std.specs.Prelude.{◌≡◌, ◌≢◌, ◌<◌, ◌∷◌, �
 ghost use Rattle.std.specs.Io.KnownBytes.{Appends};
 ghost use Rattle.tm_output.specs.Outputs.{Written, line_piece, line_pieces, lines_way};
 ghost use Rattle.tm_output.specs.Seen.{out_alone};
-ghost use Rattle.tm_summary.specs.Lines.{application_line, application_lines, application_lines_of, channel_line, channel_lines, channel_lines_of, fault_at, fault_line, fault_lines, line_if, loss_line, loss_lines, master_line, numbered_reason, recording_line, summary_lines};
+ghost use Rattle.tm_summary.specs.Lines.{application_lines, application_lines_of, channel_line, channel_lines, channel_lines_of, fault_at, fault_line, fault_lines, line_if, loss_line, loss_lines, master_line, numbered_reason, recording_line, summary_lines};
 
 use crate::application::ApplicationCounts;
 use crate::channel::{ChannelCounts, Loss};
@@ -14,9 +14,9 @@ use crate::lines::{
 };
 use std::alloc::AllocError;
 use tm_devices::{Drain, put_all};
+use tm_faults::RunFault;
 use tm_frame::FrameFault;
 use tm_items::Reason;
-use tm_output::RunFault;
 use tm_rules::Channels;
 
 // The fault at a place.

@@ -20,12 +20,13 @@ use Rattle.tm_rules.specs.Channels.{all_channels}
 use Rattle.tm_reassembly.specs.Recording.{items, after}
 use Rattle.tm_output.specs.declared.command.Command.TheVariants.{Extract, Packets}
 use Rattle.tm_output.specs.declared.command.Ending.TheVariants.{Close}
-use Rattle.tm_tool.specs.Checkpoints.{work_without_master}
+use Rattle.tm_checkpoint.specs.Checkpoints.{work_without_master}
 use Rattle.tm_output.specs.FieldRows.{tabled, too_short}
-use Rattle.tm_tool.specs.Jobs.{new_job, rows_head}
-use Rattle.tm_output.specs.Lines.{drop_line, gap_line, master_gap_line, note_line, packet_line, short_line, short_packet_line}
+use Rattle.tm_checkpoint.specs.Works.{new_job, Work}
+use Rattle.tm_tool.specs.HeadPieces.{rows_head}
+use Rattle.tm_lines.specs.Lines.{drop_line, gap_line, master_gap_line, note_line, packet_line, short_line, short_packet_line}
 use Rattle.tm_output.specs.Outputs.{outs, reports}
-use Rattle.tm_tool.specs.RecordingPieces.{Work, pieces, worked}
+use Rattle.tm_tool.specs.RecordingPieces.{pieces, worked}
 use Rattle.tm_output.specs.Pieces.{item_line, listed, noted, notes_of, packet_octets, report_of, rows_text, text_of, unclosed_piece}
 use Rattle.tm_output.specs.Records.{records, rest_of}
 

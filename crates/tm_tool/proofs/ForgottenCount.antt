@@ -8,13 +8,15 @@ use Rattle.tm_reassembly.proofs.OlderForms.{items-lack, states-meet}
 use Rattle.tm_output.specs.declared.command.Command.{Command}
 use Rattle.tm_output.specs.declared.command.Ending.{Ending}
 use Rattle.tm_output.specs.declared.command.Ending.TheVariants.{Close}
-use Rattle.tm_tool.specs.Checkpoints.{work_without_master}
-use Rattle.tm_output.specs.Lines.{master_gap_line}
+use Rattle.tm_checkpoint.specs.Checkpoints.{work_without_master}
+use Rattle.tm_lines.specs.Lines.{master_gap_line}
 use Rattle.tm_tool.specs.OlderVersions.{gap_piece, IsGapLineAtMost, LacksGapLine}
 use Rattle.tm_output.specs.code.Outlets.{GivesNone, no_text}
 use Rattle.tm_output.specs.Outputs.{Piece}
-use Rattle.tm_output.specs.Pieces.{Entries, Texts, item_line, noted, noted_all, piece_of, pieces_of, report_of, text_of}
-use Rattle.tm_tool.specs.RecordingPieces.{Work, records_for, end_pieces, further, items_of, pieces, record_pieces, worked}
+use Rattle.tm_packet.specs.Merge.{Entries}
+use Rattle.tm_output.specs.Pieces.{Texts, item_line, noted, noted_all, piece_of, pieces_of, report_of, text_of}
+use Rattle.tm_checkpoint.specs.Works.{Work}
+use Rattle.tm_tool.specs.RecordingPieces.{records_for, end_pieces, further, items_of, pieces, record_pieces, worked}
 use Rattle.tm_output.specs.Records.{rest_of}
 use Rattle.tm_output.specs.Shelves.{shelf_text}
 use Rattle.tm_output.specs.code.ShelfLaws.{no_shelf}

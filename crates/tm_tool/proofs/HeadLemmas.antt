@@ -5,12 +5,12 @@ use Rattle.std.proofs.KnownBytes.{Appends-nil, Appends-trans}
 use Rattle.tm_fields.specs.Rows.{head_of}
 use Rattle.tm_output.specs.declared.command.Command.{Command}
 use Rattle.tm_output.specs.declared.command.Command.TheVariants.{Extract, Packets, Fields}
-use Rattle.tm_output.specs.declared.fault.RunFault.{RunFault}
+use Rattle.tm_faults.specs.declared.fault.RunFault.{RunFault}
 use Rattle.tm_output.specs.code.Outlets.{PutStopped}
 use Rattle.tm_output.specs.Outputs.{Stopped, Took, lines_way, view}
 use Rattle.tm_output.specs.Pieces.{way_of}
 use Rattle.tm_output.proofs.PieceLemmas.{flushed, stopped_put, took_piece}
-use Rattle.tm_tool.specs.Jobs.{head_pieces}
+use Rattle.tm_tool.specs.HeadPieces.{head_pieces}
 use Rattle.tm_tool.specs.code.Heads.{head_text}
 
 module _ {old new report : Option (List ℕ)} {failures failures' : ℕ} (report_failures : ℕ) where

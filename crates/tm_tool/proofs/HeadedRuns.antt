@@ -2,11 +2,12 @@
 use Rattle.std.proofs.Common.{◌<◌, ℕ, List, [], ◌++◌, subst, inl, inr, Option, None, Some, IfSome}
 use Rattle.std.proofs.KnownBytes.{Appends-trans}
 use Rattle.tm_frame.specs.Layout.{record_length_of}
-use Rattle.tm_output.specs.declared.fault.RunFault.{RunFault}
+use Rattle.tm_faults.specs.declared.fault.RunFault.{RunFault}
 use Rattle.tm_output.specs.declared.command.Ending.{Ending}
 use Rattle.tm_output.specs.Outputs.{AppendsCut, CausedByOutput, Piece, Took, View, Way, outs, reports}
 use Rattle.tm_output.specs.Pieces.{Texts}
-use Rattle.tm_tool.specs.RecordingPieces.{Work, pieces}
+use Rattle.tm_checkpoint.specs.Works.{Work}
+use Rattle.tm_tool.specs.RecordingPieces.{pieces}
 use Rattle.tm_tool.specs.Runs.{IsHeadedStop, IsStoppedAt, StoppedIn, devices_at}
 use Rattle.tm_output.proofs.PieceLemmas.{cut_after, stopped_more, stops_after}
 use Rattle.tm_tool.proofs.Running.{IsValid}

@@ -6,14 +6,7 @@ pub mod RunPieces
 pub mod HeadedRuns
 pub mod HeadLemmas
 pub mod Examples
-pub mod CheckpointLength
-pub mod VersionLemmas
-pub mod ReadValid
-pub mod CheckpointLemmas
-pub mod NoPrefix
 pub mod Resumption
-pub mod StateFaults
-pub mod CheckpointExamples
 pub mod WorkValid
 pub mod ForgottenCount
 pub mod NoteLemmas

@@ -4,7 +4,7 @@ use Rattle.std.specs.Prelude.{nat_lt, if◌then◌else◌}
 use Rattle.std.proofs.lemmas.Bool.{eq-eqb}
 use Rattle.tm_packet.specs.declared.notes.Note.{Note}
 use Rattle.tm_packet.specs.Merge as sequence
-use Rattle.tm_packet.specs.Merge.{Sent}
+use Rattle.tm_packet.specs.Merge.{Entries, Sent}
 use Rattle.tm_packet.specs.Valid.{AllHeadersFit, AreValidEntries}
 use Rattle.tm_packet.proofs.AfterValid.{header-fits}
 use Rattle.tm_packet.proofs.Merging.{after-append, after_from-none, notes-append}
@@ -13,7 +13,7 @@ use Rattle.tm_reassembly.specs.Items.{close_channels, close_tail, closing}
 use Rattle.tm_reassembly.specs.State.{Last, State, Tail}
 use Rattle.tm_items.specs.Item.{Item, Packet, Short}
 use Rattle.tm_output.specs.Outputs.{Piece}
-use Rattle.tm_output.specs.Pieces.{Entries, Texts, noted, noted_all, notes_of, piece_of, pieces_of, report_of, sent}
+use Rattle.tm_output.specs.Pieces.{Texts, noted, noted_all, notes_of, piece_of, pieces_of, report_of, sent}
 use Rattle.tm_tool.specs.NotesInAll.{pieces_with, report_with, sent_among, sent_in}
 use Rattle.tm_tool.proofs.WorkValid.{noted-valid}
 

@@ -20,7 +20,8 @@ use Rattle.tm_summary.specs.Tallies.{AllFit, and_items, notes_among, with_all}
 use Rattle.tm_summary.proofs.Taken.{any_bad}
 use Rattle.tm_summary.proofs.Tallied.{all_counted}
 use Rattle.tm_summary.proofs.WithOne.{frame_counted}
-use Rattle.tm_tool.specs.RecordingPieces.{Work, items_of}
+use Rattle.tm_checkpoint.specs.Works.{Work}
+use Rattle.tm_tool.specs.RecordingPieces.{items_of}
 use Rattle.tm_tool.specs.Summaries.{frames_in, good_frames}
 use Rattle.tm_tool.specs.code.Summing.{and_records}
 

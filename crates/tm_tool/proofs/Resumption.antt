@@ -6,17 +6,17 @@ use Rattle.std.proofs.Math.Seq.{drop-append_seam, take-append_seam}
 use Rattle.tm_frame.specs.Layout.{record_length_of}
 use Rattle.tm_rules.specs.Rules.{Rules, IsLimit}
 use Rattle.tm_reassembly.specs.Valid.{AllOctets}
-use Rattle.tm_output.specs.declared.fault.CheckpointFault.{CheckpointFault}
+use Rattle.tm_faults.specs.declared.fault.CheckpointFault.{CheckpointFault}
 use Rattle.tm_output.specs.declared.command.Ending.{Ending}
 use Rattle.tm_output.specs.declared.command.Ending.TheVariants.{Close, StopAfter}
-use Rattle.tm_tool.specs.Checkpoints.{IsWork, checkpoint_of, resumed}
-use Rattle.tm_tool.specs.Jobs.{JobState, new_job}
+use Rattle.tm_checkpoint.specs.Works.{IsWork, JobState, new_job, Work}
+use Rattle.tm_checkpoint.specs.Checkpoints.{checkpoint_of, resumed}
 use Rattle.tm_output.specs.Outputs.{Piece}
 use Rattle.tm_output.specs.Pieces.{Texts}
-use Rattle.tm_tool.specs.RecordingPieces.{Work, records_for, end_pieces, further, pieces, record_pieces, worked}
+use Rattle.tm_tool.specs.RecordingPieces.{records_for, end_pieces, further, pieces, record_pieces, worked}
 use Rattle.tm_output.specs.Records.{records, rest_of}
 use Rattle.tm_tool.specs.Resuming.{Stop, KeepsJob, Follows, left_by, then_pieces, run_pieces, resumed_pieces, done_by, done_in_all, in_one}
-use Rattle.tm_tool.proofs.CheckpointLemmas.{read_again}
+use Rattle.tm_checkpoint.proofs.CheckpointLemmas.{read_again}
 use Rattle.tm_tool.proofs.WorkValid.{begun-work, worked-work}
 use Rattle.tm_tool.proofs.Running.{IsValid, records-append, records-counted, worked-append, worked-none}
 

@@ -2,12 +2,14 @@
 use Rattle.std.proofs.Common.{◌≡◌, ℕ, List, [], ◌++◌, length, ap, subst, ◌∙◌, append-nil, inr, Option}
 use Rattle.tm_packet.specs.Merge as sequence
 use Rattle.tm_reassembly.specs.Items.{closing}
-use Rattle.tm_output.specs.declared.fault.RunFault.{RunFault}
-use Rattle.tm_output.specs.declared.fault.RunFault.TheVariants.{Write, Report, NoMemory}
+use Rattle.tm_faults.specs.declared.fault.RunFault.{RunFault}
+use Rattle.tm_faults.specs.declared.fault.RunFault.TheVariants.{Write, Report, NoMemory}
 use Rattle.tm_output.specs.declared.command.Ending.{Ending}
 use Rattle.tm_output.specs.Outputs.{Piece, View, Took, Stopped, Way}
-use Rattle.tm_output.specs.Pieces.{Entries, Texts, noted_all, pieces_of, unclosed_pieces}
-use Rattle.tm_tool.specs.RecordingPieces.{Work, worked, record_pieces, closing_pieces, end_pieces}
+use Rattle.tm_packet.specs.Merge.{Entries}
+use Rattle.tm_output.specs.Pieces.{Texts, noted_all, pieces_of, unclosed_pieces}
+use Rattle.tm_checkpoint.specs.Works.{Work}
+use Rattle.tm_tool.specs.RecordingPieces.{worked, record_pieces, closing_pieces, end_pieces}
 use Rattle.tm_tool.specs.Runs.{StopsAtEnd, IsStoppedAt, behind, kept_of}
 use Rattle.tm_tool.specs.code.Stepping.{IsRun, TookRecords}
 use Rattle.tm_tool.specs.code.Taking.{HasStepped}

@@ -18,17 +18,19 @@ use Rattle.tm_reassembly.specs.Valid.{IsValidState}
 use Rattle.tm_reassembly.proofs.OneStep.{after-nil}
 use Rattle.tm_reassembly.proofs.Raw.{items-join, states-join}
 use Rattle.tm_reassembly.proofs.States.{empty-valid, record-valid}
-use Rattle.tm_output.specs.declared.fault.RunFault.{RunFault}
-use Rattle.tm_output.specs.declared.fault.RunFault.TheVariants.{Read, Write, Report, ShortRecording, TooMany, NoMemory}
+use Rattle.tm_faults.specs.declared.fault.RunFault.{RunFault}
+use Rattle.tm_faults.specs.declared.fault.RunFault.TheVariants.{Read, Write, Report, ShortRecording, TooMany, NoMemory}
 use Rattle.tm_output.specs.declared.command.Ending.{Ending}
 use Rattle.tm_output.specs.declared.command.Ending.TheVariants.{StopAfter}
 use Rattle.tm_output.specs.Faults.{RunCaused}
 use Rattle.tm_output.specs.Outputs.{CausedByOutput, Piece, SameCounts, View, Took, Stopped, Way}
 use Rattle.tm_devices.specs.Devices.{raised}
-use Rattle.tm_output.specs.Pieces.{Entries, Texts, noted, noted_all, piece_of, pieces_of}
-use Rattle.tm_tool.specs.RecordingPieces.{Work, items_of, worked, record_pieces}
+use Rattle.tm_packet.specs.Merge.{Entries}
+use Rattle.tm_output.specs.Pieces.{Texts, noted, noted_all, piece_of, pieces_of}
+use Rattle.tm_checkpoint.specs.Works.{Work, work_of}
+use Rattle.tm_tool.specs.RecordingPieces.{items_of, worked, record_pieces}
 use Rattle.tm_tool.specs.Runs.{HasRead, WantsFurther, Suffices, StopsAtRecord, IsStoppedAt, behind}
-use Rattle.tm_tool.specs.code.Stepping.{RefusesRecord, StepStopped, TakesRecord, TookRecords, work_of}
+use Rattle.tm_tool.specs.code.Stepping.{RefusesRecord, StepStopped, TakesRecord, TookRecords}
 use Rattle.tm_tool.specs.code.Taking.{Enough, HasPassed, HasStepped, HasTaken, NextStopped, PassingStopped, Reached, TakesBehind, TakesRecords, TakingFails, TakingRefused, TakingStopped}
 use Rattle.tm_output.proofs.RecordLemmas.{AreRecords-append, concat-one}
 use Rattle.tm_output.proofs.PieceLemmas.{took_none, took_took}

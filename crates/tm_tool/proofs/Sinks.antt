@@ -2,9 +2,10 @@
 use Rattle.std.proofs.Common.{◌≡◌, List, [], ◌∷◌, ◌++◌, refl, sym, ap, subst, ◌∙◌, inl, inr}
 use Rattle.tm_items.specs.Item.{Item}
 use Rattle.tm_items.specs.Sinks.{TakesAll, RefusesOne}
-use Rattle.tm_output.specs.declared.fault.RunFault.{RunFault}
+use Rattle.tm_faults.specs.declared.fault.RunFault.{RunFault}
 use Rattle.tm_output.specs.Outputs.{Piece, Took, Stopped, Way}
-use Rattle.tm_output.specs.Pieces.{Entries, Texts, piece_of, noted, noted_all, pieces_of}
+use Rattle.tm_packet.specs.Merge.{Entries}
+use Rattle.tm_output.specs.Pieces.{Texts, piece_of, noted, noted_all, pieces_of}
 use Rattle.tm_output.specs.Seen.{Fixture, OutputState}
 use Rattle.tm_output.specs.code.Sinking.{Takes, Refuses}
 use Rattle.tm_output.proofs.PieceLemmas.{took_none, took_took, took_stopped, stopped_more}

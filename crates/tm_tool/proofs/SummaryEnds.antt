@@ -7,8 +7,8 @@ use Rattle.std.proofs.KnownBytes.{Appends-kept}
 use Rattle.tm_frame.specs.Layout.{record_length_of}
 use Rattle.tm_rules.specs.Rules.{Rules}
 use Rattle.tm_devices.specs.Devices.{raised}
-use Rattle.tm_output.specs.declared.fault.RunFault.{RunFault}
-use Rattle.tm_output.specs.declared.fault.RunFault.TheVariants.{Read, Write, Report, TooMany, NoMemory}
+use Rattle.tm_faults.specs.declared.fault.RunFault.{RunFault}
+use Rattle.tm_faults.specs.declared.fault.RunFault.TheVariants.{Read, Write, Report, TooMany, NoMemory}
 use Rattle.tm_output.specs.Outputs.{AppendsCut, Stopped, Took, View, WantsMemory, line_pieces, lines_way, outs, view}
 use Rattle.tm_output.specs.Records.{AreRecords, record_count}
 use Rattle.tm_output.proofs.LinePieces.{lines_out, same_cut}
@@ -16,8 +16,7 @@ use Rattle.tm_output.proofs.LinePieces as pieces
 use Rattle.tm_output.proofs.RecordLemmas.{always, count_all, many_told, records_all, rest_all, told}
 use Rattle.tm_summary.specs.Lines.{summary_lines}
 use Rattle.tm_summary.specs.Numbers.{Numbers}
-use Rattle.tm_tool.specs.Jobs.{new_job}
-use Rattle.tm_tool.specs.RecordingPieces.{Work}
+use Rattle.tm_checkpoint.specs.Works.{new_job, Work}
 use Rattle.tm_tool.specs.Summaries.{IsSummarized, IsSummaryStop, StopsInLines, SummaryStopped, lines_after, summary}
 use Rattle.tm_tool.specs.code.Summing.{HasSummed}
 

@@ -9,20 +9,22 @@ use Rattle.tm_reassembly.specs.declared.fault.StepFault.{StepFault}
 use Rattle.tm_reassembly.specs.declared.fault.StepFault.TheVariants.{Sink, Failed, TooMany}
 use Rattle.tm_reassembly.specs.Steps.{CloseRefused, Progress}
 use Rattle.tm_output.specs.declared.command.Ending.TheVariants.{Close}
-use Rattle.tm_output.specs.declared.fault.RunFault.{RunFault}
-use Rattle.tm_output.specs.declared.fault.RunFault.TheVariants.{Read, ShortRecording}
+use Rattle.tm_faults.specs.declared.fault.RunFault.{RunFault}
+use Rattle.tm_faults.specs.declared.fault.RunFault.TheVariants.{Read, ShortRecording}
 use Rattle.tm_reassembly.specs.Items.{closing}
 use Rattle.tm_reassembly.specs.Recording.{items}
 use Rattle.tm_reassembly.proofs.Raw.{items-join}
 use Rattle.tm_items.specs.Item.{Item}
-use Rattle.tm_output.specs.Pieces.{Entries, noted, noted_all}
+use Rattle.tm_packet.specs.Merge.{Entries}
+use Rattle.tm_output.specs.Pieces.{noted, noted_all}
 use Rattle.tm_summary.specs.Kinds.{Noted}
 use Rattle.tm_summary.specs.Numbers.{Numbers, Tally, nothing, numbers_of}
 use Rattle.tm_summary.specs.declared.counting.Counting.{Counting}
 use Rattle.tm_summary.specs.Tallies.{AllFit, RefusesTally, TakesTally, and_items, and_notes, notes_among, notes_in, open_notes, with_all, with_open}
 use Rattle.tm_summary.proofs.Taken.{none_refused}
 use Rattle.tm_summary.proofs.Tallied.{all_counted, keys_fit, open_counted}
-use Rattle.tm_tool.specs.RecordingPieces.{Work, items_of, worked}
+use Rattle.tm_checkpoint.specs.Works.{Work}
+use Rattle.tm_tool.specs.RecordingPieces.{items_of, worked}
 use Rattle.tm_tool.specs.Runs.{HasEnded, HasReadAll, behind}
 use Rattle.tm_tool.specs.Summaries.{frames_in, good_frames, tally_of}
 use Rattle.tm_tool.specs.code.Summing.{CountCaused, CountedRecords, CountingStopped, CountsEnd, CountsRecord, HasSummed, RefusesCount, and_end, and_records}

@@ -10,10 +10,10 @@ use Rattle.tm_rules.specs.Rules.{Rules, IsLimit}
 use Rattle.tm_reassembly.specs.Valid.{AllOctets}
 use Rattle.tm_reassembly.proofs.ItemChannels.{item-channel}
 use Rattle.tm_reassembly.proofs.States.{empty-valid, records-valid}
-use Rattle.tm_tool.specs.Checkpoints.{IsWork}
-use Rattle.tm_tool.specs.Jobs.{new_job}
-use Rattle.tm_output.specs.Pieces.{Entries, sent, noted, noted_all}
-use Rattle.tm_tool.specs.RecordingPieces.{Work, items_of, worked}
+use Rattle.tm_checkpoint.specs.Works.{IsWork, new_job, Work}
+use Rattle.tm_packet.specs.Merge.{Entries}
+use Rattle.tm_output.specs.Pieces.{sent, noted, noted_all}
+use Rattle.tm_tool.specs.RecordingPieces.{items_of, worked}
 
 -- an item whose channel is one of eight leaves the entries valid
 pub noted-valid : (entries : Entries) (x : Item) → valid.AreValidEntries entries → ((c : ℕ) → is_of c x ≡ true → c < 8) → valid.AreValidEntries (noted entries x)

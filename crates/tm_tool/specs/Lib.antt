@@ -1,7 +1,6 @@
 pub mod RecordingPieces
-pub mod Jobs
+pub mod HeadPieces
 pub mod Runs
-pub mod Checkpoints
 pub mod Resuming
 pub mod OlderVersions
 pub mod NotesInAll

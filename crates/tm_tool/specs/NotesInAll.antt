@@ -5,7 +5,7 @@ use Rattle.tm_packet.specs.declared.notes.Note.{Note}
 use Rattle.tm_packet.specs.Header.{packet_header_of}
 use Rattle.tm_packet.specs.Merge.{Sent}
 use Rattle.tm_items.specs.Item.{Item, Packet}
-use Rattle.tm_output.specs.Lines.{note_lines}
+use Rattle.tm_lines.specs.Lines.{note_lines}
 use Rattle.tm_output.specs.Outputs.{Piece}
 use Rattle.tm_output.specs.Pieces.{Texts, item_line, sent}
 

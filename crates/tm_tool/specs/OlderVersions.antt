@@ -1,6 +1,6 @@
 -- What a job reports less that was read from an older version, and so has no last master channel count: at most one gap of the master channel.
 use Rattle.std.specs.Prelude.{◌≡◌, ◌⊎◌, ℕ, List, [], ◌∷◌, ◌++◌}
-use Rattle.tm_output.specs.Lines.{master_gap_line}
+use Rattle.tm_lines.specs.Lines.{master_gap_line}
 use Rattle.tm_output.specs.Outputs.{Piece}
 
 -- the piece of a gap of the master channel: its line for the report, and nothing else

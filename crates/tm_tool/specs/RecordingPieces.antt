@@ -3,21 +3,14 @@ use Rattle.std.specs.Prelude.{ℕ, List, [], ◌++◌, length, take, drop}
 use Rattle.tm_frame.specs.Layout.{record_length_of}
 use Rattle.tm_packet.specs.Merge as sequence
 use Rattle.tm_items.specs.Item.{Item}
-use Rattle.tm_rules.specs.Rules.{Rules}
 use Rattle.tm_reassembly.specs.Items.{closing}
 use Rattle.tm_reassembly.specs.Recording.{items, after}
-use Rattle.tm_reassembly.specs.State.{State}
+use Rattle.tm_checkpoint.specs.Works.{Work}
 use Rattle.tm_output.specs.declared.command.Ending.{Ending}
 use Rattle.tm_output.specs.declared.command.Ending.TheVariants.{Close, Keep, StopAfter}
 use Rattle.tm_output.specs.Outputs.{Piece}
-use Rattle.tm_output.specs.Pieces.{Entries, Texts, noted_all, pieces_of, unclosed_pieces}
+use Rattle.tm_output.specs.Pieces.{Texts, noted_all, pieces_of, unclosed_pieces}
 use Rattle.tm_output.specs.Records.{records, rest_of}
-
--- how far a job has got: what the settings say, the state of the channels, and the entries of the sequence counts
-pub record Work : Type 0 where
-  pub rules : Rules
-  pub state : State
-  pub entries : Entries
 
 abbrev pub items_of : Work → List (List ℕ) → List Item
 items_of w rs = items w.rules w.state rs

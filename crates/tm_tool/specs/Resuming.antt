@@ -1,14 +1,14 @@
 -- A job that is stopped and resumed from its checkpoints, any number of times.
 use Rattle.std.specs.Prelude.{⊤, ◌≡◌, ℕ, ◌+◌, ◌-◌, min, Bool, List, [], ◌∷◌, ◌++◌, length, Result, Ok, Err}
 use Rattle.tm_rules.specs.Rules.{Rules}
-use Rattle.tm_output.specs.declared.fault.CheckpointFault.{CheckpointFault}
+use Rattle.tm_faults.specs.declared.fault.CheckpointFault.{CheckpointFault}
 use Rattle.tm_output.specs.declared.command.Ending.{Ending}
 use Rattle.tm_output.specs.declared.command.Ending.TheVariants.{Close, Keep, StopAfter}
-use Rattle.tm_tool.specs.Checkpoints.{checkpoint_of, resumed}
-use Rattle.tm_tool.specs.Jobs.{JobState}
+use Rattle.tm_checkpoint.specs.Checkpoints.{checkpoint_of, resumed}
+use Rattle.tm_checkpoint.specs.Works.{JobState, Work}
 use Rattle.tm_output.specs.Outputs.{Piece}
 use Rattle.tm_output.specs.Pieces.{Texts}
-use Rattle.tm_tool.specs.RecordingPieces.{Work, records_for, further, pieces, worked}
+use Rattle.tm_tool.specs.RecordingPieces.{records_for, further, pieces, worked}
 use Rattle.tm_output.specs.Records.{records}
 
 -- a stop: where a run ended, and the recording as it was then

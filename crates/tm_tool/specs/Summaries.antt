@@ -11,16 +11,16 @@ use Rattle.tm_packet.specs.Merge as sequence
 use Rattle.tm_rules.specs.Rules.{Rules}
 use Rattle.tm_items.specs.Item.{Item}
 use Rattle.tm_reassembly.specs.Items.{closing}
-use Rattle.tm_output.specs.declared.fault.RunFault.{RunFault}
-use Rattle.tm_output.specs.declared.fault.RunFault.TheVariants.{Read, Write, Report, ShortRecording, TooMany, NoMemory}
+use Rattle.tm_faults.specs.declared.fault.RunFault.{RunFault}
+use Rattle.tm_faults.specs.declared.fault.RunFault.TheVariants.{Read, Write, Report, ShortRecording, TooMany, NoMemory}
 use Rattle.tm_output.specs.Outputs.{AppendsCut, Stopped, View, WantsMemory, line_pieces, lines_way}
 use Rattle.tm_output.specs.Pieces.{noted_all}
 use Rattle.tm_output.specs.Records.{record_count, records, rest_of}
 use Rattle.tm_summary.specs.Lines.{summary_lines}
 use Rattle.tm_summary.specs.Numbers.{Tally, numbers_of}
 use Rattle.tm_summary.specs.Tallies.{notes_among, open_notes}
-use Rattle.tm_tool.specs.Jobs.{new_job}
-use Rattle.tm_tool.specs.RecordingPieces.{Work, items_of, worked}
+use Rattle.tm_checkpoint.specs.Works.{new_job, Work}
+use Rattle.tm_tool.specs.RecordingPieces.{items_of, worked}
 use Rattle.tm_tool.specs.Runs.{HasRead, HasReadAll}
 
 -- the good frame that a record reads as, if it is one

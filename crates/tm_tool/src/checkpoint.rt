@@ -1,26 +1,13 @@
 //! The checkpoint of a job: written, and read again.
 
-ghost use Rattle.std.specs.Prelude.{◌≡◌, ◌≢◌, ◌⊎◌, ◌≤◌, ◌<◌, ◌+◌, ◌*◌, ◌^◌, IfOk, IfErr, IsErrOf, IsOk, OnOk, Ok, Err, false, length};
-ghost use Rattle.tm_frame.specs.declared.layout.Presence.{Presence};
-ghost use Rattle.tm_packet.specs.Spelling as sequence;
-ghost use Rattle.tm_reassembly.specs.declared.fault.StateFault.TheVariants as found;
-ghost use Rattle.tm_rules.specs.Rules.{IsLimit, Rules};
-ghost use Rattle.tm_reassembly.specs.State.{State};
-ghost use Rattle.tm_reassembly.specs.Steps.{progress_in};
-ghost use Rattle.tm_reassembly.specs.Valid.{IsValidState};
-ghost use Rattle.tm_tool.specs.declared.version.Version.TheVariants as version;
-ghost use Rattle.tm_tool.specs.Checkpoints.{AsksMemory, IsWork, checkpoint_of, check_holds, form_of, framed, head_octets, inner, job_of, presence_octet, resumed, says_settings, settings_octets, state_in, tells, three_octets, with_check, with_entries, with_state};
+ghost use Rattle.std.specs.Prelude.{◌≡◌, ◌≢◌, ◌≤◌, ◌+◌, ◌*◌, IfOk, IfErr, IsErrOf, Ok, Err, false, length};
+ghost use Rattle.tm_checkpoint.specs.Checkpoints.{AsksMemory, checkpoint_of, resumed};
+ghost use Rattle.tm_checkpoint.specs.Works.{IsWork};
 
-use crate::version::Version;
 use crate::work::Work;
 use crate::{CheckpointFault, Job, NoMemory, Settings};
-use std::alloc::{AllocError, Global};
-use tm_frame::{Layout, Presence, error_control};
-use tm_packet::{Tracker, TrackerFault};
-use tm_reassembly::{Channels, Reassembly, StateFault};
-
-// The letters TMXC, with which a checkpoint begins.
-const MAGIC: [u8; 4] = [0x54, 0x4D, 0x58, 0x43];
+use std::alloc::Global;
+use tm_checkpoint::{read_checkpoint, write_checkpoint};
 
 impl Job {
     /// The job in octets, at most 98,374 and eight times as many as a packet may have, so at most 622,710: the letters TMXC and the version
@@ -30,7 +17,7 @@ impl Job {
     /// # Errors
     ///
     /// `NoMemory` where there is no room for them.
-    #[tactic(auto, using(crate::proofs::CheckpointLemmas::bound, crate::proofs::CheckpointLemmas::most))]
+    #[tactic(auto, using(tm_checkpoint::proofs::CheckpointLemmas::bound, tm_checkpoint::proofs::CheckpointLemmas::most))]
     pub fn checkpoint(&self, alloc: Global) -> Result<Vec<u8>, NoMemory>
         ensures octets { IfOk result (λ octets. octets.items ≡ checkpoint_of self.now.work) }
         ensures bound { IfOk result (λ octets. length octets.items ≤ 98374 + 8 * self.now.work.rules.max_packet) }
@@ -46,27 +33,14 @@ impl Job {
     ///
     /// # Errors
     ///
-    /// What is wrong first: `Short` where there are fewer than 33 octets; `Magic` where they don't begin with TMXC; `Version` where the fifth
-    /// is none of 1, 2 and 3; `Short` where there are fewer than 36 in version 2, or 37 in version 3; `Check` where the last two aren't the
-    /// error control of those before; `Settings` where they were written with other settings; `State` where `Reassembly::decode`, of an older
-    /// version `Reassembly::decode_old`, or, behind the octets that it read, `Tracker::decode` refuses them; `Trailing` where octets are
-    /// left over. `NoMemory` comes at the earliest after the checks of the state.
+    /// As `read_checkpoint` of the crate `tm_checkpoint`: what is wrong first. `NoMemory` comes at the earliest after the checks of the state.
     pub fn resume(alloc: Global, settings: &Settings, octets: &[u8]) -> Result<Job, CheckpointFault>
         ensures ok { IfOk result (λ job. resumed settings.now octets.now ≡ Ok job) }
         ensures refused { IfErr result (λ found. found ≢ CheckpointFault.NoMemory → resumed settings.now octets.now ≡ Err found) }
         ensures memory { IsErrOf result CheckpointFault.NoMemory → AsksMemory settings.now octets.now }
     {
-        let version = match framed(settings, octets) {
-            Ok(version) => version,
-            Err(fault) => return Err(fault),
-        };
-        let inner = inner(version, octets);
-        let (reassembly, read) = match read_state(alloc, settings, version, inner) {
+        let (reassembly, tracker) = match read_checkpoint(alloc, settings, octets) {
             Ok(read) => read,
-            Err(fault) => return Err(fault),
-        };
-        let tracker = match read_entries(alloc, &inner[read..]) {
-            Ok(tracker) => tracker,
             Err(fault) => return Err(fault),
         };
         match Work::new(alloc, reassembly, tracker) {
@@ -89,231 +63,6 @@ impl Work {
         ensures octets { IfOk result (λ octets. octets.items ≡ checkpoint_of self.now) }
         ensures valid { IfOk result (λ octets. IsWork self.now) }
     {
-        let layout = self.reassembly.layout();
-        let channels = self.reassembly.channels();
-        let max_packet = self.reassembly.max_packet();
-        let Ok(mut octets) = write_head(alloc, layout, channels, max_packet) else {
-            return Err(NoMemory);
-        };
-        let Ok(()) = self.reassembly.encode(&mut octets) else {
-            return Err(NoMemory);
-        };
-        let Ok(()) = self.tracker.encode(&mut octets) else {
-            return Err(NoMemory);
-        };
-        match push_check(&mut octets) {
-            Ok(()) => Ok(octets),
-            Err(_) => Err(NoMemory),
-        }
-    }
-}
-
-// The octets before the state, in the version that is written.
-fn write_head(
-    alloc: Global,
-    layout: Layout,
-    channels: Channels,
-    max_packet: u32,
-) -> Result<Vec<u8>, AllocError>
-    requires { IsLimit max_packet }
-    ensures { IfOk result (λ head. head.items
-        ≡ head_octets version.Three (record { layout = layout; channels = channels; max_packet = max_packet })) }
-{
-    let mut head = Vec::from_slice(alloc, &MAGIC)?;
-    head.push(Version::Three.form().octet)?;
-    head.extend_from_slice(&settings_octets(layout, channels, max_packet))?;
-    Ok(head)
-}
-
-// Appends the error control of all octets.
-fn push_check(octets: &mut Vec<u8>) -> Result<(), AllocError>
-    ensures { OnOk result (octets.new.items ≡ with_check octets.old.items) }
-{
-    let check = error_control(octets);
-    octets.extend_from_slice(&check.to_be_bytes())
-}
-
-// A number in three octets.
-fn three_octets(number: u32) -> [u8; 3]
-    requires { number < 2 ^ 24 }
-    ensures { result ≡ three_octets number }
-{
-    let low = ((number % 65536) as u16).to_be_bytes();
-    [(number / 65536) as u8, low[0], low[1]]
-}
-
-// The settings in fifteen octets.
-fn settings_octets(layout: Layout, channels: Channels, max_packet: u32) -> [u8; 15]
-    requires { IsLimit max_packet }
-    ensures { result ≡ settings_octets (record { layout = layout; channels = channels; max_packet = max_packet }) }
-{
-    let parts = layout.parts();
-    let spacecraft = (parts.spacecraft as u16).to_be_bytes();
-    let frame_length = (parts.frame_length as u16).to_be_bytes();
-    let skip_before = (parts.skip_before as u16).to_be_bytes();
-    let skip_after = (parts.skip_after as u16).to_be_bytes();
-    let limit = three_octets(max_packet);
-    [
-        spacecraft[0],
-        spacecraft[1],
-        frame_length[0],
-        frame_length[1],
-        skip_before[0],
-        skip_before[1],
-        skip_after[0],
-        skip_after[1],
-        presence_octet(parts.secondary),
-        presence_octet(parts.ocf),
-        u8::from(parts.error_control),
-        channels.mask(),
-        limit[0],
-        limit[1],
-        limit[2],
-    ]
-}
-
-// A word of the settings in an octet.
-fn presence_octet(presence: Presence) -> u8
-    ensures { result ≡ presence_octet presence }
-{
-    match presence {
-        Presence::Flag => 0,
-        Presence::Always => 1,
-        Presence::Never => 2,
-    }
-}
-
-// The version, or what is wrong first around the state and the entries.
-#[tactic(auto, unfolding(crate::specs::Checkpoints::framed))]
-fn framed(settings: &Settings, octets: &[u8]) -> Result<Version, CheckpointFault>
-    ensures value { result ≡ framed settings.now octets.now }
-    ensures memory { result ≢ Err CheckpointFault.NoMemory }
-    ensures long { IfOk result (λ v. (form_of v).least ≤ length octets.now) }
-{
-    if octets.len() < 33 {
-        return Err(CheckpointFault::Short);
-    }
-    if &octets[..4] != MAGIC.as_slice() {
-        return Err(CheckpointFault::Magic);
-    }
-    let Some(version) = Version::of(octets[4]) else {
-        return Err(CheckpointFault::Version);
-    };
-    if octets.len() < version.form().least {
-        return Err(CheckpointFault::Short);
-    }
-    if !check_holds(octets) {
-        return Err(CheckpointFault::Check);
-    }
-    if !says_settings(version, settings, octets) {
-        return Err(CheckpointFault::Settings);
-    }
-    Ok(version)
-}
-
-// Whether settings can be told in a version: version 1 stands for the greatest limit on packets.
-fn tells(version: Version, settings: &Settings) -> bool
-    ensures { result ≡ tells version settings.now }
-{
-    match version {
-        Version::One => settings.max_packet() == 65542,
-        Version::Two | Version::Three => true,
-    }
-}
-
-// Whether the settings are those that the octets of a version tell.
-fn says_settings(version: Version, settings: &Settings, octets: &[u8]) -> bool
-    requires { (form_of version).least ≤ length octets.now }
-    ensures { result ≡ says_settings version settings.now octets.now }
-{
-    let length = version.form().settings;
-    let written = settings_octets(
-        settings.layout(),
-        settings.channels(),
-        settings.max_packet(),
-    );
-    tells(version, settings) && &octets[5..5 + length] == &written[..length]
-}
-
-// The last two octets are the error control of those before.
-fn check_holds(octets: &[u8]) -> bool
-    requires { 2 ≤ length octets.now }
-    ensures { result ≡ check_holds octets.now }
-{
-    let end = octets.len() - 2;
-    u16::from_be_bytes([octets[end], octets[end + 1]]) == error_control(&octets[..end])
-}
-
-// The octets between the settings and the check.
-fn inner(version: Version, octets: &[u8]) -> &[u8]
-    requires { (form_of version).least ≤ length octets.now }
-    ensures { result.now ≡ inner version octets.now }
-{
-    let begin = 5 + version.form().settings;
-    &octets[begin..octets.len() - 2]
-}
-
-// The state at the front of octets in the form of a version, and how many of them it has.
-fn decode_state(
-    alloc: Global,
-    settings: &Settings,
-    version: Version,
-    octets: &[u8],
-) -> Result<(Reassembly, usize), StateFault>
-    ensures ok { IfOk result (λ read. state_in version settings.now octets.now ≡ Ok (record { state = read.0.state; octets = read.1 })) }
-    ensures same { IfOk result (λ read. read.0 ≡ progress_in settings.now read.0.state) }
-    ensures refused { IfErr result (λ fault. (state_in version settings.now octets.now ≡ Err fault)
-        ⊎ ((fault ≡ found.NoMemory) × IsOk (state_in version settings.now octets.now))) }
-{
-    let layout = settings.layout();
-    let channels = settings.channels();
-    let max_packet = settings.max_packet();
-    if version.form().with_master {
-        Reassembly::decode(alloc, layout, channels, max_packet, octets)
-    } else {
-        Reassembly::decode_old(alloc, layout, channels, max_packet, octets)
-    }
-}
-
-// The same, where what is refused is a fault of the checkpoint.
-fn read_state(
-    alloc: Global,
-    settings: &Settings,
-    version: Version,
-    octets: &[u8],
-) -> Result<(Reassembly, usize), CheckpointFault>
-    ensures ok { IfOk result (λ read. state_in version settings.now octets.now ≡ Ok (record { state = read.0.state; octets = read.1 })) }
-    ensures same { IfOk result (λ read. read.0 ≡ progress_in settings.now read.0.state) }
-    ensures valid { IfOk result (λ read. IsValidState read.0.rules read.0.state) }
-    ensures inside { IfOk result (λ read. read.1 ≤ length octets.now) }
-    ensures refused { IfErr result (λ found. found ≢ CheckpointFault.NoMemory → with_state settings.now octets.now (state_in version settings.now octets.now) ≡ Err found) }
-    ensures memory { IsErrOf result CheckpointFault.NoMemory → IsOk (state_in version settings.now octets.now) }
-{
-    match decode_state(alloc, settings, version, octets) {
-        Ok((reassembly, read)) => {
-            prove!(!reassembly.failed());
-            Ok((reassembly, read))
-        }
-        Err(StateFault::NoMemory) => Err(CheckpointFault::NoMemory),
-        Err(_) => Err(CheckpointFault::State),
-    }
-}
-
-// The entries that these octets are.
-fn read_entries(alloc: Global, octets: &[u8]) -> Result<Tracker, CheckpointFault>
-    ensures ok { IfOk result (λ entries. (settings : Rules) (state : State) →
-        with_entries settings state (length octets.now) (sequence.entries_decoding_of octets.now) ≡ Ok (job_of settings state entries)) }
-    ensures refused { IfErr result (λ found. found ≢ CheckpointFault.NoMemory → (settings : Rules) (state : State) →
-        with_entries settings state (length octets.now) (sequence.entries_decoding_of octets.now) ≡ Err found) }
-{
-    match Tracker::decode(alloc, octets) {
-        Ok((tracker, read)) => {
-            if read < octets.len() {
-                return Err(CheckpointFault::Trailing);
-            }
-            Ok(tracker)
-        }
-        Err(TrackerFault::NoMemory) => Err(CheckpointFault::NoMemory),
-        Err(_) => Err(CheckpointFault::State),
+        write_checkpoint(alloc, &self.reassembly, &self.tracker)
     }
 }

@@ -4,7 +4,7 @@ ghost use Rattle.std.specs.Prelude.{◌≡◌, ◌≢◌, ◌<◌, [], IfOk, IfE
 ghost use Rattle.std.specs.Io.KnownBytes.{Appends, Keeps};
 ghost use Rattle.tm_output.specs.declared.command.Command.TheVariants.{Extract, Packets};
 ghost use Rattle.tm_output.specs.Faults.{RunCounted};
-ghost use Rattle.tm_tool.specs.Jobs.{head_pieces};
+ghost use Rattle.tm_tool.specs.HeadPieces.{head_pieces};
 ghost use Rattle.tm_tool.specs.code.Heads.{head_text};
 ghost use Rattle.tm_output.specs.code.Outlets.{PutStopped};
 ghost use Rattle.tm_output.specs.Outputs.{lines_way};

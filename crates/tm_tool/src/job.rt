@@ -2,7 +2,8 @@
 
 ghost use Rattle.std.specs.Prelude.{[], ◌≡◌, false, option_map, IfOk, IfErr, IfSome, OnOk};
 ghost use Rattle.std.specs.Io.KnownBytes.{Appends, Keeps};
-ghost use Rattle.tm_tool.specs.Jobs.{new_job, head_pieces};
+ghost use Rattle.tm_checkpoint.specs.Works.{new_job};
+ghost use Rattle.tm_tool.specs.HeadPieces.{head_pieces};
 ghost use Rattle.tm_output.specs.Pieces.{way_of, text_of};
 ghost use Rattle.tm_tool.specs.Runs.{DevicesCounted, IsHeadedStop, IsSoundWork, IsStop, Ran, devices, shelf_devices};
 ghost use Rattle.tm_output.specs.Shelves.{Shelves, shelf_text, shelf_way};
@@ -33,7 +34,7 @@ pub struct Job {
 }
 
 impl Model for Job {
-    ghost use Rattle.tm_tool.specs.Jobs.{JobState};
+    ghost use Rattle.tm_checkpoint.specs.Works.{JobState};
 
     ghost Value = { JobState };
 

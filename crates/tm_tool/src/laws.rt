@@ -3,7 +3,6 @@
 ghost use Rattle.std.specs.List.{concat};
 ghost use Rattle.std.specs.Io.KnownBytes.{Appends};
 ghost use Rattle.std.specs.Prelude.{◌≡◌, ◌<◌, ◌≤◌, ◌+◌, ◌*◌, ◌^◌, ℕ, true, false, Ok, List, [], ◌++◌, length, Option, IfSome};
-ghost use Rattle.tm_bits.specs.Bits.{AreOctets};
 ghost use Rattle.tm_frame.specs.Layout.{record_length_of};
 ghost use Rattle.tm_rules.specs.Rules.{IsLimit, Rules};
 ghost use Rattle.tm_packet.specs.Merge as sequence;
@@ -11,42 +10,22 @@ ghost use Rattle.tm_reassembly.specs.Items.{closing};
 ghost use Rattle.tm_reassembly.specs.Valid.{AllOctets, IsValidState};
 ghost use Rattle.tm_output.specs.declared.command.Command.{Command};
 ghost use Rattle.tm_output.specs.declared.command.Ending.{Ending};
-ghost use Rattle.tm_tool.specs.Checkpoints.{IsWork, checkpoint_of, kept_in, resumed, spelled_in, tells, work_without_master};
-ghost use Rattle.tm_tool.specs.declared.version.Version.{Version};
-ghost use Rattle.tm_tool.specs.declared.version.Version.TheVariants as version;
-ghost use Rattle.tm_tool.specs.Jobs.{JobState, new_job, head_pieces};
+ghost use Rattle.tm_checkpoint.specs.Works.{IsWork, JobState, new_job, Work};
+ghost use Rattle.tm_checkpoint.specs.Checkpoints.{kept_in, resumed, spelled_in, tells, work_without_master};
+ghost use Rattle.tm_checkpoint.specs.declared.version.Version.{Version};
+ghost use Rattle.tm_checkpoint.specs.declared.version.Version.TheVariants as version;
+ghost use Rattle.tm_tool.specs.HeadPieces.{head_pieces};
 ghost use Rattle.tm_tool.specs.NotesInAll.{pieces_with, sent_among};
 ghost use Rattle.tm_tool.specs.OlderVersions.{LacksGapLine};
-ghost use Rattle.tm_output.specs.declared.fault.RunFault.{RunFault};
+ghost use Rattle.tm_faults.specs.declared.fault.RunFault.{RunFault};
 ghost use Rattle.tm_output.specs.Outputs.{View};
 ghost use Rattle.tm_output.specs.Pieces.{Texts, noted_all, text_of, way_of};
-ghost use Rattle.tm_tool.specs.RecordingPieces.{Work, items_of, pieces, record_pieces, worked};
+ghost use Rattle.tm_tool.specs.RecordingPieces.{items_of, pieces, record_pieces, worked};
 ghost use Rattle.tm_output.specs.Records.{record_count, records};
 ghost use Rattle.tm_tool.specs.Resuming.{Follows, Stop, done_in_all, in_one, no_head, resumed_pieces, run_pieces, then_pieces};
 ghost use Rattle.tm_output.specs.Shelves.{Shelved, Shelves, shelf_text, shelf_way};
 ghost use Rattle.tm_tool.specs.Summaries.{IsSummarized, IsSummaryStop, SummaryStopped, summary};
 ghost use Rattle.tm_tool.specs.Runs.{Devices, IsHeadedStop, IsSoundWork, IsStop, Outcome, Ran, StoppedIn};
-
-/// Checkpoints: what is written is read again, with the same settings, as the same work, and the job isn't fresh. So it is for the older
-/// versions, as far as they can tell the settings, but that the last master channel count is lost. And octets that are read are the
-/// checkpoint, in some version, of the work that they are read as, which has these settings, is valid, and has what that version keeps. So
-/// with settings of eight channels just the checkpoints of valid works with these settings are read. No checkpoint is a proper prefix of
-/// another, whatever their versions and settings are. What is written has at most 98,374 octets and eight times as many as a packet may
-/// have, so at most 622,710.
-pub fn checkpoints()
-    ensures read_again { (w : Work) → IsWork w → resumed w.rules (checkpoint_of w) ≡ Ok (record { work = w; fresh = false }) }
-    ensures older_again { (v : Version) (w : Work) → IsWork w → tells v w.rules ≡ true →
-        resumed w.rules (spelled_in v w) ≡ Ok (record { work = kept_in v w; fresh = false }) }
-    ensures written_again { (settings : Rules) (octets : List ℕ) (job : JobState) → AreOctets octets → resumed settings octets ≡ Ok job →
-        (v : Version) × (octets ≡ spelled_in v job.work) × (tells v settings ≡ true) × (kept_in v job.work ≡ job.work)
-        × (job.work.rules ≡ settings) × (job.fresh ≡ false) }
-    ensures valid { (settings : Rules) (octets : List ℕ) (job : JobState) → length settings.channels ≡ 8 → IsLimit settings.max_packet →
-        AreOctets octets → resumed settings octets ≡ Ok job → IsWork job.work }
-    ensures no_prefix { (u v : Version) (a b : Work) (rest : List ℕ) → IsWork a → IsWork b → tells u a.rules ≡ true → tells v b.rules ≡ true →
-        spelled_in u a ++ rest ≡ spelled_in v b → (u ≡ v) × (kept_in u a ≡ kept_in v b) × (rest ≡ []) }
-    ensures bound { (w : Work) → IsWork w → length (checkpoint_of w) ≤ 98374 + 8 * w.rules.max_packet }
-    ensures most { (w : Work) → IsWork w → length (checkpoint_of w) ≤ 622710 }
-{}
 
 /// Recordings that tell their octets: what `run` and `split` say of the octets that were read holds of the whole recording. With `Ok` just its pieces
 /// were written, down to the ending. After a fault there is one place up to which they were written. `NoMemory` comes only where something was to

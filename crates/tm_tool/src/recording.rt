@@ -9,7 +9,8 @@ ghost use Rattle.tm_output.specs.Outputs.{Written};
 ghost use Rattle.tm_tool.specs.RecordingPieces.{closing_pieces, end_pieces};
 ghost use Rattle.tm_output.specs.Pieces.{noted_all, pieces_of};
 ghost use Rattle.tm_tool.specs.Runs.{IsSoundWork, IsStoppedAt, kept_of};
-ghost use Rattle.tm_tool.specs.code.Stepping.{IsRun, IsGoing, work_of};
+ghost use Rattle.tm_checkpoint.specs.Works.{IsGoing, work_of};
+ghost use Rattle.tm_tool.specs.code.Stepping.{IsRun};
 ghost use Rattle.tm_output.specs.Seen.{fixture, outlet_both, output_both};
 
 use crate::taking::{RecordTaker, take_records};

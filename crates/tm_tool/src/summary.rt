@@ -8,7 +8,7 @@ ghost use Rattle.tm_output.specs.Seen.{out_alone};
 ghost use Rattle.tm_summary.specs.Numbers.{nothing, numbers_of};
 ghost use Rattle.tm_summary.specs.Tallies.{SameReferences};
 ghost use Rattle.tm_tool.specs.Summaries.{IsSummarized, IsSummaryStop};
-ghost use Rattle.tm_tool.specs.code.Stepping.{IsGoing, work_of};
+ghost use Rattle.tm_checkpoint.specs.Works.{IsGoing, work_of};
 ghost use Rattle.tm_tool.specs.code.Summing.{CountCounted, CountingStopped, CountsEnd, HasSummed};
 
 use crate::job::Job;

@@ -2,7 +2,7 @@
 
 ghost use Rattle.std.specs.Prelude.{◌≡◌, ◌<◌, length, IfOk};
 ghost use Rattle.tm_frame.specs.Layout.{record_length_of};
-ghost use Rattle.tm_tool.specs.code.Stepping.{IsGoing, work_of};
+ghost use Rattle.tm_checkpoint.specs.Works.{IsGoing, work_of};
 
 use std::alloc::{AllocError, Global};
 use std::marker::Model;
@@ -20,8 +20,8 @@ pub struct Work {
 impl Model for Work {
     ghost use Rattle.std.specs.Prelude.{◌≡◌, ◌<◌, length};
     ghost use Rattle.tm_frame.specs.Layout.{record_length_of};
-    ghost use Rattle.tm_tool.specs.RecordingPieces.{Work};
-    ghost use Rattle.tm_tool.specs.code.Stepping.{IsGoing, work_of};
+    ghost use Rattle.tm_checkpoint.specs.Works.{Work};
+    ghost use Rattle.tm_checkpoint.specs.Works.{IsGoing, work_of};
 
     ghost Value = { Work };
 

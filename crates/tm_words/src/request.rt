@@ -1,6 +1,6 @@
 //! What the words of the command line ask for.
 
-use tm_fields::Octets;
+use tm_octets::Octets;
 
 /// What to do.
 #[derive(Clone, Copy, Debug, PartialEq, Eq)]

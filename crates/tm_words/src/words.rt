@@ -10,7 +10,7 @@ use crate::request::{Action, Plan, UsageFault};
 use clap::error::ErrorKind;
 use clap::{ArgMatches, Error};
 use std::alloc::{AllocError, Global};
-use tm_fields::Octets;
+use tm_octets::Octets;
 
 // A copy of a text.
 fn copied(alloc: Global, text: &str) -> Result<Octets, AllocError>

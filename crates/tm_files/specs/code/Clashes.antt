@@ -1,6 +1,6 @@
 -- The fault of the first of a plan's files that would be written over another file of the plan: by their names, and by what these stand for.
 use Rattle.std.specs.Prelude.{◌&&◌, ◌||◌, ℕ, List, Option, Some, None, if◌then◌else◌}
-use Rattle.tm_output.specs.declared.fault.RunFault.TheVariants as run
+use Rattle.tm_faults.specs.declared.fault.RunFault.TheVariants as run
 use Rattle.tm_places.specs.Places.{beside_clashes, checkpoint_clashes, output_clashes, report_clashes}
 use Rattle.tm_places.specs.declared.places.Places.{Places}
 use Rattle.tm_files.specs.code.Decisions.{writes_output}

@@ -1,6 +1,6 @@
 -- What a plan decides of files and streams.
 use Rattle.std.specs.Prelude.{◌≡◌, ℕ, Bool, true, false, List, Option, None, Some, is_some}
-use Rattle.tm_output.specs.declared.fault.RunFault.TheVariants as run
+use Rattle.tm_faults.specs.declared.fault.RunFault.TheVariants as run
 use Rattle.tm_files.specs.declared.decisions.Destination.{Destination}
 use Rattle.tm_files.specs.declared.decisions.Destination.TheVariants as destination
 use Rattle.tm_files.specs.declared.decisions.Opening.{Opening}

@@ -1,6 +1,6 @@
 -- What a fault says of a file or of a run, and how long a file may be that is read whole.
 use Rattle.std.specs.Prelude.{◌≡◌, ⊤, ℕ, List, Option, None, Some}
-use Rattle.tm_output.specs.declared.fault.RunFault.TheVariants.{NoMemory}
+use Rattle.tm_faults.specs.declared.fault.RunFault.TheVariants.{NoMemory}
 use Rattle.tm_files.specs.declared.fault.ToolFault.{ToolFault}
 use Rattle.tm_files.specs.declared.fault.ToolFault.TheVariants.{File, TooLong, Run}
 

@@ -10,8 +10,8 @@ use Rattle.tm_output.specs.declared.command.Command.TheVariants.{Extract, Packet
 use Rattle.tm_output.specs.FieldRows.{tabled, too_short}
 use Rattle.tm_output.specs.Outputs.{PutsPart, Way}
 use Rattle.tm_output.specs.Pieces.{HasLine, Texts, listed, packet_octets, rows_text, text_of}
-use Rattle.tm_output.specs.declared.fault.RunFault.{RunFault}
-use Rattle.tm_output.specs.declared.fault.RunFault.TheVariants.{Read, Write, Report, ShortRecording, TooMany, NoMemory}
+use Rattle.tm_faults.specs.declared.fault.RunFault.{RunFault}
+use Rattle.tm_faults.specs.declared.fault.RunFault.TheVariants.{Read, Write, Report, ShortRecording, TooMany, NoMemory}
 
 -- writing stopped in what belongs there: a call of it failed after a part of that, or there was no memory to make it, where there is any
 abbrev pub PutStopped : {A K : Type 0} → (K → K → List A → Type 0) → Way → K → K → ℕ → ℕ → List A → RunFault → Type 0

@@ -3,7 +3,7 @@ use Rattle.std.specs.Prelude.{◌≡◌}
 use Rattle.tm_packet.specs.Header.{packet_header_of}
 use Rattle.tm_items.specs.Item.{Item}
 use Rattle.tm_items.specs.Item as value
-use Rattle.tm_output.specs.declared.packet.Packet as lent
+use Rattle.tm_lines.specs.declared.packet.Packet as lent
 
 -- the item that it is
 abbrev pub item_with : lent.Packet → Item

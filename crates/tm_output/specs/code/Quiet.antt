@@ -5,9 +5,10 @@ use Rattle.tm_items.specs.Item.{Item, Packet}
 use Rattle.tm_items.specs.OnePacket.{reach}
 use Rattle.tm_items.specs.Sinks.{TakesAll}
 use Rattle.tm_items.specs.code.Spans.{IsSpan, span_items}
-use Rattle.tm_output.specs.declared.packet.Packet as lent
+use Rattle.tm_lines.specs.declared.packet.Packet as lent
 use Rattle.tm_output.specs.code.Packets.{HasHeader, item_with}
-use Rattle.tm_output.specs.Pieces.{Entries, Texts, noted, noted_all, report_of}
+use Rattle.tm_packet.specs.Merge.{Entries}
+use Rattle.tm_output.specs.Pieces.{Texts, noted, noted_all, report_of}
 
 -- what of items belongs to `out`
 abbrev pub outs_of : {A : Type 0} → Texts A → List Item → List A

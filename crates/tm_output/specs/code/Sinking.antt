@@ -1,7 +1,7 @@
 -- What a sink of texts does with an item.
 use Rattle.std.specs.Prelude.{◌≡◌, List, [], ◌∷◌, Result}
 use Rattle.tm_items.specs.Item.{Item}
-use Rattle.tm_output.specs.declared.fault.RunFault.{RunFault}
+use Rattle.tm_faults.specs.declared.fault.RunFault.{RunFault}
 use Rattle.tm_output.specs.Outputs.{Way, Took, Stopped, Written}
 use Rattle.tm_output.specs.Pieces.{Texts, noted, piece_of}
 use Rattle.tm_output.specs.Seen.{OutputState}

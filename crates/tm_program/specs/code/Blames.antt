@@ -2,8 +2,8 @@
 use Rattle.std.specs.Prelude.{⊤, ℕ, Bool, true, false, List, Option, None, Some, Result, Ok, Err}
 use Rattle.tm_output.specs.Faults.{CausedByDevice, RunCaused}
 use Rattle.tm_output.specs.Outputs.{View}
-use Rattle.tm_output.specs.declared.fault.RunFault.{RunFault}
-use Rattle.tm_output.specs.declared.fault.RunFault.TheVariants as run
+use Rattle.tm_faults.specs.declared.fault.RunFault.{RunFault}
+use Rattle.tm_faults.specs.declared.fault.RunFault.TheVariants as run
 use Rattle.tm_files.specs.declared.fault.ToolFault.{ToolFault}
 use Rattle.tm_files.specs.declared.fault.ToolFault.TheVariants as tool
 use Rattle.tm_shelf.specs.declared.files.ShelfFault.{ShelfFault}

@@ -1,8 +1,9 @@
 -- Where the run of a plan ends, and what is done then.
-use Rattle.std.specs.Prelude.{◌≡◌, ◌+◌, ℕ, List, length, Option, Some, None}
-use Rattle.tm_tool.specs.RecordingPieces.{Work, records_for, further, worked}
-use Rattle.tm_tool.specs.Jobs.{JobState, new_job}
+use Rattle.std.specs.Prelude.{◌≡◌, ◌+◌, ℕ, List, length, Option, Some, None, option_map}
+use Rattle.tm_checkpoint.specs.Works.{JobState, new_job, Work}
+use Rattle.tm_tool.specs.RecordingPieces.{records_for, further, worked}
 use Rattle.tm_tool.specs.Runs.{IsEnough, kept_of}
+use Rattle.tm_tool.specs.declared.job.Done.{Done}
 use Rattle.tm_settings.specs.Settings.{Rules}
 use Rattle.tm_output.specs.declared.command.Ending.{Ending}
 use Rattle.tm_output.specs.declared.command.Ending.TheVariants.{Close, Keep, StopAfter}
@@ -23,9 +24,10 @@ ending_of p = ending_with p.checkpoint p.stop_after
 
 -- So many records are done by a run from this work, whatever its source tells: there are octets that the ending reads, the records that are done among
 -- them; and where the ending keeps a job it is the one after those of their records that it takes.
-abbrev pub IsDone : Ending → Work → ℕ → Option Work → Type 0
-IsDone ending w records kept = (read : List ℕ) × IsEnough ending w None read
-    × (records ≡ w.state.records + length (records_for ending (further w read))) × (kept ≡ kept_of ending (worked w (records_for ending (further w read))))
+abbrev pub IsDone : Ending → Work → Done → Type 0
+IsDone ending w done = (read : List ℕ) × IsEnough ending w None read
+    × (done.records ≡ w.state.records + length (records_for ending (further w read)))
+    × (option_map (λ job. job.work) done.kept ≡ kept_of ending (worked w (records_for ending (further w read))))
 
 -- the work of the job that is gone on with, or else of a new one
 abbrev pub work_from : Rules → Option JobState → Work
@@ -33,8 +35,8 @@ work_from settings None = (new_job settings).work
 work_from settings (Some job) = job.work
 
 -- So much is done by a run of the plan with these settings, from this job where there is one.
-abbrev pub HasDone : Plan → Rules → Option JobState → ℕ → Option Work → Type 0
-HasDone p settings resumed records kept = IsDone (ending_of p) (work_from settings resumed) records kept
+abbrev pub HasDone : Plan → Rules → Option JobState → Done → Type 0
+HasDone p settings resumed done = IsDone (ending_of p) (work_from settings resumed) done
 
 -- a summary of what was read was written, or a list of its frames
 abbrev pub HasShown : Action → Rules → (left_old left_new out_old out_new : Option (List ℕ)) → Type 0

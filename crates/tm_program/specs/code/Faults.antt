@@ -4,11 +4,11 @@ use Rattle.tm_files.specs.code.Decisions.{is_job}
 use Rattle.tm_files.specs.code.Files.{HasFault, IsFaultOf, IsRunFault}
 use Rattle.tm_files.specs.declared.fault.ToolFault.{ToolFault}
 use Rattle.tm_files.specs.declared.fault.ToolFault.TheVariants as tool
-use Rattle.tm_output.specs.declared.fault.RunFault.TheVariants.{NoMemory, Report, Write}
+use Rattle.tm_faults.specs.declared.fault.RunFault.TheVariants.{NoMemory, Report, Write}
 use Rattle.tm_program.specs.Program.{IsInFolder}
 use Rattle.tm_settings.specs.Settings.{Rules}
-use Rattle.tm_tool.specs.Checkpoints.{resumed}
-use Rattle.tm_tool.specs.Jobs.{JobState}
+use Rattle.tm_checkpoint.specs.Checkpoints.{resumed}
+use Rattle.tm_checkpoint.specs.Works.{JobState}
 use Rattle.tm_words.specs.declared.request.Action.TheVariants.{Split}
 use Rattle.tm_words.specs.declared.request.Plan.{Plan}
 

@@ -1,22 +1,13 @@
 -- What a run does with a record, and with all that its ending reads: for private contracts.
-use Rattle.std.specs.Prelude.{◌≡◌, ◌≤◌, ◌-◌, ◌^◌, ℕ, false, List, [], ◌∷◌, length, Option}
-use Rattle.tm_reassembly.specs.Steps.{Progress}
-use Rattle.tm_reassembly.specs.Valid.{IsValidState}
-use Rattle.tm_output.specs.declared.fault.RunFault.{RunFault}
-use Rattle.tm_output.specs.declared.fault.RunFault.TheVariants.{Read, Write, Report, ShortRecording, TooMany, NoMemory}
+use Rattle.std.specs.Prelude.{◌≡◌, ◌≤◌, ◌-◌, ◌^◌, ℕ, List, [], ◌∷◌, length, Option}
+use Rattle.tm_faults.specs.declared.fault.RunFault.{RunFault}
+use Rattle.tm_faults.specs.declared.fault.RunFault.TheVariants.{Read, Write, Report, ShortRecording, TooMany, NoMemory}
 use Rattle.tm_output.specs.declared.command.Ending.{Ending}
 use Rattle.tm_output.specs.Outputs.{Piece, View, Way, Took, Stopped}
-use Rattle.tm_output.specs.Pieces.{Entries, Texts}
-use Rattle.tm_tool.specs.RecordingPieces.{Work, worked, record_pieces, pieces_after}
+use Rattle.tm_output.specs.Pieces.{Texts}
+use Rattle.tm_checkpoint.specs.Works.{Work}
+use Rattle.tm_tool.specs.RecordingPieces.{worked, record_pieces, pieces_after}
 use Rattle.tm_tool.specs.Runs.{HasEnded, behind, kept_of}
-
--- how far a reassembly has got, together with the sequence counts
-abbrev pub work_of : Progress → Entries → Work
-work_of p entries = record { rules = p.rules; state = p.state; entries = entries }
-
--- no step was refused, and the state is a valid one
-abbrev pub IsGoing : Progress → Type 0
-IsGoing p = (p.failed ≡ false) × IsValidState p.rules p.state
 
 module _ {A K : Type 0} (grows : K → K → List A → Type 0) where
   -- a step stopped: while writing, or before a record that is one too many

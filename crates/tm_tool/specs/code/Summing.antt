@@ -5,12 +5,13 @@ use Rattle.tm_packet.specs.Merge as sequence
 use Rattle.tm_reassembly.specs.Items.{closing}
 use Rattle.tm_reassembly.specs.Steps.{most_records}
 use Rattle.tm_devices.specs.Devices.{raised}
-use Rattle.tm_output.specs.declared.fault.RunFault.{RunFault}
-use Rattle.tm_output.specs.declared.fault.RunFault.TheVariants.{Read, Write, Report, ShortRecording, TooMany, NoMemory}
+use Rattle.tm_faults.specs.declared.fault.RunFault.{RunFault}
+use Rattle.tm_faults.specs.declared.fault.RunFault.TheVariants.{Read, Write, Report, ShortRecording, TooMany, NoMemory}
 use Rattle.tm_output.specs.Pieces.{noted_all}
 use Rattle.tm_summary.specs.Numbers.{Numbers, Tally, numbers_of}
 use Rattle.tm_summary.specs.Tallies.{and_items, and_notes, notes_among, open_notes}
-use Rattle.tm_tool.specs.RecordingPieces.{Work, items_of}
+use Rattle.tm_checkpoint.specs.Works.{Work}
+use Rattle.tm_tool.specs.RecordingPieces.{items_of}
 use Rattle.tm_tool.specs.Runs.{HasReadAll}
 use Rattle.tm_tool.specs.Summaries.{StopsAtMost, StopsInReading, good_frames, tally_of}
 

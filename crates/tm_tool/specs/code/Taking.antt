@@ -4,13 +4,14 @@ use Rattle.std.specs.List.{concat}
 use Rattle.std.specs.Io.KnownBytes.{Consumes}
 use Rattle.tm_frame.specs.Layout.{record_length_of}
 use Rattle.tm_devices.specs.Devices.{raised}
-use Rattle.tm_output.specs.declared.fault.RunFault.{RunFault}
-use Rattle.tm_output.specs.declared.fault.RunFault.TheVariants.{Read, Write, Report, ShortRecording, TooMany, NoMemory}
+use Rattle.tm_faults.specs.declared.fault.RunFault.{RunFault}
+use Rattle.tm_faults.specs.declared.fault.RunFault.TheVariants.{Read, Write, Report, ShortRecording, TooMany, NoMemory}
 use Rattle.tm_output.specs.declared.command.Ending.{Ending}
 use Rattle.tm_output.specs.declared.command.Ending.TheVariants.{Close, Keep, StopAfter}
 use Rattle.tm_output.specs.Records.{AreRecords}
 use Rattle.tm_output.specs.code.Next.{FailsNext, ReadsNext}
-use Rattle.tm_tool.specs.RecordingPieces.{Work, worked}
+use Rattle.tm_checkpoint.specs.Works.{Work}
+use Rattle.tm_tool.specs.RecordingPieces.{worked}
 use Rattle.tm_tool.specs.Runs.{HasEnded, HasRead, HasReadAll, WantsFurther, behind}
 
 -- no more records were read than are wanted

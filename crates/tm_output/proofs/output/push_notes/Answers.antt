@@ -2,7 +2,7 @@ use Rattle.std.proofs.Common.{◌≡◌, ◌<◌, ℕ, List, None, append_assoc,
 use Rattle.std.specs.Prelude.{slice_get}
 use Rattle.std.proofs.lemmas.List.{drop_more}
 use Rattle.std.proofs.lemmas.Option.{get_or_from_slice_get, slice_get_cases}
-use Rattle.tm_output.specs.Lines.{note_lines}
+use Rattle.tm_lines.specs.Lines.{note_lines}
 use Rattle.tm_output.proofs.PacketLemmas.{some_notes}
 use Rattle.tm_output.proofs.output.push_notes.Goals.{in-Some+in_default-push_note, in_default}
 use Rattle.tm_output.proofs.output.push_notes.Goals as goal

@@ -1,6 +1,6 @@
 -- The lines of the first notes follow what was there.
 use Rattle.std.proofs.Common.{◌≡◌, ◌++◌, drop}
-use Rattle.tm_output.specs.Lines.{note_lines}
+use Rattle.tm_lines.specs.Lines.{note_lines}
 use Rattle.tm_output.proofs.output.push_notes.Given as goal
 
 abbrev pub invariant-loop-i : goal.invariant-loop-i

@@ -1,11 +1,12 @@
 use Rattle.std.proofs.Common.{refl, ap}
 use Rattle.std.specs.Prelude.{Result}
-use Rattle.tm_output.specs.declared.fault.CheckpointFault.{CheckpointFault}
-use Rattle.tm_tool.specs.Jobs.{JobState, head_pieces}
+use Rattle.tm_faults.specs.declared.fault.CheckpointFault.{CheckpointFault}
+use Rattle.tm_checkpoint.specs.Works.{JobState}
+use Rattle.tm_tool.specs.HeadPieces.{head_pieces}
 use Rattle.tm_output.specs.Pieces.{text_of}
 use Rattle.tm_tool.specs.Resuming.{no_head, resumed_pieces, then_pieces}
 use Rattle.tm_output.specs.Shelves.{shelf_text}
-use Rattle.tm_tool.proofs.CheckpointLemmas.{older_again}
+use Rattle.tm_checkpoint.proofs.CheckpointLemmas.{older_again}
 use Rattle.tm_tool.proofs.ForgottenCount.{command_lacks, shelf_lacks}
 use Rattle.tm_tool.proofs.laws.older_versions.Goals as goal
 

@@ -1,7 +1,8 @@
 use Rattle.std.proofs.Common.{◌≡◌, [], false, refl}
 use Rattle.tm_output.specs.declared.command.Command.{Command}
 use Rattle.tm_output.specs.declared.command.Command.TheVariants.{Extract, Packets, Fields}
-use Rattle.tm_tool.specs.Jobs.{new_job, head_pieces}
+use Rattle.tm_checkpoint.specs.Works.{new_job}
+use Rattle.tm_tool.specs.HeadPieces.{head_pieces}
 use Rattle.tm_output.specs.Pieces.{text_of}
 use Rattle.tm_tool.specs.Resuming.{no_head}
 use Rattle.tm_output.specs.Shelves.{shelf_text}

@@ -1,4 +1,4 @@
-use Rattle.tm_tool.specs.code.Stepping.{work_of}
+use Rattle.tm_checkpoint.specs.Works.{work_of}
 use Rattle.tm_tool.proofs.RunEnds.{stopped_items, stopped_groups, took_groups}
 use Rattle.tm_tool.proofs.recording.close.Goals as goal
 

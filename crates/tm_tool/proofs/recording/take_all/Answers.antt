@@ -1,8 +1,8 @@
 use Rattle.std.proofs.Common.{ap, ◌∙◌, option_map}
 use Rattle.tm_reassembly.specs.Steps.{Progress}
-use Rattle.tm_output.specs.Pieces.{Entries}
+use Rattle.tm_packet.specs.Merge.{Entries}
 use Rattle.tm_output.specs.Seen.{output_both}
-use Rattle.tm_tool.specs.code.Stepping.{work_of}
+use Rattle.tm_checkpoint.specs.Works.{work_of}
 use Rattle.tm_tool.proofs.Running.{output_caused, records_stopped, same_counts, stepped_records}
 use Rattle.tm_tool.proofs.RunEnds.{end_stopped, stopped_flush, has_run}
 use Rattle.tm_tool.proofs.Sinks.{same_texts}

@@ -1,4 +1,4 @@
-use Rattle.tm_tool.specs.code.Stepping.{work_of}
+use Rattle.tm_checkpoint.specs.Works.{work_of}
 use Rattle.tm_tool.proofs.SummaryLemmas.{counting_stopped, summed}
 use Rattle.tm_tool.proofs.summary.count_all.Goals as goal
 

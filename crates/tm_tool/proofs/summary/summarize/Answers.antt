@@ -1,6 +1,6 @@
 use Rattle.std.proofs.Common.{◌∙◌, ap}
 use Rattle.tm_tool.specs.declared.job.Job.TheInside.{Inside}
-use Rattle.tm_tool.specs.Jobs.{JobState}
+use Rattle.tm_checkpoint.specs.Works.{JobState}
 use Rattle.tm_tool.proofs.SummaryEnds.{flush_stopped, lines_stopped, summarized}
 use Rattle.tm_tool.proofs.summary.summarize.Goals as goal
 

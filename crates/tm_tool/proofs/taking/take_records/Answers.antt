@@ -1,9 +1,8 @@
 use Rattle.std.proofs.Common.{◌∷◌, [], refl, ap, subst, ◌∙◌, inl, arith, rules}
 use Rattle.tm_frame.specs.Layout.{record_length_of}
 use Rattle.tm_rules.specs.Rules.{Rules}
-use Rattle.tm_tool.specs.RecordingPieces.{Work}
+use Rattle.tm_checkpoint.specs.Works.{Work, work_of}
 use Rattle.tm_tool.specs.Runs.{WantsFurther}
-use Rattle.tm_tool.specs.code.Stepping.{work_of}
 use Rattle.tm_tool.specs.code.Taking.{Enough, HasPassed, PassingStopped}
 use Rattle.tm_tool.proofs.Running.{records-counted, first_reached, more_reached, just_enough, taken_first, taken_more, taken_all, taken_enough, taken_stopped}
 use Rattle.tm_tool.proofs.taking.take_records.Goals as goal

@@ -1,7 +1,7 @@
 -- The records that were read behind those that are done are taken, and no call failed.
 use Rattle.std.proofs.Common.{◌≡◌, ◌-◌, ◌^◌, ◌<◌, length}
 use Rattle.tm_frame.specs.Layout.{record_length_of}
-use Rattle.tm_tool.specs.code.Stepping.{IsGoing, work_of}
+use Rattle.tm_checkpoint.specs.Works.{IsGoing, work_of}
 use Rattle.tm_tool.specs.code.Taking.{HasTaken, Reached, TakesRecords}
 use Rattle.tm_tool.proofs.taking.take_records.Given as goal
 

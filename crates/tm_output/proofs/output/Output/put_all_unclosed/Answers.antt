@@ -1,8 +1,8 @@
 use Rattle.std.proofs.Common.{◌++◌, ◌∷◌, [], List, drop, refl, sym, ap, subst, ◌∙◌, arith}
 use Rattle.tm_packet.specs.declared.tracker.Unclosed.{Unclosed}
-use Rattle.tm_packet.specs.Merge.{next_unclosed_of}
+use Rattle.tm_packet.specs.Merge.{Entries, next_unclosed_of}
 use Rattle.tm_output.specs.Outputs.{Took}
-use Rattle.tm_output.specs.Pieces.{Entries, unclosed_pieces}
+use Rattle.tm_output.specs.Pieces.{unclosed_pieces}
 use Rattle.tm_output.specs.Seen.{output_both}
 use Rattle.tm_output.proofs.PieceLemmas.{took_none}
 use Rattle.tm_output.proofs.OpenGroups.{next_open, parted_first, parted_more, parted_all, unclosed_more, unclosed_stopped}

@@ -1,5 +1,5 @@
 use Rattle.std.proofs.Common.{◌≡◌, ap, arith, refl, rules, subst, sym, ◌∙◌}
-use Rattle.tm_output.specs.Pieces.{Entries}
+use Rattle.tm_packet.specs.Merge.{Entries}
 use Rattle.tm_output.specs.Seen.{OutputState, output_state}
 use Rattle.tm_output.specs.code.Packets.{item_with}
 use Rattle.tm_output.specs.code.Sinking.{Takes}

@@ -1,6 +1,5 @@
 use Rattle.std.proofs.Common.{◌++◌, ◌∷◌, [], drop, refl, sym, ap, ◌∙◌, arith}
-use Rattle.tm_packet.specs.Merge.{next_unclosed_of}
-use Rattle.tm_output.specs.Pieces.{Entries}
+use Rattle.tm_packet.specs.Merge.{Entries, next_unclosed_of}
 use Rattle.tm_output.proofs.OpenGroups.{next_open, parted_first, parted_more, parted_all}
 use Rattle.tm_summary.specs.Adding.{with_note}
 use Rattle.tm_summary.specs.Tallies.{with_open}

@@ -4,7 +4,7 @@ use Rattle.tm_bits.specs.Bits.{AreOctets}
 use Rattle.tm_frame.specs.Fault.{frame_reading_of}
 use Rattle.tm_reassembly.specs.Steps.{Progress}
 use Rattle.tm_summary.proofs.Taken.{none_refused, took_tally}
-use Rattle.tm_tool.specs.code.Stepping.{work_of}
+use Rattle.tm_checkpoint.specs.Works.{work_of}
 use Rattle.tm_tool.proofs.RecordCounted.{a_fault, counted_bad, counted_good, no_fault, seen_bad}
 use Rattle.tm_tool.proofs.Running.{stepped_valid, stepped_work}
 use Rattle.tm_tool.proofs.summary.CountingRecordTaker.take_record.Goals as goal

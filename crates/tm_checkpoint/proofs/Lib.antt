@@ -1,0 +1,7 @@
+pub mod CheckpointLength
+pub mod VersionLemmas
+pub mod ReadValid
+pub mod CheckpointLemmas
+pub mod NoPrefix
+pub mod StateFaults
+pub mod CheckpointExamples

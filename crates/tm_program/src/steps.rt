@@ -395,11 +395,47 @@ fn go_on<R: Files + Print + AllocGlobal, S: Source + Drop, V: Write + Drop>(
     ensures refused { IfErr result (λ fault. IsRunFault fault ⊎ HasFolderFault plan.now.dir fault) }
 {
     let ending = ending_by(plan);
-    let ends = ends_with(rt.alloc(), source, report)?;
-    match shelf_by(rt, plan, places)? {
-        Some(mut shelf) => split_packets(rt, job, &mut shelf, ends, ending),
-        None => give_packets(rt, job, command_by(plan, definition), ends, ending),
+    let ends = match ends_with(rt.alloc(), source, report) {
+        Ok(ends) => ends,
+        Err(fault) => {
+            drop(job);
+            return Err(fault);
+        }
+    };
+    match shelf_by(rt, plan, places) {
+        Ok(Some(mut shelf)) => {
+            let done = split_packets(rt, job, &mut shelf, ends, ending);
+            drop(shelf);
+            done
+        }
+        Ok(None) => give_packets(rt, job, command_by(plan, definition), ends, ending),
+        Err(fault) => {
+            drop((job, ends));
+            Err(fault)
+        }
     }
+}
+
+// Goes on with the job of the checkpoint, or else with a new one.
+#[tactic(auto, using(tm_files::proofs::FaultLemmas::starved_run))]
+fn begin<R: Files + Print + AllocGlobal, S: Source + Drop, V: Write + Drop>(
+    rt: &R,
+    plan: &Plan,
+    inputs: Inputs,
+    source: S,
+    report: V,
+    places: &Places,
+) -> Result<Done, ToolFault>
+    ensures done { IfOk result (HasDone plan.now inputs.settings inputs.resumed) }
+    ensures refused { IfErr result (λ fault. IsRunFault fault ⊎ HasFolderFault plan.now.dir fault) }
+{
+    let Inputs {
+        settings,
+        definition,
+        resumed,
+    } = inputs;
+    let job = job_by(rt, resumed, &settings)?;
+    go_on(rt, plan, definition.as_ref(), job, source, report, places)
 }
 
 // Does the job over the recording: that of the checkpoint, or else a new one. Names are looked up anew, now that the report is made: before, it may have been none.
@@ -414,14 +450,16 @@ fn do_job<R: Files + Print + AllocGlobal, S: Source + Drop, V: Write + Drop>(
     ensures done { IfOk result (HasDone plan.now inputs.settings inputs.resumed) }
     ensures refused { IfErr result (λ fault. IsRunFault fault ⊎ HasFolderFault plan.now.dir fault) }
 {
-    let Inputs {
-        settings,
-        definition,
-        resumed,
-    } = inputs;
-    let places = places_by(rt, plan)?;
-    let job = job_by(rt, resumed, &settings)?;
-    go_on(rt, plan, definition.as_ref(), job, source, report, &places)
+    let places = match places_by(rt, plan) {
+        Ok(places) => places,
+        Err(fault) => {
+            drop(inputs);
+            return Err(fault);
+        }
+    };
+    let done = begin(rt, plan, inputs, source, report, &places);
+    drop(places);
+    done
 }
 
 // Does what the plan wants of the job over the recording, once the names of its files were checked, and answers what is done.
@@ -437,10 +475,21 @@ fn run_job_on<R: Files + Print + AllocGlobal, S: Source + Drop, E: Write + Drop>
     ensures done { IfOk result (HasDone plan.now inputs.settings inputs.resumed) }
     ensures refused { IfErr result (IsOfOutputs plan.now) }
 {
-    let report = report_by(rt, plan, checked, errors)?;
+    let report = match report_by(rt, plan, checked, errors) {
+        Ok(report) => report,
+        Err(fault) => {
+            drop(inputs);
+            return Err(fault);
+        }
+    };
     let done = do_job(rt, plan, inputs, source, report)?;
-    keep(rt, plan, &done)?;
-    Ok(done)
+    match keep(rt, plan, &done) {
+        Ok(()) => Ok(done),
+        Err(fault) => {
+            drop(done);
+            Err(fault)
+        }
+    }
 }
 
 // The names of the plan's files, as the folders are now, are checked.
@@ -450,7 +499,9 @@ fn checked_by<R: Files + AllocGlobal>(rt: &R, plan: &Plan) -> Result<Checked, To
     ensures refused { IfErr result (IsOfOutputs plan.now) }
 {
     let places = places_by(rt, plan)?;
-    check_names(rt.alloc(), plan, &places)
+    let checked = check_names(rt.alloc(), plan, &places);
+    drop(places);
+    checked
 }
 
 // Checks the names of the plan's files, does what the plan asks for with the recording, and answers what its job has done, if it has one.
@@ -466,12 +517,25 @@ fn check_and_run<R: Files + Print + AllocGlobal, S: Source + Drop, E: Write + Dr
         (HasDone plan.now inputs.settings inputs.resumed)) }
     ensures refused { IfErr result (IsOfOutputs plan.now) }
 {
-    let checked = checked_by(rt, plan)?;
+    let checked = match checked_by(rt, plan) {
+        Ok(checked) => checked,
+        Err(fault) => {
+            drop(inputs);
+            return Err(fault);
+        }
+    };
     if is_job(plan.action) {
-        return Ok(Some(run_job_on(rt, plan, inputs, source, errors, checked)?));
+        return match run_job_on(rt, plan, inputs, source, errors, checked) {
+            Ok(done) => Ok(Some(done)),
+            Err(fault) => Err(fault),
+        };
     }
-    list(rt, plan.action, &inputs.settings, source)?;
-    Ok(None)
+    let listed = list(rt, plan.action, &inputs.settings, source);
+    drop(inputs);
+    match listed {
+        Ok(()) => Ok(None),
+        Err(fault) => Err(fault),
+    }
 }
 
 // The plan of the words.
@@ -525,7 +589,10 @@ fn check_standard<R: Files + Print + AllocGlobal, E: Write>(
 ) -> Result<(), ToolFault>
     ensures { IfErr result (MayCome plan.now) }
 {
-    check_errors(&places_by(rt, plan)?)?;
+    let places = places_by(rt, plan)?;
+    let checked = check_errors(&places);
+    drop(places);
+    checked?;
     check_streams(rt, plan, errors)
 }
 
@@ -534,6 +601,13 @@ fn source_in<R: Files + AllocGlobal>(rt: &R, name: &Octets) -> Result<Seeking<R:
     ensures { IfErr result (IsFileFault name.now) }
 {
     Ok(Seeking::new(buffered(rt.alloc(), open(rt, name)?)?))
+}
+
+// The recording on standard input.
+fn source_of_input<R: Input + AllocGlobal>(rt: &R) -> Result<Buffered<R::Reader>, ToolFault>
+    ensures { IfErr result IsNoMemory }
+{
+    Ok(Buffered::new(buffered(rt.alloc(), rt.reader())?))
 }
 
 // Does what the plan asks for.
@@ -550,14 +624,26 @@ fn run_plan<R: Files + Input + Print + AllocGlobal, E: Write + Drop>(
     check_standard(rt, plan, &mut errors)?;
     let inputs = inputs_by(rt, plan)?;
     let done = match recording_by(plan) {
-        Recording::File(name) => check_and_run(rt, plan, inputs, source_in(rt, name)?, errors),
-        Recording::Input => {
-            let source = Buffered::new(buffered(rt.alloc(), rt.reader())?);
-            check_and_run(rt, plan, inputs, source, errors)
-        }
+        Recording::File(name) => match source_in(rt, name) {
+            Ok(source) => check_and_run(rt, plan, inputs, source, errors),
+            Err(fault) => {
+                drop(inputs);
+                return Err(fault);
+            }
+        },
+        Recording::Input => match source_of_input(rt) {
+            Ok(source) => check_and_run(rt, plan, inputs, source, errors),
+            Err(fault) => {
+                drop(inputs);
+                return Err(fault);
+            }
+        },
     };
     match done {
-        Ok(_) => Ok(()),
+        Ok(done) => {
+            drop(done);
+            Ok(())
+        }
         Err(fault) => Err(fault),
     }
 }
@@ -577,5 +663,7 @@ pub fn run<R: Files + Input + Print + AllocGlobal, E: Write + Drop>(
     ensures refused { IfErr result (MayEnd (map string_bytes words.items)) }
 {
     let plan = plan_by(rt.alloc(), words)?;
-    run_plan(rt, &plan, errors)
+    let done = run_plan(rt, &plan, errors);
+    drop(plan);
+    done
 }

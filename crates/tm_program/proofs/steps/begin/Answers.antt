@@ -1,6 +1,6 @@
 use Rattle.std.proofs.lemmas.Result.{IfOk-weaker}
 use Rattle.tm_program.proofs.EndingLemmas.{done_from}
-use Rattle.tm_program.proofs.steps.do_job.Goals as goal
+use Rattle.tm_program.proofs.steps.begin.Goals as goal
 
 pub returns-clause-done : goal.returns-clause-done
 returns-clause-done g c =

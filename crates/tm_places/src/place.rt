@@ -15,7 +15,7 @@ use std::rt::Files;
 const MOST_LINKS: usize = 40;
 
 /// A file or a folder that is there: the number of its device, and its own number on that.
-#[derive(Clone, Copy, Debug)]
+#[derive(Clone, Copy)]
 pub struct Node {
     pub device: u64,
     pub number: u64,
@@ -31,7 +31,7 @@ impl Node {
 }
 
 /// What a name stands for.
-#[derive(Clone, Copy, Debug)]
+#[derive(Clone, Copy)]
 pub enum Kind {
     /// A regular file that is there, whatever other names it has.
     File,
@@ -42,7 +42,7 @@ pub enum Kind {
 }
 
 /// The place that a name stands for.
-#[derive(Debug, Drop)]
+#[derive(Drop)]
 pub struct Place {
     kind: Kind,
     // That of the file; of one that is not there yet, its folder's.

@@ -6,7 +6,7 @@ ghost use Rattle.tm_places.specs.Places.{beside_clashes, checkpoint_clashes, fau
 use crate::place::Place;
 
 /// What the names of a run's files stand for: `Place::other` where the run has no such file.
-#[derive(Debug, Drop)]
+#[derive(Drop)]
 pub struct Places {
     /// Four that are read: the recording, the settings, the definition, and the checkpoint to go on from.
     pub recording: Place,

@@ -161,10 +161,18 @@ fn give_packets<R: Print + AllocGlobal, S: Source + Drop, V: Write + Drop>(
     ensures refused { IfErr result IsRunFault }
 {
     let alloc = rt.alloc();
-    let mut out = drain(alloc, io::writer(rt))?;
+    let mut out = match drain(alloc, io::writer(rt)) {
+        Ok(out) => out,
+        Err(fault) => {
+            drop((job, ends));
+            return Err(fault);
+        }
+    };
     let source = &mut ends.source;
     let report = &mut ends.report;
-    give_to(alloc, job, command, source, &mut out, report, ending)
+    let done = give_to(alloc, job, command, source, &mut out, report, ending);
+    drop((out, ends));
+    done
 }
 
 // The name of the file of this application, which is another file of the run, where there is one.
@@ -206,8 +214,14 @@ fn split_end(
 {
     match (done, written) {
         (Ok(done), Ok(())) => Ok(done),
-        (Ok(_), Err(ShelfFault::NoMemory)) => Err(no_memory()),
-        (Ok(_), Err(_)) => Err(ToolFault::Run(RunFault::Write)),
+        (Ok(done), Err(ShelfFault::NoMemory)) => {
+            drop(done);
+            Err(no_memory())
+        }
+        (Ok(done), Err(_)) => {
+            drop(done);
+            Err(ToolFault::Run(RunFault::Write))
+        }
         (Err(RunFault::Write), _) => Err(put_fault(is_starved, taken)),
         (Err(fault), _) => Err(ToolFault::Run(fault)),
     }
@@ -249,8 +263,15 @@ fn split_packets<R: Files + AllocGlobal, S: Source + Drop, V: Write + Drop>(
     let source = &mut ends.source;
     let done = split_to(alloc, job, source, shelf, &mut ends.report, ending);
     let written = shelf.write_held();
-    let taken = taken_file(alloc, dir, shelf.taken())?;
-    split_end(done, written, shelf.is_starved(), taken)
+    let end = match taken_file(alloc, dir, shelf.taken()) {
+        Ok(taken) => split_end(done, written, shelf.is_starved(), taken),
+        Err(fault) => {
+            drop(done);
+            Err(fault)
+        }
+    };
+    drop(ends);
+    end
 }
 
 // The files for the applications in this folder, none of them one of the run's other files. An empty name is none: it would stand for the root.

@@ -143,9 +143,15 @@ fn matched_plan(alloc: Global, words: Vec<String>) -> Result<Plan, UsageFault>
 {
     let matches = match matches_by(alloc, words.as_slice()) {
         Ok(matches) => matches,
-        Err(error) => return Err(fault_by(alloc, &error)),
+        Err(error) => {
+            let fault = fault_by(alloc, &error);
+            drop(error);
+            return Err(fault);
+        }
     };
-    match plan_by(alloc, &matches) {
+    let plan = plan_by(alloc, &matches);
+    drop(matches);
+    match plan {
         Ok(Some(plan)) => Ok(plan),
         Ok(None) => unreachable!(),
         Err(_) => Err(UsageFault::NoMemory),
@@ -186,6 +192,7 @@ pub fn plan(alloc: Global, words: Vec<String>) -> Result<Plan, UsageFault>
 {
     let plan = matched_plan(alloc, words)?;
     if lacks_checkpoint(&plan) {
+        drop(plan);
         return Err(UsageFault::StopAfter);
     }
     Ok(plan)

@@ -24,4 +24,4 @@ unreachable-requires c =
 
 pub returns-in-Err-clause-kinds : goal.returns-in-Err-clause-kinds
 returns-in-Err-clause-kinds c =
-    rw (← c.as_slice.ensures.value) (fault_of_one _ c.in-Err.error c.fault_by.result c.in-Err.ensures.kinds c.fault_by.ensures.memory c.fault_by.ensures.kind)
+    rw (← c.as_slice.ensures.value) (fault_of_one _ c.in-Err.error c.fault_by-fault.result c.in-Err.ensures.kinds c.fault_by-fault.ensures.memory c.fault_by-fault.ensures.kind)

@@ -37,4 +37,5 @@ pub mod ItemChannels
 pub mod Decoding
 pub mod Spelling
 pub mod Spelled
+pub mod WithoutGaps
 pub mod OlderForms

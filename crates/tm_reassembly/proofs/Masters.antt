@@ -31,7 +31,7 @@ pub master-at : (before : Option ℕ) (m : ChainMember) → AllSeen (λ s. s ≡
 master-at before m = gap-each (λ x. seen_of x ≡ m.number) master_gap_item before m (λ expected. refl)
 
 -- the gaps of records that are numbered from k on are seen at k or later
-masters-from : (k : ℕ) (before : Option ℕ) (rs : List Reading) → AllSeen (λ s. k ≤ s) (gaps master_gap_item before (master_frames k rs))
+pub masters-from : (k : ℕ) (before : Option ℕ) (rs : List Reading) → AllSeen (λ s. k ≤ s) (gaps master_gap_item before (master_frames k rs))
 masters-from k before rs = gaps-each (λ m. k ≤ m.number) (λ x. k ≤ seen_of x) master_gap_item (λ m expected h. h) before (master_frames k rs) (numbered k rs)
   where
     numbered : (k : ℕ) (rs : List Reading) → Each (λ m. k ≤ m.number) (master_frames k rs)
@@ -41,7 +41,7 @@ masters-from k before rs = gaps-each (λ m. k ≤ m.number) (λ x. k ≤ seen_of
         (omega arith, Each-weaken (λ m. k + 1 ≤ m.number) (λ m. k ≤ m.number) (master_frames (k + 1) rs) (λ m e. omega arith) (numbered (k + 1) rs))
 
 -- at its own record a good frame has its gap, whatever comes later
-masters-here : (k : ℕ) (before : Option ℕ) (g : GoodFrame) (rs : List Reading)
+pub masters-here : (k : ℕ) (before : Option ℕ) (g : GoodFrame) (rs : List Reading)
     → seen_at k (gaps master_gap_item before (master_frames k (Ok g ∷ rs))) ≡ gap_at master_gap_item before (master_member k g)
 masters-here k before g rs =
     filter-append (λ x. eqb (seen_of x) k) (gap_at master_gap_item before (master_member k g)) (gaps master_gap_item (Some g.master_count) (master_frames (k + 1) rs))
@@ -51,7 +51,7 @@ masters-here k before g rs =
     ) (append-nil (gap_at master_gap_item before (master_member k g)))
 
 -- at another record it is as if the record were done, and had left its count
-masters-there : (k n : ℕ) (before : Option ℕ) (r : Reading) (rs : List Reading) → (k ≡ n → ⊥)
+pub masters-there : (k n : ℕ) (before : Option ℕ) (r : Reading) (rs : List Reading) → (k ≡ n → ⊥)
     → seen_at n (gaps master_gap_item before (master_frames k (r ∷ rs))) ≡ seen_at n (gaps master_gap_item (master_after before r) (master_frames (k + 1) rs))
 masters-there k n before (Err fault) rs ne = refl
 masters-there k n before (Ok g) rs ne =

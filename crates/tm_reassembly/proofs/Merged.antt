@@ -122,7 +122,7 @@ of-none b c xs ne h =
     filter-none (λ x. is_of c x) xs
     (Each-weaken (λ x. is_of b x ≡ true) (λ x. is_of c x ≡ false) xs (λ x e. false_from_ne_true (is_of c x) (λ f. ne (one_channel b c x e f))) h)
 
-seen-exact : (n : ℕ) (xs : List Item) → AllSeen (λ s. s ≡ n) (seen_at n xs)
+pub seen-exact : (n : ℕ) (xs : List Item) → AllSeen (λ s. s ≡ n) (seen_at n xs)
 seen-exact n xs =
     Each-weaken (λ x. eqb (seen_of x) n ≡ true) (λ x. seen_of x ≡ n) (seen_at n xs) (λ x e. eqb-true (seen_of x) n e) (filter-passes (λ x. eqb (seen_of x) n) xs)
 
@@ -340,7 +340,7 @@ abbrev masters_in : List Item → List Item
 masters_in xs = filter is_master_gap xs
 
 -- what is of a channel is none of them
-not_master : (c : ℕ) (x : Item) → is_of c x ≡ true → is_master_gap x ≡ false
+pub not_master : (c : ℕ) (x : Item) → is_of c x ≡ true → is_master_gap x ≡ false
 not_master c (item.MasterGap seen expected found missing) h = absurd (cc)
 not_master c x h = refl
 

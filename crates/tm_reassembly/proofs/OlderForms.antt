@@ -1,26 +1,32 @@
 -- The older form of a spelling, and what is lost with the last master channel count.
-use Rattle.std.proofs.Common.{◌≡◌, ◌⊎◌, Ok, Err, Result, ℕ, ◌+◌, ◌-◌, ◌%◌, Bool, Option, Some, None, List, [], ◌∷◌, ◌++◌, length, refl, sym, ap, subst, ◌∙◌, inl, inr, ⊎_elim, arith, append_assoc, length-append, ltb}
+use Rattle.std.proofs.Common.{◌≡◌, ◌⊎◌, Ok, Err, Result, ℕ, ◌+◌, ◌<◌, ◌≤◌, Bool, true, false, if◌then◌else◌, None, List, [], ◌∷◌, ◌++◌, length, refl, sym, ap, subst, ◌∙◌, inl, inr, ⊎_elim, arith, append_assoc, length-append, eqb, ltb}
 use Rattle.std.proofs.lemmas.List.{append-nil, nil_from_length}
-use Rattle.std.proofs.lemmas.Bool.{cases_Bool, cond-true, cond-false, le-ltb}
+use Rattle.std.proofs.lemmas.Bool.{cases_Bool, cond-false, eq-eqb, le-ltb}
+use Rattle.std.specs.Prelude.{◌||◌, not}
 use Rattle.tm_frame.specs.Frame.{GoodFrame}
 use Rattle.tm_reassembly.specs.declared.fault.StateFault.{StateFault}
 use Rattle.tm_reassembly.specs.Readings.{Reading}
 use Rattle.tm_reassembly.specs.State.{State}
-use Rattle.tm_reassembly.specs.Chain.{ChainMember, has_frame_gap, next_frame_count, member, master_member}
+use Rattle.tm_reassembly.specs.Chain.{chain, master_chain, master_frames, master_member}
 use Rattle.tm_reassembly.specs.Checkpoint.{ReadBlocks, DecodedState, four_at, blocks_read, master_read, with_channels, state_decoding_of, old_decoding_of, old_spelling}
-use Rattle.tm_items.specs.Item.{Item}
-use Rattle.tm_reassembly.specs.Items.{master_gap_item, gap_at, items_of_readings, state_after_readings}
-use Rattle.tm_reassembly.specs.OlderForms.{without_master, IsMasterGapAtMost, LacksMasterGap, one_octet_more}
+use Rattle.tm_items.specs.Among.{is_master_gap, is_of}
+use Rattle.tm_items.specs.Item.{Item, Bad, seen_of}
+use Rattle.tm_reassembly.specs.Items.{master_gap_item, gap_at, channel_items, items_of_readings, master_items, merged, record_items, seen_at, state_after_readings}
+use Rattle.tm_reassembly.specs.OlderForms.{without_master, first_good_record, is_gap_at, without_gaps_at, LacksFirstGap, one_octet_more}
 use Rattle.tm_reassembly.specs.Recording as raw
 use Rattle.tm_rules.specs.Rules.{Rules, chooses}
 use Rattle.tm_reassembly.specs.Valid.{HasShape, IsValidState}
 use Rattle.tm_reassembly.specs.code.Fits.{IsFit, AllReadingsFit}
-use Rattle.tm_reassembly.proofs.Fits.{readings-fit}
-use Rattle.tm_reassembly.proofs.Joining.{before_of, tail_of, member_items}
-use Rattle.tm_reassembly.proofs.OneStep.{valid-from, after-nil, items-one, after-one, after-bad, items-other, after-other}
+use Rattle.tm_reassembly.proofs.Each.{Each, Each-append, Each-weaken, Each-cond, Each-filter, filter-none}
+use Rattle.tm_reassembly.proofs.WithoutGaps.{without-append, without-none, few, no-gap, not-there, one-at}
+use Rattle.tm_reassembly.proofs.Fits.{readings-fit, readings-append}
+use Rattle.tm_reassembly.proofs.Joining.{gap-each}
+use Rattle.tm_reassembly.proofs.Masters.{masters-is, masters-now}
+use Rattle.tm_reassembly.proofs.Merged.{channel-of, masters-told, not_master, seen-exact}
+use Rattle.tm_reassembly.proofs.Seen.{AllSeen}
+use Rattle.tm_reassembly.proofs.OneStep.{valid-from, after-nil, after-one, after-bad, after-other}
 use Rattle.tm_reassembly.proofs.Records.{items-cons, after-cons}
 use Rattle.tm_reassembly.proofs.Spelling.{old-read-again, state_in, octets_in, decoded}
-use Rattle.std.specs.List.{slice_get}
 
 -- ---- reading
 
@@ -66,45 +72,60 @@ shape-of limit chosen s t e v = record {
   tails = λ c last tail f g. v.tails c last tail (rw (← e) f) g;
 }
 
--- a gap is one item, or none
-gap-is : (before : Option ℕ) (m : ChainMember) → IsMasterGapAtMost (gap_at master_gap_item before m)
-gap-is None m = inl refl
-gap-is (Some before) m =
-    ⊎_elim
-    (λ e. inr (m.number, next_frame_count before, m.count, (m.count + 256 - next_frame_count before) % 256, cond-true (has_frame_gap (Some before) m) _ _ e))
-    (λ e. inl (cond-false (has_frame_gap (Some before) m) _ _ e))
-    (cases_Bool (has_frame_gap (Some before) m))
-
-gap-lacks : (before : Option ℕ) (m : ChainMember) (xs : List Item) → LacksMasterGap (gap_at master_gap_item before m ++ xs) xs
-gap-lacks before m xs =
-    record { front = []; gap = gap_at master_gap_item before m; back = xs; all_is = refl; fewer_is = refl; gap_is = gap-is before m }
-
-same-lacks : (xs : List Item) → LacksMasterGap xs xs
-same-lacks xs = record { front = []; gap = []; back = xs; all_is = refl; fewer_is = refl; gap_is = inl refl }
-
-lacks-behind : (xs all fewer : List Item) → LacksMasterGap all fewer → LacksMasterGap (xs ++ all) (xs ++ fewer)
-lacks-behind xs all fewer h = record {
-  front = xs ++ h.front;
-  gap = h.gap;
-  back = h.back;
-  all_is = ap (λ (ys : List Item). xs ++ ys) h.all_is ∙ sym (append_assoc xs h.front (h.gap ++ h.back));
-  fewer_is = ap (λ (ys : List Item). xs ++ ys) h.fewer_is ∙ sym (append_assoc xs h.front h.back);
-  gap_is = h.gap_is;
-}
-
-lacks-same : (a b c d : List Item) → a ≡ b → c ≡ d → LacksMasterGap a c → LacksMasterGap b d
-lacks-same a b c d e f h = subst (λ (ys : List Item). LacksMasterGap ys d) e (subst (λ (ys : List Item). LacksMasterGap a ys) f h)
-
 module _ (limit : ℕ) (chosen : ℕ → Bool) where
+  -- the items of records that are numbered from k on are seen there
+  within : (s : State) (all : List Reading) (k : ℕ) (rs : List Reading) → AllSeen (λ n. (k ≤ n) × (n < k + length rs)) (merged limit chosen s all k rs)
+  within s all k [] = tt
+  within s all k (r ∷ rs) =
+      Each-append (λ x. (k ≤ seen_of x) × (seen_of x < k + length (r ∷ rs))) (record_items limit chosen s all k r) (merged limit chosen s all (k + 1) rs)
+      (Each-weaken (λ x. seen_of x ≡ k) (λ x. (k ≤ seen_of x) × (seen_of x < k + length (r ∷ rs))) _ (λ x e. (omega arith, omega arith)) (one r))
+      (Each-weaken (λ x. (k + 1 ≤ seen_of x) × (seen_of x < (k + 1) + length rs)) (λ x. (k ≤ seen_of x) × (seen_of x < k + length (r ∷ rs))) _
+      (λ x e. let a = e.0 in let b = e.1 in (omega arith, omega arith)) (within s all (k + 1) rs))
+    where
+      one : (q : Reading) → AllSeen (λ n. n ≡ k) (record_items limit chosen s all k q)
+      one (Err fault) = (refl, tt)
+      one (Ok g) =
+          Each-append (λ x. seen_of x ≡ k) (seen_at k (master_items (master_chain s all))) _ (seen-exact k (master_items (master_chain s all)))
+          (Each-cond (λ x. seen_of x ≡ k) (chosen g.channel) _ (λ e. seen-exact k (channel_items limit g.channel (chain s g.channel all))))
+
   -- the states after records: the same, or different in the master channel count alone, no good frame having come
   abbrev StatesMeet : State → State → List Item → List Item → Type 0
   StatesMeet a b all fewer = (b ≡ a) ⊎ ((b ≡ without_master a) × (fewer ≡ all))
 
   record Meet (s : State) (rs : List Reading) : Type 0 where
-    the_items : LacksMasterGap (items_of_readings limit chosen s rs) (items_of_readings limit chosen (without_master s) rs)
+    the_items : LacksFirstGap s rs (items_of_readings limit chosen s rs) (items_of_readings limit chosen (without_master s) rs)
     the_states : StatesMeet (state_after_readings limit chosen s rs) (state_after_readings limit chosen (without_master s) rs) (items_of_readings limit chosen s rs) (items_of_readings limit chosen (without_master s) rs)
+    without_first : (later : List Reading) → items_of_readings limit chosen (without_master s) rs ≡ without_gaps_at (first_good_record s.records (rs ++ later)) (items_of_readings limit chosen s rs)
 
-  -- one good frame: its own items but for the gap, and the same state
+  -- one good frame: its own items behind its master gap
+  own : State → GoodFrame → List Item
+  own s g = if chosen g.channel then seen_at s.records (channel_items limit g.channel (chain s g.channel (Ok g ∷ []))) else []
+
+  good-items : (s : State) (g : GoodFrame) → items_of_readings limit chosen s (Ok g ∷ []) ≡ gap_at master_gap_item s.master (master_member s.records g) ++ own s g
+  unfolding own
+  good-items s g =
+      append-nil (record_items limit chosen s (Ok g ∷ []) s.records (Ok g)) ∙ ap (λ (xs : List Item). xs ++ own s g) (masters-now s g [])
+
+  -- which don't rest on the last master channel count
+  own-same : (s : State) (g : GoodFrame) → own (without_master s) g ≡ own s g
+  unfolding own
+  own-same s g = refl
+
+  own-none : (s : State) (g : GoodFrame) → Each (λ x. is_master_gap x ≡ false) (own s g)
+  unfolding own
+  own-none s g =
+      Each-cond (λ x. is_master_gap x ≡ false) (chosen g.channel) _
+      (λ p. Each-weaken (λ x. is_of g.channel x ≡ true) (λ x. is_master_gap x ≡ false) _ (not_master g.channel)
+      (Each-filter (λ x. is_of g.channel x ≡ true) (λ x. eqb (seen_of x) s.records) _ (channel-of limit g.channel (chain s g.channel (Ok g ∷ [])))))
+
+  -- the gap is left out
+  gap-left : (s : State) (g : GoodFrame) → without_gaps_at (s.records ∷ []) (gap_at master_gap_item s.master (master_member s.records g)) ≡ []
+  gap-left s g =
+      filter-none (λ x. not (is_gap_at (s.records ∷ []) x)) _
+      (gap-each (λ x. not (is_gap_at (s.records ∷ []) x) ≡ false) master_gap_item s.master (master_member s.records g)
+      (λ expected. ap (λ (b : Bool). not (b || false)) (eq-eqb s.records s.records refl)))
+
+  -- and the same state
   good-state : (s : State) (g : GoodFrame) → HasShape limit chosen s → IsFit (Ok g)
       → state_after_readings limit chosen (without_master s) (Ok g ∷ []) ≡ state_after_readings limit chosen s (Ok g ∷ [])
   good-state s g v fit =
@@ -114,77 +135,102 @@ module _ (limit : ℕ) (chosen : ℕ → Bool) where
       (λ e. after-other limit chosen (without_master s) g w fit e ∙ sym (after-other limit chosen s g v fit e))
       (cases_Bool (chosen g.channel))
 
-  good-items : (s : State) (g : GoodFrame) (xs : List Item) → HasShape limit chosen s → IsFit (Ok g)
-      → LacksMasterGap (items_of_readings limit chosen s (Ok g ∷ []) ++ xs) (items_of_readings limit chosen (without_master s) (Ok g ∷ []) ++ xs)
-  good-items s g xs v fit =
-      let w : HasShape limit chosen (without_master s) = shape-of limit chosen s (without_master s) refl v in
-      ⊎_elim
-      (λ e.
-      let own : List Item = member_items limit g.channel (before_of (slice_get s.channels g.channel)) (tail_of (slice_get s.channels g.channel)) (member s.records g) in
-      lacks-same (gap_at master_gap_item s.master (master_member s.records g) ++ (own ++ xs)) _ (own ++ xs) _
-      (sym (append_assoc (gap_at master_gap_item s.master (master_member s.records g)) own xs) ∙ ap (λ (ys : List Item). ys ++ xs) (sym (items-one limit chosen s g v fit e)))
-      (ap (λ (ys : List Item). ys ++ xs) (sym (items-one limit chosen (without_master s) g w fit e)))
-      (gap-lacks s.master (master_member s.records g) (own ++ xs)))
-      (λ e.
-      lacks-same (gap_at master_gap_item s.master (master_member s.records g) ++ xs) _ xs _
-      (ap (λ (ys : List Item). ys ++ xs) (sym (items-other limit chosen s g e)))
-      (ap (λ (ys : List Item). ys ++ xs) (sym (items-other limit chosen (without_master s) g e)))
-      (gap-lacks s.master (master_member s.records g) xs))
-      (cases_Bool (chosen g.channel))
-
   meet : (s : State) (rs : List Reading) → HasShape limit chosen s → AllReadingsFit rs → Meet s rs
   meet s [] v fits =
       let w : HasShape limit chosen (without_master s) = shape-of limit chosen s (without_master s) refl v in
       record {
-        the_items = same-lacks [];
+        the_items = record { back = []; all_is = refl; fewer_is = refl };
         the_states = inr (after-nil limit chosen (without_master s) w ∙ ap without_master (sym (after-nil limit chosen s v)), refl);
+        without_first = λ later. refl;
       }
   meet s (Err fault ∷ rs) v fits =
       let next : State = record { records = s.records + 1; master = s.master; channels = s.channels } in
       let w : HasShape limit chosen (without_master s) = shape-of limit chosen s (without_master s) refl v in
       let rest : Meet (record { records = s.records + 1; master = s.master; channels = s.channels }) rs =
       meet (record { records = s.records + 1; master = s.master; channels = s.channels }) rs (shape-of limit chosen s _ refl v) fits.1 in
-      let a : items_of_readings limit chosen s (Err fault ∷ rs) ≡ items_of_readings limit chosen s (Err fault ∷ []) ++ items_of_readings limit chosen next rs =
+      let a : items_of_readings limit chosen s (Err fault ∷ rs) ≡ Bad s.records fault ∷ items_of_readings limit chosen next rs =
       items-cons limit chosen s (Err fault) (valid-from limit chosen s v) tt rs fits.1
-      ∙ ap (λ (z : State). items_of_readings limit chosen s (Err fault ∷ []) ++ items_of_readings limit chosen z rs) (after-bad limit chosen s fault v) in
-      let b : items_of_readings limit chosen (without_master s) (Err fault ∷ rs) ≡ items_of_readings limit chosen s (Err fault ∷ []) ++ items_of_readings limit chosen (without_master next) rs =
+      ∙ ap (λ (z : State). Bad s.records fault ∷ items_of_readings limit chosen z rs) (after-bad limit chosen s fault v) in
+      let b : items_of_readings limit chosen (without_master s) (Err fault ∷ rs) ≡ Bad s.records fault ∷ items_of_readings limit chosen (without_master next) rs =
       items-cons limit chosen (without_master s) (Err fault) (valid-from limit chosen (without_master s) w) tt rs fits.1
-      ∙ ap (λ (z : State). items_of_readings limit chosen s (Err fault ∷ []) ++ items_of_readings limit chosen z rs) (after-bad limit chosen (without_master s) fault w) in
+      ∙ ap (λ (z : State). Bad s.records fault ∷ items_of_readings limit chosen z rs) (after-bad limit chosen (without_master s) fault w) in
       let x : state_after_readings limit chosen s (Err fault ∷ rs) ≡ state_after_readings limit chosen next rs =
       after-cons limit chosen s (Err fault) (valid-from limit chosen s v) tt rs ∙ ap (λ (z : State). state_after_readings limit chosen z rs) (after-bad limit chosen s fault v) in
       let y : state_after_readings limit chosen (without_master s) (Err fault ∷ rs) ≡ state_after_readings limit chosen (without_master next) rs =
       after-cons limit chosen (without_master s) (Err fault) (valid-from limit chosen (without_master s) w) tt rs
       ∙ ap (λ (z : State). state_after_readings limit chosen z rs) (after-bad limit chosen (without_master s) fault w) in
+      let more = λ (xs : List Item). Bad s.records fault ∷ xs in
       record {
-        the_items = lacks-same _ _ _ _ (sym a) (sym b) (lacks-behind (items_of_readings limit chosen s (Err fault ∷ [])) _ _ rest.the_items);
+        the_items = record { back = rest.the_items.back; all_is = a ∙ ap more rest.the_items.all_is; fewer_is = b ∙ ap more rest.the_items.fewer_is };
         the_states =
             ⊎_elim (λ e. inl (y ∙ e ∙ sym x))
-            (λ h. inr (y ∙ h.0 ∙ ap without_master (sym x), b ∙ ap (λ (xs : List Item). items_of_readings limit chosen s (Err fault ∷ []) ++ xs) h.1 ∙ sym a)) rest.the_states;
+            (λ h. inr (y ∙ h.0 ∙ ap without_master (sym x), b ∙ ap more h.1 ∙ sym a)) rest.the_states;
+        without_first = λ later. b ∙ ap more (rest.without_first later) ∙ sym (ap (without_gaps_at (first_good_record (s.records + 1) (rs ++ later))) a);
       }
   meet s (Ok g ∷ rs) v fits =
       let w : HasShape limit chosen (without_master s) = shape-of limit chosen s (without_master s) refl v in
       let same = good-state s g v fits.0 in
-      let a = items-cons limit chosen s (Ok g) (valid-from limit chosen s v) fits.0 rs fits.1 in
-      let b : items_of_readings limit chosen (without_master s) (Ok g ∷ rs) ≡ items_of_readings limit chosen (without_master s) (Ok g ∷ []) ++ items_of_readings limit chosen (state_after_readings limit chosen s (Ok g ∷ [])) rs =
+      let left : State = state_after_readings limit chosen s (Ok g ∷ []) in
+      let behind : List Item = items_of_readings limit chosen left rs in
+      let gap : List Item = gap_at master_gap_item s.master (master_member s.records g) in
+      let a : items_of_readings limit chosen s (Ok g ∷ rs) ≡ gap ++ (own s g ++ behind) =
+      items-cons limit chosen s (Ok g) (valid-from limit chosen s v) fits.0 rs fits.1
+      ∙ ap (λ (xs : List Item). xs ++ behind) (good-items s g) ∙ append_assoc gap (own s g) behind in
+      let b : items_of_readings limit chosen (without_master s) (Ok g ∷ rs) ≡ own s g ++ behind =
       items-cons limit chosen (without_master s) (Ok g) (valid-from limit chosen (without_master s) w) fits.0 rs fits.1
-      ∙ ap (λ (z : State). items_of_readings limit chosen (without_master s) (Ok g ∷ []) ++ items_of_readings limit chosen z rs) same in
+      ∙ ap (λ (z : State). items_of_readings limit chosen (without_master s) (Ok g ∷ []) ++ items_of_readings limit chosen z rs) same
+      ∙ ap (λ (xs : List Item). xs ++ behind) (good-items (without_master s) g ∙ own-same s g) in
+      let here : List ℕ = s.records ∷ [] in
+      let kept : without_gaps_at here (gap ++ (own s g ++ behind)) ≡ own s g ++ behind =
+      without-append here gap (own s g ++ behind)
+      ∙ ap (λ (xs : List Item). xs ++ without_gaps_at here (own s g ++ behind)) (gap-left s g)
+      ∙ without-none here (own s g ++ behind)
+      (Each-append (λ x. is_gap_at here x ≡ false) (own s g) behind
+      (Each-weaken (λ x. is_master_gap x ≡ false) (λ x. is_gap_at here x ≡ false) (own s g) (no-gap here) (own-none s g))
+      (Each-weaken (λ x. (s.records + 1 ≤ seen_of x) × (seen_of x < (s.records + 1) + length rs)) (λ x. is_gap_at here x ≡ false) behind
+      (λ x h. not-there s.records x (λ e. let low = h.0 in omega arith)) (within left rs (s.records + 1) rs))) in
       record {
-        the_items = lacks-same _ _ _ _ (sym a) (sym b) (good-items s g (items_of_readings limit chosen (state_after_readings limit chosen s (Ok g ∷ [])) rs) v fits.0);
+        the_items = record { back = own s g ++ behind; all_is = a; fewer_is = b };
         the_states =
             inl
             (after-cons limit chosen (without_master s) (Ok g) (valid-from limit chosen (without_master s) w) fits.0 rs
             ∙ ap (λ (z : State). state_after_readings limit chosen z rs) same
             ∙ sym (after-cons limit chosen s (Ok g) (valid-from limit chosen s v) fits.0 rs));
+        without_first = λ later. b ∙ sym kept ∙ ap (without_gaps_at here) (sym a);
       }
 
 -- the same of raw records
 pub items-lack : (rules : Rules) (s : State) (records : List (List ℕ)) → IsValidState rules s
-    → LacksMasterGap (raw.items rules s records) (raw.items rules (without_master s) records)
+    → LacksFirstGap s (raw.readings rules.layout records) (raw.items rules s records) (raw.items rules (without_master s) records)
 unfolding raw.items
 items-lack rules s records v = (meet rules.max_packet (chooses rules) s (raw.readings rules.layout records) v.shape (readings-fit rules.layout records)).the_items
+
+pub without-first : (rules : Rules) (s : State) (records later : List (List ℕ)) → IsValidState rules s
+    → raw.items rules (without_master s) records ≡ without_gaps_at (first_good_record s.records (raw.readings rules.layout (records ++ later))) (raw.items rules s records)
+unfolding raw.items
+without-first rules s records later v =
+    (meet rules.max_packet (chooses rules) s (raw.readings rules.layout records) v.shape (readings-fit rules.layout records)).without_first (raw.readings rules.layout later)
+    ∙ ap (λ (rs : List Reading). without_gaps_at (first_good_record s.records rs) (raw.items rules s records)) (sym (readings-append rules.layout records later))
+
+-- the items of records are seen at them
+pub items-within : (rules : Rules) (s : State) (records : List (List ℕ))
+    → AllSeen (λ n. (s.records ≤ n) × (n < s.records + length (raw.readings rules.layout records))) (raw.items rules s records)
+unfolding raw.items
+items-within rules s records =
+    within rules.max_packet (chooses rules) s (raw.readings rules.layout records) s.records (raw.readings rules.layout records)
 
 pub states-meet : (rules : Rules) (s : State) (records : List (List ℕ)) → IsValidState rules s
     → (raw.after rules (without_master s) records ≡ raw.after rules s records)
     ⊎ ((raw.after rules (without_master s) records ≡ without_master (raw.after rules s records)) × (raw.items rules (without_master s) records ≡ raw.items rules s records))
 unfolding raw.items raw.after
 states-meet rules s records v = (meet rules.max_packet (chooses rules) s (raw.readings rules.layout records) v.shape (readings-fit rules.layout records)).the_states
+
+-- at each record there is one gap of the master channel at most, so for each number one is left out at most
+pub few-left-out : (rules : Rules) (s : State) (records : List (List ℕ)) (numbers : List ℕ) → IsValidState rules s
+    → length (raw.items rules s records) ≤ length (without_gaps_at numbers (raw.items rules s records)) + length numbers
+few-left-out rules s records numbers v =
+    few numbers (raw.items rules s records)
+    (λ n.
+    subst (λ (xs : List Item). length (seen_at n xs) ≤ 1)
+    (sym (masters-told rules s records v ∙ masters-is s.master (master_frames s.records (raw.readings rules.layout records))))
+    (one-at n s.records s.master (raw.readings rules.layout records)))

@@ -8,7 +8,7 @@ ghost use Rattle.tm_rules.specs.Rules.{Rules, IsLimit, chooses};
 ghost use Rattle.tm_reassembly.specs.State.{State, Last, Tail};
 ghost use Rattle.tm_reassembly.specs.Valid.{IsValidState, AllOctets};
 ghost use Rattle.tm_reassembly.specs.Checkpoint.{state_spelling, old_spelling, DecodedState, state_decoding_of, old_decoding_of};
-ghost use Rattle.tm_reassembly.specs.OlderForms.{LacksMasterGap, one_octet_more, without_master};
+ghost use Rattle.tm_reassembly.specs.OlderForms.{LacksFirstGap, without_gaps_at, first_good_record, one_octet_more, without_master};
 ghost use Rattle.tm_reassembly.specs.Items.{empty, held_part, chain_parts, channel_items, master_items, seen_at};
 ghost use Rattle.tm_items.specs.Item.{Item, Packet, seen_of};
 ghost use Rattle.tm_items.specs.Among.{Among, is_of, is_master_gap};
@@ -59,11 +59,16 @@ pub fn spellings()
     ensures one_form { (rules : Rules) (a b : List ℕ) → length a ≡ 4 → state_decoding_of rules (a ++ 0 ∷ b) ≡ one_octet_more (old_decoding_of rules (a ++ b)) }
 {}
 
-/// The last master channel count forgotten: of the items of records at most one is lacking then, a gap of the master channel. The states that
-/// the records leave are the same; or no good frame came, and then all items are there and the count is still not known.
+/// The last master channel count forgotten: of the items of records just the gap is lacking then that the first good frame has after that count,
+/// if it comes and has one. So they are all but the gap of the master channel at its record, whatever records come after these. At each record
+/// there is one such gap at most, so for each of some records at most one is left out. The states that the records leave are the same; or no good frame came, and then all items are there and the count is still not known.
 pub fn forgotten_count()
     ensures items_lack { (rules : Rules) (s : State) (records : List (List ℕ)) → IsValidState rules s →
-        LacksMasterGap (items rules s records) (items rules (without_master s) records) }
+        LacksFirstGap s (readings rules.layout records) (items rules s records) (items rules (without_master s) records) }
+    ensures without_first { (rules : Rules) (s : State) (records later : List (List ℕ)) → IsValidState rules s →
+        items rules (without_master s) records ≡ without_gaps_at (first_good_record s.records (readings rules.layout (records ++ later))) (items rules s records) }
+    ensures few_left_out { (rules : Rules) (s : State) (records : List (List ℕ)) (numbers : List ℕ) → IsValidState rules s →
+        length (items rules s records) ≤ length (without_gaps_at numbers (items rules s records)) + length numbers }
     ensures states_meet { (rules : Rules) (s : State) (records : List (List ℕ)) → IsValidState rules s →
         (after rules (without_master s) records ≡ after rules s records)
         ⊎ ((after rules (without_master s) records ≡ without_master (after rules s records)) × (items rules (without_master s) records ≡ items rules s records)) }

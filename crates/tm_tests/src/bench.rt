@@ -91,6 +91,7 @@ impl Bench {
         self.shelf.calls = 0;
         self.shelf.refuses_at = writes;
         self.shelf.refused = 0;
+        self.shelf.leaves = 0;
     }
 
     /// Lists the frames from where the devices are.

@@ -3,7 +3,9 @@
 
 use crate::bench::{Bench, By, Device};
 use crate::calls::{Call, calls_of, moved};
-use crate::runs::{POINTER_DROP_AND_SEQUENCE_GAP, Row, TWO_PACKETS, octets_of, rows};
+use crate::runs::{
+    POINTER_DROP_AND_SEQUENCE_GAP, Row, SPLIT_WITH_IDLE, TWO_PACKETS, octets_of, rows,
+};
 use std::alloc::Global;
 use std::process::Abort;
 use tm_fields::Definition;
@@ -257,5 +259,30 @@ fn worked_failures(rt: HostRuntime) {
     ];
     for (row, device, call, fault, written) in table {
         assert!(rt; ends_by(rt.alloc(), row, device, call, fault, written) == Some(true));
+    }
+}
+
+// What is put of two packets where the second put is refused and leaves so many octets: how many, if they are the first.
+fn put_of_two(alloc: Global, leaves: usize) -> Option<(Result<u32, RunFault>, usize)> {
+    let row = &SPLIT_WITH_IDLE;
+    let mut bench = Bench::new(alloc, row.settings, row.recording, 65_536)?;
+    bench.begin(Device::Out, 2);
+    bench.shelf.leaves = leaves;
+    let answer = bench.close(alloc, By::Split);
+    let octets = octets_of(alloc, row.octets)?;
+    let put = 7usize.saturating_add(leaves);
+    if bench.has_given(front(&octets, put), b"") {
+        Some((answer, put))
+    } else {
+        None
+    }
+}
+
+// The packet before is whole, and the report has nothing of the second.
+#[test]
+fn refused_put_that_leaves_octets(rt: HostRuntime) {
+    for (leaves, put) in [(0, 7), (5, 12), (10, 17)] {
+        let wanted = Some((Err(RunFault::Write), put));
+        assert!(rt; put_of_two(rt.alloc(), leaves) == wanted, "{leaves} octets");
     }
 }

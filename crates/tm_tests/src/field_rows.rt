@@ -73,7 +73,8 @@ fn answer_at(alloc: Global, fails_at: u64) -> Option<Result<u32, RunFault>> {
     }
 }
 
-// Each write fails in turn, up to the run in which none does: 13 writes for the head, 7 for the row, and the flush.
+// Each write fails in turn, up to the run in which none does: 13 writes for the head, 7 for the row, and the flush. Likewise one write of
+// the report, and the first read, before which the head is written.
 #[test]
 fn each_write_of_rows_failing(rt: HostRuntime) {
     let alloc = rt.alloc();
@@ -85,4 +86,7 @@ fn each_write_of_rows_failing(rt: HostRuntime) {
     let (answer, bench) = ran.expect(&rt, "a run");
     assert!(rt; answer == Err(RunFault::Report));
     assert!(rt; bench.has_given(HEAD_AND_ONE_BIT.as_bytes(), b"short"));
+    let ran = run_rows(alloc, TEXT, 100, RECORDING, Device::Recording, 1);
+    let (answer, bench) = ran.expect(&rt, "a run");
+    assert!(rt; answer == Err(RunFault::Read) && bench.has_given(HEAD.as_bytes(), b""));
 }

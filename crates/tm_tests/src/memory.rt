@@ -1,7 +1,8 @@
 //! Devices and a shelf over memory, which tell their octets. Each moves at most so many octets per call, and one
 //! of its calls fails, if that is asked for.
 
-ghost use Rattle.std.specs.Prelude.{◌≡◌, ◌<◌, ◌≤◌, [], Some, take, drop, vec_len};
+ghost use Rattle.std.specs.Prelude.{◌≡◌, ◌<◌, ◌≤◌, [], Some, take, drop, true, false, vec_len};
+ghost use Rattle.tm_devices.specs.Devices.{Puts};
 ghost use Rattle.tm_tests.specs.Stored.{stored};
 
 use std::alloc::Global;
@@ -152,6 +153,8 @@ pub struct MemoryShelf {
     /// The call that is refused, counted from 1; 0 for none.
     pub refuses_at: u64,
     pub refused: u64,
+    /// So many octets of a put that is refused stand on the shelf, if it has more.
+    pub leaves: usize,
 }
 
 impl MemoryShelf {
@@ -167,7 +170,25 @@ impl MemoryShelf {
             calls: 0,
             refuses_at,
             refused: 0,
+            leaves: 0,
         }
+    }
+
+    // Keeps octets of an application behind the others, if there is memory for it: whether it did.
+    #[tactic(auto, using(crate::proofs::Stored::stored_one))]
+    fn keep(&mut self, application: u16, octets: &[u8]) -> bool
+        ensures kept { result ≡ true → Puts (Some (stored self.old.puts.items)) (Some (stored self.new.puts.items)) application octets.now }
+        ensures lost { result ≡ false → self.new.puts.items ≡ self.old.puts.items }
+        ensures refused { self.new.refused ≡ self.old.refused }
+    {
+        let Ok(octets) = octets.to_vec(self.alloc) else {
+            return false;
+        };
+        let put = Put {
+            application,
+            octets,
+        };
+        self.puts.push(put).is_ok()
     }
 }
 
@@ -178,19 +199,16 @@ impl Shelf for MemoryShelf {
 
     ghost kept = { λ s. Some (stored s.puts.items) };
 
-    #[tactic(auto, using(crate::proofs::Stored::stored_one, crate::proofs::Stored::put_none))]
+    #[tactic(auto, using(crate::proofs::Stored::put_none, crate::proofs::Stored::put_front))]
     fn put(&mut self, application: u16, octets: &[u8]) -> Result<(), PutRefused> {
         self.calls = self.calls.saturating_add(1);
         if self.calls != self.refuses_at {
-            if let Ok(copy) = octets.to_vec(self.alloc) {
-                let put = Put {
-                    application,
-                    octets: copy,
-                };
-                if let Ok(()) = self.puts.push(put) {
-                    return Ok(());
-                }
+            if self.keep(application, octets) {
+                return Ok(());
             }
+        } else if 0 < self.leaves && self.leaves < octets.len() {
+            let leaves = self.leaves;
+            let _kept = self.keep(application, &octets[..leaves]);
         }
         self.refused = self.refused.saturating_add(1);
         Err(PutRefused)

@@ -2,7 +2,10 @@
 
 use crate::refused::{OLD_STATE, STATE, TAIL, is_state};
 use crate::refusing::{Wanted, finish, step};
-use crate::runs::{GREATEST_PACKET, Row, SHORT_REST, TWO_CHANNELS, octets_of, settings_of};
+use crate::runs::{
+    GREATEST_PACKET, HELD_AFTER_FIRST_RECORD, Row, SHORT_REST, TWO_CHANNELS, TWO_PACKETS, octets_of,
+    settings_of,
+};
 use std::alloc::Global;
 use tm_frame::{Layout, LayoutParts, Presence};
 use tm_reassembly::{Channels, Reason, Reassembly, StateFault, StepFault};
@@ -114,6 +117,24 @@ fn held_and_closed(rt: HostRuntime) {
     assert!(rt; sink.taken == 3);
 }
 
+// How many octets are held of channel 0 behind the first record of a row, and its last count.
+fn kept_of_first(alloc: Global, row: &Row) -> Option<(usize, Option<u8>)> {
+    let octets = octets_of(alloc, row.octets)?;
+    let mut sink = sink_of(alloc, row.items, &octets);
+    let reassembly = after_records(alloc, row, 1, &mut sink)?;
+    if reassembly.failed() {
+        return None;
+    }
+    Some((reassembly.held(0).len(), reassembly.last_count(0)))
+}
+
+#[test]
+fn kept_of_the_first_record(rt: HostRuntime) {
+    let alloc = rt.alloc();
+    assert!(rt; kept_of_first(alloc, &TWO_PACKETS) == Some((0, Some(0))));
+    assert!(rt; kept_of_first(alloc, &HELD_AFTER_FIRST_RECORD) == Some((18, Some(0))));
+}
+
 // What is spelled of the state after three records, of which the first leaves a tail, and the others have two packets.
 fn spelled_state(alloc: Global) -> Option<Vec<u8>> {
     let octets = octets_of(alloc, TWO_CHANNELS.octets)?;
@@ -189,8 +210,9 @@ fn greatest_number_of_records(rt: HostRuntime) {
 }
 
 // In the older spelling the fifth octet is left out, where it says that the master channel has no last count.
-const DECODE_FAULTS: [(bool, &[u8], StateFault); 10] = [
+const DECODE_FAULTS: [(bool, &[u8], StateFault); 11] = [
     (false, &[0, 0, 0], StateFault::Short),
+    (true, &[0, 0, 0], StateFault::Short),
     (false, &[0, 0, 0, 0, 0, 3], StateFault::Flag),
     (true, &[0, 0, 0, 0, 3], StateFault::Flag),
     (

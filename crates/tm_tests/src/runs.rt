@@ -427,7 +427,7 @@ pub(crate) const SHORT_REST: Row = Row {
     order: "//.---",
 };
 
-const SPLIT_WITH_IDLE: Row = Row {
+pub(crate) const SPLIT_WITH_IDLE: Row = Row {
     name: "split-with-idle",
     settings: BASE,
     recording: "02A000001800 0064C000000055 07FFC00000045555555555",
@@ -442,7 +442,7 @@ const SPLIT_WITH_IDLE: Row = Row {
     order: "/(0i).",
 };
 
-const HELD_AFTER_FIRST_RECORD: Row = Row {
+pub(crate) const HELD_AFTER_FIRST_RECORD: Row = Row {
     name: "held-after-first-record",
     settings: BASE,
     recording: "02A000001800 0064C0000013555555555555555555555555 \

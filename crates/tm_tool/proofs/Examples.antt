@@ -19,11 +19,17 @@ use Rattle.tm_items.specs.declared.items.Reason.TheVariants as reason
 use Rattle.tm_rules.specs.Channels.{all_channels}
 use Rattle.tm_reassembly.specs.Recording.{items, after}
 use Rattle.tm_output.specs.declared.command.Command.TheVariants.{Extract, Packets}
-use Rattle.tm_output.specs.declared.command.Ending.TheVariants.{Close}
-use Rattle.tm_checkpoint.specs.Checkpoints.{work_without_master}
+use Rattle.tm_output.specs.declared.command.Ending.TheVariants.{Close, Keep, StopAfter}
+use Rattle.tm_checkpoint.specs.Checkpoints.{framed, resumed, spelled_in, work_without_master}
+use Rattle.tm_frame.specs.ErrorControl.{error_control_of, long_division, subtract}
+use Rattle.tm_packet.specs.Spelling.{state_of}
+use Rattle.tm_reassembly.specs.Checkpoint.{block_read, blocks_read, state_decoding_of, master_read, old_decoding_of}
 use Rattle.tm_output.specs.FieldRows.{tabled, too_short}
 use Rattle.tm_checkpoint.specs.Works.{new_job, Work}
-use Rattle.tm_tool.specs.HeadPieces.{rows_head}
+use Rattle.tm_checkpoint.specs.declared.version.Version.TheVariants as version
+use Rattle.tm_tool.specs.HeadPieces.{head_pieces, rows_head}
+use Rattle.tm_tool.specs.LostGaps.{AllTell, lost_gaps, run_pieces_without_gaps}
+use Rattle.tm_tool.specs.Resuming.{Follows, Stop, resumed_pieces}
 use Rattle.tm_lines.specs.Lines.{drop_line, gap_line, master_gap_line, note_line, packet_line, short_line, short_packet_line}
 use Rattle.tm_output.specs.Outputs.{outs, reports}
 use Rattle.tm_tool.specs.RecordingPieces.{pieces, worked}
@@ -96,6 +102,33 @@ gap_resumed = refl
 gap_resumed_without : reports (pieces (text_of Extract) Close (work_without_master (worked (job 24) before_gap)) with_gap) ≡ behind_master
 unfolding pieces records rest_of items after packet_octets listed report_of item_line master_gap_line gap_line drop_line note_line short_line digits noted notes_of no_entries unclosed_piece layout job fifty_fives packet cut before_gap with_gap behind_master fault_of part number bits_of low_bits
 gap_resumed_without = refl
+
+-- stopped behind each of the three, and resumed through checkpoints of the versions 1, 3 and 2: of one run just that line is left out
+mixed_stops : List Stop
+mixed_stops =
+    record { ending = Keep; recording = take 24 with_gap; version = version.One }
+    ∷ record { ending = StopAfter 1; recording = with_gap; version = version.Three }
+    ∷ record { ending = StopAfter 1; recording = with_gap; version = version.Two } ∷ []
+
+mixed_follows : Follows 24 with_gap [] mixed_stops × AllTell (job 24).rules mixed_stops
+unfolding records layout job fifty_fives packet cut before_gap with_gap mixed_stops
+mixed_follows = (
+  (records 24 (take 24 with_gap), refl, tt, (drop 1 (records 24 with_gap), refl, tt, (drop 2 (records 24 with_gap), refl, tt, (drop 3 (records 24 with_gap), refl)))),
+  (refl, (refl, (refl, tt))),
+)
+
+mixed_lost : lost_gaps (job 24).rules with_gap 0 mixed_stops ≡ 1 ∷ 3 ∷ []
+unfolding records layout job fifty_fives packet cut before_gap with_gap mixed_stops fault_of part number bits_of low_bits
+mixed_lost = refl
+
+mixed_one_run : reports (run_pieces_without_gaps (head_pieces Extract) (text_of Extract) (1 ∷ 3 ∷ []) Close (new_job (job 24).rules) with_gap) ≡ behind_master
+unfolding run_pieces_without_gaps records rest_of items after packet_octets listed report_of item_line master_gap_line gap_line drop_line note_line short_line digits noted notes_of no_entries unclosed_piece layout job fifty_fives packet cut before_gap with_gap behind_master fault_of part number bits_of low_bits
+mixed_one_run = refl
+
+-- so the runs themselves, with their checkpoints
+mixed_runs : reports (resumed_pieces (head_pieces Extract) (text_of Extract) Close with_gap (job 24).rules (new_job (job 24).rules) mixed_stops) ≡ behind_master
+unfolding resumed framed spelled_in mixed_stops pieces state_of block_read blocks_read master_read state_decoding_of old_decoding_of error_control_of long_division subtract records rest_of items after packet_octets listed report_of item_line master_gap_line gap_line drop_line note_line short_line digits noted notes_of no_entries unclosed_piece layout job fifty_fives packet cut before_gap with_gap behind_master fault_of part number bits_of low_bits
+mixed_runs = refl
 
 groups : reports (pieces (text_of Extract) Close (job 27)
     ((0x02 ∷ 0xA0 ∷ 0x00 ∷ 0x00 ∷ 0x18 ∷ 0x00

@@ -1,115 +1,156 @@
--- What a work's pieces lack without its last master channel count: at most one gap of the master channel.
-use Rattle.std.proofs.Common.{◌≡◌, inl, inr, ⊎_elim, ℕ, List, [], ◌∷◌, ◌++◌, length, refl, sym, ap, ◌∙◌, append_assoc, append-nil}
+-- What a work's pieces lack without its last master channel count: the gap of the master channel that the first good frame has.
+use Rattle.std.proofs.Common.{◌≡◌, ⊎_elim, ℕ, ◌+◌, Ok, Err, Option, List, [], ◌∷◌, ◌++◌, length, refl, sym, ap, ◌∙◌, append_assoc, append-nil}
+use Rattle.std.specs.Prelude.{⊤}
 use Rattle.tm_frame.specs.Layout.{record_length_of}
-use Rattle.tm_items.specs.Item.{Item, MasterGap}
+use Rattle.tm_items.specs.Item.{Item, Bad, MasterGap}
 use Rattle.tm_reassembly.specs.OlderForms as forgotten
-use Rattle.tm_reassembly.specs.OlderForms.{IsMasterGapAtMost, LacksMasterGap}
+use Rattle.tm_reassembly.specs.OlderForms.{leading_bad_items, first_master_gap, LacksFirstGap}
+use Rattle.tm_reassembly.specs.Items.{master_gap_item}
+use Rattle.tm_reassembly.specs.Chain.{master_member}
+use Rattle.tm_reassembly.specs.Readings.{Reading}
+use Rattle.tm_reassembly.specs.Recording.{readings}
+use Rattle.tm_reassembly.proofs.Each.{Each}
+use Rattle.tm_reassembly.proofs.Joining.{gap-each}
 use Rattle.tm_reassembly.proofs.OlderForms.{items-lack, states-meet}
 use Rattle.tm_output.specs.declared.command.Command.{Command}
 use Rattle.tm_output.specs.declared.command.Ending.{Ending}
 use Rattle.tm_output.specs.declared.command.Ending.TheVariants.{Close}
 use Rattle.tm_checkpoint.specs.Checkpoints.{work_without_master}
-use Rattle.tm_lines.specs.Lines.{master_gap_line}
-use Rattle.tm_tool.specs.OlderVersions.{gap_piece, IsGapLineAtMost, LacksGapLine}
+use Rattle.tm_tool.specs.OlderVersions.{LacksGapLine, line_pieces}
 use Rattle.tm_output.specs.code.Outlets.{GivesNone, no_text}
 use Rattle.tm_output.specs.Outputs.{Piece}
 use Rattle.tm_packet.specs.Merge.{Entries}
-use Rattle.tm_output.specs.Pieces.{Texts, item_line, noted, noted_all, piece_of, pieces_of, report_of, text_of}
+use Rattle.tm_output.specs.Pieces.{HasLine, Texts, item_line, noted, noted_all, piece_of, pieces_of, report_of, text_of}
 use Rattle.tm_checkpoint.specs.Works.{Work}
 use Rattle.tm_tool.specs.RecordingPieces.{records_for, end_pieces, further, items_of, pieces, record_pieces, worked}
 use Rattle.tm_output.specs.Records.{rest_of}
 use Rattle.tm_output.specs.Shelves.{shelf_text}
 use Rattle.tm_output.specs.code.ShelfLaws.{no_shelf}
-use Rattle.tm_tool.proofs.Running.{IsValid, noted-append, pieces-append}
+use Rattle.tm_tool.proofs.Running.{IsValid, noted-append}
 
--- a gap of the master channel leaves the entries as they are
-gap_noted : (entries : Entries) (gap : List Item) → IsMasterGapAtMost gap → noted_all entries gap ≡ entries
+-- ---- items that are a line for the report, and nothing else
+
+abbrev OnlyLine : Item → Type 0
+OnlyLine (Bad seen fault) = ⊤
+OnlyLine (MasterGap seen expected found missing) = ⊤
+OnlyLine _ = ⊥
+
+bad-lines : (number : ℕ) (rs : List Reading) → Each OnlyLine (leading_bad_items number rs)
+bad-lines number [] = tt
+bad-lines number (Err fault ∷ rs) = (tt, bad-lines (number + 1) rs)
+bad-lines number (Ok f ∷ rs) = tt
+
+gap-lines : (master : Option ℕ) (number : ℕ) (rs : List Reading) → Each OnlyLine (first_master_gap master number rs)
+gap-lines master number [] = tt
+gap-lines master number (Err fault ∷ rs) = gap-lines master (number + 1) rs
+gap-lines master number (Ok f ∷ rs) = gap-each OnlyLine master_gap_item master (master_member number f) (λ expected. tt)
+
+-- they leave the entries as they are
+one-noted : (entries : Entries) (x : Item) → OnlyLine x → noted entries x ≡ entries
 unfolding noted
-gap_noted entries gap (inl e) = ap (noted_all entries) e
-gap_noted entries gap (inr (seen, expected, found, missing, e)) = ap (noted_all entries) e
+one-noted entries (Bad seen fault) h = refl
+one-noted entries (MasterGap seen expected found missing) h = refl
+one-noted entries x h = absurd h
 
--- the items of records from a work, and from it without its last master channel count
-lacks_item : (w : Work) (rs : List (List ℕ)) → IsValid w → LacksMasterGap (items_of w rs) (items_of (work_without_master w) rs)
-lacks_item w rs valid = items-lack w.rules w.state rs valid
+lines-noted : (entries : Entries) (xs : List Item) → Each OnlyLine xs → noted_all entries xs ≡ entries
+lines-noted entries [] h = refl
+lines-noted entries (x ∷ xs) h = ap (λ (e : Entries). noted_all e xs) (one-noted entries x h.0) ∙ lines-noted entries xs h.1
 
-states_same : (w : Work) (rs : List (List ℕ)) → IsValid w
-    → forgotten.without_master (worked w rs).state ≡ forgotten.without_master (worked (work_without_master w) rs).state
-states_same w rs valid =
-    ⊎_elim (λ e. sym (ap forgotten.without_master e)) (λ e. sym (ap forgotten.without_master e.0)) (states-meet w.rules w.state rs valid)
+-- so they stand, and others behind them
+lines-first : (entries : Entries) (xs ys : List Item) → Each OnlyLine xs → noted_all entries (xs ++ ys) ≡ noted_all entries ys
+lines-first entries xs ys h = noted-append entries xs ys ∙ ap (λ (e : Entries). noted_all e ys) (lines-noted entries xs h)
 
-entries_same : (entries : Entries) (xs ys : List Item) → LacksMasterGap xs ys → noted_all entries xs ≡ noted_all entries ys
-entries_same entries xs ys h =
-    rw (h.all_is, noted-append entries h.front (h.gap ++ h.back), noted-append (noted_all entries h.front) h.gap h.back, gap_noted (noted_all entries h.front) h.gap h.gap_is, h.fewer_is)
-    (rw (noted-append entries h.front h.back) refl)
+-- ---- of a work
 
--- the works that records leave differ in the last master channel count alone
-works_same : (w : Work) (rs : List (List ℕ)) → IsValid w → work_without_master (worked w rs) ≡ work_without_master (worked (work_without_master w) rs)
-works_same w rs valid =
-    rw (states_same w rs valid, entries_same w.entries (items_of w rs) (items_of (work_without_master w) rs) (lacks_item w rs valid)) refl
+module _ (w : Work) (rs : List (List ℕ)) (valid : IsValid w) where
+  abbrev bad : List Item
+  bad = leading_bad_items w.state.records (readings w.rules.layout rs)
 
--- of texts that give nothing of a gap of the master channel but its line
-module _ {A : Type 0} (text : Texts A) (none : (seen expected found missing : ℕ) → GivesNone text (MasterGap seen expected found missing)) where
-  line_piece : (entries : Entries) (seen expected found missing : ℕ) → piece_of text entries (MasterGap seen expected found missing) ≡ gap_piece seen expected found missing
-  unfolding report_of item_line
-  line_piece entries seen expected found missing =
-      let gives = none seen expected found missing in
-      let line : List ℕ = master_gap_line seen expected found missing in
-      rw (gives.0, gives.1, append-nil line) refl
+  abbrev gap : List Item
+  gap = first_master_gap w.state.master w.state.records (readings w.rules.layout rs)
 
-  gap_pieces : (entries : Entries) (gap : List Item) → IsMasterGapAtMost gap → IsGapLineAtMost (pieces_of text entries gap)
-  gap_pieces entries gap (inl e) = inl (ap (pieces_of text entries) e)
-  gap_pieces entries gap (inr (seen, expected, found, missing, e)) =
-      inr (seen, expected, found, missing, ap (pieces_of text entries) e ∙ ap (λ (p : Piece A). p ∷ []) (line_piece entries seen expected found missing))
+  bad-are : Each OnlyLine bad
+  bad-are = bad-lines w.state.records (readings w.rules.layout rs)
 
-  -- the pieces of items, and of the same but for a gap, with further ones behind them
-  lacks_piece : (entries : Entries) (xs ys : List Item) (end : List (Piece A)) → LacksMasterGap xs ys → LacksGapLine (pieces_of text entries xs ++ end) (pieces_of text entries ys ++ end)
-  lacks_piece entries xs ys end h =
-      let there : Entries = noted_all entries h.front in
-      let fore : List (Piece A) = pieces_of text entries h.front in
-      let gap : List (Piece A) = pieces_of text there h.gap in
-      let back : List (Piece A) = pieces_of text there h.back in
-      let all : pieces_of text entries xs ≡ fore ++ (gap ++ back) =
-      rw (h.all_is, pieces-append text entries h.front (h.gap ++ h.back), pieces-append text there h.gap h.back, gap_noted there h.gap h.gap_is) refl in
-      let some : pieces_of text entries ys ≡ fore ++ back = ap (pieces_of text entries) h.fewer_is ∙ pieces-append text entries h.front h.back in
-      record {
-        front = fore;
-        gap = gap;
-        back = back ++ end;
-        all_is = rw all (append_assoc fore (gap ++ back) end ∙ ap (λ (ps : List (Piece A)). fore ++ ps) (append_assoc gap back end));
-        fewer_is = rw some (append_assoc fore back end);
-        gap_is = gap_pieces there h.gap h.gap_is;
-      }
+  gap-are : Each OnlyLine gap
+  gap-are = gap-lines w.state.master w.state.records (readings w.rules.layout rs)
 
+  -- the items of records from a work, and from it without its last master channel count
+  lacks_item : LacksFirstGap w.state (readings w.rules.layout rs) (items_of w rs) (items_of (work_without_master w) rs)
+  lacks_item = items-lack w.rules w.state rs valid
+
+  states_same : forgotten.without_master (worked w rs).state ≡ forgotten.without_master (worked (work_without_master w) rs).state
+  states_same =
+      ⊎_elim (λ e. sym (ap forgotten.without_master e)) (λ e. sym (ap forgotten.without_master e.0)) (states-meet w.rules w.state rs valid)
+
+  entries_same : noted_all w.entries (items_of w rs) ≡ noted_all w.entries (items_of (work_without_master w) rs)
+  entries_same =
+      let h = lacks_item in
+      ap (noted_all w.entries) h.all_is
+      ∙ lines-first w.entries bad (gap ++ h.back) bad-are ∙ lines-first w.entries gap h.back gap-are
+      ∙ sym (ap (noted_all w.entries) h.fewer_is ∙ lines-first w.entries bad h.back bad-are)
+
+  -- the works that records leave differ in the last master channel count alone
+  works_same : work_without_master (worked w rs) ≡ work_without_master (worked (work_without_master w) rs)
+  works_same = rw (states_same, entries_same) refl
+
+module _ {A : Type 0} (text : Texts A) where
   -- what an ending has does not rest on the last master channel count
   same_end : (ending : Ending) (w : Work) (rest : ℕ) → end_pieces text ending w rest ≡ end_pieces text ending (work_without_master w) rest
   same_end Close w rest = refl
   same_end _ w rest = refl
 
-  ends_same : (ending : Ending) (w : Work) (rs : List (List ℕ)) (rest : ℕ) → IsValid w
+  pub ends_same : (ending : Ending) (w : Work) (rs : List (List ℕ)) (rest : ℕ) → IsValid w
       → end_pieces text ending (worked (work_without_master w) rs) rest ≡ end_pieces text ending (worked w rs) rest
   ends_same ending w rs rest valid =
       rw (same_end ending (worked (work_without_master w) rs) rest, ← works_same w rs valid) (sym (same_end ending (worked w rs) rest))
 
-  lacks_gap : (ending : Ending) (w : Work) (recording : List ℕ) → IsValid w → LacksGapLine (pieces text ending w recording) (pieces text ending (work_without_master w) recording)
+-- ---- of texts that give nothing of an item with a line but that
+
+module _ {A : Type 0} (text : Texts A) (none : (x : Item) → HasLine x → GivesNone text x) where
+  line_piece : (entries : Entries) (x : Item) → OnlyLine x → piece_of text entries x ≡ record { out = []; report = item_line x }
+  unfolding report_of
+  line_piece entries (Bad seen fault) h =
+      let gives = none (Bad seen fault) tt in rw (gives.0, gives.1, append-nil (item_line (Bad seen fault))) refl
+  line_piece entries (MasterGap seen expected found missing) h =
+      let gives = none (MasterGap seen expected found missing) tt in rw (gives.0, gives.1, append-nil (item_line (MasterGap seen expected found missing))) refl
+  line_piece entries x h = absurd h
+
+  lines-are : (entries : Entries) (xs ys : List Item) → Each OnlyLine xs → pieces_of text entries (xs ++ ys) ≡ line_pieces xs ++ pieces_of text entries ys
+  lines-are entries [] ys h = refl
+  lines-are entries (x ∷ xs) ys h =
+      ap (λ (e : Entries). piece_of text entries x ∷ pieces_of text e (xs ++ ys)) (one-noted entries x h.0)
+      ∙ ap (λ (p : Piece A). p ∷ pieces_of text entries (xs ++ ys)) (line_piece entries x h.0)
+      ∙ ap (λ (ps : List (Piece A)). record { out = []; report = item_line x } ∷ ps) (lines-are entries xs ys h.1)
+
+  lacks_gap : (ending : Ending) (w : Work) (recording : List ℕ) → IsValid w
+      → LacksGapLine w (records_for ending (further w recording)) (pieces text ending w recording) (pieces text ending (work_without_master w) recording)
   unfolding pieces
   lacks_gap ending w recording valid =
       let rs : List (List ℕ) = records_for ending (further w recording) in
       let rest : ℕ = length (rest_of (record_length_of w.rules.layout) recording) in
-      let h = lacks_piece w.entries (items_of w rs) (items_of (work_without_master w) rs) (end_pieces text ending (worked w rs) rest) (lacks_item w rs valid) in
+      let h = lacks_item w rs valid in
+      let end : List (Piece A) = end_pieces text ending (worked w rs) rest in
+      let fore : List (Piece A) = line_pieces (bad w rs valid) in
+      let line : List (Piece A) = line_pieces (gap w rs valid) in
+      let back : List (Piece A) = pieces_of text w.entries h.back in
+      let all : record_pieces text w rs ≡ fore ++ (line ++ back) =
+      ap (pieces_of text w.entries) h.all_is
+      ∙ lines-are w.entries (bad w rs valid) (gap w rs valid ++ h.back) (bad-are w rs valid)
+      ∙ ap (λ (ps : List (Piece A)). fore ++ ps) (lines-are w.entries (gap w rs valid) h.back (gap-are w rs valid)) in
+      let some : record_pieces text (work_without_master w) rs ≡ fore ++ back =
+      ap (pieces_of text w.entries) h.fewer_is ∙ lines-are w.entries (bad w rs valid) h.back (bad-are w rs valid) in
       record {
-        front = h.front;
-        gap = h.gap;
-        back = h.back;
-        all_is = h.all_is;
-        fewer_is = ap (λ (ps : List (Piece A)). record_pieces text (work_without_master w) rs ++ ps) (ends_same ending w rs rest valid) ∙ h.fewer_is;
-        gap_is = h.gap_is;
+        back = back ++ end;
+        all_is = ap (λ (ps : List (Piece A)). ps ++ end) all ∙ append_assoc fore (line ++ back) end ∙ ap (λ (ps : List (Piece A)). fore ++ ps) (append_assoc line back end);
+        fewer_is = ap (λ (ps : List (Piece A)). record_pieces text (work_without_master w) rs ++ ps) (ends_same text ending w rs rest valid)
+            ∙ ap (λ (ps : List (Piece A)). ps ++ end) some ∙ append_assoc fore back end;
       }
 
 pub command_lacks : (command : Command) (ending : Ending) (w : Work) (recording : List ℕ) → IsValid w
-    → LacksGapLine (pieces (text_of command) ending w recording) (pieces (text_of command) ending (work_without_master w) recording)
-command_lacks command ending w recording valid =
-    lacks_gap (text_of command) (λ seen expected found missing. no_text command (MasterGap seen expected found missing) tt) ending w recording valid
+    → LacksGapLine w (records_for ending (further w recording)) (pieces (text_of command) ending w recording) (pieces (text_of command) ending (work_without_master w) recording)
+command_lacks command ending w recording valid = lacks_gap (text_of command) (no_text command) ending w recording valid
 
 pub shelf_lacks : (ending : Ending) (w : Work) (recording : List ℕ) → IsValid w
-    → LacksGapLine (pieces shelf_text ending w recording) (pieces shelf_text ending (work_without_master w) recording)
-shelf_lacks ending w recording valid = lacks_gap shelf_text (λ seen expected found missing. no_shelf (MasterGap seen expected found missing) tt) ending w recording valid
+    → LacksGapLine w (records_for ending (further w recording)) (pieces shelf_text ending w recording) (pieces shelf_text ending (work_without_master w) recording)
+shelf_lacks ending w recording valid = lacks_gap shelf_text no_shelf ending w recording valid

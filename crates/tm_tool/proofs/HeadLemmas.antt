@@ -30,3 +30,9 @@ module _ {old new report : Option (List ℕ)} {failures failures' : ℕ} (report
   head_stopped (Fields definition application) false fault (some, h) = absurd (some refl)
   head_stopped Extract fresh fault (some, h) = absurd (some refl)
   head_stopped Packets fresh fault (some, h) = absurd (some refl)
+
+-- a job that isn't fresh has none
+pub no_later_head : (command : Command) → head_pieces command false ≡ []
+no_later_head Extract = refl
+no_later_head Packets = refl
+no_later_head (Fields definition application) = refl

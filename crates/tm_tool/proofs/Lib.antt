@@ -6,9 +6,11 @@ pub mod RunPieces
 pub mod HeadedRuns
 pub mod HeadLemmas
 pub mod Examples
-pub mod Resumption
+pub mod Stops
 pub mod WorkValid
 pub mod ForgottenCount
+pub mod MixedStops
+pub mod Resumption
 pub mod NoteLemmas
 pub mod RecordCounted
 pub mod SummaryLemmas

@@ -3,6 +3,7 @@ pub mod HeadPieces
 pub mod Runs
 pub mod Resuming
 pub mod OlderVersions
+pub mod LostGaps
 pub mod NotesInAll
 pub mod Summaries
 pub mod code

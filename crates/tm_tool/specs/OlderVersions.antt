@@ -1,21 +1,20 @@
--- What a job reports less that was read from an older version, and so has no last master channel count: at most one gap of the master channel.
-use Rattle.std.specs.Prelude.{◌≡◌, ◌⊎◌, ℕ, List, [], ◌∷◌, ◌++◌}
-use Rattle.tm_lines.specs.Lines.{master_gap_line}
+-- What a job reports less that was read from an older version, and so has no last master channel count: the line of one gap.
+use Rattle.std.specs.Prelude.{◌≡◌, ℕ, List, [], ◌++◌, map}
+use Rattle.tm_items.specs.Item.{Item}
+use Rattle.tm_reassembly.specs.OlderForms.{leading_bad_items, first_master_gap}
+use Rattle.tm_reassembly.specs.Recording.{readings}
 use Rattle.tm_output.specs.Outputs.{Piece}
+use Rattle.tm_output.specs.Pieces.{item_line}
+use Rattle.tm_checkpoint.specs.Works.{Work}
 
--- the piece of a gap of the master channel: its line for the report, and nothing else
-abbrev pub gap_piece : {A : Type 0} → (seen expected found missing : ℕ) → Piece A
-gap_piece seen expected found missing = record { out = []; report = master_gap_line seen expected found missing }
+-- the pieces of items that have a line for the report, and nothing else
+abbrev pub line_pieces : {A : Type 0} → List Item → List (Piece A)
+line_pieces xs = map (λ x. record { out = []; report = item_line x }) xs
 
--- at most one such piece
-abbrev pub IsGapLineAtMost : {A : Type 0} → List (Piece A) → Type 0
-IsGapLineAtMost ps = (ps ≡ []) ⊎ ((seen expected found missing : ℕ) × (ps ≡ gap_piece seen expected found missing ∷ []))
-
--- the fewer pieces are all of them, in their order, but for at most one gap of the master channel
-pub record LacksGapLine {A : Type 0} (all fewer : List (Piece A)) : Type 0 where
-  pub front : List (Piece A)
-  pub gap : List (Piece A)
+-- The fewer pieces are all that begin with these records of a work, in their order, but for the master gap of the first good frame, if one
+-- comes and has one. Before it stand only the lines of bad records.
+pub record LacksGapLine {A : Type 0} (w : Work) (rs : List (List ℕ)) (all fewer : List (Piece A)) : Type 0 where
   pub back : List (Piece A)
-  pub all_is : all ≡ front ++ (gap ++ back)
-  pub fewer_is : fewer ≡ front ++ back
-  pub gap_is : IsGapLineAtMost gap
+  pub all_is : all ≡ line_pieces (leading_bad_items w.state.records (readings w.rules.layout rs))
+      ++ (line_pieces (first_master_gap w.state.master w.state.records (readings w.rules.layout rs)) ++ back)
+  pub fewer_is : fewer ≡ line_pieces (leading_bad_items w.state.records (readings w.rules.layout rs)) ++ back

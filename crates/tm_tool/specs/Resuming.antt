@@ -4,17 +4,25 @@ use Rattle.tm_rules.specs.Rules.{Rules}
 use Rattle.tm_faults.specs.declared.fault.CheckpointFault.{CheckpointFault}
 use Rattle.tm_output.specs.declared.command.Ending.{Ending}
 use Rattle.tm_output.specs.declared.command.Ending.TheVariants.{Close, Keep, StopAfter}
-use Rattle.tm_checkpoint.specs.Checkpoints.{checkpoint_of, resumed}
+use Rattle.tm_checkpoint.specs.Checkpoints.{resumed, spelled_in}
+use Rattle.tm_checkpoint.specs.declared.version.Version.{Version}
+use Rattle.tm_checkpoint.specs.declared.version.Version.TheVariants.{Three}
 use Rattle.tm_checkpoint.specs.Works.{JobState, Work}
 use Rattle.tm_output.specs.Outputs.{Piece}
 use Rattle.tm_output.specs.Pieces.{Texts}
 use Rattle.tm_tool.specs.RecordingPieces.{records_for, further, pieces, worked}
 use Rattle.tm_output.specs.Records.{records}
 
--- a stop: where a run ended, and the recording as it was then
+-- a stop: where a run ended, the recording as it was then, and the version of the checkpoint that was written
 pub record Stop : Type 0 where
   pub ending : Ending
   pub recording : List ℕ
+  pub version : Version
+
+-- each checkpoint is of the version that is written today
+abbrev pub AllOfToday : List Stop → Type 0
+AllOfToday [] = ⊤
+AllOfToday (stop ∷ stops) = (stop.version ≡ Three) × AllOfToday stops
 
 -- a run that ends so keeps its job
 abbrev pub KeepsJob : Ending → Type 0
@@ -36,12 +44,12 @@ module _ {A : Type 0} (head : Bool → List (Piece A)) (text : Texts A) where
   abbrev pub run_pieces : Ending → JobState → List ℕ → List (Piece A)
   run_pieces ending job recording = head job.fresh ++ pieces text ending job.work recording
 
-  -- the pieces of all runs: after each stop the job is written as a checkpoint, and resumed from that with the same settings
+  -- the pieces of all runs: after each stop the job is written as a checkpoint of the stop's version, and resumed from that with the same settings
   abbrev pub resumed_pieces : Ending → List ℕ → Rules → JobState → List Stop → List (Piece A)
   resumed_pieces ending last settings job [] = run_pieces ending job last
   resumed_pieces ending last settings job (stop ∷ stops) =
       run_pieces stop.ending job stop.recording
-      ++ then_pieces (resumed settings (checkpoint_of (left_by stop.ending job.work stop.recording))) (λ next. resumed_pieces ending last settings next stops)
+      ++ then_pieces (resumed settings (spelled_in stop.version (left_by stop.ending job.work stop.recording))) (λ next. resumed_pieces ending last settings next stops)
 
 -- nothing is written before all else
 abbrev pub no_head : {A : Type 0} → Bool → List (Piece A)

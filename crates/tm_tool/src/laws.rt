@@ -17,12 +17,13 @@ ghost use Rattle.tm_checkpoint.specs.declared.version.Version.TheVariants as ver
 ghost use Rattle.tm_tool.specs.HeadPieces.{head_pieces};
 ghost use Rattle.tm_tool.specs.NotesInAll.{pieces_with, sent_among};
 ghost use Rattle.tm_tool.specs.OlderVersions.{LacksGapLine};
+ghost use Rattle.tm_tool.specs.LostGaps.{AllTell, lost_gaps, older_count, run_pieces_without_gaps};
 ghost use Rattle.tm_faults.specs.declared.fault.RunFault.{RunFault};
 ghost use Rattle.tm_output.specs.Outputs.{View};
 ghost use Rattle.tm_output.specs.Pieces.{Texts, noted_all, text_of, way_of};
-ghost use Rattle.tm_tool.specs.RecordingPieces.{items_of, pieces, record_pieces, worked};
+ghost use Rattle.tm_tool.specs.RecordingPieces.{further, items_of, pieces, record_pieces, records_for, worked};
 ghost use Rattle.tm_output.specs.Records.{record_count, records};
-ghost use Rattle.tm_tool.specs.Resuming.{Follows, Stop, done_in_all, in_one, no_head, resumed_pieces, run_pieces, then_pieces};
+ghost use Rattle.tm_tool.specs.Resuming.{AllOfToday, Follows, Stop, done_in_all, in_one, no_head, resumed_pieces, run_pieces, then_pieces};
 ghost use Rattle.tm_output.specs.Shelves.{Shelved, Shelves, shelf_text, shelf_way};
 ghost use Rattle.tm_tool.specs.Summaries.{IsSummarized, IsSummaryStop, SummaryStopped, summary};
 ghost use Rattle.tm_tool.specs.Runs.{Devices, IsHeadedStop, IsSoundWork, IsStop, Outcome, Ran, StoppedIn};
@@ -78,19 +79,44 @@ pub fn notes()
 pub fn resumption()
     ensures run { (command : Command) (ending : Ending) (last : List ℕ) (settings : Rules) (stops : List Stop) →
         length settings.channels ≡ 8 → IsLimit settings.max_packet → AllOctets (records (record_length_of settings.layout) last) → length (records (record_length_of settings.layout) last) < 2 ^ 32 →
-        Follows (record_length_of settings.layout) last [] stops →
+        AllOfToday stops → Follows (record_length_of settings.layout) last [] stops →
         resumed_pieces (head_pieces command) (text_of command) ending last settings (new_job settings) stops
         ≡ run_pieces (head_pieces command) (text_of command) (in_one ending (done_in_all (record_length_of settings.layout) ending last 0 stops)) (new_job settings) last }
     ensures split { (ending : Ending) (last : List ℕ) (settings : Rules) (stops : List Stop) →
         length settings.channels ≡ 8 → IsLimit settings.max_packet → AllOctets (records (record_length_of settings.layout) last) → length (records (record_length_of settings.layout) last) < 2 ^ 32 →
-        Follows (record_length_of settings.layout) last [] stops →
+        AllOfToday stops → Follows (record_length_of settings.layout) last [] stops →
         resumed_pieces no_head shelf_text ending last settings (new_job settings) stops
         ≡ run_pieces no_head shelf_text (in_one ending (done_in_all (record_length_of settings.layout) ending last 0 stops)) (new_job settings) last }
 {}
 
+/// Resumption across versions: the same where each checkpoint is of any version that can tell the settings, but for lines of gaps of the master
+/// channel. For each stop of version 1 or 2 the line is lost of the gap that the first good frame behind it has, if one comes and has one. Nothing
+/// else is lost. So at most one line is lost for each of these stops.
+pub fn resumption_across_versions()
+    ensures run { (command : Command) (ending : Ending) (last : List ℕ) (settings : Rules) (stops : List Stop) →
+        length settings.channels ≡ 8 → IsLimit settings.max_packet → AllOctets (records (record_length_of settings.layout) last) → length (records (record_length_of settings.layout) last) < 2 ^ 32 →
+        AllTell settings stops → Follows (record_length_of settings.layout) last [] stops →
+        resumed_pieces (head_pieces command) (text_of command) ending last settings (new_job settings) stops
+        ≡ run_pieces_without_gaps (head_pieces command) (text_of command) (lost_gaps settings last 0 stops)
+        (in_one ending (done_in_all (record_length_of settings.layout) ending last 0 stops)) (new_job settings) last }
+    ensures split { (ending : Ending) (last : List ℕ) (settings : Rules) (stops : List Stop) →
+        length settings.channels ≡ 8 → IsLimit settings.max_packet → AllOctets (records (record_length_of settings.layout) last) → length (records (record_length_of settings.layout) last) < 2 ^ 32 →
+        AllTell settings stops → Follows (record_length_of settings.layout) last [] stops →
+        resumed_pieces no_head shelf_text ending last settings (new_job settings) stops
+        ≡ run_pieces_without_gaps no_head shelf_text (lost_gaps settings last 0 stops)
+        (in_one ending (done_in_all (record_length_of settings.layout) ending last 0 stops)) (new_job settings) last }
+    ensures few { (command : Command) (ending : Ending) (last : List ℕ) (settings : Rules) (stops : List Stop) → IsLimit settings.max_packet →
+        length (run_pieces (head_pieces command) (text_of command) ending (new_job settings) last)
+        ≤ length (run_pieces_without_gaps (head_pieces command) (text_of command) (lost_gaps settings last 0 stops) ending (new_job settings) last) + older_count stops }
+    ensures shelved_few { (ending : Ending) (last : List ℕ) (settings : Rules) (stops : List Stop) → IsLimit settings.max_packet →
+        length (run_pieces no_head shelf_text ending (new_job settings) last)
+        ≤ length (run_pieces_without_gaps no_head shelf_text (lost_gaps settings last 0 stops) ending (new_job settings) last) + older_count stops }
+{}
+
 /// Older versions: from an older checkpoint a job gives, in this and all further runs, what the job of the same work gives without its last
-/// master channel count. The pieces of a recording from there are those from the work itself, in their order, but for at most one: the line
-/// of a gap of the master channel. So it is for each command, and for packets that are put on a shelf.
+/// master channel count. The pieces of a recording from there are those from the work itself, in their order, but for one line: that of the
+/// gap of the master channel that the first good frame has, if one comes and has one. So it is for each command, and for packets that are put
+/// on a shelf.
 pub fn older_versions()
     ensures run { (v : Version) (w : Work) (command : Command) (ending : Ending) (last : List ℕ) (stops : List Stop) → IsWork w → tells v w.rules ≡ true →
         then_pieces (resumed w.rules (spelled_in v w)) (λ job. resumed_pieces (head_pieces command) (text_of command) ending last w.rules job stops)
@@ -100,9 +126,9 @@ pub fn older_versions()
         ≡ resumed_pieces no_head shelf_text ending last w.rules (record { work = kept_in v w; fresh = false }) stops }
     ensures kept { (w : Work) → (kept_in version.One w ≡ work_without_master w) × (kept_in version.Two w ≡ work_without_master w) × (kept_in version.Three w ≡ w) }
     ensures one_gap { (command : Command) (ending : Ending) (w : Work) (recording : List ℕ) → IsValidState w.rules w.state →
-        LacksGapLine (pieces (text_of command) ending w recording) (pieces (text_of command) ending (work_without_master w) recording) }
+        LacksGapLine w (records_for ending (further w recording)) (pieces (text_of command) ending w recording) (pieces (text_of command) ending (work_without_master w) recording) }
     ensures shelved_gap { (ending : Ending) (w : Work) (recording : List ℕ) → IsValidState w.rules w.state →
-        LacksGapLine (pieces shelf_text ending w recording) (pieces shelf_text ending (work_without_master w) recording) }
+        LacksGapLine w (records_for ending (further w recording)) (pieces shelf_text ending w recording) (pieces shelf_text ending (work_without_master w) recording) }
 {}
 
 /// Summaries of recordings that tell their octets: what `summarize` says of the octets that were read holds of the whole recording. With `Ok` just the

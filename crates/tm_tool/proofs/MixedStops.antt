@@ -1,0 +1,329 @@
+-- Runs that are stopped and resumed, each through a checkpoint of its own version, write what one run writes, but for the gaps that are lost.
+use Rattle.std.proofs.Common.{◌≡◌, ⊎_elim, ◌<◌, ◌≤◌, ◌+◌, ◌^◌, ℕ, suc, if◌then◌else◌, Bool, true, false, List, [], ◌∷◌, ◌++◌, length, drop, refl, sym, ap, subst, ◌∙◌, append_assoc, append-nil, length-append, arith, Ok, Err}
+use Rattle.std.specs.Prelude.{◌==◌, ◌||◌, ◌&&◌, not, Result}
+use Rattle.std.specs.List.{list_any}
+use Rattle.std.proofs.lemmas.Bool.{cases_Bool, cond-true, cond-false, ne_eqb}
+use Rattle.std.proofs.lemmas.List.{length-map}
+use Rattle.std.proofs.lemmas.List.Sums.{sum_by-cons}
+use Rattle.std.proofs.Math.Seq.{drop-append_seam}
+use Rattle.tm_frame.specs.Fault.{frame_reading_of}
+use Rattle.tm_frame.specs.Layout.{record_length_of}
+use Rattle.tm_packet.specs.Merge.{Entries}
+use Rattle.tm_items.specs.Among.{is_master_gap}
+use Rattle.tm_items.specs.Item.{Item, MasterGap, seen_of}
+use Rattle.tm_rules.specs.Rules.{Rules}
+use Rattle.tm_reassembly.specs.OlderForms.{without_master, first_good_record, is_gap_at, without_gaps_at}
+use Rattle.tm_reassembly.specs.Readings.{Reading}
+use Rattle.tm_reassembly.specs.Recording.{readings}
+use Rattle.tm_reassembly.specs.State.{State}
+use Rattle.tm_reassembly.specs.Valid.{AllOctets, IsValidState}
+use Rattle.tm_reassembly.proofs.Each.{Each, Each-append, Each-weaken}
+use Rattle.tm_reassembly.proofs.WithoutGaps.{and-false, without-append, without-but, without-no, without-none}
+use Rattle.tm_reassembly.proofs.OlderForms.{without-first, few-left-out, items-within}
+use Rattle.tm_reassembly.proofs.Raw.{items-join}
+use Rattle.tm_faults.specs.declared.fault.CheckpointFault.{CheckpointFault}
+use Rattle.tm_output.specs.declared.command.Ending.{Ending}
+use Rattle.tm_output.specs.declared.command.Ending.TheVariants.{Close}
+use Rattle.tm_output.specs.Outputs.{Piece}
+use Rattle.tm_output.specs.Pieces.{Texts, noted, piece_of, pieces_of}
+use Rattle.tm_output.specs.Records.{records, rest_of}
+use Rattle.tm_checkpoint.specs.declared.version.Version.{Version}
+use Rattle.tm_checkpoint.specs.declared.version.Version.TheVariants.{One, Two, Three}
+use Rattle.tm_checkpoint.specs.Checkpoints.{form_of, kept_in, kept_state, resumed, spelled_in, work_without_master}
+use Rattle.tm_checkpoint.specs.Works.{IsWork, JobState, Work}
+use Rattle.tm_checkpoint.proofs.CheckpointLemmas.{older_again}
+use Rattle.tm_tool.specs.LostGaps.{AllTell, lost_gaps, done_at, lost_gap_at, older_count, item_pieces_without_gaps, run_pieces_without_gaps}
+use Rattle.tm_tool.specs.RecordingPieces.{records_for, end_pieces, further, items_of, pieces, record_pieces, worked}
+use Rattle.tm_tool.specs.Resuming.{Follows, KeepsJob, Stop, done_by, done_in_all, in_one, left_by, resumed_pieces, run_pieces, then_pieces}
+use Rattle.tm_tool.proofs.ForgottenCount.{ends_same}
+use Rattle.tm_tool.proofs.Running.{IsValid, pieces-append, records-counted, worked-append}
+use Rattle.tm_tool.proofs.Stops.{records_for-counted, records_for_all, taken, whole}
+use Rattle.tm_tool.proofs.WorkValid.{worked-work}
+
+-- ---- items but for gaps
+
+-- numbers from k on
+abbrev AllFrom : ℕ → List ℕ → Type 0
+AllFrom k ns = Each (λ n. k ≤ n) ns
+
+none-early : (k seen : ℕ) (ns : List ℕ) → AllFrom k ns → seen < k → list_any (λ n. seen == n) ns ≡ false
+none-early k seen [] h less = refl
+none-early k seen (n ∷ ns) h less =
+    ap (λ (b : Bool). b || list_any (λ m. seen == m) ns) (ne_eqb seen n (λ e. let low = h.0 in omega arith)) ∙ none-early k seen ns h.1 less
+
+-- no item before k is one of those gaps
+without-early : (k : ℕ) (ns : List ℕ) (xs : List Item) → AllFrom k ns → Each (λ x. seen_of x < k) xs → without_gaps_at ns xs ≡ xs
+without-early k ns xs h less =
+    without-none ns xs
+    (Each-weaken (λ x. seen_of x < k) (λ x. is_gap_at ns x ≡ false) xs (λ x e. ap (λ (b : Bool). is_master_gap x && b) (none-early k (seen_of x) ns h e) ∙ and-false (is_master_gap x)) less)
+
+good-from : (number : ℕ) (rs : List Reading) → AllFrom number (first_good_record number rs)
+good-from number [] = tt
+good-from number (Err fault ∷ rs) = Each-weaken (λ n. number + 1 ≤ n) (λ n. number ≤ n) (first_good_record (number + 1) rs) (λ n e. omega arith) (good-from (number + 1) rs)
+good-from number (Ok f ∷ rs) = (omega arith, tt)
+
+good-one : (number : ℕ) (rs : List Reading) → length (first_good_record number rs) ≤ 1
+good-one number [] = omega arith
+good-one number (Err fault ∷ rs) = good-one (number + 1) rs
+good-one number (Ok f ∷ rs) = omega arith
+
+-- a gap of the master channel leaves the entries as they are
+gap-noted : (lost : List ℕ) (entries : Entries) (x : Item) → is_gap_at lost x ≡ true → noted entries x ≡ entries
+unfolding noted
+gap-noted lost entries (MasterGap seen expected found missing) e = refl
+gap-noted lost entries x e = absurd (cc)
+
+-- the pieces but for those gaps are those of the items but for them
+pub without-pieces : {A : Type 0} (text : Texts A) (lost : List ℕ) (entries : Entries) (xs : List Item)
+    → item_pieces_without_gaps text lost entries xs ≡ pieces_of text entries (without_gaps_at lost xs)
+without-pieces text lost entries [] = refl
+without-pieces {A} text lost entries (x ∷ xs) =
+    let rest : List (Piece A) = item_pieces_without_gaps text lost (noted entries x) xs in
+    ⊎_elim
+    (λ e.
+    ap (λ (ps : List (Piece A)). ps ++ rest) (cond-true (is_gap_at lost x) [] (piece_of text entries x ∷ []) e)
+    ∙ without-pieces text lost (noted entries x) xs
+    ∙ ap (λ (f : Entries). pieces_of text f (without_gaps_at lost xs)) (gap-noted lost entries x e)
+    ∙ sym (ap (pieces_of text entries) (cond-false (not (is_gap_at lost x)) (x ∷ without_gaps_at lost xs) (without_gaps_at lost xs) (ap not e))))
+    (λ e.
+    ap (λ (ps : List (Piece A)). ps ++ rest) (cond-false (is_gap_at lost x) [] (piece_of text entries x ∷ []) e)
+    ∙ ap (λ (ps : List (Piece A)). piece_of text entries x ∷ ps) (without-pieces text lost (noted entries x) xs)
+    ∙ sym (ap (pieces_of text entries) (cond-true (not (is_gap_at lost x)) (x ∷ without_gaps_at lost xs) (without_gaps_at lost xs) (ap not e))))
+    (cases_Bool (is_gap_at lost x))
+
+-- ---- the work that a version keeps
+
+without-state : (rules : Rules) (s : State) → IsValidState rules s → IsValidState rules (without_master s)
+without-state rules s v = record {
+  limit = v.limit;
+  records = v.records;
+  master = tt;
+  shape = record { eight_channels = v.shape.eight_channels; only_chosen = v.shape.only_chosen; tails = v.shape.tails };
+  counts = v.counts;
+  within = v.within;
+}
+
+kept-work : (v : Version) (w : Work) → IsWork w → IsWork (kept_in v w)
+kept-work Three w h = h
+kept-work One w h = record { eight = h.eight; state = without-state w.rules w.state h.state; entries = h.entries }
+kept-work Two w h = record { eight = h.eight; state = without-state w.rules w.state h.state; entries = h.entries }
+
+kept-counted : (v : Version) (s : State) → (kept_state v s).records ≡ s.records
+kept-counted One s = refl
+kept-counted Two s = refl
+kept-counted Three s = refl
+
+lost-from : (settings : Rules) (last : List ℕ) (v : Version) (done : ℕ) → AllFrom done (lost_gap_at settings last v done)
+lost-from settings last Three done = tt
+lost-from settings last One done = good-from done (readings settings.layout (drop done (records (record_length_of settings.layout) last)))
+lost-from settings last Two done = good-from done (readings settings.layout (drop done (records (record_length_of settings.layout) last)))
+
+-- what it gives of items
+module _ (w : Work) (valid : IsValid w) (last : List ℕ) (done : ℕ) (count : w.state.records ≡ done) (t others : List (List ℕ))
+    (is : drop done (records (record_length_of w.rules.layout) last) ≡ t ++ others) where
+  without-lost : items_of (work_without_master w) t
+      ≡ without_gaps_at (first_good_record done (readings w.rules.layout (drop done (records (record_length_of w.rules.layout) last)))) (items_of w t)
+  without-lost =
+      without-first w.rules w.state t others valid
+      ∙ ap (λ (n : ℕ). without_gaps_at (first_good_record n (readings w.rules.layout (t ++ others))) (items_of w t)) count
+      ∙ ap (λ (rs : List (List ℕ)). without_gaps_at (first_good_record done (readings w.rules.layout rs)) (items_of w t)) (sym is)
+
+  items-kept : (v : Version) → items_of (kept_in v w) t ≡ without_gaps_at (lost_gap_at w.rules last v done) (items_of w t)
+  items-kept Three = sym (without-no (items_of w t))
+  items-kept One = without-lost
+  items-kept Two = without-lost
+
+ends-kept : {A : Type 0} (text : Texts A) (ending : Ending) (v : Version) (w : Work) (t : List (List ℕ)) (rest : ℕ) → IsValid w
+    → end_pieces text ending (worked (kept_in v w) t) rest ≡ end_pieces text ending (worked w t) rest
+ends-kept text ending Three w t rest valid = refl
+ends-kept text ending One w t rest valid = ends_same text ending w t rest valid
+ends-kept text ending Two w t rest valid = ends_same text ending w t rest valid
+
+-- ---- all runs
+
+middle-octets : (done more others : List (List ℕ)) → AllOctets ((done ++ more) ++ others) → AllOctets more
+middle-octets [] [] others all = tt
+middle-octets [] (rs ∷ more) others all = (all.0, middle-octets [] more others all.1)
+middle-octets (rs ∷ done) more others all = middle-octets done more others all.1
+
+no_end : {A : Type 0} (text : Texts A) (ending : Ending) (w : Work) (rest : ℕ) → KeepsJob ending → end_pieces text ending w rest ≡ []
+no_end text Close w rest keeps = absurd keeps
+no_end text _ w rest keeps = refl
+
+same_end : {A : Type 0} (text : Texts A) (ending : Ending) (count : ℕ) (w : Work) (rest : ℕ) → end_pieces text (in_one ending count) w rest ≡ end_pieces text ending w rest
+same_end text Close count w rest = refl
+same_end text _ count w rest = refl
+
+module _ {A : Type 0} (head : Bool → List (Piece A)) (none : head false ≡ []) (text : Texts A) (ending : Ending) (last : List ℕ) (settings : Rules)
+    (octets : AllOctets (records (record_length_of settings.layout) last)) (few : length (records (record_length_of settings.layout) last) < 2 ^ 32) where
+  abbrev size : ℕ
+  size = record_length_of settings.layout
+
+  abbrev work : State → Entries → Work
+  work s e = record { rules = settings; state = s; entries = e }
+
+  -- a run of it
+  module _ (s : State) (e : Entries) (done : List (List ℕ)) (count : s.records ≡ length done) (recording : List ℕ) (more : List (List ℕ)) (is : records size recording ≡ done ++ more) where
+    further_is : further (work s e) recording ≡ more
+    further_is = rw (count, is) (drop-append_seam done more)
+
+    pieces_is : (end : Ending) → pieces text end (work s e) recording
+        ≡ record_pieces text (work s e) (records_for end more) ++ end_pieces text end (worked (work s e) (records_for end more)) (length (rest_of size recording))
+    unfolding pieces
+    pieces_is end = rw further_is refl
+
+  -- the lost gaps are later than what is done
+  all-from : (done : List (List ℕ)) (stops : List Stop) → Follows size last done stops → AllFrom (length done) (lost_gaps settings last (length done) stops)
+  all-from done [] h = tt
+  all-from done (s ∷ stops) (more, is, keeps, rest) =
+      let c : List (List ℕ) = records_for s.ending more in
+      let now : done_by s.ending (length done) (length (records size s.recording)) ≡ length (done ++ c) =
+      rw is (sym (records_for-counted s.ending done more)) in
+      let k : ℕ = length (done ++ c) in
+      let long : length done ≤ length (done ++ c) = omega (arith, length-append done c) in
+      subst (λ (n : ℕ). AllFrom (length done) (lost_gap_at settings last s.version n ++ lost_gaps settings last n stops)) (sym now)
+      (Each-weaken (λ n. length (done ++ c) ≤ n) (λ n. length done ≤ n) (lost_gap_at settings last s.version k ++ lost_gaps settings last k stops) (λ n e. omega (arith, long))
+      (Each-append (λ n. length (done ++ c) ≤ n) (lost_gap_at settings last s.version k) (lost_gaps settings last k stops) (lost-from settings last s.version k) (all-from (done ++ c) stops rest)))
+
+  chain : (s : State) (e : Entries) (done : List (List ℕ)) (fresh : Bool) (stops : List Stop) (h : Follows size last done stops) → AllTell settings stops
+      → s.records ≡ length done → IsWork (work s e)
+      → resumed_pieces head text ending last settings (record { work = work s e; fresh = fresh }) stops
+      ≡ head fresh ++ (pieces_of text e (without_gaps_at (lost_gaps settings last (length done) stops) (items_of (work s e) (taken size ending last done stops h)))
+      ++ end_pieces text ending (worked (work s e) (taken size ending last done stops h)) (length (rest_of size last)))
+  chain s e done fresh [] (more, is) told count v =
+      let rs : List (List ℕ) = records_for ending more in
+      ap (λ (ps : List (Piece A)). head fresh ++ ps)
+      (pieces_is s e done count last more is ending
+      ∙ ap (λ (xs : List Item). pieces_of text e xs ++ end_pieces text ending (worked (work s e) rs) (length (rest_of size last))) (sym (without-no (items_of (work s e) rs))))
+  chain s e done fresh (one ∷ stops) (more, is, keeps, rest) told count v =
+      let c : List (List ℕ) = records_for one.ending more in
+      let t : List (List ℕ) = taken size ending last (done ++ c) stops rest in
+      let k : ℕ = length (done ++ c) in
+      let w : Work = work s e in
+      let next : Work = worked (work s e) c in
+      let kept : Work = kept_in one.version next in
+      let (others, split, all) = whole size ending last (done ++ c) stops rest in
+      let behind : records size last ≡ (done ++ c) ++ (t ++ others) = split ∙ append_assoc (done ++ c) t others in
+      let long : length (records size last) ≡ length done + length c + length (t ++ others) =
+      ap (λ (l : List (List ℕ)). length l) behind ∙ length-append (done ++ c) (t ++ others) ∙ ap (λ (n : ℕ). n + length (t ++ others)) (length-append done c) in
+      let next_work : IsWork next =
+      worked-work w c v (middle-octets done c (t ++ others) (subst AllOctets behind octets)) (omega (arith, count, few, long)) in
+      let next_count : next.state.records ≡ k =
+      records-counted w c ∙ ap (λ (n : ℕ). n + length c) count ∙ sym (length-append done c) in
+      let lost : List ℕ = lost_gap_at settings last one.version k in
+      let later : List ℕ = lost_gaps settings last k stops in
+      let now : done_by one.ending (length done) (length (records size one.recording)) ≡ k = rw is (sym (records_for-counted one.ending done more)) in
+      let end : List (Piece A) = end_pieces text ending (worked next t) (length (rest_of size last)) in
+      -- the run up to the stop
+      let here : run_pieces head text one.ending (record { work = w; fresh = fresh }) one.recording ≡ head fresh ++ record_pieces text w c =
+      ap (λ (ps : List (Piece A)). head fresh ++ ps)
+      (pieces_is s e done count one.recording more is one.ending
+      ∙ ap (λ (ps : List (Piece A)). record_pieces text w c ++ ps) (no_end text one.ending next (length (rest_of size one.recording)) keeps)
+      ∙ append-nil (record_pieces text w c)) in
+      let left : left_by one.ending w one.recording ≡ next =
+      ap (λ (rs : List (List ℕ)). worked w (records_for one.ending rs)) (further_is s e done count one.recording more is) in
+      let again : resumed settings (spelled_in one.version (left_by one.ending w one.recording)) ≡ Ok (record { work = kept; fresh = false }) =
+      ap (λ (x : Work). resumed settings (spelled_in one.version x)) left ∙ older_again one.version next next_work told.0 in
+      -- the runs behind it
+      let there : resumed_pieces head text ending last settings (record { work = kept; fresh = false }) stops
+      ≡ pieces_of text next.entries (without_gaps_at (lost ++ later) (items_of next t)) ++ end =
+      chain (kept_state one.version next.state) next.entries (done ++ c) false stops rest told.1
+      (kept-counted one.version next.state ∙ next_count) (kept-work one.version next next_work)
+      ∙ ap (λ (ps : List (Piece A)). ps ++ (pieces_of text next.entries (without_gaps_at later (items_of kept t)) ++ end_pieces text ending (worked kept t) (length (rest_of size last)))) none
+      ∙ ap (λ (ps : List (Piece A)). pieces_of text next.entries (without_gaps_at later (items_of kept t)) ++ ps)
+      (ends-kept text ending one.version next t (length (rest_of size last)) next_work.state)
+      ∙ ap (λ (xs : List Item). pieces_of text next.entries xs ++ end)
+      (ap (without_gaps_at later)
+      (items-kept next next_work.state last k next_count t others
+      (ap (drop k) behind ∙ drop-append_seam (done ++ c) (t ++ others)) one.version)
+      ∙ without-but lost later (items_of next t)) in
+      -- of one run
+      let early : without_gaps_at (lost ++ later) (items_of w c) ≡ items_of w c =
+      without-early k (lost ++ later) (items_of w c)
+      (Each-append (λ n. length (done ++ c) ≤ n) lost later (lost-from settings last one.version k) (all-from (done ++ c) stops rest))
+      (Each-weaken (λ x. (s.records ≤ seen_of x) × (seen_of x < s.records + length (readings settings.layout c))) (λ x. seen_of x < length (done ++ c)) (items_of w c)
+      (λ x h. let a = h.1 in omega (arith, a, count, length-append done c, length-map c (frame_reading_of settings.layout))) (items-within settings s c)) in
+      let joined : without_gaps_at (lost ++ later) (items_of w (c ++ t)) ≡ items_of w c ++ without_gaps_at (lost ++ later) (items_of next t) =
+      ap (without_gaps_at (lost ++ later)) (items-join settings s c t v.state)
+      ∙ without-append (lost ++ later) (items_of w c) (items_of next t)
+      ∙ ap (λ (xs : List Item). xs ++ without_gaps_at (lost ++ later) (items_of next t)) early in
+      let in_one_run : pieces_of text e (without_gaps_at (lost ++ later) (items_of w (c ++ t))) ++ end_pieces text ending (worked w (c ++ t)) (length (rest_of size last))
+      ≡ record_pieces text w c ++ (pieces_of text next.entries (without_gaps_at (lost ++ later) (items_of next t)) ++ end) =
+      ap (λ (x : Work). pieces_of text e (without_gaps_at (lost ++ later) (items_of w (c ++ t))) ++ end_pieces text ending x (length (rest_of size last))) (worked-append w v.state c t)
+      ∙ ap (λ (ps : List (Piece A)). ps ++ end)
+      (ap (pieces_of text e) joined ∙ pieces-append text e (items_of w c) (without_gaps_at (lost ++ later) (items_of next t)))
+      ∙ append_assoc (record_pieces text w c) (pieces_of text next.entries (without_gaps_at (lost ++ later) (items_of next t))) end in
+      let both : run_pieces head text one.ending (record { work = w; fresh = fresh }) one.recording
+      ++ then_pieces (resumed settings (spelled_in one.version (left_by one.ending w one.recording))) (λ job. resumed_pieces head text ending last settings job stops)
+      ≡ head fresh ++ (record_pieces text w c ++ (pieces_of text next.entries (without_gaps_at (lost ++ later) (items_of next t)) ++ end)) =
+      ap (λ (ps : List (Piece A)). ps ++ then_pieces (resumed settings (spelled_in one.version (left_by one.ending w one.recording))) (λ job. resumed_pieces head text ending last settings job stops)) here
+      ∙ ap (λ (r : Result JobState CheckpointFault). (head fresh ++ record_pieces text w c) ++ then_pieces r (λ job. resumed_pieces head text ending last settings job stops)) again
+      ∙ ap (λ (ps : List (Piece A)). (head fresh ++ record_pieces text w c) ++ ps) there
+      ∙ append_assoc (head fresh) (record_pieces text w c) (pieces_of text next.entries (without_gaps_at (lost ++ later) (items_of next t)) ++ end) in
+      both
+      ∙ ap (λ (ps : List (Piece A)). head fresh ++ ps) (sym in_one_run)
+      ∙ ap (λ (n : ℕ). head fresh ++ (pieces_of text e (without_gaps_at (lost_gap_at settings last one.version n ++ lost_gaps settings last n stops) (items_of w (c ++ t)))
+      ++ end_pieces text ending (worked w (c ++ t)) (length (rest_of size last)))) (sym now)
+
+  -- from a job of which no record is done
+  pub mixed : (s : State) (e : Entries) (fresh : Bool) (stops : List Stop) → Follows size last [] stops → AllTell settings stops
+      → s.records ≡ 0 → IsWork (work s e)
+      → resumed_pieces head text ending last settings (record { work = work s e; fresh = fresh }) stops
+      ≡ run_pieces_without_gaps head text (lost_gaps settings last 0 stops) (in_one ending (done_in_all size ending last 0 stops)) (record { work = work s e; fresh = fresh }) last
+  unfolding run_pieces_without_gaps
+  mixed s e fresh stops h told zero v =
+      let w : Work = work s e in
+      let one : Ending = in_one ending (done_in_all size ending last 0 stops) in
+      let t : List (List ℕ) = taken size ending last [] stops h in
+      let lost : List ℕ = lost_gaps settings last 0 stops in
+      let rest : ℕ = length (rest_of size last) in
+      let records_are : records_for one (further w last) ≡ t =
+      ap (λ (n : ℕ). records_for one (drop n (records size last))) zero ∙ records_for_all size ending last stops h in
+      chain s e [] fresh stops h told zero v
+      ∙ ap (λ (ps : List (Piece A)). head fresh ++ ps)
+      (ap (λ (ps : List (Piece A)). ps ++ end_pieces text ending (worked w t) rest) (sym (without-pieces text lost e (items_of w t)))
+      ∙ ap (λ (ps : List (Piece A)). item_pieces_without_gaps text lost e (items_of w t) ++ ps)
+      (sym (same_end text ending (done_in_all size ending last 0 stops) (worked w t) rest))
+      ∙ sym (ap (λ (rs : List (List ℕ)). item_pieces_without_gaps text lost e (items_of w rs) ++ end_pieces text one (worked w rs) rest) records_are))
+
+-- ---- how many are left out
+
+lost-one : (settings : Rules) (last : List ℕ) (v : Version) (done : ℕ) → length (lost_gap_at settings last v done) ≤ (if not (form_of v).with_master then 1 else 0)
+lost-one settings last Three done = omega arith
+lost-one settings last One done = good-one done (readings settings.layout (drop done (records (record_length_of settings.layout) last)))
+lost-one settings last Two done = good-one done (readings settings.layout (drop done (records (record_length_of settings.layout) last)))
+
+-- for each stop of an older version one at most
+lost-few : (settings : Rules) (last : List ℕ) (done : ℕ) (stops : List Stop) → length (lost_gaps settings last done stops) ≤ older_count stops
+lost-few settings last done [] = omega arith
+lost-few settings last done (s ∷ stops) =
+    let now : ℕ = done_at settings done s in
+    let one : length (lost_gap_at settings last s.version (done_at settings done s)) ≤ (if not (form_of s.version).with_master then 1 else 0) = lost-one settings last s.version now in
+    let more : length (lost_gaps settings last (done_at settings done s) stops) ≤ older_count stops = lost-few settings last now stops in
+    let sum : older_count (s ∷ stops) ≡ (if not (form_of s.version).with_master then 1 else 0) + older_count stops =
+    sum_by-cons (λ x. if not (form_of x.version).with_master then 1 else 0) s stops in
+    omega (arith, sum, length-append (lost_gap_at settings last s.version (done_at settings done s)) (lost_gaps settings last (done_at settings done s) stops))
+
+length-pieces : {A : Type 0} (text : Texts A) (entries : Entries) (xs : List Item) → length (pieces_of text entries xs) ≡ length xs
+length-pieces text entries [] = refl
+length-pieces text entries (x ∷ xs) = ap (λ (n : ℕ). suc n) (length-pieces text (noted entries x) xs)
+
+pub few : {A : Type 0} (head : Bool → List (Piece A)) (text : Texts A) (ending : Ending) (last : List ℕ) (settings : Rules) (job : JobState) (stops : List Stop)
+    → IsValid job.work
+    → length (run_pieces head text ending job last) ≤ length (run_pieces_without_gaps head text (lost_gaps settings last 0 stops) ending job last) + older_count stops
+unfolding run_pieces_without_gaps pieces
+few {A} head text ending last settings job stops valid =
+    let w : Work = job.work in
+    let rs : List (List ℕ) = records_for ending (further w last) in
+    let lost : List ℕ = lost_gaps settings last 0 stops in
+    let end : List (Piece A) = end_pieces text ending (worked w rs) (length (rest_of (record_length_of w.rules.layout) last)) in
+    let all : length (run_pieces head text ending job last) ≡ length (head job.fresh) + (length (items_of w rs) + length end) =
+    length-append (head job.fresh) (record_pieces text w rs ++ end)
+    ∙ ap (λ (n : ℕ). length (head job.fresh) + n) (length-append (record_pieces text w rs) end ∙ ap (λ (n : ℕ). n + length end) (length-pieces text w.entries (items_of w rs))) in
+    let some : length (run_pieces_without_gaps head text lost ending job last) ≡ length (head job.fresh) + (length (without_gaps_at lost (items_of w rs)) + length end) =
+    length-append (head job.fresh) (item_pieces_without_gaps text lost w.entries (items_of w rs) ++ end)
+    ∙ ap (λ (n : ℕ). length (head job.fresh) + n) (length-append (item_pieces_without_gaps text lost w.entries (items_of w rs)) end
+    ∙ ap (λ (n : ℕ). n + length end) (ap (λ (ps : List (Piece A)). length ps) (without-pieces text lost w.entries (items_of w rs)) ∙ length-pieces text w.entries (without_gaps_at lost (items_of w rs)))) in
+    let left : length (items_of w rs) ≤ length (without_gaps_at lost (items_of w rs)) + length lost = few-left-out w.rules w.state rs lost valid in
+    let least : length lost ≤ older_count stops = lost-few settings last 0 stops in
+    rw (all, some) (omega arith)

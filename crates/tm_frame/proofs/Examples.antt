@@ -6,8 +6,7 @@ use Rattle.tm_frame.specs.declared.layout.LayoutParts.{LayoutParts}
 use Rattle.tm_frame.specs.declared.layout.Presence.TheVariants.{Flag, Always, Never}
 use Rattle.tm_frame.specs.declared.fault.FrameFault.TheVariants.{Crc, Version, Spacecraft, SecondaryFlag, OcfFlag, SecondaryVersion, Layout, Pointer}
 use Rattle.tm_frame.specs.declared.frame.Kind.TheVariants.{Packets, Idle}
-use Rattle.tm_frame.specs.ErrorControl.{error_control_of, long_division, subtract}
-use Rattle.tm_frame.specs.code.Folding.{remainder_from}
+use Rattle.tm_frame.specs.ErrorControl.{error_control_of, table_entry_of, long_division, subtract}
 use Rattle.tm_frame.specs.Fault.{fault_of, frame_reading_of}
 
 -- ---- error control
@@ -24,9 +23,9 @@ control_of_zero : error_control_of (0 ∷ []) ≡ 0xE1F0
 unfolding error_control_of long_division subtract bits_of low_bits number
 control_of_zero = refl
 
-remainder_of_one : remainder_from 0 (bits_of (1 ∷ [])) ≡ 0x1021
-unfolding remainder_from long_division subtract bits_of low_bits number
-remainder_of_one = refl
+entry_of_one : table_entry_of 1 ≡ 0x1021
+unfolding table_entry_of long_division subtract bits_of low_bits number
+entry_of_one = refl
 
 -- ---- faults: frames of 24 octets of spacecraft 42, 18 octets 55 after the six of the primary header
 

@@ -3,6 +3,7 @@ pub mod Linear
 pub mod Fold
 pub mod FoldWords
 pub mod Words
+pub mod Entries
 pub mod HeaderLemmas
 pub mod FaultLemmas
 pub mod Examples

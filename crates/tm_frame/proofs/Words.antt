@@ -104,11 +104,11 @@ divided_linear =
 -- ---- it is right for each single bit, and so for each word
 
 -- two functions agree at each number below n
-abbrev agree : (ℕ → ℕ) → (ℕ → ℕ) → ℕ → Bool
+abbrev pub agree : (ℕ → ℕ) → (ℕ → ℕ) → ℕ → Bool
 agree f g zero = true
 agree f g (suc n) = (f n == g n) && agree f g n
 
-agree_at : (f g : ℕ → ℕ) (n k : ℕ) → agree f g n ≡ true → k < n → f k ≡ g k
+pub agree_at : (f g : ℕ → ℕ) (n k : ℕ) → agree f g n ≡ true → k < n → f k ≡ g k
 agree_at f g zero k h below = absurd (omega arith)
 agree_at f g (suc n) k h below =
     let parts : ((f n == g n) ≡ true) × (agree f g n ≡ true) = and_parts (f n == g n) (agree f g n) h in

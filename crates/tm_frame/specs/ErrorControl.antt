@@ -35,3 +35,8 @@ invert_first n xs = map not (take n xs) ++ drop n xs
 unfoldable pub error_control_of : List ℕ → ℕ
 error_control_of octets =
     number (long_division (8 * length octets) (invert_first 16 (bits_of octets ++ replicate 16 false)))
+
+-- the entry of an octet in the table of 256: the octet's bits and 16 zero bits, none of them inverted, divided until 16 bits
+-- are left
+unfoldable pub table_entry_of : ℕ → ℕ
+table_entry_of octet = number (long_division 8 (bits_of (octet ∷ []) ++ replicate 16 false))

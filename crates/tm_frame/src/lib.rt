@@ -8,8 +8,10 @@ mod fault;
 mod frame;
 mod header;
 mod layout;
+mod table;
 
 pub use control::error_control;
 pub use fault::FrameFault;
 pub use frame::{Frame, Kind, read, read_good};
 pub use layout::{Layout, LayoutFault, LayoutParts, Presence};
+pub use table::{error_control_by_table, table_entry};

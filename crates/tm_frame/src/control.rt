@@ -1,4 +1,4 @@
-//! Error control (CCSDS 132.0-B-3, 4.1.6), by folding.
+//! Error control (CCSDS 132.0-B-3, 4.1.6), by folding and by a table.
 
 ghost use Rattle.std.specs.Prelude.{◌≡◌, ◌≤◌, ◌<◌, ◌+◌, ◌-◌, ◌*◌, ◌/◌, ◌%◌, ◌∷◌, length, drop, bit_xor};
 ghost use Rattle.tm_bits.specs.Bits.{bits_of, low_bits};
@@ -6,13 +6,20 @@ ghost use Rattle.tm_frame.specs.ErrorControl.{error_control_of};
 ghost use Rattle.tm_frame.specs.Fault.{control_holds};
 ghost use Rattle.tm_frame.specs.code.Folding.{Folds, bits_of_words, remainder_from, shifted, words_remainder};
 
+use crate::table::table_entry;
 use byteorder::{BigEndian, ByteOrder};
+
+// Fewer octets than these go faster by the table: folding takes the time of a block for them.
+const FEW: usize = 16;
 
 /// The error control of octets: the remainder of their bits and 16 zero bits by
 /// `x^16 + x^12 + x^5 + 1`, from a register preset to ones, the most significant bit first.
 pub fn error_control(octets: &[u8]) -> u16
     ensures { result ≡ error_control_of octets.now }
 {
+    if octets.len() < FEW {
+        return error_control_by_table(octets);
+    }
     let (first, blocks) = octets.split_at(octets.len() % 128);
     let mut held = begin(first);
     let mut rest = blocks;
@@ -24,6 +31,18 @@ pub fn error_control(octets: &[u8]) -> u16
     finish(held)
 }
 
+/// The same as `error_control`, octet by octet through the table of 256 entries: the plain program, which is
+/// slower, but for a few octets (CCSDS 132.0-B-3, 4.1.6).
+pub fn error_control_by_table(octets: &[u8]) -> u16
+    ensures { result ≡ error_control_of octets.now }
+{
+    let mut register = 0xFFFF;
+    for octet in octets {
+        register = shift_octet(register, *octet);
+    }
+    register
+}
+
 /// The frame's last two octets are the error control of those before.
 pub fn control_holds(frame: &[u8]) -> bool
     requires { 9 ≤ length frame.now }
@@ -31,6 +50,15 @@ pub fn control_holds(frame: &[u8]) -> bool
 {
     let (before, control) = frame.split_at(frame.len() - 2);
     BigEndian::read_u16(control) == error_control(before)
+}
+
+// The register after an octet. Its high half and the octet choose the entry.
+#[inline(always)]
+#[tactic(auto, using(crate::proofs::Entries::octet_by_entry))]
+fn shift_octet(register: u16, octet: u8) -> u16
+    ensures { result ≡ remainder_from register (low_bits 8 octet) }
+{
+    (register << 8) ^ table_entry((register >> 8) as u8 ^ octet)
 }
 
 // Words with the remainder of the first octets. Zeros in front change no remainder, and that of 0x84CF

@@ -10,8 +10,8 @@ mod header;
 mod layout;
 mod table;
 
-pub use control::error_control;
+pub use control::{error_control, error_control_by_table};
 pub use fault::FrameFault;
 pub use frame::{Frame, Kind, read, read_good};
 pub use layout::{Layout, LayoutFault, LayoutParts, Presence};
-pub use table::{error_control_by_table, table_entry};
+pub use table::table_entry;

@@ -1,10 +1,7 @@
-//! Error control by a table (CCSDS 132.0-B-3, 4.1.6), octet by octet. This is the plain program: folding
-//! has the same contract, and goes faster.
+//! The table of 256 entries, by which error control can go octet by octet (CCSDS 132.0-B-3, 4.1.6).
 
 ghost use Rattle.std.specs.Prelude.{◌≡◌};
-ghost use Rattle.tm_bits.specs.Bits.{low_bits};
-ghost use Rattle.tm_frame.specs.ErrorControl.{error_control_of, table_entry_of};
-ghost use Rattle.tm_frame.specs.code.Folding.{remainder_from};
+ghost use Rattle.tm_frame.specs.ErrorControl.{table_entry_of};
 
 // Entry i is the remainder of octet i and 16 zero bits.
 static TABLE: [u16; 256] = [
@@ -38,25 +35,4 @@ pub fn table_entry(octet: u8) -> u16
     ensures { result ≡ table_entry_of octet }
 {
     TABLE[octet as usize]
-}
-
-/// The error control of octets (CCSDS 132.0-B-3, 4.1.6): what `error_control` gives, octet by octet
-/// through the table of 256 entries.
-pub fn error_control_by_table(octets: &[u8]) -> u16
-    ensures { result ≡ error_control_of octets.now }
-{
-    let mut register = 0xFFFF;
-    for octet in octets {
-        register = shift_octet(register, *octet);
-    }
-    register
-}
-
-// The register after an octet. Its high half and the octet choose the entry.
-#[inline(always)]
-#[tactic(auto, using(crate::proofs::Entries::octet_by_entry))]
-fn shift_octet(register: u16, octet: u8) -> u16
-    ensures { result ≡ remainder_from register (low_bits 8 octet) }
-{
-    (register << 8) ^ table_entry((register >> 8) as u8 ^ octet)
 }

@@ -4,7 +4,7 @@ use Rattle.tm_bits.specs.Bits.{bits_of}
 use Rattle.tm_frame.specs.code.Folding.{remainder_from}
 use Rattle.tm_frame.proofs.Division.{error_control_of-remainder}
 use Rattle.tm_frame.proofs.Entries.{octets_none, octets_step}
-use Rattle.tm_frame.proofs.table.error_control_by_table.Goals as goal
+use Rattle.tm_frame.proofs.control.error_control_by_table.Goals as goal
 
 pub loop-octet-init : goal.loop-octet-init
 loop-octet-init c = octets_none c.args.octets.now

@@ -406,8 +406,9 @@ def added(word, said):
     channel, key = said.get("channel"), (said.get("channel"), said.get("apid"))
     match word:
         case "frame":
-            kinds = [((said["kind"], channel), 1)] if said["kind"] in ("idle", "vca") else []
-            return [("good", 1), (("frames", channel), 1), *kinds]
+            kind, octets = said["kind"], int(said["octets"])
+            counted = ((kind, channel), 1) if kind in ("idle", "vca") else (("data", channel), octets)
+            return [("good", 1), (("frames", channel), 1), counted]
         case "bad":
             return [("bad", 1), (("fault", said["fault"]), 1)]
         case "mastergap":
@@ -468,7 +469,7 @@ def summary(settings, reader, records, rest):
 def channel_summary(numbers, name):
     said = " ".join(
         f"{it}={numbers[it, name]}"
-        for it in ("frames", "idle", "vca", "gaps", "missing", "packets", "octets", "dropped", "lost")
+        for it in ("frames", "idle", "vca", "gaps", "missing", "packets", "octets", "dropped", "lost", "data")
     )
     yield f"channel channel={name} {said}"
     for reason in REASONS:

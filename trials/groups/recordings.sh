@@ -16,7 +16,7 @@ report_line+="|group $at apid=$number first=$number last=$number|stray $at apid=
 report_line+="|shortpacket $at from=$number at=$number needed=$number found=$number)\$"
 summary_line="^(recording records=$number good=$number bad=$number rest=$number|fault word=$fault records=$number"
 summary_line+="|master gaps=$number missing=$number|channel channel=[0-7] frames=$number idle=$number vca=$number gaps=$number"
-summary_line+=" missing=$number packets=$number octets=$number dropped=$number lost=$number"
+summary_line+=" missing=$number packets=$number octets=$number dropped=$number lost=$number data=$number"
 summary_line+="|loss channel=[0-7] reason=(pointer|gap|vca|end|no-start|version|length) parts=$number octets=$number"
 summary_line+="|application channel=[0-7] apid=$number packets=$number octets=$number first=$number last=$number gaps=$number"
 summary_line+=" missing=$number groups=$number broken=$number strays=$number)\$"
@@ -93,6 +93,7 @@ judge_sums() {
     [ "$(in_all recording bad)" = "$(in_all fault records)" ] || echo "bad frames of the summary; "
     [ "$(in_all channel dropped)" = "$(in_all loss parts)" ] || echo "dropped parts of the summary; "
     [ "$(in_all channel lost)" = "$(in_all loss octets)" ] || echo "dropped octets of the summary; "
+    [ "$(in_all channel data)" = $(($(in_all channel octets) + $(in_all channel lost))) ] || echo "data fields of the summary; "
     python3 "$here/reference.py" tiles "$1" found/frames.out found/packets.out found/packets.report ||
         echo "octets are lost or given twice; "
 }

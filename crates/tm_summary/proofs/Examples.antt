@@ -11,9 +11,9 @@ use Rattle.tm_items.specs.Item.{MasterGap, Gap, Vca, Dropped, Packet, Short}
 use Rattle.tm_summary.specs.declared.channel.Loss.{Loss}
 use Rattle.tm_summary.specs.Numbers.{application_of, channel_counts, in_all, items_on, for_numbers}
 
-abbrev frame : Kind → GoodFrame
-frame kind = record {
-  field = [];
+abbrev frame : Kind → ℕ → GoodFrame
+frame kind octets = record {
+  field = replicate octets 85;
   channel = 0;
   master_count = 0;
   count = 0;
@@ -28,7 +28,7 @@ abbrev loss : ℕ → ℕ → Loss
 loss parts octets = record { parts = parts; octets = octets }
 
 -- A frame that is recorded twice: both packets are given, and 255 frames are missing.
-frame_twice : channel_counts (frame (kind.Packets 0) ∷ frame (kind.Packets 0) ∷ [])
+frame_twice : channel_counts (frame (kind.Packets 0) 18 ∷ frame (kind.Packets 0) 18 ∷ [])
     (items_on 0
     (Packet 0 0 0 0 (replicate 18 85) ∷ MasterGap 1 1 0 255 ∷ Gap 1 0 1 0 255 ∷ Packet 1 0 1 0 (replicate 18 85) ∷ []))
     ≡ record {
@@ -41,13 +41,14 @@ frame_twice : channel_counts (frame (kind.Packets 0) ∷ frame (kind.Packets 0) 
       octets = 36;
       dropped = 0;
       lost = 0;
+      data_octets = 36;
       losses = replicate 7 (loss 0 0);
     }
 unfolding in_all for_numbers
 frame_twice = refl
 
 -- A VCA frame ends a packet, what follows it begins with no start, and the end cuts another packet off. What is of channel 1 is left out.
-vca_frame : channel_counts (frame (kind.Packets 0) ∷ frame kind.Vca ∷ frame kind.Idle ∷ frame (kind.Packets 6) ∷ [])
+vca_frame : channel_counts (frame (kind.Packets 0) 18 ∷ frame kind.Vca 18 ∷ frame kind.Idle 18 ∷ frame (kind.Packets 6) 21 ∷ [])
     (items_on 0
     (Packet 0 0 0 0 (replicate 10 85) ∷ Vca 1 0 ∷ Dropped 1 0 0 10 8 why.Vca ∷ Gap 2 1 4 6 2 ∷ Dropped 3 1 3 0 7 why.NoStart
     ∷ Dropped 3 0 3 0 6 why.NoStart ∷ Packet 3 0 3 6 (replicate 12 85) ∷ Short 4 5 ∷ Dropped 4 0 3 18 3 why.Close ∷ []))
@@ -61,6 +62,7 @@ vca_frame : channel_counts (frame (kind.Packets 0) ∷ frame kind.Vca ∷ frame 
       octets = 22;
       dropped = 3;
       lost = 17;
+      data_octets = 39;
       losses = loss 0 0 ∷ loss 0 0 ∷ loss 1 8 ∷ loss 1 3 ∷ loss 1 6 ∷ loss 0 0 ∷ loss 0 0 ∷ [];
     }
 unfolding in_all for_numbers

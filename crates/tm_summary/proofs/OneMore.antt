@@ -11,8 +11,8 @@ use Rattle.tm_items.specs.declared.items.Reason.TheVariants as why
 use Rattle.tm_items.specs.Item.{Item, Gap, Vca, Dropped, Packet, seen_of}
 use Rattle.tm_summary.specs.declared.channel.Loss.{Loss}
 use Rattle.tm_summary.specs.Adding.{drop_more, frame_more, gap_more, loss_more, no_loss, note_more, packet_more, whole_more}
-use Rattle.tm_summary.specs.Kinds.{is_idle_kind, is_gap, gap_missing, is_packet_item, packet_length, is_drop, drop_octets, has_reason, place_of, is_sequence_gap, sequence_missing, is_whole_group, is_broken, is_stray}
-use Rattle.tm_summary.specs.Numbers.{application_of, capped, channel_counts, count_capped, first_seen, how_many, in_all, loss_of, for_numbers}
+use Rattle.tm_summary.specs.Kinds.{is_idle_kind, is_joined_kind, is_gap, gap_missing, is_packet_item, packet_length, is_drop, drop_octets, has_reason, place_of, is_sequence_gap, sequence_missing, is_whole_group, is_broken, is_stray}
+use Rattle.tm_summary.specs.Numbers.{application_of, capped, channel_counts, count_capped, first_seen, how_many, in_all, joined_frames, loss_of, for_numbers}
 use Rattle.tm_summary.proofs.Tables.{table-more, table-same}
 
 -- ---- sums and filters
@@ -69,9 +69,23 @@ place_below why.Length = omega arith
 -- ---- a channel with one frame or item more
 
 module _ (frames : List GoodFrame) (items : List Item) where
-  pub channel_frame : (f : GoodFrame) → channel_counts (frames ++ f ∷ []) items ≡ frame_more (channel_counts frames items) f.kind
+  abbrev field_octets : List GoodFrame → ℕ
+  field_octets fs = in_all (λ (g : GoodFrame). length g.field) fs
+
+  joined_known : (f : GoodFrame) (b : Bool) → is_joined_kind f.kind ≡ b
+      → field_octets (joined_frames (frames ++ f ∷ [])) ≡ (if b then capped (field_octets (joined_frames frames) + length f.field) else field_octets (joined_frames frames))
+  joined_known f true is =
+      ap field_octets (filter_yes (λ (g : GoodFrame). is_joined_kind g.kind) frames f is) ∙ in_all_more (λ (g : GoodFrame). length g.field) (joined_frames frames) f
+  joined_known f false is = ap field_octets (filter_no (λ (g : GoodFrame). is_joined_kind g.kind) frames f is)
+
+  pub channel_frame : (f : GoodFrame) → channel_counts (frames ++ f ∷ []) items ≡ frame_more (channel_counts frames items) f.kind (length f.field)
   channel_frame f =
-      rw (counted_more frames f, how_many_more (λ (g : GoodFrame). is_idle_kind g.kind) frames f, how_many_more (λ (g : GoodFrame). is_vca_kind g.kind) frames f) refl
+      rw (
+        counted_more frames f,
+        how_many_more (λ (g : GoodFrame). is_idle_kind g.kind) frames f,
+        how_many_more (λ (g : GoodFrame). is_vca_kind g.kind) frames f,
+        joined_known f (is_joined_kind f.kind) refl,
+      ) refl
 
   -- where no part is lost, none is lost for any reason
   losses-same : (x : Item) → ((n : ℕ) → has_reason n x ≡ false) → for_numbers 7 (loss_of (items ++ x ∷ [])) ≡ for_numbers 7 (loss_of items)

@@ -52,6 +52,11 @@ module _ {A : Type 0} where
       get_or_at (map f (below n)) (f n) [] d k (length-values n f ∙ sym same) ∙ ap f (sym same))
       (cases_lt k n)
 
+  -- what stands at a place
+  pub table-get : (n k : ℕ) (f : ℕ → A) (d : A) → k < n → get_or (for_numbers n f) k d ≡ f k
+  unfolding for_numbers
+  table-get n k f d h = values-get n k f d h
+
   values-set : (n k : ℕ) (f g : ℕ → A) → ((j : ℕ) → j ≢ k → f j ≡ g j) → k < n → map f (below n) ≡ set (map g (below n)) k (f k)
   values-set zero k f g other h = absurd (omega arith)
   values-set (suc n) k f g other h =

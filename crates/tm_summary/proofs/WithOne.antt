@@ -106,13 +106,13 @@ module _ (t : Tally) where
 
   -- ---- a frame
 
-  pub frame_counted : (f : GoodFrame) → f.channel < 8 → numbers_of (and_frame t f) ≡ with_frame (numbers_of t) f.channel f.kind
+  pub frame_counted : (f : GoodFrame) → f.channel < 8 → numbers_of (and_frame t f) ≡ with_frame (numbers_of t) f.channel f.kind (length f.field)
   unfolding with_frame
   frame_counted f below =
       numbers_are
       (counted_more t.frames f) refl refl refl refl refl
       (table-more 8 f.channel (λ c. channel_counts (frames_of c (t.frames ++ f ∷ [])) (items_on c t.items)) (λ c. channel_counts (frames_of c t.frames) (items_on c t.items))
-      no_channel (λ c. frame_more c f.kind)
+      no_channel (λ c. frame_more c f.kind (length f.field))
       (λ c other. ap (λ (l : List GoodFrame). channel_counts l (items_on c t.items)) (filter_no (λ (g : GoodFrame). g.channel == c) t.frames f (ne_eqb f.channel c (λ e. other (sym e)))))
       below
       (ap (λ (l : List GoodFrame). channel_counts l (items_on f.channel t.items)) (filter_yes (λ (g : GoodFrame). g.channel == f.channel) t.frames f (eq-eqb f.channel f.channel refl))

@@ -11,7 +11,7 @@ use Rattle.tm_items.specs.Item.{Item, Bad, MasterGap, Gap, Vca, Dropped, Packet,
 use Rattle.tm_summary.specs.declared.application.ApplicationCounts.{ApplicationCounts}
 use Rattle.tm_summary.specs.declared.channel.ChannelCounts.{ChannelCounts}
 use Rattle.tm_summary.specs.declared.channel.Loss.{Loss}
-use Rattle.tm_summary.specs.Kinds.{is_idle_kind, place_of}
+use Rattle.tm_summary.specs.Kinds.{is_idle_kind, is_joined_kind, place_of}
 use Rattle.tm_packet.specs.Merge.{pair_key}
 use Rattle.tm_frame.specs.Frame.{is_vca_kind}
 use Rattle.tm_summary.specs.Numbers.{Numbers, application_of, capped, channel_counts}
@@ -31,11 +31,12 @@ no_loss = record { parts = 0; octets = 0 }
 abbrev pub loss_more : Loss → ℕ → Loss
 loss_more l octets = record { parts = capped (l.parts + 1); octets = capped (l.octets + octets) }
 
-abbrev pub frame_more : ChannelCounts → Kind → ChannelCounts
-frame_more c kind = record c {
+abbrev pub frame_more : ChannelCounts → Kind → ℕ → ChannelCounts
+frame_more c kind octets = record c {
   frames = capped (c.frames + 1);
   idle = if is_idle_kind kind then capped (c.idle + 1) else c.idle;
   vca = if is_vca_kind kind then capped (c.vca + 1) else c.vca;
+  data_octets = if is_joined_kind kind then capped (c.data_octets + octets) else c.data_octets;
 }
 
 abbrev pub gap_more : ChannelCounts → ℕ → ChannelCounts
@@ -84,8 +85,10 @@ numbers_with n channels applications = record n { channels = channels; applicati
 abbrev pub in_channel : Numbers → ℕ → (ChannelCounts → ChannelCounts) → Numbers
 in_channel n channel more = numbers_with n (more_at n.channels channel no_channel more) n.applications
 
-unfoldable pub with_frame : Numbers → ℕ → Kind → Numbers
-with_frame n channel kind = record n { good = capped (n.good + 1); channels = more_at n.channels channel no_channel (λ c. frame_more c kind) }
+-- of this channel, whose data field holds this and has so many octets
+unfoldable pub with_frame : Numbers → ℕ → Kind → ℕ → Numbers
+with_frame n channel kind octets =
+    record n { good = capped (n.good + 1); channels = more_at n.channels channel no_channel (λ c. frame_more c kind octets) }
 
 abbrev pub with_bad : Numbers → FrameFault → Numbers
 with_bad n fault = record n { bad = capped (n.bad + 1); faults = more_at n.faults (fault_number fault - 1) 0 (λ k. capped (k + 1)) }

@@ -20,6 +20,13 @@ is_idle_kind NoStart = false
 is_idle_kind Idle = true
 is_idle_kind kind.Vca = false
 
+-- its data field is joined with those of its channel: VCA and idle-only frames are left out
+abbrev pub is_joined_kind : Kind → Bool
+is_joined_kind (Packets place) = true
+is_joined_kind NoStart = true
+is_joined_kind Idle = false
+is_joined_kind kind.Vca = false
+
 -- ---- items
 
 abbrev pub is_bad : Item → Bool

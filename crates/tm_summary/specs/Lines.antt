@@ -50,6 +50,7 @@ channel_line channel c =
     ∷ codes " octets=" ∷ decimal c.octets
     ∷ codes " dropped=" ∷ decimal c.dropped
     ∷ codes " lost=" ∷ decimal c.lost
+    ∷ codes " data=" ∷ decimal c.data_octets
     ∷ codes "\n" ∷ [])
 
 -- what is lost of a channel for a reason

@@ -1,12 +1,12 @@
 -- The numbers of a summary, each of whole lists: how many are of a kind, or the sum of a part of them.
-use Rattle.std.specs.Prelude.{ℕ, zero, suc, ◌+◌, ◌-◌, ◌^◌, ◌==◌, min, Bool, List, [], ◌∷◌, ◌++◌, map, filter, fold, sum_by, if◌then◌else◌}
+use Rattle.std.specs.Prelude.{ℕ, zero, suc, ◌+◌, ◌-◌, ◌^◌, ◌==◌, min, Bool, List, [], ◌∷◌, ◌++◌, length, map, filter, fold, sum_by, if◌then◌else◌}
 use Rattle.tm_frame.specs.Frame.{GoodFrame, is_vca_kind}
 use Rattle.tm_items.specs.Item.{Item, seen_of}
 use Rattle.tm_packet.specs.declared.notes.Note.{Note}
 use Rattle.tm_summary.specs.declared.application.ApplicationCounts.{ApplicationCounts}
 use Rattle.tm_summary.specs.declared.channel.ChannelCounts.{ChannelCounts}
 use Rattle.tm_summary.specs.declared.channel.Loss.{Loss}
-use Rattle.tm_summary.specs.Kinds.{Noted, is_idle_kind, is_bad, has_fault, master_missing, rest_octets, is_gap, gap_missing, is_packet_item, packet_length, is_drop, drop_octets, has_reason, has_key, is_sequence_gap, sequence_missing, is_whole_group, is_broken, is_stray}
+use Rattle.tm_summary.specs.Kinds.{Noted, is_idle_kind, is_joined_kind, is_bad, has_fault, master_missing, rest_octets, is_gap, gap_missing, is_packet_item, packet_length, is_drop, drop_octets, has_reason, has_key, is_sequence_gap, sequence_missing, is_whole_group, is_broken, is_stray}
 use Rattle.tm_items.specs.Among.{is_master_gap, is_of}
 
 -- a number that would be over 2^64 - 1 stays there
@@ -41,6 +41,10 @@ loss_of items n = record {
   octets = in_all drop_octets (filter (has_reason n) items);
 }
 
+-- the good frames whose data fields are joined
+abbrev pub joined_frames : List GoodFrame → List GoodFrame
+joined_frames frames = filter (λ f. is_joined_kind f.kind) frames
+
 -- of a channel that had these good frames and these items
 abbrev pub channel_counts : List GoodFrame → List Item → ChannelCounts
 channel_counts frames items = record {
@@ -53,6 +57,7 @@ channel_counts frames items = record {
   octets = in_all packet_length items;
   dropped = how_many is_drop items;
   lost = in_all drop_octets items;
+  data_octets = in_all (λ f. length f.field) (joined_frames frames);
   losses = for_numbers 7 (loss_of items);
 }
 

@@ -26,8 +26,8 @@ impl Loss {
 }
 
 /// What is counted of a channel: its good frames, the idle-only and VCA frames among them, the gaps of its counts and what is missing
-/// there, its whole packets and their octets, its dropped parts and their octets, and what is lost for each reason, in the order of
-/// `Reason`.
+/// there, its whole packets and their octets, its dropped parts and their octets, the octets of its joined data fields, those of VCA and
+/// idle-only frames left out, and what is lost for each reason, in the order of `Reason`.
 #[derive(Clone, Copy, Debug, PartialEq, Eq)]
 pub struct ChannelCounts {
     pub frames: u64,
@@ -39,6 +39,7 @@ pub struct ChannelCounts {
     pub octets: u64,
     pub dropped: u64,
     pub lost: u64,
+    pub data_octets: u64,
     pub losses: [Loss; 7],
 }
 
@@ -78,19 +79,22 @@ impl ChannelCounts {
             octets: 0,
             dropped: 0,
             lost: 0,
+            data_octets: 0,
             losses: [none; 7],
         }
     }
 
-    // A good frame more, of which this is known of what it holds.
-    pub(crate) fn add_frame(&mut self, kind: Kind)
-        ensures { self.new ≡ frame_more self.old kind }
+    // A good frame more, whose data field holds this and has so many octets.
+    pub(crate) fn add_frame(&mut self, kind: Kind, octets: u64)
+        ensures { self.new ≡ frame_more self.old kind octets }
     {
         self.frames = self.frames.saturating_add(1);
         match kind {
             Kind::Idle => self.idle = self.idle.saturating_add(1),
             Kind::Vca => self.vca = self.vca.saturating_add(1),
-            Kind::Packets(_) | Kind::NoStart => {}
+            Kind::Packets(_) | Kind::NoStart => {
+                self.data_octets = self.data_octets.saturating_add(octets);
+            }
         }
     }
 

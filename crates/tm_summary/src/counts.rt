@@ -99,14 +99,14 @@ impl Counts {
         })
     }
 
-    /// A good frame more, of this channel, which holds this.
+    /// A good frame more, of this channel, whose data field holds this and has so many octets.
     #[tactic(auto, unfolding(crate::specs::Adding::with_frame))]
-    pub fn add_frame(&mut self, channel: u8, kind: Kind)
+    pub fn add_frame(&mut self, channel: u8, kind: Kind, octets: u64)
         requires { channel < 8 }
-        ensures { self.new ≡ with_frame self.old channel kind }
+        ensures { self.new ≡ with_frame self.old channel kind octets }
     {
         self.good = self.good.saturating_add(1);
-        self.channels[usize::from(channel)].add_frame(kind);
+        self.channels[usize::from(channel)].add_frame(kind, octets);
     }
 
     // A bad frame more.

@@ -13,7 +13,7 @@ ghost use Rattle.tm_summary.specs.Tallies.{AllFit, and_items, and_notes, open_no
 
 /// Counting: with one frame, item or note more the numbers are those of the lists with it.
 pub fn counting()
-    ensures frame { (t : Tally) (f : GoodFrame) → f.channel < 8 → numbers_of (and_frame t f) ≡ with_frame (numbers_of t) f.channel f.kind }
+    ensures frame { (t : Tally) (f : GoodFrame) → f.channel < 8 → numbers_of (and_frame t f) ≡ with_frame (numbers_of t) f.channel f.kind (length f.field) }
     ensures item { (t : Tally) (x : Item) → ItemFits x → numbers_of (and_item t x) ≡ with_item (numbers_of t) x }
     ensures note { (t : Tally) (n : Noted) → n.key < 16384 → numbers_of (and_note t n) ≡ with_note (numbers_of t) n.key n.note }
 {}

@@ -62,11 +62,12 @@ pub fn push_channel(
         octets,
         dropped,
         lost,
+        data_octets,
         ..
     } = *counts;
     write!(
         text,
-        "channel channel={channel} frames={frames} idle={idle} vca={vca} gaps={gaps} missing={missing} packets={packets} octets={octets} dropped={dropped} lost={lost}\n"
+        "channel channel={channel} frames={frames} idle={idle} vca={vca} gaps={gaps} missing={missing} packets={packets} octets={octets} dropped={dropped} lost={lost} data={data_octets}\n"
     )
 }
 

@@ -8,7 +8,7 @@ use tm_tool::RunFault;
 /// The lines of the summary of `POINTER_DROP_AND_SEQUENCE_GAP`.
 pub(crate) const SUMMARY: &str = "recording records=2 good=2 bad=0 rest=0\n\
     master gaps=0 missing=0\n\
-    channel channel=0 frames=2 idle=0 vca=0 gaps=0 missing=0 packets=2 octets=20 dropped=2 lost=16\n\
+    channel channel=0 frames=2 idle=0 vca=0 gaps=0 missing=0 packets=2 octets=20 dropped=2 lost=16 data=36\n\
     loss channel=0 reason=pointer parts=2 octets=16\n\
     application channel=0 apid=100 packets=2 octets=20 first=0 last=1 gaps=1 missing=1 groups=0 broken=0 strays=0\n";
 
@@ -18,7 +18,7 @@ const SUMMARIES: [(&str, &str); 27] = [
         "two-packets",
         "recording records=1 good=1 bad=0 rest=0\n\
         master gaps=0 missing=0\n\
-        channel channel=0 frames=1 idle=0 vca=0 gaps=0 missing=0 packets=2 octets=18 dropped=0 lost=0\n\
+        channel channel=0 frames=1 idle=0 vca=0 gaps=0 missing=0 packets=2 octets=18 dropped=0 lost=0 data=18\n\
         application channel=0 apid=100 packets=2 octets=18 first=0 last=0 gaps=0 missing=0 groups=0 broken=0 strays=0\n",
     ),
     (
@@ -30,15 +30,15 @@ const SUMMARIES: [(&str, &str); 27] = [
         "skipped-octets",
         "recording records=1 good=1 bad=0 rest=0\n\
         master gaps=0 missing=0\n\
-        channel channel=0 frames=1 idle=0 vca=0 gaps=0 missing=0 packets=2 octets=18 dropped=0 lost=0\n\
+        channel channel=0 frames=1 idle=0 vca=0 gaps=0 missing=0 packets=2 octets=18 dropped=0 lost=0 data=18\n\
         application channel=0 apid=100 packets=2 octets=18 first=0 last=0 gaps=0 missing=0 groups=0 broken=0 strays=0\n",
     ),
     (
         "two-channels",
         "recording records=4 good=4 bad=0 rest=0\n\
         master gaps=0 missing=0\n\
-        channel channel=0 frames=2 idle=0 vca=0 gaps=0 missing=0 packets=2 octets=36 dropped=0 lost=0\n\
-        channel channel=1 frames=2 idle=0 vca=0 gaps=0 missing=0 packets=2 octets=36 dropped=0 lost=0\n\
+        channel channel=0 frames=2 idle=0 vca=0 gaps=0 missing=0 packets=2 octets=36 dropped=0 lost=0 data=36\n\
+        channel channel=1 frames=2 idle=0 vca=0 gaps=0 missing=0 packets=2 octets=36 dropped=0 lost=0 data=36\n\
         application channel=0 apid=100 packets=2 octets=36 first=3 last=3 gaps=0 missing=0 groups=0 broken=0 strays=0\n\
         application channel=1 apid=100 packets=2 octets=36 first=2 last=2 gaps=0 missing=0 groups=0 broken=0 strays=0\n",
     ),
@@ -46,21 +46,21 @@ const SUMMARIES: [(&str, &str); 27] = [
         "packet-over-three-frames",
         "recording records=3 good=3 bad=0 rest=0\n\
         master gaps=0 missing=0\n\
-        channel channel=0 frames=3 idle=0 vca=0 gaps=0 missing=0 packets=2 octets=54 dropped=0 lost=0\n\
+        channel channel=0 frames=3 idle=0 vca=0 gaps=0 missing=0 packets=2 octets=54 dropped=0 lost=0 data=54\n\
         application channel=0 apid=100 packets=2 octets=54 first=2 last=2 gaps=0 missing=0 groups=0 broken=0 strays=0\n",
     ),
     (
         "split-header-over-idle",
         "recording records=3 good=3 bad=0 rest=0\n\
         master gaps=0 missing=0\n\
-        channel channel=0 frames=3 idle=1 vca=0 gaps=0 missing=0 packets=3 octets=36 dropped=0 lost=0\n\
+        channel channel=0 frames=3 idle=1 vca=0 gaps=0 missing=0 packets=3 octets=36 dropped=0 lost=0 data=36\n\
         application channel=0 apid=100 packets=3 octets=36 first=0 last=2 gaps=0 missing=0 groups=0 broken=0 strays=0\n",
     ),
     (
         "pointer-disagrees",
         "recording records=2 good=2 bad=0 rest=0\n\
         master gaps=0 missing=0\n\
-        channel channel=0 frames=2 idle=0 vca=0 gaps=0 missing=0 packets=2 octets=32 dropped=2 lost=4\n\
+        channel channel=0 frames=2 idle=0 vca=0 gaps=0 missing=0 packets=2 octets=32 dropped=2 lost=4 data=36\n\
         loss channel=0 reason=pointer parts=2 octets=4\n\
         application channel=0 apid=100 packets=2 octets=32 first=0 last=1 gaps=0 missing=0 groups=0 broken=0 strays=0\n",
     ),
@@ -68,7 +68,7 @@ const SUMMARIES: [(&str, &str); 27] = [
         "no-start-dropped",
         "recording records=2 good=2 bad=0 rest=0\n\
         master gaps=0 missing=0\n\
-        channel channel=0 frames=2 idle=0 vca=0 gaps=0 missing=0 packets=1 octets=18 dropped=1 lost=18\n\
+        channel channel=0 frames=2 idle=0 vca=0 gaps=0 missing=0 packets=1 octets=18 dropped=1 lost=18 data=36\n\
         loss channel=0 reason=no-start parts=1 octets=18\n\
         application channel=0 apid=100 packets=1 octets=18 first=0 last=0 gaps=0 missing=0 groups=0 broken=0 strays=0\n",
     ),
@@ -77,7 +77,7 @@ const SUMMARIES: [(&str, &str); 27] = [
         "frame-gap",
         "recording records=4 good=4 bad=0 rest=0\n\
         master gaps=1 missing=1\n\
-        channel channel=0 frames=4 idle=0 vca=0 gaps=1 missing=1 packets=4 octets=58 dropped=2 lost=14\n\
+        channel channel=0 frames=4 idle=0 vca=0 gaps=1 missing=1 packets=4 octets=58 dropped=2 lost=14 data=72\n\
         loss channel=0 reason=gap parts=1 octets=8\n\
         loss channel=0 reason=no-start parts=1 octets=6\n\
         application channel=0 apid=100 packets=4 octets=58 first=0 last=3 gaps=1 missing=1 groups=0 broken=0 strays=0\n",
@@ -86,14 +86,14 @@ const SUMMARIES: [(&str, &str); 27] = [
         "frame-twice",
         "recording records=2 good=2 bad=0 rest=0\n\
         master gaps=1 missing=255\n\
-        channel channel=0 frames=2 idle=0 vca=0 gaps=1 missing=255 packets=2 octets=36 dropped=0 lost=0\n\
+        channel channel=0 frames=2 idle=0 vca=0 gaps=1 missing=255 packets=2 octets=36 dropped=0 lost=0 data=36\n\
         application channel=0 apid=100 packets=2 octets=36 first=0 last=1 gaps=1 missing=16383 groups=0 broken=0 strays=0\n",
     ),
     (
         "other-version",
         "recording records=2 good=2 bad=0 rest=0\n\
         master gaps=0 missing=0\n\
-        channel channel=0 frames=2 idle=0 vca=0 gaps=0 missing=0 packets=2 octets=24 dropped=2 lost=12\n\
+        channel channel=0 frames=2 idle=0 vca=0 gaps=0 missing=0 packets=2 octets=24 dropped=2 lost=12 data=36\n\
         loss channel=0 reason=no-start parts=1 octets=4\n\
         loss channel=0 reason=version parts=1 octets=8\n\
         application channel=0 apid=100 packets=2 octets=24 first=0 last=1 gaps=0 missing=0 groups=0 broken=0 strays=0\n",
@@ -102,21 +102,21 @@ const SUMMARIES: [(&str, &str); 27] = [
         "greatest-packet",
         "recording records=34 good=34 bad=0 rest=0\n\
         master gaps=0 missing=0\n\
-        channel channel=0 frames=34 idle=0 vca=0 gaps=0 missing=0 packets=3 octets=69428 dropped=0 lost=0\n\
+        channel channel=0 frames=34 idle=0 vca=0 gaps=0 missing=0 packets=3 octets=69428 dropped=0 lost=0 data=69428\n\
         application channel=0 apid=100 packets=3 octets=69428 first=0 last=33 gaps=0 missing=0 groups=0 broken=0 strays=0\n",
     ),
     (
         "group-broken-by-gap",
         "recording records=1 good=1 bad=0 rest=0\n\
         master gaps=0 missing=0\n\
-        channel channel=0 frames=1 idle=0 vca=0 gaps=0 missing=0 packets=3 octets=21 dropped=0 lost=0\n\
+        channel channel=0 frames=1 idle=0 vca=0 gaps=0 missing=0 packets=3 octets=21 dropped=0 lost=0 data=21\n\
         application channel=0 apid=100 packets=3 octets=21 first=0 last=0 gaps=1 missing=1 groups=0 broken=1 strays=1\n",
     ),
     (
         "groups",
         "recording records=3 good=3 bad=0 rest=0\n\
         master gaps=0 missing=0\n\
-        channel channel=0 frames=3 idle=0 vca=0 gaps=0 missing=0 packets=7 octets=63 dropped=0 lost=0\n\
+        channel channel=0 frames=3 idle=0 vca=0 gaps=0 missing=0 packets=7 octets=63 dropped=0 lost=0 data=63\n\
         application channel=0 apid=100 packets=6 octets=49 first=0 last=2 gaps=0 missing=0 groups=1 broken=2 strays=0\n\
         application channel=0 apid=2047 packets=1 octets=14 first=2 last=2 gaps=0 missing=0 groups=0 broken=0 strays=0\n",
     ),
@@ -124,14 +124,14 @@ const SUMMARIES: [(&str, &str); 27] = [
         "fields",
         "recording records=1 good=1 bad=0 rest=0\n\
         master gaps=0 missing=0\n\
-        channel channel=0 frames=1 idle=0 vca=0 gaps=0 missing=0 packets=1 octets=16 dropped=0 lost=0\n\
+        channel channel=0 frames=1 idle=0 vca=0 gaps=0 missing=0 packets=1 octets=16 dropped=0 lost=0 data=16\n\
         application channel=0 apid=100 packets=1 octets=16 first=0 last=0 gaps=0 missing=0 groups=0 broken=0 strays=0\n",
     ),
     (
         "vca-frame",
         "recording records=3 good=3 bad=0 rest=0\n\
         master gaps=0 missing=0\n\
-        channel channel=0 frames=3 idle=0 vca=1 gaps=0 missing=0 packets=2 octets=22 dropped=2 lost=14\n\
+        channel channel=0 frames=3 idle=0 vca=1 gaps=0 missing=0 packets=2 octets=22 dropped=2 lost=14 data=36\n\
         loss channel=0 reason=vca parts=1 octets=8\n\
         loss channel=0 reason=no-start parts=1 octets=6\n\
         application channel=0 apid=100 packets=2 octets=22 first=0 last=2 gaps=1 missing=1 groups=0 broken=0 strays=0\n",
@@ -140,16 +140,16 @@ const SUMMARIES: [(&str, &str); 27] = [
         "short-rest",
         "recording records=2 good=2 bad=0 rest=10\n\
         master gaps=0 missing=0\n\
-        channel channel=0 frames=1 idle=0 vca=0 gaps=0 missing=0 packets=0 octets=0 dropped=1 lost=18\n\
+        channel channel=0 frames=1 idle=0 vca=0 gaps=0 missing=0 packets=0 octets=0 dropped=1 lost=18 data=18\n\
         loss channel=0 reason=end parts=1 octets=18\n\
-        channel channel=1 frames=1 idle=0 vca=0 gaps=0 missing=0 packets=0 octets=0 dropped=1 lost=18\n\
+        channel channel=1 frames=1 idle=0 vca=0 gaps=0 missing=0 packets=0 octets=0 dropped=1 lost=18 data=18\n\
         loss channel=1 reason=end parts=1 octets=18\n",
     ),
     (
         "split-with-idle",
         "recording records=1 good=1 bad=0 rest=0\n\
         master gaps=0 missing=0\n\
-        channel channel=0 frames=1 idle=0 vca=0 gaps=0 missing=0 packets=2 octets=18 dropped=0 lost=0\n\
+        channel channel=0 frames=1 idle=0 vca=0 gaps=0 missing=0 packets=2 octets=18 dropped=0 lost=0 data=18\n\
         application channel=0 apid=100 packets=1 octets=7 first=0 last=0 gaps=0 missing=0 groups=0 broken=0 strays=0\n\
         application channel=0 apid=2047 packets=1 octets=11 first=0 last=0 gaps=0 missing=0 groups=0 broken=0 strays=0\n",
     ),
@@ -157,7 +157,7 @@ const SUMMARIES: [(&str, &str); 27] = [
         "held-after-first-record",
         "recording records=1 good=1 bad=0 rest=10\n\
         master gaps=0 missing=0\n\
-        channel channel=0 frames=1 idle=0 vca=0 gaps=0 missing=0 packets=0 octets=0 dropped=1 lost=18\n\
+        channel channel=0 frames=1 idle=0 vca=0 gaps=0 missing=0 packets=0 octets=0 dropped=1 lost=18 data=18\n\
         loss channel=0 reason=end parts=1 octets=18\n",
     ),
     (
@@ -165,13 +165,13 @@ const SUMMARIES: [(&str, &str); 27] = [
         "recording records=2 good=1 bad=1 rest=0\n\
         fault word=crc records=1\n\
         master gaps=0 missing=0\n\
-        channel channel=0 frames=1 idle=1 vca=0 gaps=0 missing=0 packets=0 octets=0 dropped=0 lost=0\n",
+        channel channel=0 frames=1 idle=1 vca=0 gaps=0 missing=0 packets=0 octets=0 dropped=0 lost=0 data=0\n",
     ),
     (
         "long-at-once",
         "recording records=2 good=2 bad=0 rest=0\n\
         master gaps=0 missing=0\n\
-        channel channel=0 frames=2 idle=0 vca=0 gaps=0 missing=0 packets=2 octets=22 dropped=2 lost=14\n\
+        channel channel=0 frames=2 idle=0 vca=0 gaps=0 missing=0 packets=2 octets=22 dropped=2 lost=14 data=36\n\
         loss channel=0 reason=no-start parts=1 octets=6\n\
         loss channel=0 reason=length parts=1 octets=8\n\
         application channel=0 apid=100 packets=2 octets=22 first=0 last=1 gaps=1 missing=1 groups=0 broken=0 strays=0\n",
@@ -180,7 +180,7 @@ const SUMMARIES: [(&str, &str); 27] = [
         "long-split-header",
         "recording records=2 good=2 bad=0 rest=0\n\
         master gaps=0 missing=0\n\
-        channel channel=0 frames=2 idle=0 vca=0 gaps=0 missing=0 packets=3 octets=22 dropped=2 lost=14\n\
+        channel channel=0 frames=2 idle=0 vca=0 gaps=0 missing=0 packets=3 octets=22 dropped=2 lost=14 data=36\n\
         loss channel=0 reason=length parts=2 octets=14\n\
         application channel=0 apid=100 packets=3 octets=22 first=0 last=1 gaps=1 missing=1 groups=0 broken=0 strays=0\n",
     ),
@@ -188,7 +188,7 @@ const SUMMARIES: [(&str, &str); 27] = [
         "long-split-header, where the pointer disagrees too",
         "recording records=2 good=2 bad=0 rest=0\n\
         master gaps=0 missing=0\n\
-        channel channel=0 frames=2 idle=0 vca=0 gaps=0 missing=0 packets=3 octets=23 dropped=2 lost=13\n\
+        channel channel=0 frames=2 idle=0 vca=0 gaps=0 missing=0 packets=3 octets=23 dropped=2 lost=13 data=36\n\
         loss channel=0 reason=pointer parts=2 octets=13\n\
         application channel=0 apid=100 packets=3 octets=23 first=0 last=1 gaps=1 missing=1 groups=0 broken=0 strays=0\n",
     ),
@@ -196,14 +196,14 @@ const SUMMARIES: [(&str, &str); 27] = [
         "long-or-not, where it is long",
         "recording records=1 good=1 bad=0 rest=0\n\
         master gaps=0 missing=0\n\
-        channel channel=0 frames=1 idle=0 vca=0 gaps=0 missing=0 packets=0 octets=0 dropped=1 lost=18\n\
+        channel channel=0 frames=1 idle=0 vca=0 gaps=0 missing=0 packets=0 octets=0 dropped=1 lost=18 data=18\n\
         loss channel=0 reason=length parts=1 octets=18\n",
     ),
     (
         "long-or-not, where it is not",
         "recording records=1 good=1 bad=0 rest=0\n\
         master gaps=0 missing=0\n\
-        channel channel=0 frames=1 idle=0 vca=0 gaps=0 missing=0 packets=1 octets=14 dropped=1 lost=4\n\
+        channel channel=0 frames=1 idle=0 vca=0 gaps=0 missing=0 packets=1 octets=14 dropped=1 lost=4 data=18\n\
         loss channel=0 reason=version parts=1 octets=4\n\
         application channel=0 apid=100 packets=1 octets=14 first=0 last=0 gaps=0 missing=0 groups=0 broken=0 strays=0\n",
     ),
@@ -211,7 +211,7 @@ const SUMMARIES: [(&str, &str); 27] = [
         "master-gap-unchosen",
         "recording records=2 good=2 bad=0 rest=0\n\
         master gaps=1 missing=1\n\
-        channel channel=1 frames=1 idle=0 vca=0 gaps=0 missing=0 packets=1 octets=18 dropped=0 lost=0\n\
+        channel channel=1 frames=1 idle=0 vca=0 gaps=0 missing=0 packets=1 octets=18 dropped=0 lost=0 data=18\n\
         application channel=1 apid=100 packets=1 octets=18 first=1 last=1 gaps=0 missing=0 groups=0 broken=0 strays=0\n",
     ),
 ];

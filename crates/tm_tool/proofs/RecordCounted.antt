@@ -1,5 +1,5 @@
 -- What the items of one record say of its frame, and what is counted of it.
-use Rattle.std.proofs.Common.{◌≡◌, ◌<◌, ◌||◌, ℕ, Bool, true, false, Option, None, Some, List, [], ◌∷◌, ◌++◌, refl, sym, ap, ◌∙◌, append-nil}
+use Rattle.std.proofs.Common.{◌≡◌, ◌<◌, ◌||◌, ℕ, Bool, true, false, Option, None, Some, List, [], ◌∷◌, ◌++◌, length, refl, sym, ap, ◌∙◌, append-nil}
 use Rattle.std.specs.Prelude.{Ok, Err, IsOk, filter, if◌then◌else◌, ◌==◌}
 use Rattle.std.specs.List.{flat_map}
 use Rattle.tm_frame.specs.declared.fault.FrameFault.{FrameFault}
@@ -135,11 +135,11 @@ module _ (w : Work) (octets : List ℕ) (before now : Numbers) (fit : AllFit (it
       (sym (ap (λ (fs : List GoodFrame). t.frames ++ fs) none ∙ append-nil t.frames))
 
   pub counted_good : (f : GoodFrame) → frame_reading_of w.rules.layout octets ≡ Ok f → f.channel < 8
-      → now ≡ with_frame (with_all w.entries before (items_of w (octets ∷ []))) f.channel f.kind
+      → now ≡ with_frame (with_all w.entries before (items_of w (octets ∷ []))) f.channel f.kind (length f.field)
       → (t : Tally) → before ≡ numbers_of t → now ≡ numbers_of (and_records w t (octets ∷ []))
   counted_good f reads below counted t are =
       let one : good_frames w.rules.layout (octets ∷ []) ≡ f ∷ [] = ap (λ (r : Reading). frames_in r ++ []) reads in
       counted
-      ∙ ap (λ (n : Numbers). with_frame n f.channel f.kind) (all_given t are)
+      ∙ ap (λ (n : Numbers). with_frame n f.channel f.kind (length f.field)) (all_given t are)
       ∙ sym (frame_counted (and_items t w.entries (items_of w (octets ∷ []))) f below)
       ∙ ap (λ (fs : List GoodFrame). numbers_of (record { frames = t.frames ++ fs; items = t.items ++ items_of w (octets ∷ []); notes = t.notes ++ notes_among w.entries (items_of w (octets ∷ [])) })) (sym one)

@@ -54,7 +54,8 @@ impl RecordTaker for Counting<'_> {
         }
         if !self.bad {
             let frame = read_good(&layout, octets);
-            self.counts.add_frame(frame.channel(), frame.kind());
+            let length = frame.field().len() as u64;
+            self.counts.add_frame(frame.channel(), frame.kind(), length);
         }
         Ok(())
     }

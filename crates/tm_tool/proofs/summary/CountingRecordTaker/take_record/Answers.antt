@@ -30,7 +30,7 @@ returns-then-not-self c =
       work = stepped_work c.args.reassembly.now _ _ _ _ c.in-Ok.ensures.left all.noted_is;
       few = c.in-Ok.ensures.asked.1;
       taken = counted_good w c.args.octets.now _ _ all.fit c.read_good-frame.result reads below
-          (c.add_frame.ensures ∙ rw (c.channel.ensures.value, c.kind.ensures.value, all.counted_is) refl);
+          (c.add_frame.ensures ∙ rw (c.channel.ensures.value, c.kind.ensures.value, c.field.ensures.value, all.counted_is) refl);
       refused = tt;
     }
 

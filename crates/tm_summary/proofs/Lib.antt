@@ -6,5 +6,6 @@ pub mod WritingLemmas
 pub mod Examples
 pub mod OpenCounted
 pub mod Tallied
+pub mod Summed
 pub mod Taken
 pub mod GivenLemmas

@@ -1,0 +1,279 @@
+-- The numbers of a table add up to the number of all.
+use Rattle.std.proofs.Common.{◌≡◌, ◌≢◌, ◌<◌, ◌≤◌, ◌+◌, ◌-◌, ◌^◌, ℕ, zero, suc, Bool, true, false, List, [], ◌∷◌, length, map, get_or, refl, sym, ap, subst, ◌∙◌, arith, ⊎_elim, ne_eqb, eq-eqb}
+use Rattle.std.specs.Prelude.{◌==◌, filter, sum, sum_by, if◌then◌else◌}
+use Rattle.std.proofs.lemmas.Bool.{cases_lt}
+use Rattle.std.proofs.lemmas.Bool.Decides.{eqb_tells}
+use Rattle.std.proofs.lemmas.List.Sums.{sum-map, sum_by-cons, sum_by_push}
+use Rattle.tm_frame.specs.declared.fault.FrameFault.TheVariants as fault
+use Rattle.tm_packet.specs.Header.{packet_header_of}
+use Rattle.tm_packet.specs.Merge.{pair_key}
+use Rattle.tm_packet.proofs.AfterValid.{header-range}
+use Rattle.tm_items.specs.declared.items.Reason.{Reason}
+use Rattle.tm_items.specs.declared.items.Reason.TheVariants as why
+use Rattle.tm_items.specs.Item.{Item, Bad, MasterGap, Gap, Vca, Dropped, Packet, Short}
+use Rattle.tm_items.specs.Among.{is_of}
+use Rattle.tm_summary.specs.declared.application.ApplicationCounts.{ApplicationCounts}
+use Rattle.tm_summary.specs.declared.channel.ChannelCounts.{ChannelCounts}
+use Rattle.tm_summary.specs.declared.channel.Loss.{Loss}
+use Rattle.tm_summary.specs.Adding.{no_application, no_channel}
+use Rattle.tm_summary.specs.Kinds.{drop_octets, has_fault, has_key, has_reason, is_bad, is_drop, is_packet_item, packet_length, place_of}
+use Rattle.tm_summary.specs.Numbers.{Tally, application_of, below, capped, channel_counts, for_numbers, frames_of, how_many, in_all, items_on, loss_of, notes_at_key, numbers_of, packets_of}
+use Rattle.tm_summary.specs.Sums.{IsCount, applications_on, counts_on}
+use Rattle.tm_summary.proofs.Tables.{table-get}
+
+-- ---- sums over the numbers below one
+
+values_sum : {A : Type 0} (part : A → ℕ) (f : ℕ → A) (ks : List ℕ) → sum_by part (map f ks) ≡ sum_by (λ k. part (f k)) ks
+values_sum part f [] = refl
+values_sum part f (k ∷ ks) =
+    sum_by-cons part (f k) (map f ks) ∙ ap (λ (n : ℕ). part (f k) + n) (values_sum part f ks) ∙ sym (sum_by-cons (λ (j : ℕ). part (f j)) k ks)
+
+total_same : (f g : ℕ → ℕ) (n : ℕ) → ((k : ℕ) → k < n → f k ≡ g k) → sum_by f (below n) ≡ sum_by g (below n)
+total_same f g zero same = refl
+total_same f g (suc n) same =
+    sum_by_push f (below n) n
+    ∙ ap (λ (m : ℕ). m + f n) (total_same f g n (λ k h. same k (omega arith)))
+    ∙ ap (λ (m : ℕ). sum_by g (below n) + m) (same n (omega arith))
+    ∙ sym (sum_by_push g (below n) n)
+
+total_none : (f : ℕ → ℕ) (n : ℕ) → ((k : ℕ) → k < n → f k ≡ 0) → sum_by f (below n) ≡ 0
+total_none f zero none = refl
+total_none f (suc n) none =
+    let before : sum_by f (below n) ≡ 0 = total_none f n (λ k h. none k (omega arith)) in
+    let last : f n ≡ 0 = none n (omega arith) in
+    sum_by_push f (below n) n ∙ omega (arith, before, last)
+
+-- one of them has all
+total_only : (f : ℕ → ℕ) (place part n : ℕ) → ((k : ℕ) → k < n → k ≢ place → f k ≡ 0) → place < n → f place ≡ part → sum_by f (below n) ≡ part
+total_only f place part zero others h here = absurd (omega arith)
+total_only f place part (suc n) others h here =
+    sum_by_push f (below n) n
+    ∙ ⊎_elim
+    (λ (less : place < n).
+    let before : sum_by f (below n) ≡ part = total_only f place part n (λ k inside other. others k (omega arith) other) less here in
+    let last : f n ≡ 0 = others n (omega arith) (λ (e : n ≡ place). omega (arith, less, e)) in
+    omega (arith, before, last))
+    (λ (more : n ≤ place).
+    let same : n ≡ place = omega (arith, h, more) in
+    let before : sum_by f (below n) ≡ 0 = total_none f n (λ k inside. others k (omega arith) (λ (e : k ≡ place). omega (arith, inside, e, more))) in
+    let last : f n ≡ part = ap f same ∙ here in
+    omega (arith, before, last))
+    (cases_lt place n)
+
+total_both : (f g : ℕ → ℕ) (n : ℕ) → sum_by (λ k. f k + g k) (below n) ≡ sum_by f (below n) + sum_by g (below n)
+total_both f g zero = refl
+total_both f g (suc n) =
+    let before : sum_by (λ k. f k + g k) (below n) ≡ sum_by f (below n) + sum_by g (below n) = total_both f g n in
+    rw (sum_by_push (λ k. f k + g k) (below n) n, sum_by_push f (below n) n, sum_by_push g (below n) n) (omega (arith, before))
+
+-- where the sum is below the greatest, so is each
+total_capped : (f : ℕ → ℕ) (n : ℕ) → sum_by f (below n) < 2 ^ 64 - 1 → sum_by (λ k. capped (f k)) (below n) ≡ sum_by f (below n)
+total_capped f zero few = refl
+total_capped f (suc n) few =
+    let all : sum_by f (below n) + f n < 2 ^ 64 - 1 = rw (sum_by_push f (below n) n) at few in
+    let before : sum_by (λ k. capped (f k)) (below n) ≡ sum_by f (below n) = total_capped f n (omega (arith, all)) in
+    rw (sum_by_push (λ k. capped (f k)) (below n) n, sum_by_push f (below n) n) (omega (arith, before, all))
+
+-- over numbers and things, or over things and numbers
+exchanged : {A : Type 0} (table : ℕ → A → ℕ) (whole : A → ℕ) (n : ℕ) → ((x : A) → sum_by (λ k. table k x) (below n) ≡ whole x) → (xs : List A)
+    → sum_by (λ k. sum_by (table k) xs) (below n) ≡ sum_by whole xs
+exchanged table whole n each [] = total_none (λ k. 0) n (λ k h. refl)
+exchanged table whole n each (x ∷ xs) =
+    total_same (λ k. sum_by (table k) (x ∷ xs)) (λ k. table k x + sum_by (table k) xs) n (λ k h. sum_by-cons (table k) x xs)
+    ∙ total_both (λ k. table k x) (λ k. sum_by (table k) xs) n
+    ∙ ap (λ (m : ℕ). m + sum_by (λ k. sum_by (table k) xs) (below n)) (each x)
+    ∙ ap (λ (m : ℕ). whole x + m) (exchanged table whole n each xs)
+    ∙ sym (sum_by-cons whole x xs)
+
+-- ---- tables
+
+-- each number of a table is of a part of what is there, and each thing is of one of the parts
+table_added : {A B : Type 0} (part : B → ℕ) (f : ℕ → B) (table : ℕ → A → ℕ) (whole : A → ℕ) (n : ℕ) (xs : List A)
+    → ((k : ℕ) → k < n → part (f k) ≡ in_all (table k) xs) → ((x : A) → sum (for_numbers n (λ k. table k x)) ≡ whole x)
+    → IsCount (in_all whole xs) → sum_by part (for_numbers n f) ≡ in_all whole xs
+unfolding for_numbers in_all
+table_added {A} {B} part f table whole n xs are each count =
+    let one : (x : A) → sum_by (λ k. table k x) (below n) ≡ whole x = λ x. sym (sum-map (λ (k : ℕ). table k x) (below n)) ∙ each x in
+    let all : sum_by (λ k. sum_by (table k) xs) (below n) ≡ sum_by whole xs = exchanged table whole n one xs in
+    values_sum part f (below n)
+    ∙ total_same (λ k. part (f k)) (λ k. capped (sum_by (table k) xs)) n are
+    ∙ total_capped (λ k. sum_by (table k) xs) n (omega (arith, all, count))
+    ∙ all
+    ∙ omega (arith, count)
+
+module _ {A : Type 0} (test : A → Bool) (part : A → ℕ) where
+  filter_step : (x : A) (xs : List A) (b : Bool) → sum_by part (if b then x ∷ xs else xs) ≡ (if b then part x else 0) + sum_by part xs
+  filter_step x xs true = sum_by-cons part x xs
+  filter_step x xs false = omega arith
+
+  filter_sum : (xs : List A) → sum_by part (filter test xs) ≡ sum_by (λ x. if test x then part x else 0) xs
+  filter_sum [] = refl
+  filter_sum (x ∷ xs) =
+      filter_step x (filter test xs) (test x)
+      ∙ ap (λ (m : ℕ). (if test x then part x else 0) + m) (filter_sum xs)
+      ∙ sym (sum_by-cons (λ (y : A). if test y then part y else 0) x xs)
+
+  -- the sum over those that pass
+  pub filter_all : (xs : List A) → in_all part (filter test xs) ≡ in_all (λ x. if test x then part x else 0) xs
+  unfolding in_all
+  filter_all xs = ap capped (filter_sum xs)
+
+-- ---- each item is of one fault, of one reason, or of one application of its channel
+
+fault_each : (x : Item) → sum (for_numbers 8 (λ k. if has_fault (k + 1) x then 1 else 0)) ≡ (if is_bad x then 1 else 0)
+unfolding for_numbers
+fault_each (Bad seen fault.Crc) = refl
+fault_each (Bad seen fault.Version) = refl
+fault_each (Bad seen fault.Spacecraft) = refl
+fault_each (Bad seen fault.SecondaryFlag) = refl
+fault_each (Bad seen fault.OcfFlag) = refl
+fault_each (Bad seen fault.SecondaryVersion) = refl
+fault_each (Bad seen fault.Layout) = refl
+fault_each (Bad seen fault.Pointer) = refl
+fault_each (MasterGap seen expected found missing) = refl
+fault_each (Gap seen channel expected found missing) = refl
+fault_each (Vca seen channel) = refl
+fault_each (Dropped seen channel first place octets reason) = refl
+fault_each (Packet seen channel first place octets) = refl
+fault_each (Short seen octets) = refl
+
+-- so much for a part of any reason
+reason_part : (n : ℕ) (reason : Reason) → sum (for_numbers 7 (λ k. if place_of reason == k then n else 0)) ≡ n
+unfolding for_numbers
+reason_part n why.Pointer = omega arith
+reason_part n why.Gap = omega arith
+reason_part n why.Vca = omega arith
+reason_part n why.Close = omega arith
+reason_part n why.NoStart = omega arith
+reason_part n why.Version = omega arith
+reason_part n why.Length = omega arith
+
+none_each : (n : ℕ) → sum (for_numbers n (λ k. 0)) ≡ 0
+unfolding for_numbers
+none_each n = sum-map (λ (k : ℕ). 0) (below n) ∙ total_none (λ k. 0) n (λ k h. refl)
+
+parts_each : (x : Item) → sum (for_numbers 7 (λ k. if has_reason k x then 1 else 0)) ≡ (if is_drop x then 1 else 0)
+parts_each (Bad seen fault) = none_each 7
+parts_each (MasterGap seen expected found missing) = none_each 7
+parts_each (Gap seen channel expected found missing) = none_each 7
+parts_each (Vca seen channel) = none_each 7
+parts_each (Dropped seen channel first place octets reason) = reason_part 1 reason
+parts_each (Packet seen channel first place octets) = none_each 7
+parts_each (Short seen octets) = none_each 7
+
+same_if : (b : Bool) (n : ℕ) → (if b then n else n) ≡ n
+same_if true n = refl
+same_if false n = refl
+
+octets_each : (x : Item) → sum (for_numbers 7 (λ k. if has_reason k x then drop_octets x else 0)) ≡ drop_octets x
+octets_each (Bad seen fault) = none_each 7
+octets_each (MasterGap seen expected found missing) = none_each 7
+octets_each (Gap seen channel expected found missing) = none_each 7
+octets_each (Vca seen channel) = none_each 7
+octets_each (Dropped seen channel first place octets reason) = reason_part octets reason
+octets_each (Packet seen channel first place octets) = none_each 7
+octets_each (Short seen octets) = none_each 7
+
+-- so much for a packet of any application
+application_part : (n channel own application part : ℕ) → n ≤ 2048 → application < n
+    → sum (for_numbers n (λ a. if pair_key own application == pair_key channel a then part else 0)) ≡ (if own == channel then part else 0)
+unfolding for_numbers
+application_part n channel own application part most inside =
+    let f : ℕ → ℕ = λ a. if pair_key own application == pair_key channel a then part else 0 in
+    sum-map f (below n)
+    ∙ ⊎_elim
+    (λ (same : ((own == channel) ≡ true) × (own ≡ channel)).
+    total_only f application part n
+    (λ a h other. rw (ne_eqb (pair_key own application) (pair_key channel a) (λ (e : pair_key own application ≡ pair_key channel a). other (omega (arith, e, same.1)))) refl)
+    inside
+    (rw (eq-eqb (pair_key own application) (pair_key channel application) (omega (arith, same.1))) refl)
+    ∙ rw same.0 refl)
+    (λ (differs : ((own == channel) ≡ false) × (own ≢ channel)).
+    total_none f n
+    (λ a h. rw (ne_eqb (pair_key own application) (pair_key channel a) (λ (e : pair_key own application ≡ pair_key channel a). differs.1 (omega (arith, e, h, most, inside)))) refl)
+    ∙ rw differs.0 refl)
+    (eqb_tells own channel)
+
+module _ (channel : ℕ) where
+  abbrev number_on : (Item → ℕ) → Item → ℕ
+  number_on part x = if is_of channel x then part x else 0
+
+  abbrev number_at : (Item → ℕ) → ℕ → Item → ℕ
+  number_at part a x = if has_key (pair_key channel a) x then part x else 0
+
+  packets_each : (x : Item) → sum (for_numbers 2048 (λ a. number_at (λ y. 1) a x)) ≡ number_on (λ y. if is_packet_item y then 1 else 0) x
+  packets_each (Bad seen fault) = none_each 2048
+  packets_each (MasterGap seen expected found missing) = none_each 2048
+  packets_each (Gap seen own expected found missing) = none_each 2048 ∙ sym (same_if (own == channel) 0)
+  packets_each (Vca seen own) = none_each 2048 ∙ sym (same_if (own == channel) 0)
+  packets_each (Dropped seen own first place octets reason) = none_each 2048 ∙ sym (same_if (own == channel) 0)
+  packets_each (Packet seen own first place octets) =
+      application_part 2048 channel own (packet_header_of octets).application 1 (omega arith) ((header-range octets).application)
+  packets_each (Short seen octets) = none_each 2048
+
+  lengths_each : (x : Item) → sum (for_numbers 2048 (λ a. number_at packet_length a x)) ≡ number_on packet_length x
+  lengths_each (Bad seen fault) = none_each 2048
+  lengths_each (MasterGap seen expected found missing) = none_each 2048
+  lengths_each (Gap seen own expected found missing) = none_each 2048 ∙ sym (same_if (own == channel) 0)
+  lengths_each (Vca seen own) = none_each 2048 ∙ sym (same_if (own == channel) 0)
+  lengths_each (Dropped seen own first place octets reason) = none_each 2048 ∙ sym (same_if (own == channel) 0)
+  lengths_each (Packet seen own first place octets) =
+      application_part 2048 channel own (packet_header_of octets).application (length octets) (omega arith) ((header-range octets).application)
+  lengths_each (Short seen octets) = none_each 2048
+
+-- ---- what adds up
+
+pub faults_added : (t : Tally) → IsCount (numbers_of t).bad → sum (numbers_of t).faults ≡ (numbers_of t).bad
+faults_added t count =
+    table_added (λ n. n) (λ n. how_many (has_fault (n + 1)) t.items) (λ k x. if has_fault (k + 1) x then 1 else 0) (λ x. if is_bad x then 1 else 0) 8 t.items
+    (λ k h. refl) fault_each count
+
+module _ (t : Tally) (channel : ℕ) (below_eight : channel < 8) where
+  abbrev here : ChannelCounts
+  here = channel_counts (frames_of channel t.frames) (items_on channel t.items)
+
+  -- the numbers of the channel
+  pub counts_are : counts_on channel (numbers_of t) ≡ here
+  counts_are = table-get 8 channel (λ c. channel_counts (frames_of c t.frames) (items_on c t.items)) no_channel below_eight
+
+  pub parts_added : IsCount (counts_on channel (numbers_of t)).dropped
+      → sum_by (λ l. l.parts) (counts_on channel (numbers_of t)).losses ≡ (counts_on channel (numbers_of t)).dropped
+  parts_added =
+      let P : ChannelCounts → Type 0 = λ c. IsCount c.dropped → sum_by (λ (l : Loss). l.parts) c.losses ≡ c.dropped in
+      subst P (sym counts_are)
+      (table_added (λ (l : Loss). l.parts) (loss_of (items_on channel t.items)) (λ k x. if has_reason k x then 1 else 0) (λ x. if is_drop x then 1 else 0) 7 (items_on channel t.items)
+      (λ k h. refl) parts_each)
+
+  pub lost_added : IsCount (counts_on channel (numbers_of t)).lost
+      → sum_by (λ l. l.octets) (counts_on channel (numbers_of t)).losses ≡ (counts_on channel (numbers_of t)).lost
+  lost_added =
+      let P : ChannelCounts → Type 0 = λ c. IsCount c.lost → sum_by (λ (l : Loss). l.octets) c.losses ≡ c.lost in
+      subst P (sym counts_are)
+      (table_added (λ (l : Loss). l.octets) (loss_of (items_on channel t.items)) (λ k x. if has_reason k x then drop_octets x else 0) drop_octets 7 (items_on channel t.items)
+      (λ k h. filter_all (has_reason k) drop_octets (items_on channel t.items)) octets_each)
+
+  -- those of an application
+  abbrev application : ℕ → ApplicationCounts
+  application key = application_of (packets_of key t.items) (notes_at_key key t.notes)
+
+  application_is : (a : ℕ) → a < 2048 → get_or (numbers_of t).applications (pair_key channel a) no_application ≡ application (pair_key channel a)
+  application_is a h = table-get 16384 (pair_key channel a) application no_application (omega (arith, below_eight, h))
+
+  pub packets_added : IsCount (counts_on channel (numbers_of t)).packets
+      → sum_by (λ a. a.packets) (applications_on channel (numbers_of t)) ≡ (counts_on channel (numbers_of t)).packets
+  packets_added =
+      let all : in_all (number_on channel (λ y. if is_packet_item y then 1 else 0)) t.items ≡ here.packets
+      = sym (filter_all (is_of channel) (λ y. if is_packet_item y then 1 else 0) t.items) in
+      let P : ℕ → Type 0 = λ n. IsCount n → sum_by (λ (a : ApplicationCounts). a.packets) (applications_on channel (numbers_of t)) ≡ n in
+      subst P (all ∙ ap (λ (c : ChannelCounts). c.packets) (sym counts_are))
+      (table_added (λ (a : ApplicationCounts). a.packets) (λ a. get_or (numbers_of t).applications (pair_key channel a) no_application) (number_at channel (λ y. 1)) (number_on channel (λ y. if is_packet_item y then 1 else 0)) 2048 t.items
+      (λ a h. ap (λ (c : ApplicationCounts). c.packets) (application_is a h) ∙ filter_all (has_key (pair_key channel a)) (λ y. 1) t.items) (packets_each channel))
+
+  pub octets_added : IsCount (counts_on channel (numbers_of t)).octets
+      → sum_by (λ a. a.octets) (applications_on channel (numbers_of t)) ≡ (counts_on channel (numbers_of t)).octets
+  octets_added =
+      let all : in_all (number_on channel packet_length) t.items ≡ here.octets = sym (filter_all (is_of channel) packet_length t.items) in
+      let P : ℕ → Type 0 = λ n. IsCount n → sum_by (λ (a : ApplicationCounts). a.octets) (applications_on channel (numbers_of t)) ≡ n in
+      subst P (all ∙ ap (λ (c : ChannelCounts). c.octets) (sym counts_are))
+      (table_added (λ (a : ApplicationCounts). a.octets) (λ a. get_or (numbers_of t).applications (pair_key channel a) no_application) (number_at channel packet_length) (number_on channel packet_length) 2048 t.items
+      (λ a h. ap (λ (c : ApplicationCounts). c.octets) (application_is a h) ∙ filter_all (has_key (pair_key channel a)) packet_length t.items) (lengths_each channel))

@@ -3,25 +3,28 @@
 
     anything.py TMX DEFINITION SECONDS SEED
 
-DEFINITION is fields.csv.  Works in the current folder, until so many seconds are over.  The checkpoints of the steps are
-compared too, and some steps go on from the same job as an older version spells it.  Prints how much was compared, and
-which seeds show a difference; the status is 1 then.
+DEFINITION is fields.csv.  Works in folders in the current one, until so many seconds are over, on two cases at a time: while tmx
+works for one, what the other is to give is worked out.  The checkpoints of the steps are compared too, and some steps go on from the
+same job as an older version spells it.  Prints how much was compared, and which seeds show a difference; the status is 1 then.
 """
 
 import random
 import subprocess
 import sys
+import tempfile
 import time
+from concurrent.futures import ThreadPoolExecutor
 from pathlib import Path
 
 import reference
 
 LENGTHS = (9, 10, 11, 12, 13, 14, 16, 18, 20, 24, 30, 40, 64, 100, 256, 300, 1115, 2047, 2048)
 PARTS = ("flag", "always", "never")
+AT_ONCE = 16
 LIMITS = (7, 8, 9, 12, 20, 50, 100, 200, 300, 1000, 3000, 65541, reference.LONGEST_PACKET)
 
 
-def make_settings(chance):
+def make_settings(chance, folder):
     text = (
         f"spacecraft = {chance.choice((0, 5, 1023))}\n"
         f"frame_length = {chance.choice(LENGTHS)}\n"
@@ -35,19 +38,18 @@ def make_settings(chance):
         text += f"channels = {chance.sample(range(8), chance.randrange(1, 8))}\n"
     if chance.random() < 0.7:
         text += f"max_packet = {chance.choice(LIMITS)}\n"
-    with open("settings", "w", encoding="ascii") as file:
-        file.write(text)
-    return reference.Settings("settings")
+    path = Path(folder, "settings")
+    path.write_text(text, encoding="ascii")
+    return reference.Settings(path)
 
 
-def make_recording(chance, seed, settings):
+def make_recording(chance, seed, settings, folder):
     octets = min(60000, settings.record * chance.randrange(1, 400)) + chance.choice((0, 0, 3))
     recording = bytearray(reference.likely(seed, octets, settings))
     if chance.random() < 0.15:
         for _ in range(len(recording) // 300):
             recording[chance.randrange(len(recording))] = chance.randrange(256)
-    with open("recording", "wb") as file:
-        file.write(recording)
+    Path(folder, "recording").write_bytes(recording)
     return bytes(recording)
 
 
@@ -65,8 +67,8 @@ def wanted(reader, application):
     }
 
 
-def run(words):
-    ran = subprocess.run([*words, "recording"], capture_output=True, check=False)
+def run(words, folder):
+    ran = subprocess.run([*words, "recording"], capture_output=True, cwd=folder, check=False)
     return ran.returncode, ran.stdout, ran.stderr
 
 
@@ -80,55 +82,65 @@ def make_stops(chance, settings, records):
     return stops
 
 
-def run_in_steps(words, kept):
+def run_in_steps(words, kept, folder):
     """The status of the last run, and what all runs gave, joined."""
-    out, report, done, resume = b"", b"", 0, []
+    out, report, done, resume, file = b"", b"", 0, [], Path(folder, "chk")
     for records, (written, resumed) in kept.items():
-        status, *found = run([*words, *resume, "--checkpoint", "chk", "--stop-after", str(records - done)])
-        if status or Path("chk").read_bytes() != written:
+        status, *found = run([*words, *resume, "--checkpoint", "chk", "--stop-after", str(records - done)], folder)
+        if status or file.read_bytes() != written:
             return status, f"the checkpoint after {records} records", *found
-        Path("chk").write_bytes(resumed)
+        file.write_bytes(resumed)
         out, report, done, resume = out + found[0], report + found[1], records, ["--resume", "chk"]
-    status, *found = run([*words, *resume])
+    status, *found = run([*words, *resume], folder)
     return status, out + found[0], report + found[1]
 
 
-def compare_whole(tmx, settings, reader, octets):
+def compare_whole(tmx, settings, reader, octets, folder):
     """How many runs of the commands that can't be stopped were compared, and which of them differ."""
     whole = {
         "frames": text_of(reader.frames),
         "summary": text_of(reference.summary(settings, reader, *divmod(octets, settings.record))),
     }
-    return len(whole), [it for it in whole if run([tmx, it, "--settings", "settings"]) != (0, whole[it], b"")]
+    return len(whole), [it for it in whole if run([tmx, it, "--settings", "settings"], folder) != (0, whole[it], b"")]
 
 
-def compare(tmx, definition, seed):
+def compare(tmx, definition, seed, folder):
     """How many runs were compared, and the commands that differ."""
     chance = random.Random(seed)
-    settings = make_settings(chance)
-    recording = make_recording(chance, seed, settings)
+    settings = make_settings(chance, folder)
+    recording = make_recording(chance, seed, settings, folder)
     application = chance.choice((0, 5, 100, 2046, 2047))
     stops = make_stops(chance, settings, len(recording) // settings.record)
     reader, _ = reference.read_recording(settings, recording)
     stopped, kept = reference.read_recording(settings, recording, stops)
     in_steps = wanted(stopped, application)
-    number, wrong = compare_whole(tmx, settings, reader, len(recording))
+    number, wrong = compare_whole(tmx, settings, reader, len(recording), folder)
     for command, both in wanted(reader, application).items():
         words = [tmx, command, "--settings", "settings"]
         if command == "fields":
             words += ["--definition", definition, "--apid", str(application)]
         number += 2
-        if run(words) != (0, *both) or run_in_steps(words, kept) != (0, *in_steps[command]):
+        if run(words, folder) != (0, *both) or run_in_steps(words, kept, folder) != (0, *in_steps[command]):
             wrong.append(command)
     return number, [f"seed {seed}: {command}" for command in wrong]
 
 
-def main(tmx, definition, seconds, seed):
-    seed, end, number, wrong = int(seed), time.monotonic() + float(seconds), 0, []
-    while time.monotonic() < end:
-        more, differ = compare(tmx, definition, seed)
-        number, wrong, seed = number + more, wrong + differ, seed + 1
-    print(f"{number} runs compared, up to seed {seed - 1}, {len(wrong)} of them differ")
+def compare_apart(tmx, definition, seed):
+    """The same in a folder of its own."""
+    with tempfile.TemporaryDirectory(dir=".") as folder:
+        return compare(tmx, definition, seed, folder)
+
+
+def main(tmx, definition, seconds, first):
+    tmx, definition = Path(tmx).resolve(), Path(definition).resolve()
+    first, end, number, wrong = int(first), time.monotonic() + float(seconds), 0, []
+    with ThreadPoolExecutor(2) as pool:
+        while time.monotonic() < end:
+            seeds = range(first, first + AT_ONCE)
+            for more, differ in pool.map(lambda seed: compare_apart(tmx, definition, seed), seeds):
+                number, wrong = number + more, wrong + differ
+            first += AT_ONCE
+    print(f"{number} runs compared, up to seed {first - 1}, {len(wrong)} of them differ")
     if wrong:
         sys.exit("\n".join(wrong[:10]))
 

@@ -242,8 +242,8 @@ def only_tested(text):
     return text.partition(ONLY_TESTED)[2].partition("\n## ")[0]
 
 
-def wrong_trials(row, groups):
-    for name, target in LINK.findall(row.cells["Tests and trials"]):
+def wrong_trials(text, groups):
+    for name, target in LINK.findall(text):
         path, name = (PAGE.parent / target).resolve(), name.strip("`")
         if path.suffix == ".sh" and path.exists():
             if name not in groups or f"\n{name}() {{" not in path.read_text(encoding="utf-8"):
@@ -270,7 +270,7 @@ def judge(text):
         "each function and clause is in its file": [f"line {row.line}: {it[0]}" for row, it in clauses if it[0]],
         "each planted bug that is named is there": [f"{it.relative_to(CRATES)} is not there" for it in sorted(edits) if not it.exists()],
         "each test that is named is there": [f"{where}: {it[0]}" for where, it in tests if it[0]],
-        "each group of trials that is named is there": [f"line {row.line}: {it}" for row in whole for it in wrong_trials(row, groups)],
+        "each group of trials that is named is there": list(wrong_trials(text, groups)),
         "each planted bug is named": [
             f"no row names {it.relative_to(CRATES)}" for it in sorted(CRATES.glob("*/must-fail/*")) if it not in edits
         ],

@@ -18,6 +18,7 @@ own_folder() {
     ln own/z.rec own/beside.new
     ln -s loop own/loop.new
     ln -s unmade own/later
+    ln -s folder/later own/last
 }
 
 # All that a folder has: names, links, and what files hold.
@@ -31,6 +32,14 @@ clash() {
     folder_state own >before
     gives "$1" 1 "$2" "$3"
     tell "$1: nothing is touched" "$(folder_state own | diff before - 2>&1)"
+}
+
+# The name of a trial, a file, and a command that has it as standard error, and is refused it: it only has the fault's line more.
+errors_clash() {
+    own_folder
+    { [ ! -e "$2" ] || cat "$2"; echo "tmx: $2: failed"; } >had
+    split_clash "$1" "" "$3"
+    tell "$1: the file has the fault's line more" "$(cmp had "$2" 2>&1)"
 }
 
 # Likewise for split, which may have made files of other applications by then: what is read is as it was.
@@ -70,6 +79,12 @@ report_clashes() {
     clash "the report over the checkpoint that is not there" "tmx: own/./c: failed" "$used --report own/./c --checkpoint own/c own/z.rec"
     clash "the report by a link to the checkpoint that is not there" "tmx: own/later: failed" \
         "$used --report own/later --checkpoint own/folder/unmade own/z.rec"
+    clash "the report by two links to the checkpoint that is not there" "tmx: own/last: failed" \
+        "$used --report own/last --checkpoint own/unmade own/z.rec"
+    clash "the report over the checkpoint that is not there, in the folder of the run" "tmx: ./c: failed" \
+        "cd own && $tmx packets --settings s.toml --report ./c --checkpoint c z.rec"
+    clash "the report by a link to the checkpoint that is not there, in the folder of the run" "tmx: later: failed" \
+        "cd own && $tmx packets --settings s.toml --report later --checkpoint unmade z.rec"
     clash "the report over the file of standard output" "tmx: own/hard: failed" "$used --report own/hard $rec >>own/z.rec"
     clash "the report to /dev/stdout, which is a file" "tmx: /dev/stdout: failed" "$used --report /dev/stdout $rec >>own/z.rec"
 }
@@ -86,6 +101,7 @@ checkpoint_clashes() {
     clash "the checkpoint by way of the report" "tmx: own/c: failed" "$used --report own/./c.new --checkpoint own/c own/z.rec"
     clash "the checkpoint by way of a link to itself" "tmx: own/loop: failed" "$used --report own/r --checkpoint own/loop own/z.rec"
     clash "the checkpoint over the file of standard output" "tmx: own/k: failed" "$used --report own/r --checkpoint own/k own/z.rec >>own/k.hard"
+    clash "the checkpoint by a link to the report, neither being there" "tmx: own/unmade: failed" "$used --report own/unmade --checkpoint own/last own/z.rec"
 }
 
 stream_clashes() {
@@ -117,6 +133,8 @@ errors_clashes() {
     clash "settings that are missing, and standard error behind the recording" "" "$tmx packets --settings own/none own/z.rec 2>>own/z.rec"
     clash "a checkpoint that is missing, and standard error behind the settings" "" "$used --resume own/none own/z.rec 2>>own/s.toml"
     clash "a checkpoint that is gone on with, and standard error behind it" "" "$used --report own/r --resume own/k own/z.rec 2>>own/k"
+    errors_clash "a checkpoint over the file of standard error" own/k "$used --checkpoint own/k own/z.rec 2>>own/k.hard"
+    errors_clash "split over the file of standard error" own/d/apid-0100.pkt "$tmx split --settings own/s.toml --dir own/d own/z.rec 2>>own/d/apid-0100.pkt"
 }
 
 split_clashes() {
@@ -144,6 +162,9 @@ split_clashes() {
     ln -s apid-0100.pkt own/d/apid-0101.pkt
     split_clash "split of two applications to one file" "tmx: own/d/apid-0100.pkt: failed" "$used --report own/r own/z.rec"
     tell "split of two applications to one file: the first has its own packets" "$(is_start own/d/apid-0101.pkt expected/split/apid-0101.pkt || echo no)"
+    own_folder
+    ln -s apid-0100.pkt own/d/apid-0101.pkt
+    split_clash "split of two applications to one file where it goes on" "tmx: own/d/apid-0101.pkt: failed" "$used --report own/r --resume own/k own/z.rec"
 }
 
 # Whether a file is a front of another.

@@ -41,8 +41,10 @@ faults() {
     run_faults
     report_unbegun
     begun_empty
+    empty_recording
     memory_faults
     long_words
+    split_cuts
     repeated
     many_applications
     wide_recording
@@ -281,6 +283,23 @@ begun_empty() {
     tell "split over longer files: nothing is left of them" "$(cmp r expected/report 2>&1; diff -r expected/split split 2>&1)"
 }
 
+# A job of no record: its checkpoint is written, and the job goes on from it when the recording has grown.
+empty_recording() {
+    local command used
+    forged wanted.c "544d5843 03 002a 0100 0000 0000 02 00 01 0b 000370 00000000 00 0000000000000000 0000"
+    for command in packets extract split; do
+        rm -rf c r split
+        mkdir split
+        used="$tmx $command --settings $s --report r"
+        [ $command != split ] || used+=" --dir split"
+        gives "$command of an empty recording, with a checkpoint" 0 "" "$used --checkpoint c /dev/null"
+        tell "$command of an empty recording, with a checkpoint: it is there, and nothing else" \
+            "$(cmp c wanted.c 2>&1; cat out r; ls split)"
+        gives "$command goes on from the checkpoint of an empty recording" 0 "" "$used --resume c $rec"
+        tell "$command goes on from the checkpoint of an empty recording: all of it" "$(cmp r expected/report 2>&1; whole $command)"
+    done
+}
+
 memory_faults() {
     filled settings.full "$s" 1048576
     little_memory frames "frames --settings $s" expected/frames
@@ -339,6 +358,16 @@ if not starved or last[0] != 1:
 print(f"out of memory from {starved[0]} to {starved[-1]} KiB of address space")
 END
     ); then ok "long words with little memory: $said"; else no "long words with little memory: $said"; fi
+}
+
+# `split` with hundreds of limits: what is held is written where memory runs out.
+split_cuts() {
+    local said
+    if said=$(python3 "$here/cuts.py" "$tmx" "$s" "$rec" 2>&1); then
+        ok "split with little memory ends at one place: $said"
+    else
+        no "split with little memory ends at one place: $said"
+    fi
 }
 
 # A recording 200 times over: files that are written when they have much, so that little is held, and rows that aren't held.

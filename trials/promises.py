@@ -32,9 +32,11 @@ CRATE_OF_THE_WHOLE = "tm_tool"
 
 LINK = re.compile(r"\[([^\]]*)\]\(([^)\s]*)\)")
 QUOTED = re.compile(r"`([^`]+)`")
+ONLY_NAMES = re.compile(r"(?:(?:, | and )?`[^`]+`)+")
+NAMES = re.compile(r"[^`]*: ((?:(?:, | and )?`[^`]+`)+)")
 NAMES_OF_FILE = re.compile(r"\]\(([^)]*\.(?:rt|antt))\): ((?:(?:, | and )?`[^`]+`)+)")
 ONLY_TESTED = "\n## What is only tested\n"
-FUNCTION = re.compile(r"\s*(pub )?(?:const )?fn (\w+)")
+FUNCTION = re.compile(r"\s*(pub )?(?:pub\(\w+\) )?(?:const )?(?:unsafe )?fn (\w+)")
 CLAUSE = re.compile(r"\s+(ensures|requires)\b(?: ([\w-]+))? \{")
 BLOCK = re.compile(r"(?:pub )?(impl|trait)\b(?:<.*?>(?= ))? ?(?:(.*) for )?(\w+)")
 
@@ -165,10 +167,13 @@ def definitions_in(path):
 
 
 def wrong_definitions(row):
+    """Names that stand directly behind a link to their file are looked for; what follows them, as `over std's ..`, is not."""
     for path, linked, text in parts_of(row.cells["Defined in"]):
         if linked:
-            yield from (f"{it} is not defined in {path.name}" for it in QUOTED.findall(text) if it not in definitions_in(path))
-        elif QUOTED.search(text) and "std's" not in text:
+            quoted = NAMES.match(text)
+            found = QUOTED.findall(quoted.group(1)) if quoted else []
+            yield from (f"{it} is not defined in {path.name}" for it in found if it not in definitions_in(path))
+        if QUOTED.search(text) and not (quoted if linked else "std's" in text):
             yield f"no file is linked for {text}"
 
 
@@ -179,29 +184,36 @@ def named_functions(functions, path, name):
 
 
 def read_clauses(text):
-    """What a part of a cell on clauses says: the functions, the kind of clause, and the clauses' names, or what stands in their place."""
+    """What a part of a cell on clauses says: the functions, the kind of their clauses, and the names of these; ``""`` is the one without a name."""
     before, colon, behind = text.partition("`: ")
     if colon:
         kind = "requires" if "the `requires` clause" in behind else "ensures"
         return QUOTED.findall(before + "`"), kind, QUOTED.findall(behind.replace("the `requires` clause", ""))
     if "what it requires" in text:
         return QUOTED.findall(text), "requires", [""]
-    return QUOTED.findall(text), "ensures", [""] if "its clause" in text else []
+    return QUOTED.findall(text), "ensures", [""] if re.search(r"its clause\b", text) else []
 
 
 def has_them(function, kind, clauses, text):
-    """A function has these clauses; or they are those of its trait."""
+    """A function has these clauses; or they are those of its trait, or all that it has."""
     if "of its trait" in text:
         return function.kind == "of a trait"
+    if "its clauses" in text:
+        return any(function.clauses.values())
     return all(it in function.clauses[kind] for it in clauses)
 
 
 def clauses_of(row, functions):
     """Of each function that the row's clauses are of: what is wrong, if anything, and the functions that have them."""
-    for path, _, text in parts_of(row.cells["Clause"]):
+    before = []
+    for path, linked, text in parts_of(row.cells["Clause"]):
         named, kind, clauses = read_clauses(text)
         if path is None or not named:
             yield f"no function of a file is named by {text}", []
+        if before and not linked and ONLY_NAMES.fullmatch(text) and not any(named_functions(functions, path, it) for it in named):
+            # Behind a semicolon further clauses of the same functions may stand.
+            named, clauses = before, named
+        before = named
         for name in named:
             found = named_functions(functions, path, name)
             able = [it for it in found if has_them(it, kind, clauses, text)]

@@ -38,7 +38,7 @@ NAMES_OF_FILE = re.compile(r"\]\(([^)]*\.(?:rt|antt))\): ((?:(?:, | and )?`[^`]+
 ONLY_TESTED = "\n## What is only tested\n"
 FUNCTION = re.compile(r"\s*(pub )?(?:pub\(\w+\) )?(?:const )?(?:unsafe )?fn (\w+)")
 CLAUSE = re.compile(r"\s+(ensures|requires)\b(?: ([\w-]+))? \{")
-BLOCK = re.compile(r"(?:pub )?(impl|trait)\b(?:<.*?>(?= ))? ?(?:(.*) for )?(\w+)")
+BLOCK = re.compile(r"(?:pub(?:\(\w+\))? )?(impl|trait)\b(?:<.*?>(?= ))? ?(?:(.*) for )?(\w+)")
 
 
 @dataclass

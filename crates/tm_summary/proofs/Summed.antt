@@ -18,7 +18,7 @@ use Rattle.tm_summary.specs.declared.channel.Loss.{Loss}
 use Rattle.tm_summary.specs.Adding.{no_application, no_channel}
 use Rattle.tm_summary.specs.Kinds.{drop_octets, has_fault, has_key, has_reason, is_bad, is_drop, is_packet_item, packet_length, place_of}
 use Rattle.tm_summary.specs.Numbers.{Tally, application_of, below, capped, channel_counts, for_numbers, frames_of, how_many, in_all, items_on, loss_of, notes_at_key, numbers_of, packets_of}
-use Rattle.tm_summary.specs.Sums.{IsCount, applications_on, counts_on}
+use Rattle.tm_summary.specs.Sums.{IsBelowGreatest, applications_on, counts_on}
 use Rattle.tm_summary.proofs.Tables.{table-get}
 
 -- ---- sums over the numbers below one
@@ -90,7 +90,7 @@ exchanged table whole n each (x ∷ xs) =
 -- each number of a table is of a part of what is there, and each thing is of one of the parts
 table_added : {A B : Type 0} (part : B → ℕ) (f : ℕ → B) (table : ℕ → A → ℕ) (whole : A → ℕ) (n : ℕ) (xs : List A)
     → ((k : ℕ) → k < n → part (f k) ≡ in_all (table k) xs) → ((x : A) → sum (for_numbers n (λ k. table k x)) ≡ whole x)
-    → IsCount (in_all whole xs) → sum_by part (for_numbers n f) ≡ in_all whole xs
+    → IsBelowGreatest (in_all whole xs) → sum_by part (for_numbers n f) ≡ in_all whole xs
 unfolding for_numbers in_all
 table_added {A} {B} part f table whole n xs are each count =
     let one : (x : A) → sum_by (λ k. table k x) (below n) ≡ whole x = λ x. sym (sum-map (λ (k : ℕ). table k x) (below n)) ∙ each x in
@@ -223,7 +223,7 @@ module _ (channel : ℕ) where
 
 -- ---- what adds up
 
-pub faults_added : (t : Tally) → IsCount (numbers_of t).bad → sum (numbers_of t).faults ≡ (numbers_of t).bad
+pub faults_added : (t : Tally) → IsBelowGreatest (numbers_of t).bad → sum (numbers_of t).faults ≡ (numbers_of t).bad
 faults_added t count =
     table_added (λ n. n) (λ n. how_many (has_fault (n + 1)) t.items) (λ k x. if has_fault (k + 1) x then 1 else 0) (λ x. if is_bad x then 1 else 0) 8 t.items
     (λ k h. refl) fault_each count
@@ -236,18 +236,18 @@ module _ (t : Tally) (channel : ℕ) (below_eight : channel < 8) where
   pub counts_are : counts_on channel (numbers_of t) ≡ here
   counts_are = table-get 8 channel (λ c. channel_counts (frames_of c t.frames) (items_on c t.items)) no_channel below_eight
 
-  pub parts_added : IsCount (counts_on channel (numbers_of t)).dropped
+  pub parts_added : IsBelowGreatest (counts_on channel (numbers_of t)).dropped
       → sum_by (λ l. l.parts) (counts_on channel (numbers_of t)).losses ≡ (counts_on channel (numbers_of t)).dropped
   parts_added =
-      let P : ChannelCounts → Type 0 = λ c. IsCount c.dropped → sum_by (λ (l : Loss). l.parts) c.losses ≡ c.dropped in
+      let P : ChannelCounts → Type 0 = λ c. IsBelowGreatest c.dropped → sum_by (λ (l : Loss). l.parts) c.losses ≡ c.dropped in
       subst P (sym counts_are)
       (table_added (λ (l : Loss). l.parts) (loss_of (items_on channel t.items)) (λ k x. if has_reason k x then 1 else 0) (λ x. if is_drop x then 1 else 0) 7 (items_on channel t.items)
       (λ k h. refl) parts_each)
 
-  pub lost_added : IsCount (counts_on channel (numbers_of t)).lost
+  pub lost_added : IsBelowGreatest (counts_on channel (numbers_of t)).lost
       → sum_by (λ l. l.octets) (counts_on channel (numbers_of t)).losses ≡ (counts_on channel (numbers_of t)).lost
   lost_added =
-      let P : ChannelCounts → Type 0 = λ c. IsCount c.lost → sum_by (λ (l : Loss). l.octets) c.losses ≡ c.lost in
+      let P : ChannelCounts → Type 0 = λ c. IsBelowGreatest c.lost → sum_by (λ (l : Loss). l.octets) c.losses ≡ c.lost in
       subst P (sym counts_are)
       (table_added (λ (l : Loss). l.octets) (loss_of (items_on channel t.items)) (λ k x. if has_reason k x then drop_octets x else 0) drop_octets 7 (items_on channel t.items)
       (λ k h. filter_all (has_reason k) drop_octets (items_on channel t.items)) octets_each)
@@ -259,21 +259,21 @@ module _ (t : Tally) (channel : ℕ) (below_eight : channel < 8) where
   application_is : (a : ℕ) → a < 2048 → get_or (numbers_of t).applications (pair_key channel a) no_application ≡ application (pair_key channel a)
   application_is a h = table-get 16384 (pair_key channel a) application no_application (omega (arith, below_eight, h))
 
-  pub packets_added : IsCount (counts_on channel (numbers_of t)).packets
+  pub packets_added : IsBelowGreatest (counts_on channel (numbers_of t)).packets
       → sum_by (λ a. a.packets) (applications_on channel (numbers_of t)) ≡ (counts_on channel (numbers_of t)).packets
   packets_added =
       let all : in_all (number_on channel (λ y. if is_packet_item y then 1 else 0)) t.items ≡ here.packets
       = sym (filter_all (is_of channel) (λ y. if is_packet_item y then 1 else 0) t.items) in
-      let P : ℕ → Type 0 = λ n. IsCount n → sum_by (λ (a : ApplicationCounts). a.packets) (applications_on channel (numbers_of t)) ≡ n in
+      let P : ℕ → Type 0 = λ n. IsBelowGreatest n → sum_by (λ (a : ApplicationCounts). a.packets) (applications_on channel (numbers_of t)) ≡ n in
       subst P (all ∙ ap (λ (c : ChannelCounts). c.packets) (sym counts_are))
       (table_added (λ (a : ApplicationCounts). a.packets) (λ a. get_or (numbers_of t).applications (pair_key channel a) no_application) (number_at channel (λ y. 1)) (number_on channel (λ y. if is_packet_item y then 1 else 0)) 2048 t.items
       (λ a h. ap (λ (c : ApplicationCounts). c.packets) (application_is a h) ∙ filter_all (has_key (pair_key channel a)) (λ y. 1) t.items) (packets_each channel))
 
-  pub octets_added : IsCount (counts_on channel (numbers_of t)).octets
+  pub octets_added : IsBelowGreatest (counts_on channel (numbers_of t)).octets
       → sum_by (λ a. a.octets) (applications_on channel (numbers_of t)) ≡ (counts_on channel (numbers_of t)).octets
   octets_added =
       let all : in_all (number_on channel packet_length) t.items ≡ here.octets = sym (filter_all (is_of channel) packet_length t.items) in
-      let P : ℕ → Type 0 = λ n. IsCount n → sum_by (λ (a : ApplicationCounts). a.octets) (applications_on channel (numbers_of t)) ≡ n in
+      let P : ℕ → Type 0 = λ n. IsBelowGreatest n → sum_by (λ (a : ApplicationCounts). a.octets) (applications_on channel (numbers_of t)) ≡ n in
       subst P (all ∙ ap (λ (c : ChannelCounts). c.octets) (sym counts_are))
       (table_added (λ (a : ApplicationCounts). a.octets) (λ a. get_or (numbers_of t).applications (pair_key channel a) no_application) (number_at channel packet_length) (number_on channel packet_length) 2048 t.items
       (λ a h. ap (λ (c : ApplicationCounts). c.octets) (application_is a h) ∙ filter_all (has_key (pair_key channel a)) packet_length t.items) (lengths_each channel))

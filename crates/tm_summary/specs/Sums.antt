@@ -7,8 +7,8 @@ use Rattle.tm_summary.specs.Adding.{no_application, no_channel}
 use Rattle.tm_summary.specs.Numbers.{Numbers, for_numbers}
 
 -- a number that did not stay at the greatest, so it is the count itself
-abbrev pub IsCount : ℕ → Type 0
-IsCount n = n < 2 ^ 64 - 1
+abbrev pub IsBelowGreatest : ℕ → Type 0
+IsBelowGreatest n = n < 2 ^ 64 - 1
 
 -- the numbers of a channel
 abbrev pub counts_on : ℕ → Numbers → ChannelCounts

@@ -9,7 +9,7 @@ ghost use Rattle.tm_packet.specs.Merge.{Entries};
 ghost use Rattle.tm_summary.specs.Adding.{with_frame, with_item, with_note};
 ghost use Rattle.tm_summary.specs.Kinds.{Noted};
 ghost use Rattle.tm_summary.specs.Numbers.{Tally, and_frame, and_item, and_note, numbers_of};
-ghost use Rattle.tm_summary.specs.Sums.{IsCount, applications_on, counts_on};
+ghost use Rattle.tm_summary.specs.Sums.{IsBelowGreatest, applications_on, counts_on};
 ghost use Rattle.tm_summary.specs.Tallies.{AllFit, and_items, and_notes, open_notes, with_all, with_open};
 
 /// Counting: with one frame, item or note more the numbers are those of the lists with it.
@@ -28,13 +28,13 @@ pub fn giving()
 /// What adds up, where the sum is below 2^64 - 1: the records of all faults are the bad frames; what is lost of a channel for all reasons are its
 /// dropped parts, and their octets; and the packets of its applications are those of the channel, and so are their octets.
 pub fn sums()
-    ensures faults { (t : Tally) → IsCount (numbers_of t).bad → sum (numbers_of t).faults ≡ (numbers_of t).bad }
-    ensures parts { (t : Tally) (channel : ℕ) → channel < 8 → IsCount (counts_on channel (numbers_of t)).dropped →
+    ensures faults { (t : Tally) → IsBelowGreatest (numbers_of t).bad → sum (numbers_of t).faults ≡ (numbers_of t).bad }
+    ensures parts { (t : Tally) (channel : ℕ) → channel < 8 → IsBelowGreatest (counts_on channel (numbers_of t)).dropped →
         sum_by (λ l. l.parts) (counts_on channel (numbers_of t)).losses ≡ (counts_on channel (numbers_of t)).dropped }
-    ensures lost { (t : Tally) (channel : ℕ) → channel < 8 → IsCount (counts_on channel (numbers_of t)).lost →
+    ensures lost { (t : Tally) (channel : ℕ) → channel < 8 → IsBelowGreatest (counts_on channel (numbers_of t)).lost →
         sum_by (λ l. l.octets) (counts_on channel (numbers_of t)).losses ≡ (counts_on channel (numbers_of t)).lost }
-    ensures packets { (t : Tally) (channel : ℕ) → channel < 8 → IsCount (counts_on channel (numbers_of t)).packets →
+    ensures packets { (t : Tally) (channel : ℕ) → channel < 8 → IsBelowGreatest (counts_on channel (numbers_of t)).packets →
         sum_by (λ a. a.packets) (applications_on channel (numbers_of t)) ≡ (counts_on channel (numbers_of t)).packets }
-    ensures octets { (t : Tally) (channel : ℕ) → channel < 8 → IsCount (counts_on channel (numbers_of t)).octets →
+    ensures octets { (t : Tally) (channel : ℕ) → channel < 8 → IsBelowGreatest (counts_on channel (numbers_of t)).octets →
         sum_by (λ a. a.octets) (applications_on channel (numbers_of t)) ≡ (counts_on channel (numbers_of t)).octets }
 {}

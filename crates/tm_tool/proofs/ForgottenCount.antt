@@ -16,7 +16,7 @@ use Rattle.tm_output.specs.declared.command.Command.{Command}
 use Rattle.tm_output.specs.declared.command.Ending.{Ending}
 use Rattle.tm_output.specs.declared.command.Ending.TheVariants.{Close}
 use Rattle.tm_checkpoint.specs.Checkpoints.{work_without_master}
-use Rattle.tm_tool.specs.OlderVersions.{LacksGapLine, line_pieces}
+use Rattle.tm_tool.specs.OlderVersions.{LacksGapLine, report_line_pieces}
 use Rattle.tm_output.specs.code.Outlets.{GivesNone, no_text}
 use Rattle.tm_output.specs.Outputs.{Piece}
 use Rattle.tm_packet.specs.Merge.{Entries}
@@ -116,7 +116,7 @@ module _ {A : Type 0} (text : Texts A) (none : (x : Item) → HasLine x → Give
       let gives = none (MasterGap seen expected found missing) tt in rw (gives.0, gives.1, append-nil (item_line (MasterGap seen expected found missing))) refl
   line_piece entries x h = absurd h
 
-  lines-are : (entries : Entries) (xs ys : List Item) → Each OnlyLine xs → pieces_of text entries (xs ++ ys) ≡ line_pieces xs ++ pieces_of text entries ys
+  lines-are : (entries : Entries) (xs ys : List Item) → Each OnlyLine xs → pieces_of text entries (xs ++ ys) ≡ report_line_pieces xs ++ pieces_of text entries ys
   lines-are entries [] ys h = refl
   lines-are entries (x ∷ xs) ys h =
       ap (λ (e : Entries). piece_of text entries x ∷ pieces_of text e (xs ++ ys)) (one-noted entries x h.0)
@@ -131,8 +131,8 @@ module _ {A : Type 0} (text : Texts A) (none : (x : Item) → HasLine x → Give
       let rest : ℕ = length (rest_of (record_length_of w.rules.layout) recording) in
       let h = lacks_item w rs valid in
       let end : List (Piece A) = end_pieces text ending (worked w rs) rest in
-      let fore : List (Piece A) = line_pieces (bad w rs valid) in
-      let line : List (Piece A) = line_pieces (gap w rs valid) in
+      let fore : List (Piece A) = report_line_pieces (bad w rs valid) in
+      let line : List (Piece A) = report_line_pieces (gap w rs valid) in
       let back : List (Piece A) = pieces_of text w.entries h.back in
       let all : record_pieces text w rs ≡ fore ++ (line ++ back) =
       ap (pieces_of text w.entries) h.all_is

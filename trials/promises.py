@@ -24,7 +24,7 @@ ROOT = pathlib.Path(__file__).resolve().parent.parent
 CRATES = ROOT / "crates"
 PAGE = ROOT / "docs" / "PROVED.md"
 
-# What these have stands in files of their own, and is for tests alone.
+# These have the tests, and devices for them.
 FOR_TESTS = ("tm_tests", "tm_program_tests")
 
 # Planted bugs with no crate's name are of the section's crate, and in the section on the whole of this one.

@@ -34,18 +34,18 @@ clash() {
     tell "$1: nothing is touched" "$(folder_state own | diff before - 2>&1)"
 }
 
-# The name of a trial, a file, and a command that has it as standard error, and is refused it: it only has the fault's line more.
-errors_clash() {
-    own_folder
-    { [ ! -e "$2" ] || cat "$2"; echo "tmx: $2: failed"; } >had
-    split_clash "$1" "" "$3"
-    tell "$1: the file has the fault's line more" "$(cmp had "$2" 2>&1)"
-}
-
 # Likewise for split, which may have made files of other applications by then: what is read is as it was.
 split_clash() {
     gives "$1" 1 "$2" "$3"
     tell "$1: what is read is as it was" "$(cmp "$rec" own/z.rec; cmp "$s" own/s.toml)"
+}
+
+# The name of a trial, a file, and a command that has it as standard error and would write it: the fault's line is behind what it had.
+errors_clash() {
+    own_folder
+    { [ ! -e "$2" ] || cat "$2"; echo "tmx: $2: failed"; } >had
+    split_clash "$1" "" "$3"
+    tell "$1: the fault's line is behind what it had" "$(cmp had "$2" 2>&1)"
 }
 
 # The name of a trial, and a command that is none of these.
@@ -153,6 +153,9 @@ split_clashes() {
     split_clash "split over its settings" "tmx: $first: failed" "$used --report own/r own/z.rec"
     own_folder
     split_clash "split over its report" "tmx: $first: failed" "$used --report own/folder/d/apid-0100.pkt own/z.rec"
+    own_folder
+    ln -s ../r $first
+    split_clash "split over its report by a link" "tmx: $first: failed" "$used --report own/r own/z.rec"
     own_folder
     split_clash "split over the checkpoint that is not there" "tmx: $first: failed" "$used --report own/r --checkpoint $first own/z.rec"
     own_folder

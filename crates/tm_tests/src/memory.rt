@@ -2,7 +2,7 @@
 //! of its calls fails, if that is asked for.
 
 ghost use Rattle.std.specs.Prelude.{◌≡◌, ◌<◌, ◌≤◌, [], Some, take, drop, true, false, vec_len};
-ghost use Rattle.tm_devices.specs.Devices.{Puts};
+ghost use Rattle.tm_devices.specs.Devices.{Puts, PutsFront};
 ghost use Rattle.tm_tests.specs.Stored.{stored};
 
 use std::alloc::Global;
@@ -190,6 +190,21 @@ impl MemoryShelf {
         };
         self.puts.push(put).is_ok()
     }
+
+    // Keeps the first octets of a put that is refused, as many as are to be left.
+    #[tactic(auto, using(crate::proofs::Stored::put_none, crate::proofs::Stored::put_front))]
+    fn leave(&mut self, application: u16, octets: &[u8])
+        ensures left { PutsFront (Some (stored self.old.puts.items)) (Some (stored self.new.puts.items)) application octets.now }
+        ensures refused { self.new.refused ≡ self.old.refused }
+    {
+        let leaves = self.leaves;
+        if leaves == 0 || octets.len() <= leaves {
+            return;
+        }
+        if !self.keep(application, &octets[..leaves]) {
+            return;
+        }
+    }
 }
 
 impl Shelf for MemoryShelf {
@@ -199,16 +214,16 @@ impl Shelf for MemoryShelf {
 
     ghost kept = { λ s. Some (stored s.puts.items) };
 
-    #[tactic(auto, using(crate::proofs::Stored::put_none, crate::proofs::Stored::put_front))]
+    #[tactic(auto, using(crate::proofs::Stored::put_none))]
     fn put(&mut self, application: u16, octets: &[u8]) -> Result<(), PutRefused> {
         self.calls = self.calls.saturating_add(1);
-        if self.calls != self.refuses_at {
-            if self.keep(application, octets) {
-                return Ok(());
-            }
-        } else if 0 < self.leaves && self.leaves < octets.len() {
-            let leaves = self.leaves;
-            let _kept = self.keep(application, &octets[..leaves]);
+        if self.calls == self.refuses_at {
+            self.leave(application, octets);
+            self.refused = self.refused.saturating_add(1);
+            return Err(PutRefused);
+        }
+        if self.keep(application, octets) {
+            return Ok(());
         }
         self.refused = self.refused.saturating_add(1);
         Err(PutRefused)

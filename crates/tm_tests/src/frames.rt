@@ -28,11 +28,38 @@ fn is_listed(
     Some(answer == Ok(records) && bench.has_given(lines.as_bytes(), b""))
 }
 
+// 43 octets, and what Python's `binascii.crc_hqx` gives for them from a register of ones.
+const LAZY_DOG: &[u8] = b"The quick brown fox jumps over the lazy dog";
+
 #[test]
 fn error_control_values(rt: HostRuntime) {
     assert!(rt; tm_frame::error_control(b"") == 0xFFFF);
     assert!(rt; tm_frame::error_control(b"\0") == 0xE1F0);
     assert!(rt; tm_frame::error_control(b"123456789") == 0x29B1);
+    assert!(rt; tm_frame::error_control(LAZY_DOG) == 0x8FDD);
+    assert!(rt; tm_frame::error_control_by_table(b"") == 0xFFFF);
+    assert!(rt; tm_frame::error_control_by_table(b"\0") == 0xE1F0);
+    assert!(rt; tm_frame::error_control_by_table(b"123456789") == 0x29B1);
+    assert!(rt; tm_frame::table_entry(1) == 0x1021);
+}
+
+// Octets of a fixed pattern: 0 to 400 of them, and 65,541.
+#[test]
+fn error_control_both_ways(rt: HostRuntime) {
+    let mut octets = Vec::new(rt.alloc());
+    for place in 0..65_541u32 {
+        if place <= 400 {
+            let by_table = tm_frame::error_control_by_table(&octets);
+            assert!(rt;
+                tm_frame::error_control(&octets) == by_table,
+                "{place} octets"
+            );
+        }
+        let octet = (place.wrapping_mul(0x9E37_79B9) >> 24) as u8;
+        octets.push(octet).expect(&rt, "room");
+    }
+    let by_table = tm_frame::error_control_by_table(&octets);
+    assert!(rt; tm_frame::error_control(&octets) == by_table);
 }
 
 #[test]

@@ -1,6 +1,6 @@
 -- The numbers of a table add up to the number of all.
-use Rattle.std.proofs.Common.{◌≡◌, ◌≢◌, ◌<◌, ◌≤◌, ◌+◌, ◌-◌, ◌^◌, ℕ, zero, suc, Bool, true, false, List, [], ◌∷◌, length, map, get_or, refl, sym, ap, subst, ◌∙◌, arith, ⊎_elim, ne_eqb, eq-eqb}
-use Rattle.std.specs.Prelude.{◌==◌, filter, sum, sum_by, if◌then◌else◌}
+use Rattle.std.proofs.Common.{◌≡◌, ◌≢◌, ◌<◌, ◌≤◌, ◌+◌, ◌-◌, ◌^◌, ℕ, zero, suc, Bool, true, false, List, [], ◌∷◌, length, map, get_or, refl, sym, ap, subst, ◌∙◌, arith, ⊎_elim, ne_eqb, eq-eqb, lt-ltb}
+use Rattle.std.specs.Prelude.{◌==◌, nat_lt, filter, sum, sum_by, if◌then◌else◌}
 use Rattle.std.proofs.lemmas.Bool.{cases_lt}
 use Rattle.std.proofs.lemmas.Bool.Decides.{eqb_tells}
 use Rattle.std.proofs.lemmas.List.Sums.{sum-map, sum_by-cons, sum_by_push}
@@ -17,8 +17,8 @@ use Rattle.tm_summary.specs.declared.channel.ChannelCounts.{ChannelCounts}
 use Rattle.tm_summary.specs.declared.channel.Loss.{Loss}
 use Rattle.tm_summary.specs.Adding.{no_application, no_channel}
 use Rattle.tm_summary.specs.Kinds.{drop_octets, has_fault, has_key, has_reason, is_bad, is_drop, is_packet_item, packet_length, place_of}
-use Rattle.tm_summary.specs.Numbers.{Tally, application_of, below, capped, channel_counts, for_numbers, frames_of, how_many, in_all, items_on, loss_of, notes_at_key, numbers_of, packets_of}
-use Rattle.tm_summary.specs.Sums.{IsBelowGreatest, applications_on, counts_on}
+use Rattle.tm_summary.specs.Numbers.{Tally, application_of, below, capped, channel_counts, count_capped, for_numbers, frames_of, how_many, in_all, items_on, loss_of, notes_at_key, numbers_of, packets_of}
+use Rattle.tm_summary.specs.Sums.{IsBelowGreatest, application_counts, counts_on, fault_counts, loss_counts}
 use Rattle.tm_summary.proofs.Tables.{table-get}
 
 -- ---- sums over the numbers below one
@@ -102,6 +102,7 @@ table_added {A} {B} part f table whole n xs are each count =
     ∙ omega (arith, count)
 
 module _ {A : Type 0} (test : A → Bool) (part : A → ℕ) where
+  -- one thing in front, whether it passes or not
   filter_step : (x : A) (xs : List A) (b : Bool) → sum_by part (if b then x ∷ xs else xs) ≡ (if b then part x else 0) + sum_by part xs
   filter_step x xs true = sum_by-cons part x xs
   filter_step x xs false = omega arith
@@ -117,6 +118,28 @@ module _ {A : Type 0} (test : A → Bool) (part : A → ℕ) where
   pub filter_all : (xs : List A) → in_all part (filter test xs) ≡ in_all (λ x. if test x then part x else 0) xs
   unfolding in_all
   filter_all xs = ap capped (filter_sum xs)
+
+-- where nothing is counted, nothing adds up
+none_counted : {A : Type 0} (part : A → ℕ) (xs : List A) → count_capped xs ≡ 0 → in_all part xs ≡ 0
+unfolding in_all
+none_counted part [] none = refl
+none_counted part (x ∷ xs) none = absurd (omega (arith, sum_by-cons (λ y. 1) x xs, none))
+
+-- what is left out where there is nothing of it
+shown : (n m : ℕ) → (n ≡ 0 → m ≡ 0) → (if nat_lt 0 n then m else 0) ≡ m
+shown zero m none = sym (none refl)
+shown (suc n) m none =
+    let some : 0 < suc n = omega arith in
+    rw (lt-ltb 0 (suc n) some) refl
+
+-- the same, where those without a line have nothing
+lines_added : {A B : Type 0} (shows part : B → ℕ) (f : ℕ → B) (table : ℕ → A → ℕ) (whole : A → ℕ) (n : ℕ) (xs : List A)
+    → ((k : ℕ) → k < n → part (f k) ≡ in_all (table k) xs) → ((k : ℕ) → k < n → shows (f k) ≡ 0 → part (f k) ≡ 0)
+    → ((x : A) → sum (for_numbers n (λ k. table k x)) ≡ whole x)
+    → IsBelowGreatest (in_all whole xs) → sum_by part (filter (λ b. nat_lt 0 (shows b)) (for_numbers n f)) ≡ in_all whole xs
+lines_added {A} {B} shows part f table whole n xs are none each count =
+    filter_sum (λ (b : B). nat_lt 0 (shows b)) part (for_numbers n f)
+    ∙ table_added (λ (b : B). if nat_lt 0 (shows b) then part b else 0) f table whole n xs (λ k h. shown (shows (f k)) (part (f k)) (none k h) ∙ are k h) each count
 
 -- ---- each item is of one fault, of one reason, or of one application of its channel
 
@@ -223,57 +246,73 @@ module _ (channel : ℕ) where
 
 -- ---- what adds up
 
-pub faults_added : (t : Tally) → IsBelowGreatest (numbers_of t).bad → sum (numbers_of t).faults ≡ (numbers_of t).bad
+pub faults_added : (t : Tally) → IsBelowGreatest (numbers_of t).bad → sum (fault_counts (numbers_of t)) ≡ (numbers_of t).bad
 faults_added t count =
-    table_added (λ n. n) (λ n. how_many (has_fault (n + 1)) t.items) (λ k x. if has_fault (k + 1) x then 1 else 0) (λ x. if is_bad x then 1 else 0) 8 t.items
-    (λ k h. refl) fault_each count
+    lines_added (λ n. n) (λ n. n) (λ n. how_many (has_fault (n + 1)) t.items) (λ k x. if has_fault (k + 1) x then 1 else 0) (λ x. if is_bad x then 1 else 0) 8 t.items
+    (λ k h. refl) (λ k h none. none) fault_each count
 
 module _ (t : Tally) (channel : ℕ) (below_eight : channel < 8) where
+  abbrev own_items : List Item
+  own_items = items_on channel t.items
+
   abbrev here : ChannelCounts
-  here = channel_counts (frames_of channel t.frames) (items_on channel t.items)
+  here = channel_counts (frames_of channel t.frames) own_items
 
   -- the numbers of the channel
   pub counts_are : counts_on channel (numbers_of t) ≡ here
   counts_are = table-get 8 channel (λ c. channel_counts (frames_of c t.frames) (items_on c t.items)) no_channel below_eight
 
   pub parts_added : IsBelowGreatest (counts_on channel (numbers_of t)).dropped
-      → sum_by (λ l. l.parts) (counts_on channel (numbers_of t)).losses ≡ (counts_on channel (numbers_of t)).dropped
+      → sum_by (λ l. l.parts) (loss_counts channel (numbers_of t)) ≡ (counts_on channel (numbers_of t)).dropped
   parts_added =
-      let P : ChannelCounts → Type 0 = λ c. IsBelowGreatest c.dropped → sum_by (λ (l : Loss). l.parts) c.losses ≡ c.dropped in
+      let P : ChannelCounts → Type 0 = λ c. IsBelowGreatest c.dropped → sum_by (λ (l : Loss). l.parts) (filter (λ (l : Loss). nat_lt 0 l.parts) c.losses) ≡ c.dropped in
       subst P (sym counts_are)
-      (table_added (λ (l : Loss). l.parts) (loss_of (items_on channel t.items)) (λ k x. if has_reason k x then 1 else 0) (λ x. if is_drop x then 1 else 0) 7 (items_on channel t.items)
-      (λ k h. refl) parts_each)
+      (lines_added (λ (l : Loss). l.parts) (λ (l : Loss). l.parts) (loss_of own_items) (λ k x. if has_reason k x then 1 else 0) (λ x. if is_drop x then 1 else 0) 7 own_items
+      (λ k h. refl) (λ k h none. none) parts_each)
 
   pub lost_added : IsBelowGreatest (counts_on channel (numbers_of t)).lost
-      → sum_by (λ l. l.octets) (counts_on channel (numbers_of t)).losses ≡ (counts_on channel (numbers_of t)).lost
+      → sum_by (λ l. l.octets) (loss_counts channel (numbers_of t)) ≡ (counts_on channel (numbers_of t)).lost
   lost_added =
-      let P : ChannelCounts → Type 0 = λ c. IsBelowGreatest c.lost → sum_by (λ (l : Loss). l.octets) c.losses ≡ c.lost in
+      let P : ChannelCounts → Type 0 = λ c. IsBelowGreatest c.lost → sum_by (λ (l : Loss). l.octets) (filter (λ (l : Loss). nat_lt 0 l.parts) c.losses) ≡ c.lost in
       subst P (sym counts_are)
-      (table_added (λ (l : Loss). l.octets) (loss_of (items_on channel t.items)) (λ k x. if has_reason k x then drop_octets x else 0) drop_octets 7 (items_on channel t.items)
-      (λ k h. filter_all (has_reason k) drop_octets (items_on channel t.items)) octets_each)
+      (lines_added (λ (l : Loss). l.parts) (λ (l : Loss). l.octets) (loss_of own_items) (λ k x. if has_reason k x then drop_octets x else 0) drop_octets 7 own_items
+      (λ k h. filter_all (has_reason k) drop_octets own_items)
+      (λ k h none. none_counted drop_octets (filter (has_reason k) own_items) (filter_all (has_reason k) (λ y. 1) own_items ∙ none))
+      octets_each)
 
   -- those of an application
   abbrev application : ℕ → ApplicationCounts
-  application key = application_of (packets_of key t.items) (notes_at_key key t.notes)
+  application a = application_of (packets_of (pair_key channel a) t.items) (notes_at_key (pair_key channel a) t.notes)
 
-  application_is : (a : ℕ) → a < 2048 → get_or (numbers_of t).applications (pair_key channel a) no_application ≡ application (pair_key channel a)
-  application_is a h = table-get 16384 (pair_key channel a) application no_application (omega (arith, below_eight, h))
+  abbrev given : ℕ → ApplicationCounts
+  given a = get_or (numbers_of t).applications (pair_key channel a) no_application
+
+  application_is : (a : ℕ) → a < 2048 → given a ≡ application a
+  application_is a h =
+      table-get 16384 (pair_key channel a) (λ key. application_of (packets_of key t.items) (notes_at_key key t.notes)) no_application (omega (arith, below_eight, h))
 
   pub packets_added : IsBelowGreatest (counts_on channel (numbers_of t)).packets
-      → sum_by (λ a. a.packets) (applications_on channel (numbers_of t)) ≡ (counts_on channel (numbers_of t)).packets
+      → sum_by (λ a. a.packets) (application_counts channel (numbers_of t)) ≡ (counts_on channel (numbers_of t)).packets
   packets_added =
       let all : in_all (number_on channel (λ y. if is_packet_item y then 1 else 0)) t.items ≡ here.packets
       = sym (filter_all (is_of channel) (λ y. if is_packet_item y then 1 else 0) t.items) in
-      let P : ℕ → Type 0 = λ n. IsBelowGreatest n → sum_by (λ (a : ApplicationCounts). a.packets) (applications_on channel (numbers_of t)) ≡ n in
+      let P : ℕ → Type 0 = λ n. IsBelowGreatest n → sum_by (λ (a : ApplicationCounts). a.packets) (application_counts channel (numbers_of t)) ≡ n in
       subst P (all ∙ ap (λ (c : ChannelCounts). c.packets) (sym counts_are))
-      (table_added (λ (a : ApplicationCounts). a.packets) (λ a. get_or (numbers_of t).applications (pair_key channel a) no_application) (number_at channel (λ y. 1)) (number_on channel (λ y. if is_packet_item y then 1 else 0)) 2048 t.items
-      (λ a h. ap (λ (c : ApplicationCounts). c.packets) (application_is a h) ∙ filter_all (has_key (pair_key channel a)) (λ y. 1) t.items) (packets_each channel))
+      (lines_added (λ (a : ApplicationCounts). a.packets) (λ (a : ApplicationCounts). a.packets) given (number_at channel (λ y. 1))
+      (number_on channel (λ y. if is_packet_item y then 1 else 0)) 2048 t.items
+      (λ a h. ap (λ (c : ApplicationCounts). c.packets) (application_is a h) ∙ filter_all (has_key (pair_key channel a)) (λ y. 1) t.items)
+      (λ a h none. none) (packets_each channel))
 
   pub octets_added : IsBelowGreatest (counts_on channel (numbers_of t)).octets
-      → sum_by (λ a. a.octets) (applications_on channel (numbers_of t)) ≡ (counts_on channel (numbers_of t)).octets
+      → sum_by (λ a. a.octets) (application_counts channel (numbers_of t)) ≡ (counts_on channel (numbers_of t)).octets
   octets_added =
       let all : in_all (number_on channel packet_length) t.items ≡ here.octets = sym (filter_all (is_of channel) packet_length t.items) in
-      let P : ℕ → Type 0 = λ n. IsBelowGreatest n → sum_by (λ (a : ApplicationCounts). a.octets) (applications_on channel (numbers_of t)) ≡ n in
+      let P : ℕ → Type 0 = λ n. IsBelowGreatest n → sum_by (λ (a : ApplicationCounts). a.octets) (application_counts channel (numbers_of t)) ≡ n in
       subst P (all ∙ ap (λ (c : ChannelCounts). c.octets) (sym counts_are))
-      (table_added (λ (a : ApplicationCounts). a.octets) (λ a. get_or (numbers_of t).applications (pair_key channel a) no_application) (number_at channel packet_length) (number_on channel packet_length) 2048 t.items
-      (λ a h. ap (λ (c : ApplicationCounts). c.octets) (application_is a h) ∙ filter_all (has_key (pair_key channel a)) packet_length t.items) (lengths_each channel))
+      (lines_added (λ (a : ApplicationCounts). a.packets) (λ (a : ApplicationCounts). a.octets) given (number_at channel packet_length)
+      (number_on channel packet_length) 2048 t.items
+      (λ a h. ap (λ (c : ApplicationCounts). c.octets) (application_is a h) ∙ filter_all (has_key (pair_key channel a)) packet_length t.items)
+      (λ a h none.
+      ap (λ (c : ApplicationCounts). c.octets) (application_is a h)
+      ∙ none_counted packet_length (packets_of (pair_key channel a) t.items) (ap (λ (c : ApplicationCounts). c.packets) (sym (application_is a h)) ∙ none))
+      (lengths_each channel))

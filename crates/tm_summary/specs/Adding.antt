@@ -85,7 +85,7 @@ numbers_with n channels applications = record n { channels = channels; applicati
 abbrev pub in_channel : Numbers → ℕ → (ChannelCounts → ChannelCounts) → Numbers
 in_channel n channel more = numbers_with n (more_at n.channels channel no_channel more) n.applications
 
--- of this channel, whose data field holds this and has so many octets
+-- a good frame more of this channel, whose data field holds this and has so many octets
 unfoldable pub with_frame : Numbers → ℕ → Kind → ℕ → Numbers
 with_frame n channel kind octets =
     record n { good = capped (n.good + 1); channels = more_at n.channels channel no_channel (λ c. frame_more c kind octets) }

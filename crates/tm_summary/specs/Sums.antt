@@ -1,8 +1,9 @@
--- What adds up in a summary: of a channel its numbers, and those of its applications.
-use Rattle.std.specs.Prelude.{ℕ, ◌-◌, ◌<◌, ◌^◌, List, slice_index_or}
+-- What adds up in a summary: the numbers of its lines, and what they add up to.
+use Rattle.std.specs.Prelude.{ℕ, ◌-◌, ◌<◌, ◌^◌, nat_lt, List, filter, slice_index_or}
 use Rattle.tm_packet.specs.Merge.{pair_key}
 use Rattle.tm_summary.specs.declared.application.ApplicationCounts.{ApplicationCounts}
 use Rattle.tm_summary.specs.declared.channel.ChannelCounts.{ChannelCounts}
+use Rattle.tm_summary.specs.declared.channel.Loss.{Loss}
 use Rattle.tm_summary.specs.Adding.{no_application, no_channel}
 use Rattle.tm_summary.specs.Numbers.{Numbers, for_numbers}
 
@@ -14,6 +15,17 @@ IsBelowGreatest n = n < 2 ^ 64 - 1
 abbrev pub counts_on : ℕ → Numbers → ChannelCounts
 counts_on channel n = slice_index_or n.channels channel no_channel
 
--- the numbers of the 2048 applications of a channel
+-- the numbers of its 2048 applications
 abbrev pub applications_on : ℕ → Numbers → List ApplicationCounts
 applications_on channel n = for_numbers 2048 (λ application. slice_index_or n.applications (pair_key channel application) no_application)
+
+-- ---- those that have a line
+
+abbrev pub fault_counts : Numbers → List ℕ
+fault_counts n = filter (λ records. nat_lt 0 records) n.faults
+
+abbrev pub loss_counts : ℕ → Numbers → List Loss
+loss_counts channel n = filter (λ l. nat_lt 0 l.parts) (counts_on channel n).losses
+
+abbrev pub application_counts : ℕ → Numbers → List ApplicationCounts
+application_counts channel n = filter (λ a. nat_lt 0 a.packets) (applications_on channel n)

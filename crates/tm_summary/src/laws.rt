@@ -9,7 +9,7 @@ ghost use Rattle.tm_packet.specs.Merge.{Entries};
 ghost use Rattle.tm_summary.specs.Adding.{with_frame, with_item, with_note};
 ghost use Rattle.tm_summary.specs.Kinds.{Noted};
 ghost use Rattle.tm_summary.specs.Numbers.{Tally, and_frame, and_item, and_note, numbers_of};
-ghost use Rattle.tm_summary.specs.Sums.{IsBelowGreatest, applications_on, counts_on};
+ghost use Rattle.tm_summary.specs.Sums.{IsBelowGreatest, application_counts, counts_on, fault_counts, loss_counts};
 ghost use Rattle.tm_summary.specs.Tallies.{AllFit, and_items, and_notes, open_notes, with_all, with_open};
 
 /// Counting: with one frame, item or note more the numbers are those of the lists with it.
@@ -25,16 +25,16 @@ pub fn giving()
     ensures open { (t : Tally) (e : Entries) → length e ≤ 16384 → with_open (numbers_of t) (sequence.unclosed 0 e) ≡ numbers_of (and_notes t (open_notes (sequence.unclosed 0 e))) }
 {}
 
-/// What adds up, where the sum is below 2^64 - 1: the records of all faults are the bad frames; what is lost of a channel for all reasons are its
-/// dropped parts, and their octets; and the packets of its applications are those of the channel, and so are their octets.
+/// What adds up, where the sum is below 2^64 - 1. The records of the `fault` lines are the bad frames. The parts and octets of a channel's `loss`
+/// lines are its dropped parts and their octets. The packets and octets of its `application` lines are its packets and their octets.
 pub fn sums()
-    ensures faults { (t : Tally) → IsBelowGreatest (numbers_of t).bad → sum (numbers_of t).faults ≡ (numbers_of t).bad }
+    ensures faults { (t : Tally) → IsBelowGreatest (numbers_of t).bad → sum (fault_counts (numbers_of t)) ≡ (numbers_of t).bad }
     ensures parts { (t : Tally) (channel : ℕ) → channel < 8 → IsBelowGreatest (counts_on channel (numbers_of t)).dropped →
-        sum_by (λ l. l.parts) (counts_on channel (numbers_of t)).losses ≡ (counts_on channel (numbers_of t)).dropped }
+        sum_by (λ l. l.parts) (loss_counts channel (numbers_of t)) ≡ (counts_on channel (numbers_of t)).dropped }
     ensures lost { (t : Tally) (channel : ℕ) → channel < 8 → IsBelowGreatest (counts_on channel (numbers_of t)).lost →
-        sum_by (λ l. l.octets) (counts_on channel (numbers_of t)).losses ≡ (counts_on channel (numbers_of t)).lost }
+        sum_by (λ l. l.octets) (loss_counts channel (numbers_of t)) ≡ (counts_on channel (numbers_of t)).lost }
     ensures packets { (t : Tally) (channel : ℕ) → channel < 8 → IsBelowGreatest (counts_on channel (numbers_of t)).packets →
-        sum_by (λ a. a.packets) (applications_on channel (numbers_of t)) ≡ (counts_on channel (numbers_of t)).packets }
+        sum_by (λ a. a.packets) (application_counts channel (numbers_of t)) ≡ (counts_on channel (numbers_of t)).packets }
     ensures octets { (t : Tally) (channel : ℕ) → channel < 8 → IsBelowGreatest (counts_on channel (numbers_of t)).octets →
-        sum_by (λ a. a.octets) (applications_on channel (numbers_of t)) ≡ (counts_on channel (numbers_of t)).octets }
+        sum_by (λ a. a.octets) (application_counts channel (numbers_of t)) ≡ (counts_on channel (numbers_of t)).octets }
 {}

@@ -15,3 +15,5 @@ pub mod NoteLemmas
 pub mod RecordCounted
 pub mod SummaryLemmas
 pub mod SummaryEnds
+pub mod RecordSums
+pub mod DataOctets

@@ -27,7 +27,7 @@ use Rattle.tm_tool.specs.code.Summing.{and_records}
 
 -- ---- none of the items of a good frame is a bad frame
 
-abbrev NoneBad : List Item → Type 0
+abbrev pub NoneBad : List Item → Type 0
 NoneBad [] = Unit {0}
 NoneBad (x ∷ xs) = (is_bad x ≡ false) × NoneBad xs
 
@@ -35,7 +35,7 @@ not_any : (xs : List Item) → NoneBad xs → any_bad xs ≡ false
 not_any [] h = refl
 not_any (x ∷ xs) h = rw h.0 (not_any xs h.1)
 
-none_append : (xs ys : List Item) → NoneBad xs → NoneBad ys → NoneBad (xs ++ ys)
+pub none_append : (xs ys : List Item) → NoneBad xs → NoneBad ys → NoneBad (xs ++ ys)
 none_append [] ys h k = k
 none_append (x ∷ xs) ys h k = (h.0, none_append xs ys h.1 k)
 
@@ -85,17 +85,19 @@ abbrev pub is_fault : Reading → Bool
 is_fault (Ok f) = false
 is_fault (Err fault) = true
 
+pub good_none : (limit : ℕ) (chosen : ℕ → Bool) (s : State) (readings : List Reading) (number : ℕ) (f : GoodFrame)
+    → NoneBad (record_items limit chosen s readings number (Ok f))
+good_none limit chosen s readings number f =
+    none_append (seen_at number (master_items (master_chain s readings))) (if chosen f.channel then seen_at number (channel_items limit f.channel (chain s f.channel readings)) else [])
+    (none_seen number (master_items (master_chain s readings)) (none_gaps master_gap_item (λ e m. refl) None (master_chain s readings)))
+    (none_if (chosen f.channel) _ (none_seen number (channel_items limit f.channel (chain s f.channel readings)) (none_channel limit f.channel (chain s f.channel readings))))
+
 bad_reading : (limit : ℕ) (chosen : ℕ → Bool) (s : State) (readings : List Reading) (number : ℕ) (r : Reading)
     → any_bad (record_items limit chosen s readings number r ++ []) ≡ is_fault r
 bad_reading limit chosen s readings number (Err fault) = refl
 bad_reading limit chosen s readings number (Ok f) =
-    let masters : List Item = seen_at number (master_items (master_chain s readings)) in
-    let others : List Item = if chosen f.channel then seen_at number (channel_items limit f.channel (chain s f.channel readings)) else [] in
-    ap any_bad (append-nil (masters ++ others))
-    ∙ not_any (masters ++ others)
-    (none_append masters others
-    (none_seen number (master_items (master_chain s readings)) (none_gaps master_gap_item (λ e m. refl) None (master_chain s readings)))
-    (none_if (chosen f.channel) _ (none_seen number (channel_items limit f.channel (chain s f.channel readings)) (none_channel limit f.channel (chain s f.channel readings)))))
+    ap any_bad (append-nil (record_items limit chosen s readings number (Ok f)))
+    ∙ not_any (record_items limit chosen s readings number (Ok f)) (good_none limit chosen s readings number f)
 
 -- a bad frame is among the items of a record just where the record is none but one
 pub bad_is_fault : (w : Work) (octets : List ℕ) → any_bad (items_of w (octets ∷ [])) ≡ is_fault (frame_reading_of w.rules.layout octets)

@@ -6,4 +6,5 @@ pub mod OlderVersions
 pub mod LostGaps
 pub mod NotesInAll
 pub mod Summaries
+pub mod SummaryNumbers
 pub mod code

@@ -4,7 +4,7 @@ ghost use Rattle.std.specs.List.{concat};
 ghost use Rattle.std.specs.Io.KnownBytes.{Appends};
 ghost use Rattle.std.specs.Prelude.{◌≡◌, ◌<◌, ◌≤◌, ◌+◌, ◌*◌, ◌^◌, ℕ, true, false, Ok, List, [], ◌++◌, length, Option, IfSome};
 ghost use Rattle.tm_frame.specs.Layout.{record_length_of};
-ghost use Rattle.tm_rules.specs.Rules.{IsLimit, Rules};
+ghost use Rattle.tm_rules.specs.Rules.{IsLimit, Rules, chooses};
 ghost use Rattle.tm_packet.specs.Merge as sequence;
 ghost use Rattle.tm_reassembly.specs.Items.{closing};
 ghost use Rattle.tm_reassembly.specs.Valid.{AllOctets, IsValidState};
@@ -25,6 +25,9 @@ ghost use Rattle.tm_tool.specs.RecordingPieces.{further, items_of, pieces, recor
 ghost use Rattle.tm_output.specs.Records.{record_count, records};
 ghost use Rattle.tm_tool.specs.Resuming.{AllOfToday, Follows, Stop, done_in_all, in_one, no_head, resumed_pieces, run_pieces, then_pieces};
 ghost use Rattle.tm_output.specs.Shelves.{Shelved, Shelves, shelf_text, shelf_way};
+ghost use Rattle.tm_summary.specs.Lines.{summary_lines};
+ghost use Rattle.tm_summary.specs.Sums.{IsBelowGreatest, counts_on};
+ghost use Rattle.tm_tool.specs.SummaryNumbers.{summary_numbers};
 ghost use Rattle.tm_tool.specs.Summaries.{IsSummarized, IsSummaryStop, SummaryStopped, summary};
 ghost use Rattle.tm_tool.specs.Runs.{Devices, IsHeadedStop, IsSoundWork, IsStop, Outcome, Ran, StoppedIn};
 
@@ -139,4 +142,19 @@ pub fn summaries()
         IfSome left_old (λ octets. Appends old new (concat (summary rules octets)) × (count ≡ record_count (record_length_of rules.layout) octets)) }
     ensures stopped { (rules : Rules) (left_old left_new : Option (List ℕ)) (old new : View (Option (List ℕ))) (fault : RunFault) → 0 < record_length_of rules.layout →
         IsSummaryStop rules left_old left_new old new fault → IfSome left_old (SummaryStopped rules old new fault) }
+{}
+
+/// What adds up in the summary of a recording, where the sum is below 2^64 - 1. Its lines are made of `summary_numbers`, so `sums` of
+/// `tm_summary` holds of them. The good frames and the bad ones are its records. Of each chosen channel the octets of its packets and of its
+/// dropped parts, those of the closed end too, are the octets of its joined data fields, VCA and idle-only frames left out.
+pub fn summary_sums()
+    ensures lines { (rules : Rules) (recording : List ℕ) →
+        summary rules recording
+        ≡ summary_lines rules.channels (length (records (record_length_of rules.layout) recording)) (summary_numbers rules recording) }
+    ensures records { (rules : Rules) (recording : List ℕ) → IsBelowGreatest (length (records (record_length_of rules.layout) recording)) →
+        (summary_numbers rules recording).good + (summary_numbers rules recording).bad ≡ length (records (record_length_of rules.layout) recording) }
+    ensures data { (rules : Rules) (recording : List ℕ) (channel : ℕ) → channel < 8 → chooses rules channel ≡ true →
+        IsBelowGreatest (counts_on channel (summary_numbers rules recording)).data_octets →
+        (counts_on channel (summary_numbers rules recording)).octets + (counts_on channel (summary_numbers rules recording)).lost
+        ≡ (counts_on channel (summary_numbers rules recording)).data_octets }
 {}

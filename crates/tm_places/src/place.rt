@@ -1,18 +1,14 @@
 //! What the name of a file stands for.
 
-ghost use Rattle.std.specs.Prelude.{◌≡◌};
+ghost use Rattle.std.specs.Prelude.{◌≡◌, ℕ, List, IfOk};
 ghost use Rattle.std.specs.List.{list_any};
 ghost use Rattle.tm_places.specs.Place.{IsOther, is_node, is_one};
 
+use crate::links::{end_of_links, folder_of};
 use std::alloc::{AllocError, Global};
 use std::fs::{self, Metadata, OpenFile};
-use std::io::ErrorKind;
 use std::os::unix::fs::MetadataExt;
-use std::path::{Path, PathBuf};
 use std::rt::Files;
-
-// So many links are followed at the most, as the system does.
-const MOST_LINKS: usize = 40;
 
 /// A file or a folder that is there: the number of its device, and its own number on that.
 #[derive(Clone, Copy)]
@@ -99,35 +95,9 @@ fn node_of(metadata: &Metadata) -> Node {
     }
 }
 
-// The folder in which a path's file is.
-fn folder_of<'p>(path: &'p PathBuf) -> Option<Path<'p>> {
-    match path.parent() {
-        Some(folder) if folder.as_str().is_empty() => Some(Path::new(".")),
-        found => found,
-    }
-}
-
-// The path that the links at the end of a path lead to, whether a file is there or not.
-fn end_of_links<R: Files + AllocGlobal>(rt: &R, name: &str) -> Result<PathBuf, AllocError> {
-    let alloc = rt.alloc();
-    let mut path = PathBuf::from_str(alloc, name)?;
-    for _ in 0..MOST_LINKS {
-        let target = match rt.read_link(alloc, path.as_str()) {
-            Ok(target) => target,
-            Err(error) if error.kind() == ErrorKind::OutOfMemory => return Err(AllocError),
-            Err(_) => return Ok(path),
-        };
-        let Some(folder) = folder_of(&path) else {
-            return Ok(path);
-        };
-        path = folder.join(alloc, target.as_path())?;
-    }
-    Ok(path)
-}
-
 // The place of a file that is not there.
 fn unmade<R: Files + AllocGlobal>(rt: &R, name: &str) -> Result<Place, AllocError> {
-    let path = end_of_links(rt, name)?;
+    let path = end_of_links(rt, rt.alloc(), name)?;
     let (Some(folder), Some(last)) = (folder_of(&path), path.file_name()) else {
         return Ok(Place::other(rt.alloc()));
     };
@@ -166,5 +136,26 @@ pub fn place_of_file<F: OpenFile>(alloc: Global, file: &F) -> Place {
     match file.metadata() {
         Ok(metadata) => made(alloc, &metadata),
         Err(_) => Place::other(alloc),
+    }
+}
+
+/// Tells what names stand for: the system's files, and for proofs any names whatever.
+pub trait Namespace {
+    ghost use Rattle.tm_places.specs.declared.place.Place.{Place};
+
+    /// The name may stand for this place.
+    ghost stands_for: { Self → List ℕ → Place → Type 0 };
+
+    /// What a name stands for now.
+    fn find(&self, name: &str) -> Result<Place, AllocError>
+        ensures { IfOk result (stands_for self.now name.now) };
+}
+
+// What the system says of a name has no place in a contract: so the names of files may stand for any places.
+impl<R: Files + AllocGlobal> Namespace for R {
+    ghost stands_for = { λ _ _ _. Unit {0} };
+
+    fn find(&self, name: &str) -> Result<Place, AllocError> {
+        place_of(self, name)
     }
 }

@@ -1,5 +1,5 @@
 -- What the calls of a device do to its octets and to its count of failures.
-use Rattle.std.specs.Prelude.{◌≡◌, ◌≢◌, ⊤, ◌+◌, ◌-◌, ◌^◌, ◌<◌, ◌≤◌, ◌==◌, Bool, ℕ, min, List, [], ◌++◌, length, Option, None, Some, Result, Ok, Err, true, false, MatchResult, if◌then◌else◌}
+use Rattle.std.specs.Prelude.{◌≡◌, ◌≢◌, ⊤, ◌+◌, ◌-◌, ◌^◌, ◌<◌, ◌≤◌, ◌==◌, Bool, ℕ, min, List, [], ◌++◌, length, Option, None, Some, Result, Ok, Err, true, false, MatchResult, IfSome, if◌then◌else◌}
 use Rattle.std.specs.Io.KnownBytes.{Appends, Consumes}
 
 -- the greatest count
@@ -23,6 +23,14 @@ abbrev pub PassesOver : {E : Type 0} → Option (List ℕ) → Option (List ℕ)
 PassesOver old new n (Ok true) = (octets : List ℕ) × (length octets ≡ n) × Consumes old new octets
 PassesOver old new n (Ok false) = new ≡ old
 PassesOver old new n (Err e) = new ≡ old
+
+-- a known position moved on by so many octets, or stayed
+abbrev pub HasMoved : Option ℕ → Option ℕ → ℕ → Bool → Type 0
+HasMoved old new n did = IfSome old (λ at. new ≡ Some (if did then at + n else at))
+
+-- there are so many octets behind a known position, where all are known
+abbrev pub AreAhead : Option ℕ → Option (List ℕ) → ℕ → Type 0
+AreAhead position all n = IfSome position (λ at. IfSome all (λ octets. at + n ≤ length octets))
 
 -- known octets grew by a front of these, by a proper one if there are any
 abbrev pub AppendsFront : Option (List ℕ) → Option (List ℕ) → List ℕ → Type 0

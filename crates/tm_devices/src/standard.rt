@@ -1,7 +1,8 @@
 //! Readers and writers of std as devices.
 
-ghost use Rattle.std.specs.Prelude.{◌≡◌, ◌+◌, Some, IfOk, IfSome, if◌then◌else◌};
+ghost use Rattle.std.specs.Prelude.{◌≡◌, true, None, IfOk};
 ghost use Rattle.std.specs.Io.Buffered.{reader_buffer};
+ghost use Rattle.tm_devices.specs.Devices.{AreAhead, Counts, HasMoved, PassesOver};
 
 use crate::{DeviceFailed, Drain, Source};
 use std::io::{self, BufRead, BufReader, Read, Seek, SeekFrom, Write};
@@ -18,6 +19,7 @@ impl<R: Read> Reading<R> {
     pub fn new(reader: R) -> Self
         ensures left { ⟦<Reading<R> as Source>⟧.left result ≡ R.remaining reader }
         ensures failures { ⟦<Reading<R> as Source>⟧.failures result ≡ 0 }
+        ensures reader { result.reader ≡ reader }
     {
         Reading { reader, failed: 0 }
     }
@@ -56,6 +58,7 @@ impl<R: Read> Buffered<R> {
     pub fn new(reader: BufReader<R>) -> Self
         ensures left { ⟦<Buffered<R> as Source>⟧.left result ≡ ⟦<BufReader<R> as Read>⟧.remaining reader }
         ensures failures { ⟦<Buffered<R> as Source>⟧.failures result ≡ 0 }
+        ensures reader { result.reading.reader ≡ reader }
     {
         Buffered {
             reading: Reading::new(reader),
@@ -90,9 +93,10 @@ pub struct Seeking<R> {
 }
 
 impl<R: Read + Seek> Seeking<R> {
-    /// A source over the buffer, with no failure yet.
+    /// A source over the buffer, with no failure yet. Nothing is read of it.
     pub fn new(reader: BufReader<R>) -> Self
-        ensures { ⟦<Seeking<R> as Source>⟧.failures result ≡ 0 }
+        ensures failures { ⟦<Seeking<R> as Source>⟧.failures result ≡ 0 }
+        ensures reader { result.buffered.reading.reader ≡ reader }
     {
         Seeking {
             buffered: Buffered::new(reader),
@@ -102,7 +106,8 @@ impl<R: Read + Seek> Seeking<R> {
 
 // Moves a reader on by so many octets, if there are so many ahead, and answers whether there are. If it can't be moved, as a pipe, there are none.
 fn moved_on<R: Seek>(reader: &mut R, octets: u64) -> io::Result<bool>
-    ensures { IfSome (R.stream_position reader.old) (λ at. IfOk result (λ did. R.stream_position reader.new ≡ Some (if did then at + octets else at))) }
+    ensures moved { IfOk result (HasMoved (R.stream_position reader.old) (R.stream_position reader.new) octets) }
+    ensures within { IfOk result (λ did. did ≡ true → AreAhead (R.stream_position reader.old) (R.stream_bytes reader.old) octets) }
 {
     let Ok(at) = reader.stream_position() else {
         return Ok(false);
@@ -139,7 +144,14 @@ impl<R: Read + Seek> Source for Seeking<R> {
         self.buffered.read(buffer)
     }
 
-    fn pass_over(&mut self, octets: u64) -> Result<bool, DeviceFailed> {
+    fn pass_over(&mut self, octets: u64) -> Result<bool, DeviceFailed>
+        ensures octets { PassesOver None None octets result }
+        ensures counts { Counts self.old.buffered.reading.failed self.new.buffered.reading.failed result }
+        ensures moved { IfOk result (HasMoved (⟦<BufReader<R> as Seek>⟧.stream_position self.old.buffered.reading.reader)
+            (⟦<BufReader<R> as Seek>⟧.stream_position self.new.buffered.reading.reader) octets) }
+        ensures within { IfOk result (λ did. did ≡ true → AreAhead (⟦<BufReader<R> as Seek>⟧.stream_position self.old.buffered.reading.reader)
+            (⟦<BufReader<R> as Seek>⟧.stream_bytes self.old.buffered.reading.reader) octets) }
+    {
         match moved_on(&mut self.buffered.reading.reader, octets) {
             Ok(did) => Ok(did),
             Err(_) => {

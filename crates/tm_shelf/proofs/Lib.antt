@@ -1,2 +1,3 @@
 pub mod BufferLemmas
+pub mod LeftLemmas
 pub mod ShelfLemmas

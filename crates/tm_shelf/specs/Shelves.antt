@@ -1,5 +1,5 @@
 -- What a shelf of files is seen as.
-use Rattle.std.specs.Prelude.{◌≡◌, ◌≢◌, ◌<◌, ◌++◌, ℕ, Bool, List, [], Option, Some, Vec, map, option_map, slice_get}
+use Rattle.std.specs.Prelude.{◌≡◌, ◌≢◌, ◌<◌, ◌++◌, ◌⊎◌, ℕ, Bool, List, [], Option, Some, Vec, map, option_map, slice_get}
 use Rattle.tm_places.specs.declared.places.Places.{Places}
 
 -- a shelf of files
@@ -10,6 +10,8 @@ pub record ShelfState : Type 0 where
   pub goes_on : Bool
   -- for each application whether its file was begun
   pub begun : List Bool
+  -- how many places of files that were made are remembered, with which that of each further file is compared
+  pub made : ℕ
   -- for each application the octets that are not written yet
   pub held : List (List ℕ)
   -- how many octets came since all that was held was last written
@@ -42,3 +44,18 @@ abbrev pub IsEmptied : List (List ℕ) → List (List ℕ) → ℕ → Type 0
 IsEmptied old new application =
     (slice_get new application ≡ Some [])
     × ((other : ℕ) → other ≢ application → slice_get new other ≡ slice_get old other)
+
+-- the same octets are held of each application as before
+abbrev pub HoldsSame : List (List ℕ) → List (List ℕ) → Type 0
+HoldsSame old new = (application : ℕ) → slice_get new application ≡ slice_get old application
+
+-- the same octets are held of this application as before, or none
+abbrev pub IsKeptOrEmptied : List (List ℕ) → List (List ℕ) → ℕ → Type 0
+IsKeptOrEmptied old new application = (slice_get new application ≡ slice_get old application) ⊎ (slice_get new application ≡ Some [])
+
+-- What is held once a put is refused: of this application what was held before, or none of it, or that with these octets behind; of each other one what
+-- was held before, or none of it.
+abbrev pub IsRefused : List (List ℕ) → List (List ℕ) → ℕ → List ℕ → Type 0
+IsRefused old new application added =
+    (IsKeptOrEmptied old new application ⊎ (slice_get new application ≡ option_map (λ octets. octets ++ added) (slice_get old application)))
+    × ((other : ℕ) → other ≢ application → IsKeptOrEmptied old new other)

@@ -1,8 +1,8 @@
 //! The files of a folder, and what is held of each before it is written.
 
-ghost use Rattle.std.specs.Prelude.{◌≡◌, ◌≢◌, ◌<◌, ◌+◌, ◌++◌, ◌⊎◌, ℕ, [], None, Some, true, false, length, vec_len, slice_get, string_bytes, replicate, IfErr, IfOk, MatchResult, OnOk};
+ghost use Rattle.std.specs.Prelude.{◌≡◌, ◌≢◌, ◌<◌, ◌+◌, ◌++◌, ◌∷◌, ◌⊎◌, ℕ, [], None, Some, true, false, length, vec_len, slice_get, string_bytes, replicate, IfErr, IfOk, MatchResult, OnErr, OnOk};
 ghost use Rattle.tm_devices.specs.Devices.{Counts};
-ghost use Rattle.tm_shelf.specs.code.Buffers.{AreEmpty, IsDrained, IsExtended};
+ghost use Rattle.tm_shelf.specs.code.Buffers.{AreEmpty, AreKept, AreKeptOrEmpty, AreLeft, IsDrained, IsExtended, IsKeptOrEmpty};
 ghost use Rattle.tm_shelf.specs.ShelfFaults.{is_starving, taken_by};
 ghost use Rattle.tm_shelf.specs.Names.{file_in};
 ghost use Rattle.tm_shelf.specs.code.Files.{IsClear};
@@ -40,6 +40,18 @@ pub fn name_in(alloc: Global, dir: &str, application: usize) -> Result<String, A
     format!(in alloc; "{dir}/apid-{application:04}.pkt")
 }
 
+// Remembers the place of a file that was made, behind those of the others. It is refused only for want of memory.
+fn remember(made: &mut Vec<Place>, place: Place) -> Result<(), ShelfFault>
+    ensures made { OnOk result (made.new.items ≡ made.old.items ++ (place ∷ [])) }
+    ensures unmade { OnErr result (made.new.items ≡ made.old.items) }
+    ensures starved { IfErr result (λ fault. is_starving fault ≡ true) }
+{
+    match made.push(place) {
+        Ok(()) => Ok(()),
+        Err(_) => Err(ShelfFault::NoMemory),
+    }
+}
+
 // The folder of the files `apid-NNNN.pkt`, and how they are made and written there.
 #[derive(Drop)]
 struct Folder<'a, R> {
@@ -52,8 +64,11 @@ struct Folder<'a, R> {
 }
 
 impl<R: Files + AllocGlobal> Folder<'_, R> {
-    // The name of an application's file.
-    fn name_of(&self, application: usize) -> Result<String, ShelfFault> {
+    // The name of an application's file. It is refused only for want of memory.
+    fn name_of(&self, application: usize) -> Result<String, ShelfFault>
+        ensures name { IfOk result (λ name. string_bytes name ≡ file_in self.now.dir.now application) }
+        ensures starved { IfErr result (λ fault. is_starving fault ≡ true) }
+    {
         match name_in(self.alloc, self.dir, application) {
             Ok(name) => Ok(name),
             Err(_) => Err(ShelfFault::NoMemory),
@@ -62,7 +77,8 @@ impl<R: Files + AllocGlobal> Folder<'_, R> {
 
     // What the name of a file stands for, unless that is another file of the run, or one of those that were made.
     fn clear(&self, name: &str, made: &[Place]) -> Result<Place, ShelfFault>
-        ensures { IfOk result (IsClear self.now.places.now made.now) }
+        ensures clear { IfOk result (IsClear self.now.places.now made.now) }
+        ensures refused { IfErr result (λ fault. fault ≢ ShelfFault.NotWritten) }
     {
         let Ok(place) = place_of(self.rt, name) else {
             return Err(ShelfFault::NoMemory);
@@ -88,16 +104,16 @@ impl<R: Files + AllocGlobal> Folder<'_, R> {
     }
 
     // Makes the file of an application, and remembers its place.
-    fn begin(&self, application: usize, made: &mut Vec<Place>) -> Result<(), ShelfFault> {
+    fn begin(&self, application: usize, made: &mut Vec<Place>) -> Result<(), ShelfFault>
+        ensures made { OnOk result (vec_len made.new ≡ vec_len made.old + 1) }
+        ensures unmade { OnErr result (made.new.items ≡ made.old.items) }
+    {
         let name = self.name_of(application)?;
         let place = self.clear(name.as_str(), made.as_slice())?;
         let Ok(file) = self.make(name.as_str(), made.as_slice(), &place) else {
             return Err(ShelfFault::NotWritten);
         };
-        match made.push(place_of_file(self.alloc, &file)) {
-            Ok(()) => Ok(()),
-            Err(_) => Err(ShelfFault::NoMemory),
-        }
+        remember(made, place_of_file(self.alloc, &file))
     }
 
     // Likewise, unless it was begun.
@@ -107,7 +123,10 @@ impl<R: Files + AllocGlobal> Folder<'_, R> {
         begun: &mut bool,
         made: &mut Vec<Place>,
     ) -> Result<(), ShelfFault>
-        ensures { OnOk result (begun.new ≡ true) }
+        ensures begun { OnOk result (begun.new ≡ true) }
+        ensures made { OnOk result (begun.old ≡ false → vec_len made.new ≡ vec_len made.old + 1) }
+        ensures before { begun.old ≡ true → made.new.items ≡ made.old.items }
+        ensures unmade { OnErr result ((begun.new ≡ begun.old) × (made.new.items ≡ made.old.items)) }
     {
         if !*begun {
             self.begin(application, made)?;
@@ -132,7 +151,9 @@ impl<R: Files + AllocGlobal> Folder<'_, R> {
         held: &mut Vec<u8>,
         octets: &[u8],
     ) -> Result<(), ShelfFault>
-        ensures { OnOk result (held.new.items ≡ []) }
+        ensures written { OnOk result (held.new.items ≡ []) }
+        ensures kept { IfErr result (λ fault. is_starving fault ≡ true → held.new.items ≡ held.old.items) }
+        ensures left { IsKeptOrEmpty held.old.items held.new.items }
     {
         let mut file = self.open(application)?;
         let written = file.write_all(held.as_slice());
@@ -145,7 +166,8 @@ impl<R: Files + AllocGlobal> Folder<'_, R> {
 
     // Writes what is held of an application, if anything is.
     fn write_any(&self, application: usize, held: &mut Vec<u8>) -> Result<(), ShelfFault>
-        ensures { OnOk result (held.new.items ≡ []) }
+        ensures written { OnOk result (held.new.items ≡ []) }
+        ensures left { IsKeptOrEmpty held.old.items held.new.items }
     {
         if held.is_empty() {
             return Ok(());
@@ -156,7 +178,10 @@ impl<R: Files + AllocGlobal> Folder<'_, R> {
     // Holds octets of an application behind those that are held, or writes all of these where they are many.
     fn add(&self, held: &mut [Vec<u8>], application: usize, octets: &[u8]) -> Result<(), ShelfFault>
         requires { application < length held.now }
-        ensures { OnOk result (IsExtended held.old held.new application octets.now ⊎ IsDrained held.old held.new application) }
+        ensures held { OnOk result (IsExtended held.old held.new application octets.now ⊎ IsDrained held.old held.new application) }
+        ensures kept { IfErr result (λ fault. is_starving fault ≡ true → AreKept held.old held.new) }
+        ensures left { OnErr result (AreKeptOrEmpty held.old held.new) }
+        ensures others { (other : ℕ) → other ≢ application → slice_get held.new other ≡ slice_get held.old other }
     {
         let own = &mut held[application];
         if own.len().saturating_add(octets.len()) >= MANY_OF_ONE {
@@ -169,10 +194,11 @@ impl<R: Files + AllocGlobal> Folder<'_, R> {
     }
 
     // Writes what is held of all applications. Where a file can't be written the others still are.
-    #[tactic(auto, using(crate::proofs::BufferLemmas::none_so_far))]
+    #[tactic(auto, using(crate::proofs::BufferLemmas::none_so_far, crate::proofs::LeftLemmas::left_so_far))]
     fn write_all(&self, held: &mut [Vec<u8>]) -> Result<(), ShelfFault>
         requires { length held.now ≡ 2048 }
-        ensures { OnOk result (AreEmpty held.new) }
+        ensures written { OnOk result (AreEmpty held.new) }
+        ensures left { AreKeptOrEmpty held.old held.new }
     {
         let mut done = Ok(());
         for application in 0..APPLICATIONS {
@@ -227,7 +253,7 @@ impl<'a, R: Files + AllocGlobal> HeldFiles<'a, R> {
     ) -> Result<Self, AllocError>
         ensures folder { IfOk result (λ s. (s.folder.dir ≡ dir.entry) × (s.folder.goes_on ≡ goes_on) × (s.folder.places ≡ places.entry)) }
         ensures counts { IfOk result (λ s. (s.octets ≡ 0) × (s.refused ≡ 0) × (s.starved ≡ false) × (s.taken ≡ None)) }
-        ensures begun { IfOk result (λ s. s.begun.items ≡ replicate 2048 false) }
+        ensures begun { IfOk result (λ s. (s.begun.items ≡ replicate 2048 false) × (vec_len s.made ≡ 0)) }
         ensures held { IfOk result (λ s. AreEmpty s.held.items) }
     {
         let alloc = rt.alloc();
@@ -276,8 +302,10 @@ impl<'a, R: Files + AllocGlobal> HeldFiles<'a, R> {
     /// Writes all that is held. Where a file can't be written the others still are.
     pub fn write_held(&mut self) -> Result<(), ShelfFault>
         ensures held { OnOk result (AreEmpty self.new.held.items) }
+        ensures left { AreKeptOrEmpty self.old.held.items self.new.held.items }
         ensures octets { self.new.octets ≡ 0 }
         ensures begun { self.new.begun ≡ self.old.begun }
+        ensures made { self.new.made ≡ self.old.made }
         ensures same { (self.new.folder ≡ self.old.folder) × (self.new.refused ≡ self.old.refused) × (self.new.starved ≡ self.old.starved) × (self.new.taken ≡ self.old.taken) }
     {
         self.octets = 0;
@@ -285,12 +313,16 @@ impl<'a, R: Files + AllocGlobal> HeldFiles<'a, R> {
     }
 
     // Holds octets of an application, or writes them. Its file is made at the first. All that is held is written where much came since it last was.
+    #[tactic(auto, using(crate::proofs::LeftLemmas::left_as_it_was, crate::proofs::LeftLemmas::left_of_one, crate::proofs::LeftLemmas::left_of_all, crate::proofs::LeftLemmas::kept_as_it_was))]
     fn hold(&mut self, application: usize, octets: &[u8]) -> Result<(), ShelfFault>
         requires { application < 2048 }
         ensures begun { OnOk result (slice_get self.new.begun.items application ≡ Some true) }
         ensures others { (other : ℕ) → other ≢ application → slice_get self.new.begun.items other ≡ slice_get self.old.begun.items other }
         ensures held { OnOk result (((IsExtended self.old.held.items self.new.held.items application octets.now ⊎ IsDrained self.old.held.items self.new.held.items application)
             × (self.new.octets ≡ self.old.octets + length octets.now)) ⊎ AreEmpty self.new.held.items) }
+        ensures made { OnOk result (slice_get self.old.begun.items application ≡ Some false → vec_len self.new.made ≡ vec_len self.old.made + 1) }
+        ensures left { OnErr result (AreLeft self.old.held.items self.new.held.items application octets.now) }
+        ensures kept { IfErr result (λ fault. is_starving fault ≡ true → AreKept self.old.held.items self.new.held.items ⊎ (self.new.octets ≡ 0)) }
         ensures few { OnOk result (self.new.octets < 8388608) }
         ensures same { (self.new.folder ≡ self.old.folder) × (self.new.refused ≡ self.old.refused) × (self.new.starved ≡ self.old.starved) × (self.new.taken ≡ self.old.taken) }
     {
@@ -311,6 +343,9 @@ impl<'a, R: Files + AllocGlobal> HeldFiles<'a, R> {
         ensures others { (other : ℕ) → other ≢ application → slice_get self.new.begun.items other ≡ slice_get self.old.begun.items other }
         ensures held { OnOk result (((IsExtended self.old.held.items self.new.held.items application octets.now ⊎ IsDrained self.old.held.items self.new.held.items application)
             × (self.new.octets ≡ self.old.octets + length octets.now)) ⊎ AreEmpty self.new.held.items) }
+        ensures made { OnOk result (slice_get self.old.begun.items application ≡ Some false → vec_len self.new.made ≡ vec_len self.old.made + 1) }
+        ensures left { OnErr result (AreLeft self.old.held.items self.new.held.items application octets.now) }
+        ensures kept { IfErr result (λ fault. is_starving fault ≡ true → AreKept self.old.held.items self.new.held.items ⊎ (self.new.octets ≡ 0)) }
         ensures few { OnOk result (self.new.octets < 8388608) }
         ensures same { self.new.folder ≡ self.old.folder }
         ensures counts { Counts self.old.refused self.new.refused result }

@@ -1,5 +1,9 @@
 -- Buffers with what is not written yet, one for each application.
-use Rattle.std.specs.Prelude.{◌≡◌, ◌≢◌, ◌<◌, ◌++◌, ℕ, List, [], Some, Vec, slice_get, option_map}
+use Rattle.std.specs.Prelude.{◌≡◌, ◌≢◌, ◌<◌, ◌++◌, ◌⊎◌, ℕ, List, [], Option, Some, Vec, slice_get, option_map}
+
+-- all of these octets are still there, or none
+abbrev pub IsKeptOrEmpty : List ℕ → List ℕ → Type 0
+IsKeptOrEmpty old new = (new ≡ old) ⊎ (new ≡ [])
 
 module _ {Z : Type 0} where
   -- the first so many are empty
@@ -21,3 +25,25 @@ module _ {Z : Type 0} where
   IsDrained old new application =
       (option_map (λ octets. octets.items) (slice_get new application) ≡ Some [])
       × ((other : ℕ) → other ≢ application → slice_get new other ≡ slice_get old other)
+
+  -- the octets of an application
+  abbrev pub octets_at : List (Vec ℕ Z) → ℕ → Option (List ℕ)
+  octets_at held application = option_map (λ octets. octets.items) (slice_get held application)
+
+  -- each has the octets that it had
+  abbrev pub AreKept : List (Vec ℕ Z) → List (Vec ℕ Z) → Type 0
+  AreKept old new = (application : ℕ) → octets_at new application ≡ octets_at old application
+
+  -- that of this application has the octets that it had, or is empty
+  abbrev pub IsLeftAt : List (Vec ℕ Z) → List (Vec ℕ Z) → ℕ → Type 0
+  IsLeftAt old new application = (octets_at new application ≡ octets_at old application) ⊎ (octets_at new application ≡ Some [])
+
+  -- likewise each
+  abbrev pub AreKeptOrEmpty : List (Vec ℕ Z) → List (Vec ℕ Z) → Type 0
+  AreKeptOrEmpty old new = (application : ℕ) → IsLeftAt old new application
+
+  -- likewise, but that of this application may have these octets behind those that it had
+  abbrev pub AreLeft : List (Vec ℕ Z) → List (Vec ℕ Z) → ℕ → List ℕ → Type 0
+  AreLeft old new application added =
+      (IsLeftAt old new application ⊎ (octets_at new application ≡ option_map (λ octets. octets ++ added) (octets_at old application)))
+      × ((other : ℕ) → other ≢ application → IsLeftAt old new other)

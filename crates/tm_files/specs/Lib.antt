@@ -1,3 +1,4 @@
 pub mod FaultLines
 pub mod Names
+pub mod Places
 pub mod code

@@ -3,7 +3,7 @@ use Rattle.std.proofs.Common.{◌≡◌, ◌≢◌, ◌+◌, ◌++◌, ◌∙◌
 use Rattle.std.specs.Prelude.{Err, IfErr, Ok, OnErr, Result, option_map, slice_get, true}
 use Rattle.std.proofs.lemmas.Option.{slice_get-map}
 use Rattle.std.proofs.lemmas.Bool.{cases_eq}
-use Rattle.tm_shelf.specs.code.Buffers.{AreKept, AreKeptOrEmpty, AreLeft, IsDrained, IsExtended, IsLeftAt, octets_at}
+use Rattle.tm_shelf.specs.code.Buffers.{AreKept, AreKeptOrEmpty, AreLeft, IsDrained, IsExtended, IsLeftAt, octets_held_for}
 use Rattle.tm_shelf.specs.ShelfFaults.{is_starving}
 use Rattle.tm_shelf.specs.declared.files.ShelfFault.{ShelfFault}
 use Rattle.tm_shelf.specs.Shelves.{HoldsSame, IsKeptOrEmptied, IsRefused, buffer_octets}
@@ -11,7 +11,7 @@ use Rattle.tm_shelf.specs.Shelves.{HoldsSame, IsKeptOrEmptied, IsRefused, buffer
 module _ {Z : Type 0} where
   -- all are as they were
   pub kept_as_it_was : (old new : List (Vec ℕ Z)) → new ≡ old → AreKept old new
-  kept_as_it_was old new same application = ap (λ held. octets_at held application) same
+  kept_as_it_was old new same application = ap (λ held. octets_held_for held application) same
 
   pub left_as_it_was : (old new : List (Vec ℕ Z)) (application : ℕ) (added : List ℕ) → new ≡ old → AreLeft old new application added
   left_as_it_was old new application added same =
@@ -32,7 +32,7 @@ module _ {Z : Type 0} where
   extended (Some buffer) added = refl
 
   own_left : (old mid new : List (Vec ℕ Z)) (application : ℕ) (added : List ℕ) → IsExtended old mid application added ⊎ IsDrained old mid application → IsLeftAt mid new application
-      → IsLeftAt old new application ⊎ (octets_at new application ≡ option_map (λ octets. octets ++ added) (octets_at old application))
+      → IsLeftAt old new application ⊎ (octets_held_for new application ≡ option_map (λ octets. octets ++ added) (octets_held_for old application))
   own_left old mid new application added (inl longer) (inl kept) = inr (kept ∙ longer.0 ∙ extended (slice_get old application) added)
   own_left old mid new application added (inr drained) (inl kept) = inl (inr (kept ∙ drained.0))
   own_left old mid new application added put (inr empty) = inl (inr empty)
@@ -69,7 +69,7 @@ module _ {Z : Type 0} where
       (cases_eq k n)
 
   -- what is seen of it
-  seen : (buffers : List (Vec ℕ Z)) (n : ℕ) → slice_get (buffer_octets buffers) n ≡ octets_at buffers n
+  seen : (buffers : List (Vec ℕ Z)) (n : ℕ) → slice_get (buffer_octets buffers) n ≡ octets_held_for buffers n
   seen buffers n = slice_get-map (λ octets. octets.items) buffers n
 
   same_seen : (old new : List (Vec ℕ Z)) → AreKept old new → HoldsSame (buffer_octets old) (buffer_octets new)
@@ -83,7 +83,7 @@ module _ {Z : Type 0} where
   kept_seen old new left n = left_seen old new n (left n)
 
   own_seen : (old new : List (Vec ℕ Z)) (n : ℕ) (added : List ℕ)
-      → IsLeftAt old new n ⊎ (octets_at new n ≡ option_map (λ octets. octets ++ added) (octets_at old n))
+      → IsLeftAt old new n ⊎ (octets_held_for new n ≡ option_map (λ octets. octets ++ added) (octets_held_for old n))
       → IsKeptOrEmptied (buffer_octets old) (buffer_octets new) n ⊎ (slice_get (buffer_octets new) n ≡ option_map (λ octets. octets ++ added) (slice_get (buffer_octets old) n))
   own_seen old new n added (inl left) = inl (left_seen old new n left)
   own_seen old new n added (inr longer) = inr (seen new n ∙ longer ∙ ap (option_map (λ octets. octets ++ added)) (sym (seen old n)))

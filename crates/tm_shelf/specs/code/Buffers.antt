@@ -27,16 +27,16 @@ module _ {Z : Type 0} where
       × ((other : ℕ) → other ≢ application → slice_get new other ≡ slice_get old other)
 
   -- the octets of an application
-  abbrev pub octets_at : List (Vec ℕ Z) → ℕ → Option (List ℕ)
-  octets_at held application = option_map (λ octets. octets.items) (slice_get held application)
+  abbrev pub octets_held_for : List (Vec ℕ Z) → ℕ → Option (List ℕ)
+  octets_held_for held application = option_map (λ octets. octets.items) (slice_get held application)
 
   -- each has the octets that it had
   abbrev pub AreKept : List (Vec ℕ Z) → List (Vec ℕ Z) → Type 0
-  AreKept old new = (application : ℕ) → octets_at new application ≡ octets_at old application
+  AreKept old new = (application : ℕ) → octets_held_for new application ≡ octets_held_for old application
 
   -- that of this application has the octets that it had, or is empty
   abbrev pub IsLeftAt : List (Vec ℕ Z) → List (Vec ℕ Z) → ℕ → Type 0
-  IsLeftAt old new application = (octets_at new application ≡ octets_at old application) ⊎ (octets_at new application ≡ Some [])
+  IsLeftAt old new application = (octets_held_for new application ≡ octets_held_for old application) ⊎ (octets_held_for new application ≡ Some [])
 
   -- likewise each
   abbrev pub AreKeptOrEmpty : List (Vec ℕ Z) → List (Vec ℕ Z) → Type 0
@@ -45,5 +45,5 @@ module _ {Z : Type 0} where
   -- likewise, but that of this application may have these octets behind those that it had
   abbrev pub AreLeft : List (Vec ℕ Z) → List (Vec ℕ Z) → ℕ → List ℕ → Type 0
   AreLeft old new application added =
-      (IsLeftAt old new application ⊎ (octets_at new application ≡ option_map (λ octets. octets ++ added) (octets_at old application)))
+      (IsLeftAt old new application ⊎ (octets_held_for new application ≡ option_map (λ octets. octets ++ added) (octets_held_for old application)))
       × ((other : ℕ) → other ≢ application → IsLeftAt old new other)

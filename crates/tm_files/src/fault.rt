@@ -38,7 +38,7 @@ pub enum ToolFault {
     File(Octets),
     /// The file of this name is over 1,048,576 octets.
     TooLong(Octets),
-    /// Standard error, which is to take the report, is a file that is read. So no line is printed there.
+    /// Standard error is a file that is read, whatever the run writes there. So no line is printed.
     Errors,
     /// The run ended before its end. Want of memory that no other fault holds is here, too.
     Run(RunFault),

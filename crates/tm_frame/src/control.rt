@@ -9,7 +9,7 @@ ghost use Rattle.tm_frame.specs.code.Folding.{Folds, bits_of_words, remainder_fr
 use crate::table::table_entry;
 use byteorder::{BigEndian, ByteOrder};
 
-// Fewer octets than these go faster by the table: folding takes the time of a block for them.
+// Fewer octets than this go faster by the table: folding takes the time of a whole block, however few they are.
 const FEW: usize = 16;
 
 /// The error control of octets: the remainder of their bits and 16 zero bits by
@@ -31,8 +31,10 @@ pub fn error_control(octets: &[u8]) -> u16
     finish(held)
 }
 
-/// The same as `error_control`, octet by octet through the table of 256 entries: the plain program, which is
-/// slower, but for a few octets (CCSDS 132.0-B-3, 4.1.6).
+/// The same as `error_control`, octet by octet through the table of 256 entries (CCSDS 132.0-B-3, 4.1.6): the
+/// plain program. It is slower, but for few octets.
+// Apart from its callers, since its loop would take registers from the folding there.
+#[inline(never)]
 pub fn error_control_by_table(octets: &[u8]) -> u16
     ensures { result ≡ error_control_of octets.now }
 {

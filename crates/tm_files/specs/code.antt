@@ -1,4 +1,5 @@
 pub mod Clashes
 pub mod Decisions
 pub mod Files
+pub mod Replacements
 pub mod Reports

@@ -2,6 +2,7 @@
 
 ghost use Rattle.std.specs.Prelude.{◌≡◌, ◌<◌, ◌≤◌, length, vec_len, IfOk, IfErr, IfSome, MatchOption};
 ghost use Rattle.tm_files.specs.code.Files.{IsFaultOf, IsFileFault, most_octets};
+ghost use Rattle.tm_files.specs.code.Replacements.{replaced_name};
 
 use crate::fault::ToolFault;
 use std::alloc::Global;
@@ -113,14 +114,21 @@ fn write_beside<R: Files>(rt: &R, beside: &str, path: &str, octets: &[u8]) -> io
     done
 }
 
+/// What the file of a name has was replaced. Only `replace` says so, once it is done.
+#[derive(Clone, Copy)]
+pub struct Replaced<'n> {
+    name: &'n Octets,
+}
+
 /// Puts octets in place of all that a file has, by way of a file `NAME.new` beside it: where this fails, the file is
 /// as it was. A fault names the file as it was given.
-pub fn replace<R: Files + AllocGlobal>(
+pub fn replace<'n, R: Files + AllocGlobal>(
     rt: &R,
-    name: &Octets,
+    name: &'n Octets,
     octets: &[u8],
-) -> Result<(), ToolFault>
-    ensures { IfErr result (IsFileFault name.now) }
+) -> Result<Replaced<'n>, ToolFault>
+    ensures name { IfOk result (λ replaced. replaced_name replaced ≡ name.now) }
+    ensures refused { IfErr result (IsFileFault name.now) }
 {
     let alloc = rt.alloc();
     let path = path_of(alloc, name)?;
@@ -128,7 +136,7 @@ pub fn replace<R: Files + AllocGlobal>(
         return Err(ToolFault::Run(RunFault::NoMemory));
     };
     match write_beside(rt, beside.as_str(), path, octets) {
-        Ok(()) => Ok(()),
+        Ok(()) => Ok(Replaced { name }),
         Err(_) => Err(file_fault(alloc, name)),
     }
 }

@@ -14,7 +14,7 @@ pub use decisions::{
     stream_fault, writes_errors, writes_output,
 };
 pub use fault::{NoMemory, ToolFault};
-pub use files::{append, create, file_fault, open, read_file, replace};
+pub use files::{Replaced, append, create, file_fault, open, read_file, replace};
 pub use lines::{fault_line, status};
 pub use names::{Checked, check_errors, check_names};
 pub use places::places_by;

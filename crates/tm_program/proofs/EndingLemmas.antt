@@ -1,14 +1,14 @@
 -- What is done by a run, of what its contract says.
-use Rattle.std.proofs.Common.{◌≡◌, ℕ, List, Option, None, Some, Result, Ok, inl, inr, option_map, subst, ⊎_elim}
+use Rattle.std.proofs.Common.{◌≡◌, ◌⊎◌, ℕ, List, Option, None, Some, Result, Ok, inl, inr, option_map, refl, subst, ⊎_elim}
 use Rattle.std.specs.Prelude.{IfOk, MatchOption}
 use Rattle.tm_output.specs.declared.command.Ending.{Ending}
 use Rattle.tm_output.specs.Outputs.{Piece, Way}
 use Rattle.tm_output.specs.Pieces.{Texts}
 use Rattle.tm_checkpoint.specs.Works.{JobState, new_job, Work}
-use Rattle.tm_tool.specs.Runs.{Devices, IsEnough, Ran}
+use Rattle.tm_tool.specs.Runs.{Devices, IsEnough, Ran, kept_of}
 use Rattle.tm_tool.specs.declared.job.Done.{Done}
 use Rattle.tm_settings.specs.Settings.{Rules}
-use Rattle.tm_program.specs.code.Endings.{HasDone, IsDone, ending_of}
+use Rattle.tm_program.specs.code.Endings.{HasDone, IsDone, ending_of, ending_with, wanted_file, work_from}
 use Rattle.tm_words.specs.declared.request.Plan.{Plan}
 
 -- what was read is enough, whatever the source tells
@@ -30,3 +30,29 @@ done_from {E} found p settings None job done from is d =
 done_from found p settings (Some old) job done from is d =
     let same : job ≡ old = cc in
     subst (λ (j : JobState). IsDone (ending_of p) j.work done) same d
+
+-- no checkpoint is wanted
+pub file_unwanted : {J : Type 0} (name : Option (List ℕ)) (kept : Option J) → (name ≡ None) ⊎ (kept ≡ None) → wanted_file name kept ≡ None
+file_unwanted None None h = refl
+file_unwanted None (Some job) h = refl
+file_unwanted (Some name) None h = refl
+file_unwanted (Some name) (Some job) (inl is) = cc
+file_unwanted (Some name) (Some job) (inr is) = cc
+
+-- one is, to this file
+pub file_wanted : {J : Type 0} (name : Option (List ℕ)) (kept : Option J) (given : List ℕ) (job : J) → name ≡ Some given → kept ≡ Some job → wanted_file name kept ≡ Some given
+file_wanted name kept given job named is = rw is named
+
+-- a run of a plan with a file for the checkpoint keeps a job
+file_with : (name : Option (List ℕ)) (stop : Option ℕ) (w : Work) (kept : Option JobState) → option_map (λ job. job.work) kept ≡ kept_of (ending_with name stop) w
+    → wanted_file name kept ≡ name
+file_with None stop w None is = refl
+file_with None stop w (Some job) is = refl
+file_with (Some name) None w None is = cc
+file_with (Some name) None w (Some job) is = refl
+file_with (Some name) (Some records) w None is = cc
+file_with (Some name) (Some records) w (Some job) is = refl
+
+-- so the file of the plan's checkpoint takes it
+pub file_of_done : (p : Plan) (settings : Rules) (resumed : Option JobState) (done : Done) → HasDone p settings resumed done → wanted_file p.checkpoint done.kept ≡ p.checkpoint
+file_of_done p settings resumed done (read, enough, count_is, kept_is) = file_with p.checkpoint p.stop_after _ done.kept kept_is

@@ -1,15 +1,16 @@
 //! The checkpoint that a run goes on from, and the one that it leaves.
 
-ghost use Rattle.std.specs.Prelude.{◌≡◌, ◌⊎◌, None, Ok, Some, IfErr, IfOk, IfSome, MatchOption, is_some};
+ghost use Rattle.std.specs.Prelude.{◌≡◌, ◌⊎◌, None, Ok, Some, IfErr, IfOk, IfSome, MatchOption, is_some, option_map};
 ghost use Rattle.tm_checkpoint.specs.Checkpoints.{checkpoint_of};
 ghost use Rattle.tm_checkpoint.specs.Works.{JobState, new_job};
-ghost use Rattle.tm_program.specs.code.Endings.{ending_of};
+ghost use Rattle.tm_program.specs.code.Endings.{ending_of, wanted_file};
 ghost use Rattle.tm_program.specs.code.Faults.{IsOfResumed, IsResumed};
 ghost use Rattle.tm_files.specs.code.Files.{HasFault, IsNoMemory};
+ghost use Rattle.tm_files.specs.code.Replacements.{replaced_name};
 
 use std::alloc::Global;
 use std::rt::Files;
-use tm_files::{ToolFault, read_file, replace};
+use tm_files::{Replaced, ToolFault, read_file, replace};
 use tm_tool::{Done, Ending, Job, Octets, RunFault, Settings};
 use tm_words::Plan;
 
@@ -82,14 +83,18 @@ fn wanted<'p>(
     }
 }
 
-/// Writes the checkpoint that the plan wants of what a run kept. What the file then holds has no place in a contract.
-#[tactic(auto, using(tm_files::proofs::FaultLemmas::starved_there))]
-pub fn keep<R: Files + AllocGlobal>(rt: &R, plan: &Plan, done: &Done) -> Result<(), ToolFault>
-    ensures unwanted { (plan.now.checkpoint ≡ None) ⊎ (done.now.kept ≡ None) → result ≡ Ok tt }
+/// Writes the checkpoint that the plan wants of what a run kept, and answers which file it replaced. What the file then holds has no place in a contract.
+#[tactic(auto, using(tm_files::proofs::FaultLemmas::starved_there, crate::proofs::EndingLemmas::file_unwanted, crate::proofs::EndingLemmas::file_wanted))]
+pub fn keep<'p, R: Files + AllocGlobal>(
+    rt: &R,
+    plan: &'p Plan,
+    done: &Done,
+) -> Result<Option<Replaced<'p>>, ToolFault>
+    ensures replaced { IfOk result (λ found. option_map replaced_name found ≡ wanted_file plan.now.checkpoint done.now.kept) }
     ensures refused { IfErr result (HasFault plan.now.checkpoint) }
 {
     match wanted(rt.alloc(), plan, done)? {
-        Some((name, octets)) => replace(rt, name, octets.as_slice()),
-        None => Ok(()),
+        Some((name, octets)) => Ok(Some(replace(rt, name, octets.as_slice())?)),
+        None => Ok(None),
     }
 }

@@ -7,6 +7,7 @@ ghost use Rattle.tm_shelf.specs.Names.{file_in};
 ghost use Rattle.tm_shelf.specs.Shelves.{HoldsNone};
 ghost use Rattle.tm_files.specs.code.Decisions.{stream_fault_of, is_job};
 ghost use Rattle.tm_files.specs.code.Files.{HasFault, IsFileFault, IsNoMemory, IsRunFault};
+ghost use Rattle.tm_files.specs.code.Replacements.{replaced_name};
 ghost use Rattle.tm_files.specs.code.Reports.{is_file};
 ghost use Rattle.tm_files.specs.Names.{AreClear};
 ghost use Rattle.tm_program.specs.code.Blames.{IsBlamed, IsBlamedOf, put_fault_of, split_end_of};
@@ -20,9 +21,9 @@ use std::io::{self, BufReader, BufWriter, Read, Write};
 use std::rt::Files;
 use tm_fields::Definition;
 use tm_files::{
-    Checked, Destination, Opening, Recording, Report, Stream, ToolFault, append, check_errors,
-    check_names, create, destination_by, file_fault, is_job, open, opening_by, places_by,
-    read_file, recording_by, stream_fault, writes_errors, writes_output,
+    Checked, Destination, Opening, Recording, Replaced, Report, Stream, ToolFault, append,
+    check_errors, check_names, create, destination_by, file_fault, is_job, open, opening_by,
+    places_by, read_file, recording_by, stream_fault, writes_errors, writes_output,
 };
 use tm_places::Places;
 use tm_shelf::{FileShelf, ShelfFault, name_in};
@@ -483,17 +484,26 @@ fn do_job<R: Files + Print + AllocGlobal, S: Source + Drop, V: Write + Drop>(
     done
 }
 
-// Does what the plan wants of the job over the recording, once the names of its files were checked, and answers what is done.
-#[tactic(auto, using(crate::proofs::ProgramLemmas::run_ends))]
-fn run_job_on<R: Files + Print + AllocGlobal, S: Source + Drop, E: Write + Drop>(
+// What the run of a job did, and the file that took its checkpoint, where the plan has one.
+#[derive(Drop)]
+struct Finished<'p> {
+    done: Done,
+    replaced: Option<Replaced<'p>>,
+}
+
+// Does what the plan wants of the job over the recording, once the names of its files were checked, and answers what is done. The plan's checkpoint
+// is written in any case, also where no record is done.
+#[tactic(auto, using(crate::proofs::ProgramLemmas::run_ends, crate::proofs::EndingLemmas::file_of_done))]
+fn run_job_on<'p, R: Files + Print + AllocGlobal, S: Source + Drop, E: Write + Drop>(
     rt: &R,
-    plan: &Plan,
+    plan: &'p Plan,
     inputs: Inputs,
     source: S,
     errors: E,
     checked: Checked,
-) -> Result<Done, ToolFault>
-    ensures done { IfOk result (HasDone plan.now inputs.settings inputs.resumed) }
+) -> Result<Finished<'p>, ToolFault>
+    ensures done { IfOk result (λ finished. HasDone plan.now inputs.settings inputs.resumed finished.done) }
+    ensures checkpoint { IfOk result (λ finished. option_map replaced_name finished.replaced ≡ plan.now.checkpoint) }
     ensures refused { IfErr result (IsOfOutputs plan.now) }
 {
     let report = match report_by(rt, plan, checked, errors) {
@@ -505,7 +515,7 @@ fn run_job_on<R: Files + Print + AllocGlobal, S: Source + Drop, E: Write + Drop>
     };
     let done = do_job(rt, plan, inputs, source, report)?;
     match keep(rt, plan, &done) {
-        Ok(()) => Ok(done),
+        Ok(replaced) => Ok(Finished { done, replaced }),
         Err(fault) => {
             drop(done);
             Err(fault)
@@ -526,16 +536,17 @@ fn checked_by<R: Files + AllocGlobal>(rt: &R, plan: &Plan) -> Result<Checked, To
 }
 
 // Checks the names of the plan's files, does what the plan asks for with the recording, and answers what its job has done, if it has one.
-fn check_and_run<R: Files + Print + AllocGlobal, S: Source + Drop, E: Write + Drop>(
+fn check_and_run<'p, R: Files + Print + AllocGlobal, S: Source + Drop, E: Write + Drop>(
     rt: &R,
-    plan: &Plan,
+    plan: &'p Plan,
     inputs: Inputs,
     source: S,
     errors: E,
-) -> Result<Option<Done>, ToolFault>
+) -> Result<Option<Finished<'p>>, ToolFault>
     ensures ok { OnOk result (AreClear plan.now) }
     ensures done { IfOk result (λ found. MatchOption found (is_job plan.now.action ≡ false)
-        (HasDone plan.now inputs.settings inputs.resumed)) }
+        (λ finished. HasDone plan.now inputs.settings inputs.resumed finished.done)) }
+    ensures checkpoint { IfOk result (λ found. IfSome found (λ finished. option_map replaced_name finished.replaced ≡ plan.now.checkpoint)) }
     ensures refused { IfErr result (IsOfOutputs plan.now) }
 {
     let checked = match checked_by(rt, plan) {
@@ -547,7 +558,7 @@ fn check_and_run<R: Files + Print + AllocGlobal, S: Source + Drop, E: Write + Dr
     };
     if is_job(plan.action) {
         return match run_job_on(rt, plan, inputs, source, errors, checked) {
-            Ok(done) => Ok(Some(done)),
+            Ok(finished) => Ok(Some(finished)),
             Err(fault) => Err(fault),
         };
     }

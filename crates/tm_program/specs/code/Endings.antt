@@ -38,6 +38,11 @@ work_from settings (Some job) = job.work
 abbrev pub HasDone : Plan → Rules → Option JobState → Done → Type 0
 HasDone p settings resumed done = IsDone (ending_of p) (work_from settings resumed) done
 
+-- the file that takes the checkpoint: that of the plan, where a job was kept
+abbrev pub wanted_file : {J : Type 0} → Option (List ℕ) → Option J → Option (List ℕ)
+wanted_file name None = None
+wanted_file name (Some job) = name
+
 -- a summary of what was read was written, or a list of its frames
 abbrev pub HasShown : Action → Rules → (left_old left_new out_old out_new : Option (List ℕ)) → Type 0
 HasShown Summary rules left_old left_new out_old out_new = (count : ℕ) × IsSummarized rules left_old left_new out_old out_new count

@@ -3,8 +3,8 @@
 use crate::refused::{OLD_STATE, STATE, TAIL, is_state};
 use crate::refusing::{Wanted, finish, step};
 use crate::runs::{
-    GREATEST_PACKET, HELD_AFTER_FIRST_RECORD, Row, SHORT_REST, TWO_CHANNELS, TWO_PACKETS, octets_of,
-    settings_of,
+    GREATEST_PACKET, HELD_AFTER_FIRST_RECORD, Row, SHORT_REST, TWO_CHANNELS, TWO_PACKETS,
+    octets_of, settings_of,
 };
 use std::alloc::Global;
 use tm_frame::{Layout, LayoutParts, Presence};

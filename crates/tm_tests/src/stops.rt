@@ -283,7 +283,10 @@ fn stopped_in_several_versions(rt: HostRuntime) {
     let known = octets_of(alloc, GAP).expect(&rt, "a checkpoint");
     for (version, text) in [(3, GAP), (2, GAP_2), (1, GAP_1)] {
         let octets = in_version(alloc, &known, version);
-        assert!(rt; octets.is_some() && octets == octets_of(alloc, text), "version {version}");
+        assert!(rt;
+            octets.is_some() && octets == octets_of(alloc, text),
+            "version {version}"
+        );
     }
 }
 

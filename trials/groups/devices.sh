@@ -75,6 +75,18 @@ disk_fails() {
     checkpoint_stays "a checkpoint that the disk doesn't take" "LD_PRELOAD=$PWD/sync.so $packets --report r --checkpoint c $rec"
 }
 
+# Where no packet comes, a folder that isn't there is found before the run: no report is begun, and no checkpoint written.
+no_folder() {
+    local name
+    echo before >r
+    echo before >file
+    for name in missing file; do
+        gives "split of no packets to a folder that is $name" 1 "tmx: $name: failed" \
+            "$tmx split --settings $s --dir $name --report r --checkpoint no_folder.c /dev/null"
+        tell "split of no packets to a folder that is $name: nothing is begun" "$(echo before | cmp - r 2>&1; ls no_folder.c 2>/dev/null)"
+    done
+}
+
 devices() {
     local command room
     names
@@ -122,6 +134,7 @@ devices() {
     done
     rm -rf split
     gives "split to a folder that is missing" 1 "tmx: write failed" "$split --report r $rec"
+    no_folder
     gives "split to a folder that can't be written" 1 "tmx: write failed" "$tmx split --settings $s --dir /proc --report r $rec"
     mkdir split
     gives "split to files with room for 4 KiB" 1 "tmx: write failed" "trap '' XFSZ; ulimit -f 4; $split --report r $rec"

@@ -81,7 +81,7 @@ no_folder() {
     echo before >r
     echo before >file
     for name in missing file; do
-        gives "split of no packets to a folder that is $name" 1 "tmx: $name: failed" \
+        gives "split of no packets to a folder that is $name" 1 "tmx: write failed" \
             "$tmx split --settings $s --dir $name --report r --checkpoint no_folder.c /dev/null"
         tell "split of no packets to a folder that is $name: nothing is begun" "$(echo before | cmp - r 2>&1; ls no_folder.c 2>/dev/null)"
     done

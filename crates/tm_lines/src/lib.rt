@@ -10,4 +10,4 @@ pub use lines::{
     put_short_packet, put_vca,
 };
 pub use packet::Packet;
-pub use room::{ROOM, line_in};
+pub use room::{ROOM, end_line, line_in, put_long_number, put_number, put_text, put_word};

@@ -14,7 +14,7 @@ use tm_packet::{Flags, Note, Why};
 #[inline(always)]
 fn put_kind(room: &mut [u8; ROOM], end: usize, kind: Kind) -> usize
     requires enough { 7 ≤ end }
-    requires within { end ≤ 192 }
+    requires within { end ≤ 320 }
     ensures before { result ≤ end }
     ensures most { end ≤ result + 7 }
     ensures text { drop result room.new ≡ kind_word kind ++ drop end room.old }
@@ -31,7 +31,7 @@ fn put_kind(room: &mut [u8; ROOM], end: usize, kind: Kind) -> usize
 #[inline(always)]
 fn put_place(room: &mut [u8; ROOM], end: usize, kind: Kind) -> usize
     requires enough { 10 ≤ end }
-    requires within { end ≤ 192 }
+    requires within { end ≤ 320 }
     ensures before { result ≤ end }
     ensures most { end ≤ result + 10 }
     ensures text { drop result room.new ≡ place_text kind ++ drop end room.old }
@@ -47,7 +47,7 @@ fn put_place(room: &mut [u8; ROOM], end: usize, kind: Kind) -> usize
 #[inline(always)]
 fn put_yes_or_no(room: &mut [u8; ROOM], end: usize, b: bool) -> usize
     requires enough { 3 ≤ end }
-    requires within { end ≤ 192 }
+    requires within { end ≤ 320 }
     ensures before { result ≤ end }
     ensures most { end ≤ result + 3 }
     ensures text { drop result room.new ≡ yes_or_no b ++ drop end room.old }
@@ -67,7 +67,7 @@ fn bit_text(b: bool) -> &'static [u8; 1]
 
 /// The line of a good frame.
 pub fn put_frame(room: &mut [u8; ROOM], seen: u32, frame: &Frame<'_>) -> usize
-    ensures within { result ≤ 192 }
+    ensures within { result ≤ 320 }
     ensures line { drop result room.new ≡ frame_line seen frame.now }
 {
     let at = end_line(room);
@@ -98,7 +98,7 @@ pub fn put_frame(room: &mut [u8; ROOM], seen: u32, frame: &Frame<'_>) -> usize
 /// The line of a bad frame.
 #[tactic(auto, using(crate::proofs::RoomLemmas::short_fault_word))]
 pub fn put_bad(room: &mut [u8; ROOM], seen: u32, fault: FrameFault) -> usize
-    ensures within { result ≤ 192 }
+    ensures within { result ≤ 320 }
     ensures line { drop result room.new ≡ bad_line seen fault }
 {
     let at = end_line(room);
@@ -110,7 +110,7 @@ pub fn put_bad(room: &mut [u8; ROOM], seen: u32, fault: FrameFault) -> usize
 
 /// The line of octets that are left after `seen` records.
 pub fn put_short(room: &mut [u8; ROOM], seen: u32, octets: usize) -> usize
-    ensures within { result ≤ 192 }
+    ensures within { result ≤ 320 }
     ensures line { drop result room.new ≡ short_line seen octets }
 {
     let at = end_line(room);
@@ -131,7 +131,7 @@ fn type_word(telecommand: bool) -> &'static [u8; 2]
 #[inline(always)]
 fn put_flags(room: &mut [u8; ROOM], end: usize, flags: Flags) -> usize
     requires enough { 12 ≤ end }
-    requires within { end ≤ 192 }
+    requires within { end ≤ 320 }
     ensures before { result ≤ end }
     ensures most { end ≤ result + 12 }
     ensures text { drop result room.new ≡ flags_word flags ++ drop end room.old }
@@ -146,7 +146,7 @@ fn put_flags(room: &mut [u8; ROOM], end: usize, flags: Flags) -> usize
 
 /// The line of a packet.
 pub fn put_packet(room: &mut [u8; ROOM], packet: &Packet<'_>) -> usize
-    ensures within { result ≤ 192 }
+    ensures within { result ≤ 320 }
     ensures line { drop result room.new
         ≡ packet_line packet.now.seen packet.now.channel packet.now.first packet.now.place packet.now.header (length packet.now.octets.now) }
 {
@@ -185,7 +185,7 @@ pub fn put_gap(
     found: u8,
     missing: u8,
 ) -> usize
-    ensures within { result ≤ 192 }
+    ensures within { result ≤ 320 }
     ensures line { drop result room.new ≡ gap_line seen channel expected found missing }
 {
     let at = end_line(room);
@@ -209,7 +209,7 @@ pub fn put_master_gap(
     found: u8,
     missing: u8,
 ) -> usize
-    ensures within { result ≤ 192 }
+    ensures within { result ≤ 320 }
     ensures line { drop result room.new ≡ master_gap_line seen expected found missing }
 {
     let at = end_line(room);
@@ -225,7 +225,7 @@ pub fn put_master_gap(
 
 /// The line of a VCA frame.
 pub fn put_vca(room: &mut [u8; ROOM], seen: u32, channel: u8) -> usize
-    ensures within { result ≤ 192 }
+    ensures within { result ≤ 320 }
     ensures line { drop result room.new ≡ vca_line seen channel }
 {
     let at = end_line(room);
@@ -246,7 +246,7 @@ pub fn put_drop(
     octets: u32,
     reason: Reason,
 ) -> usize
-    ensures within { result ≤ 192 }
+    ensures within { result ≤ 320 }
     ensures line { drop result room.new ≡ drop_line seen channel first place octets reason }
 {
     let at = end_line(room);
@@ -271,7 +271,7 @@ pub fn put_short_packet(
     needed: u64,
     found: u64,
 ) -> usize
-    ensures within { result ≤ 192 }
+    ensures within { result ≤ 320 }
     ensures line { drop result room.new ≡ short_packet_line packet.now.seen packet.now.channel packet.now.first packet.now.place needed found }
 {
     let Packet {
@@ -301,7 +301,7 @@ pub fn put_short_packet(
 // Why a group is broken.
 fn put_why(room: &mut [u8; ROOM], end: usize, why: Why) -> usize
     requires enough { 11 ≤ end }
-    requires within { end ≤ 192 }
+    requires within { end ≤ 320 }
     ensures before { result ≤ end }
     ensures most { end ≤ result + 11 }
     ensures text { drop result room.new ≡ why_word why ++ drop end room.old }
@@ -317,7 +317,7 @@ fn put_why(room: &mut [u8; ROOM], end: usize, why: Why) -> usize
 // The channel and application of a note, before what the note says of them, and the record.
 fn put_place_of_note(room: &mut [u8; ROOM], end: usize, seen: u32, channel: u8, apid: u16) -> usize
     requires enough { 45 ≤ end }
-    requires within { end ≤ 192 }
+    requires within { end ≤ 320 }
     ensures before { result ≤ end }
     ensures most { end ≤ result + 45 }
     ensures text { drop result room.new ≡ decimal seen ++ (codes " channel=" ++ (decimal channel ++ (codes " apid=" ++ (decimal apid ++ drop end room.old)))) }
@@ -331,7 +331,7 @@ fn put_place_of_note(room: &mut [u8; ROOM], end: usize, seen: u32, channel: u8, 
 
 /// The line of a note on the sequence counts of a channel and application.
 pub fn put_note(room: &mut [u8; ROOM], seen: u32, channel: u8, apid: u16, note: Note) -> usize
-    ensures within { result ≤ 192 }
+    ensures within { result ≤ 320 }
     ensures line { drop result room.new ≡ note_line seen channel apid note }
 {
     let at = end_line(room);

@@ -6,12 +6,12 @@ ghost use Rattle.std.specs.Fmt.{decimal};
 use itoa::write_digits;
 
 /// The octets in which a line has room.
-pub const ROOM: usize = 192;
+pub const ROOM: usize = 320;
 
 /// Puts a line feed at the end of the room, and answers where it stands.
 #[inline(always)]
 pub fn end_line(room: &mut [u8; ROOM]) -> usize
-    ensures begin { result ≡ 191 }
+    ensures begin { result ≡ 319 }
     ensures text { drop result room.new ≡ codes "\n" }
 {
     room[ROOM - 1] = b'\n';
@@ -23,7 +23,7 @@ pub fn end_line(room: &mut [u8; ROOM]) -> usize
 #[inline(always)]
 pub fn put_text<const N: usize>(room: &mut [u8; ROOM], end: usize, text: &[u8; N]) -> usize
     requires enough { N ≤ end }
-    requires within { end ≤ 192 }
+    requires within { end ≤ 320 }
     ensures begin { result + N ≡ end }
     ensures text { drop result room.new ≡ text.now ++ drop end room.old }
 {
@@ -39,7 +39,7 @@ pub fn put_text<const N: usize>(room: &mut [u8; ROOM], end: usize, text: &[u8; N
 #[tactic(auto, using(crate::proofs::RoomLemmas::ten_digits))]
 pub fn put_number(room: &mut [u8; ROOM], end: usize, number: u32) -> usize
     requires enough { 10 ≤ end }
-    requires within { end ≤ 192 }
+    requires within { end ≤ 320 }
     ensures before { result ≤ end }
     ensures most { end ≤ result + 10 }
     ensures text { drop result room.new ≡ decimal number ++ drop end room.old }
@@ -52,7 +52,7 @@ pub fn put_number(room: &mut [u8; ROOM], end: usize, number: u32) -> usize
 #[tactic(auto, using(crate::proofs::RoomLemmas::twenty_digits))]
 pub fn put_long_number(room: &mut [u8; ROOM], end: usize, number: u64) -> usize
     requires enough { 20 ≤ end }
-    requires within { end ≤ 192 }
+    requires within { end ≤ 320 }
     ensures before { result ≤ end }
     ensures most { end ≤ result + 20 }
     ensures text { drop result room.new ≡ decimal number ++ drop end room.old }
@@ -63,7 +63,7 @@ pub fn put_long_number(room: &mut [u8; ROOM], end: usize, number: u64) -> usize
 /// Puts a word before what begins at `end`, and answers where it begins.
 pub fn put_word(room: &mut [u8; ROOM], end: usize, word: &str) -> usize
     requires enough { length word.now ≤ end }
-    requires within { end ≤ 192 }
+    requires within { end ≤ 320 }
     ensures begin { result + length word.now ≡ end }
     ensures text { drop result room.new ≡ word.now ++ drop end room.old }
 {
@@ -75,7 +75,7 @@ pub fn put_word(room: &mut [u8; ROOM], end: usize, word: &str) -> usize
 /// What begins at this place of the room.
 #[inline(always)]
 pub fn line_in(room: &[u8; ROOM], begin: usize) -> &[u8]
-    requires { begin ≤ 192 }
+    requires { begin ≤ 320 }
     ensures { result.now ≡ drop begin room.now }
 {
     &room[begin..]

@@ -22,7 +22,7 @@ use tm_settings::Settings;
 #[tactic(auto, unfolding(crate::specs::Listing::record_line))]
 fn make_record_line(room: &mut [u8; ROOM], layout: &Layout, seen: u32, octets: &[u8]) -> usize
     requires { length octets.now ≡ record_length_of layout.now }
-    ensures within { result ≤ 192 }
+    ensures within { result ≤ 320 }
     ensures line { drop result room.new ≡ record_line layout.now seen octets.now }
 {
     match read(layout, octets) {

@@ -75,7 +75,7 @@ fn push_notes(
 // Makes the line of an item at the end of the room, none of a packet, and answers where it begins.
 #[tactic(auto, unfolding(crate::specs::Pieces::item_line))]
 fn make_line(room: &mut [u8; ROOM], item: Item<'_>) -> usize
-    ensures within { result ≤ 192 }
+    ensures within { result ≤ 320 }
     ensures line { drop result room.new ≡ item_line (item_of item.entry) }
 {
     match item {

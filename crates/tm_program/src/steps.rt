@@ -17,7 +17,8 @@ ghost use Rattle.tm_program.specs.code.Faults.{HasFolderFault, IsFolderFault, Is
 
 use crate::kept::{ending_by, job_by, keep, resumed_by};
 use std::alloc::Global;
-use std::io::{self, BufReader, BufWriter, Read, Write};
+use std::fs::{self, OpenFile};
+use std::io::{self, BufReader, BufWriter, ErrorKind, Read, Write};
 use std::rt::Files;
 use tm_fields::Definition;
 use tm_files::{
@@ -506,6 +507,10 @@ fn run_job_on<'p, R: Files + Print + AllocGlobal, S: Source + Drop, E: Write + D
     ensures checkpoint { IfOk result (λ finished. option_map replaced_name finished.replaced ≡ plan.now.checkpoint) }
     ensures refused { IfErr result (IsOfOutputs plan.now) }
 {
+    if let Err(fault) = check_folder(rt, plan) {
+        drop(inputs);
+        return Err(fault);
+    }
     let report = match report_by(rt, plan, checked, errors) {
         Ok(report) => report,
         Err(fault) => {
@@ -520,6 +525,24 @@ fn run_job_on<'p, R: Files + Print + AllocGlobal, S: Source + Drop, E: Write + D
             drop(done);
             Err(fault)
         }
+    }
+}
+
+// The folder that the packets go to is there, where the plan has one. A name that is empty or no text is refused where it is used.
+fn check_folder<R: Files + AllocGlobal>(rt: &R, plan: &Plan) -> Result<(), ToolFault>
+    ensures { IfErr result IsRunFault }
+{
+    let Some(dir) = &plan.dir else {
+        return Ok(());
+    };
+    let path = match std::str::from_utf8(dir.as_slice()) {
+        Ok(path) if !path.is_empty() => path,
+        _ => return Ok(()),
+    };
+    match fs::metadata(rt, path) {
+        Ok(metadata) if metadata.is_dir() => Ok(()),
+        Err(error) if error.kind() == ErrorKind::OutOfMemory => Err(no_memory()),
+        Ok(_) | Err(_) => Err(ToolFault::Run(RunFault::Write)),
     }
 }
 

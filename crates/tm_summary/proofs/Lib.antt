@@ -1,7 +1,6 @@
 pub mod Tables
 pub mod OneMore
 pub mod WithOne
-pub mod LineLemmas
 pub mod WritingLemmas
 pub mod Examples
 pub mod OpenCounted

@@ -6,10 +6,8 @@ use Rattle.std.proofs.KnownBytes.{Appends-nil, Appends-trans}
 use Rattle.std.proofs.lemmas.Bool.{cases_lt}
 use Rattle.std.proofs.lemmas.List.{get_or_default}
 use Rattle.tm_faults.specs.declared.fault.RunFault.{RunFault}
-use Rattle.tm_faults.specs.declared.fault.RunFault.TheVariants.{NoMemory}
-use Rattle.tm_output.specs.Outputs.{Stopped, Took, View, line_piece, line_pieces, lines_way}
+use Rattle.tm_output.specs.Outputs.{Stopped, Took, View, line_piece, line_pieces, octets_way}
 use Rattle.tm_output.proofs.LinePieces.{lines_lines, lines_more, lines_stopped}
-use Rattle.tm_output.proofs.PieceLemmas.{no_room}
 use Rattle.tm_rules.specs.Channels.{is_chosen}
 use Rattle.tm_summary.specs.declared.application.ApplicationCounts.{ApplicationCounts}
 use Rattle.tm_summary.specs.declared.channel.ChannelCounts.{ChannelCounts}
@@ -22,11 +20,7 @@ abbrev pub TookLines : View (Option (List ℕ)) → View (Option (List ℕ)) →
 TookLines old new lines = Took Appends old new (line_pieces lines)
 
 abbrev pub StoppedLines : View (Option (List ℕ)) → View (Option (List ℕ)) → List (List ℕ) → RunFault → Type 0
-StoppedLines old new lines fault = Stopped Appends lines_way old new (line_pieces lines) fault
-
--- there was no memory to make a line
-pub made_none : (v : View (Option (List ℕ))) (text : List ℕ) → text ≢ [] → Stopped Appends lines_way v v (line_piece text ∷ []) NoMemory
-made_none v text some = no_room Appends Appends-nil Appends-trans lines_way v (line_piece text) (inl (refl, some))
+StoppedLines old new lines fault = Stopped Appends octets_way old new (line_pieces lines) fault
 
 -- ---- the lines of the numbers below one
 

@@ -1,117 +1,140 @@
-//! The lines of a summary. Each is written after what the text holds.
+//! The lines of a summary. Each is made at the end of a room on the stack, and takes no memory. What is answered is where it begins.
 
-ghost use Rattle.std.specs.Prelude.{◌≡◌, ◌++◌, OnOk, string_bytes};
+ghost use Rattle.std.specs.Prelude.{◌≡◌, ◌≤◌, drop};
 ghost use Rattle.tm_summary.specs.Lines.{application_line, channel_line, fault_line, loss_line, master_line, recording_line};
 
 use crate::application::ApplicationCounts;
 use crate::channel::{ChannelCounts, Loss};
-use std::alloc::AllocError;
 use tm_frame::FrameFault;
 use tm_items::Reason;
+use tm_lines::{ROOM, end_line, put_long_number, put_number, put_text, put_word};
 
 /// The line of the whole records, the good and the bad ones, and the octets that are left.
-#[tactic(auto, unfolding(crate::specs::Lines::recording_line))]
-pub fn push_recording(
-    text: &mut String,
+pub fn format_recording(
+    room: &mut [u8; ROOM],
     records: u32,
     good: u64,
     bad: u64,
     rest: u64,
-) -> Result<(), AllocError>
-    ensures { OnOk result (string_bytes text.new ≡ string_bytes text.old ++ recording_line records good bad rest) }
+) -> usize
+    ensures within { result ≤ 320 }
+    ensures line { drop result room.new ≡ recording_line records good bad rest }
 {
-    write!(
-        text,
-        "recording records={records} good={good} bad={bad} rest={rest}\n"
-    )
+    let at = end_line(room);
+    let at = put_long_number(room, at, rest);
+    let at = put_text(room, at, b" rest=");
+    let at = put_long_number(room, at, bad);
+    let at = put_text(room, at, b" bad=");
+    let at = put_long_number(room, at, good);
+    let at = put_text(room, at, b" good=");
+    let at = put_number(room, at, records);
+    put_text(room, at, b"recording records=")
 }
 
 /// The line of a fault that so many records have.
-#[tactic(auto, unfolding(crate::specs::Lines::fault_line))]
-pub fn push_fault(text: &mut String, fault: FrameFault, records: u64) -> Result<(), AllocError>
-    ensures { OnOk result (string_bytes text.new ≡ string_bytes text.old ++ fault_line fault records) }
+#[tactic(auto, using(tm_lines::proofs::RoomLemmas::short_fault_word))]
+pub fn format_fault(room: &mut [u8; ROOM], fault: FrameFault, records: u64) -> usize
+    ensures within { result ≤ 320 }
+    ensures line { drop result room.new ≡ fault_line fault records }
 {
-    let word = fault.word();
-    write!(text, "fault word={word} records={records}\n")
+    let at = end_line(room);
+    let at = put_long_number(room, at, records);
+    let at = put_text(room, at, b" records=");
+    let at = put_word(room, at, fault.word());
+    put_text(room, at, b"fault word=")
 }
 
 /// The line of the master channel.
-#[tactic(auto, unfolding(crate::specs::Lines::master_line))]
-pub fn push_master(text: &mut String, gaps: u64, missing: u64) -> Result<(), AllocError>
-    ensures { OnOk result (string_bytes text.new ≡ string_bytes text.old ++ master_line gaps missing) }
+pub fn format_master(room: &mut [u8; ROOM], gaps: u64, missing: u64) -> usize
+    ensures within { result ≤ 320 }
+    ensures line { drop result room.new ≡ master_line gaps missing }
 {
-    write!(text, "master gaps={gaps} missing={missing}\n")
+    let at = end_line(room);
+    let at = put_long_number(room, at, missing);
+    let at = put_text(room, at, b" missing=");
+    let at = put_long_number(room, at, gaps);
+    put_text(room, at, b"master gaps=")
 }
 
 /// The line of a channel.
-#[tactic(auto, unfolding(crate::specs::Lines::channel_line))]
-pub fn push_channel(
-    text: &mut String,
-    channel: u8,
-    counts: &ChannelCounts,
-) -> Result<(), AllocError>
-    ensures { OnOk result (string_bytes text.new ≡ string_bytes text.old ++ channel_line channel counts.now) }
+pub fn format_channel(room: &mut [u8; ROOM], channel: u8, counts: &ChannelCounts) -> usize
+    ensures within { result ≤ 320 }
+    ensures line { drop result room.new ≡ channel_line channel counts.now }
 {
-    let ChannelCounts {
-        frames,
-        idle,
-        vca,
-        gaps,
-        missing,
-        packets,
-        octets,
-        dropped,
-        lost,
-        data_octets,
-        ..
-    } = *counts;
-    write!(
-        text,
-        "channel channel={channel} frames={frames} idle={idle} vca={vca} gaps={gaps} missing={missing} packets={packets} octets={octets} dropped={dropped} lost={lost} data={data_octets}\n"
-    )
+    let at = end_line(room);
+    let at = put_long_number(room, at, counts.data_octets);
+    let at = put_text(room, at, b" data=");
+    let at = put_long_number(room, at, counts.lost);
+    let at = put_text(room, at, b" lost=");
+    let at = put_long_number(room, at, counts.dropped);
+    let at = put_text(room, at, b" dropped=");
+    let at = put_long_number(room, at, counts.octets);
+    let at = put_text(room, at, b" octets=");
+    let at = put_long_number(room, at, counts.packets);
+    let at = put_text(room, at, b" packets=");
+    let at = put_long_number(room, at, counts.missing);
+    let at = put_text(room, at, b" missing=");
+    let at = put_long_number(room, at, counts.gaps);
+    let at = put_text(room, at, b" gaps=");
+    let at = put_long_number(room, at, counts.vca);
+    let at = put_text(room, at, b" vca=");
+    let at = put_long_number(room, at, counts.idle);
+    let at = put_text(room, at, b" idle=");
+    let at = put_long_number(room, at, counts.frames);
+    let at = put_text(room, at, b" frames=");
+    let at = put_number(room, at, u32::from(channel));
+    put_text(room, at, b"channel channel=")
 }
 
 /// The line of what is lost of a channel for a reason.
-#[tactic(auto, unfolding(crate::specs::Lines::loss_line))]
-pub fn push_loss(
-    text: &mut String,
-    channel: u8,
-    reason: Reason,
-    loss: Loss,
-) -> Result<(), AllocError>
-    ensures { OnOk result (string_bytes text.new ≡ string_bytes text.old ++ loss_line channel reason loss) }
+#[tactic(auto, using(tm_lines::proofs::RoomLemmas::short_reason_word))]
+pub fn format_loss(room: &mut [u8; ROOM], channel: u8, reason: Reason, loss: Loss) -> usize
+    ensures within { result ≤ 320 }
+    ensures line { drop result room.new ≡ loss_line channel reason loss }
 {
-    let word = reason.word();
     let Loss { parts, octets } = loss;
-    write!(
-        text,
-        "loss channel={channel} reason={word} parts={parts} octets={octets}\n"
-    )
+    let at = end_line(room);
+    let at = put_long_number(room, at, octets);
+    let at = put_text(room, at, b" octets=");
+    let at = put_long_number(room, at, parts);
+    let at = put_text(room, at, b" parts=");
+    let at = put_word(room, at, reason.word());
+    let at = put_text(room, at, b" reason=");
+    let at = put_number(room, at, u32::from(channel));
+    put_text(room, at, b"loss channel=")
 }
 
 /// The line of a channel and application.
-#[tactic(auto, unfolding(crate::specs::Lines::application_line))]
-pub fn push_application(
-    text: &mut String,
+pub fn format_application(
+    room: &mut [u8; ROOM],
     channel: u16,
     apid: u16,
     counts: &ApplicationCounts,
-) -> Result<(), AllocError>
-    ensures { OnOk result (string_bytes text.new ≡ string_bytes text.old ++ application_line channel apid counts.now) }
+) -> usize
+    ensures within { result ≤ 320 }
+    ensures line { drop result room.new ≡ application_line channel apid counts.now }
 {
-    let ApplicationCounts {
-        packets,
-        octets,
-        first,
-        last,
-        gaps,
-        missing,
-        groups,
-        broken,
-        strays,
-    } = *counts;
-    write!(
-        text,
-        "application channel={channel} apid={apid} packets={packets} octets={octets} first={first} last={last} gaps={gaps} missing={missing} groups={groups} broken={broken} strays={strays}\n"
-    )
+    let at = end_line(room);
+    let at = put_long_number(room, at, counts.strays);
+    let at = put_text(room, at, b" strays=");
+    let at = put_long_number(room, at, counts.broken);
+    let at = put_text(room, at, b" broken=");
+    let at = put_long_number(room, at, counts.groups);
+    let at = put_text(room, at, b" groups=");
+    let at = put_long_number(room, at, counts.missing);
+    let at = put_text(room, at, b" missing=");
+    let at = put_long_number(room, at, counts.gaps);
+    let at = put_text(room, at, b" gaps=");
+    let at = put_number(room, at, counts.last);
+    let at = put_text(room, at, b" last=");
+    let at = put_number(room, at, counts.first);
+    let at = put_text(room, at, b" first=");
+    let at = put_long_number(room, at, counts.octets);
+    let at = put_text(room, at, b" octets=");
+    let at = put_long_number(room, at, counts.packets);
+    let at = put_text(room, at, b" packets=");
+    let at = put_number(room, at, u32::from(apid));
+    let at = put_text(room, at, b" apid=");
+    let at = put_number(room, at, u32::from(channel));
+    put_text(room, at, b"application channel=")
 }

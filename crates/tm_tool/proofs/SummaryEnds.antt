@@ -1,6 +1,6 @@
 -- How a summary ended, in the words of the octets that were read, and of the whole recording.
 use Rattle.std.proofs.lemmas.Option.{IfSome_then}
-use Rattle.std.proofs.Common.{Bool, ◌≡◌, ◌⊎◌, ◌<◌, ◌-◌, ◌^◌, ℕ, Option, Some, None, IfSome, List, ◌++◌, length, refl, sym, ap, subst, ◌∙◌, append-nil, arith, inl, inr}
+use Rattle.std.proofs.Common.{Bool, true, false, [], ◌∷◌, ⊎_elim, ◌≡◌, ◌<◌, ◌-◌, ◌^◌, ℕ, Option, Some, None, IfSome, List, ◌++◌, length, refl, sym, ap, subst, ◌∙◌, append-nil, arith}
 use Rattle.std.specs.List.{concat}
 use Rattle.std.specs.Io.KnownBytes.{Appends, Keeps}
 use Rattle.std.proofs.KnownBytes.{Appends-kept}
@@ -9,7 +9,7 @@ use Rattle.tm_rules.specs.Rules.{Rules}
 use Rattle.tm_devices.specs.Devices.{raised}
 use Rattle.tm_faults.specs.declared.fault.RunFault.{RunFault}
 use Rattle.tm_faults.specs.declared.fault.RunFault.TheVariants.{Read, Write, Report, TooMany, NoMemory}
-use Rattle.tm_output.specs.Outputs.{AppendsCut, Stopped, Took, View, WantsMemory, line_pieces, lines_way, outs, view}
+use Rattle.tm_output.specs.Outputs.{AppendsCut, Stopped, Took, View, WantsMemory, Piece, line_piece, line_pieces, octets_way, outs, view}
 use Rattle.tm_output.specs.Records.{AreRecords, record_count}
 use Rattle.tm_output.proofs.LinePieces.{lines_out, same_cut}
 use Rattle.tm_output.proofs.LinePieces as pieces
@@ -22,6 +22,18 @@ use Rattle.tm_tool.specs.code.Summing.{HasSummed}
 
 never : 0 ≡ raised 0 → ⊥
 never e = cc
+
+-- no line has a text for the report
+line_report : (ls : List (List ℕ)) (done : List (Piece ℕ)) (next : Piece ℕ) (more : List (Piece ℕ)) → line_pieces ls ≡ done ++ next ∷ more → next.report ≡ []
+line_report [] [] next more e = absurd (cc)
+line_report [] (d ∷ done) next more e = absurd (cc)
+line_report (l ∷ ls) [] next more e = let same : line_piece l ≡ next = cc in ap (λ (p : Piece ℕ). p.report) (sym same)
+line_report (l ∷ ls) (d ∷ done) next more e = line_report ls done next more (cc)
+
+-- so none takes memory
+no_memory : {old new : View (Option (List ℕ))} (ls : List (List ℕ)) → WantsMemory Appends octets_way old new (line_pieces ls) → ⊥
+no_memory ls wants =
+    ⊎_elim (λ made. let made_is : false ≡ true = made.0 in cc) (λ (some : wants.next.report ≡ [] → ⊥). some (line_report ls wants.done wants.next wants.more wants.split)) wants.stopped.1
 
 module _ (rules : Rules) where
   -- the lines of a recording that was read whole
@@ -46,19 +58,19 @@ module _ (rules : Rules) where
 
     -- writing stopped in the lines
     pub stops_in_lines : (chosen : List Bool) → chosen ≡ rules.channels → (old new : View (Option (List ℕ))) (fault : RunFault)
-        → Stopped Appends lines_way old new (line_pieces (summary_lines chosen count numbers)) fault → StopsInLines rules first next old new fault
+        → Stopped Appends octets_way old new (line_pieces (summary_lines chosen count numbers)) fault → StopsInLines rules first next old new fault
     stops_in_lines chosen same old new fault stopped = record {
       read = summed.read;
       rest = summed.rest;
       all = summed.all;
-      stopped = subst (λ (ls : List (List ℕ)). Stopped Appends lines_way old new (line_pieces ls) fault) (lines_are chosen same) stopped;
+      stopped = subst (λ (ls : List (List ℕ)). Stopped Appends octets_way old new (line_pieces ls) fault) (lines_are chosen same) stopped;
     }
 
     pub lines_stopped : (chosen : List Bool) → chosen ≡ rules.channels → (old new : Option (List ℕ)) (failures failures' : ℕ) (fault : RunFault)
-        → Stopped Appends lines_way (view old None failures 0) (view new None failures' 0) (line_pieces (summary_lines chosen count numbers)) fault
+        → Stopped Appends octets_way (view old None failures 0) (view new None failures' 0) (line_pieces (summary_lines chosen count numbers)) fault
         → IsSummaryStop rules first next (view old None failures 0) (view new None failures' 0) fault
     lines_stopped chosen same old new failures failures' Write stopped = stops_in_lines chosen same _ _ Write stopped
-    lines_stopped chosen same old new failures failures' NoMemory stopped = inr (stops_in_lines chosen same _ _ NoMemory stopped)
+    lines_stopped chosen same old new failures failures' NoMemory stopped = absurd (no_memory (summary_lines chosen count numbers) (stopped.memory refl))
     lines_stopped chosen same old new failures failures' Report stopped = never stopped.cause.1
     lines_stopped chosen same old new failures failures' _ stopped = absurd stopped.cause
 
@@ -69,7 +81,7 @@ module _ (rules : Rules) where
         → IsSummaryStop rules first next (view old None failures 0) (view new None failures'' 0) Write
     flush_stopped chosen same old mid new failures failures' failures'' took kept counts =
         lines_stopped chosen same old new failures failures'' Write
-        (pieces.flush_stopped took kept lines_way refl counts)
+        (pieces.flush_stopped took kept octets_way refl counts)
 
     -- all lines were written
     pub summarized : (chosen : List Bool) → chosen ≡ rules.channels → (old mid new : Option (List ℕ)) (failures failures' : ℕ)
@@ -97,7 +109,7 @@ module _ (rules : Rules) where
 
     module _ (old new : View (Option (List ℕ))) where
       lines_told : (fault : RunFault) → StopsInLines rules first next old new fault
-          → IfSome first (λ octets. Stopped Appends lines_way old new (line_pieces (summary rules octets)) fault)
+          → IfSome first (λ octets. Stopped Appends octets_way old new (line_pieces (summary rules octets)) fault)
       lines_told fault h =
           told _ (concat h.read ++ h.rest) first next h.all.octets.octets (λ left end.
           let whole : (concat h.read ++ h.rest) ++ left ≡ concat h.read ++ h.rest = ap (λ (l : List ℕ). (concat h.read ++ h.rest) ++ l) (end h.all.ended) ∙ append-nil (concat h.read ++ h.rest) in
@@ -107,14 +119,8 @@ module _ (rules : Rules) where
       cut_told Read h = always first (λ octets. same_cut old new _ h.1)
       cut_told Write h = IfSome_then first (lines_told Write h) (λ octets s. s.cut)
       cut_told TooMany h = always first (λ octets. same_cut old new _ h.1)
-      cut_told NoMemory (inl h) = always first (λ octets. same_cut old new _ h.1)
-      cut_told NoMemory (inr h) = IfSome_then first (lines_told NoMemory h) (λ octets s. s.cut)
+      cut_told NoMemory h = always first (λ octets. same_cut old new _ h.1)
       cut_told _ h = absurd h
-
-      pub memory_told : IsSummaryStop rules first next old new NoMemory
-          → IfSome first (λ octets. (new ≡ old) ⊎ WantsMemory Appends lines_way old new (line_pieces (summary rules octets)))
-      memory_told (inl h) = always first (λ octets. inl h.1)
-      memory_told (inr h) = IfSome_then first (lines_told NoMemory h) (λ octets s. inr (s.memory refl))
 
       most_told : 0 < record_length_of rules.layout → IsSummaryStop rules first next old new TooMany → IfSome first (λ octets. 2 ^ 32 - 1 < record_count (record_length_of rules.layout) octets)
       most_told some h = many_told (record_length_of rules.layout) first next h.0.read h.0.one some h.0.octets h.0.exact h.0.most
@@ -125,6 +131,6 @@ pub stop_told : (rules : Rules) → 0 < record_length_of rules.layout → (first
 stop_told rules some None next old new fault h = tt
 stop_told rules some (Some octets) next old new fault h = record {
   cut = cut_told rules (Some octets) next old new fault h;
-  memory = λ e. memory_told rules (Some octets) next old new (subst (IsSummaryStop rules (Some octets) next old new) e h);
+  memory = λ e. let stop : IsSummaryStop rules (Some octets) next old new NoMemory = subst (IsSummaryStop rules (Some octets) next old new) e h in stop.1;
   too_many = λ e. most_told rules (Some octets) next old new some (subst (IsSummaryStop rules (Some octets) next old new) e h);
 }

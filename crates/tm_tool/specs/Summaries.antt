@@ -1,5 +1,5 @@
 -- A summary of a recording: what it counts, its lines, and what was read and written when it ended.
-use Rattle.std.specs.Prelude.{◌≡◌, ◌⊎◌, ◌<◌, ℕ, List, [], ◌∷◌, ◌++◌, length, Option, Result, Ok, Err}
+use Rattle.std.specs.Prelude.{◌≡◌, ◌<◌, ℕ, List, [], ◌∷◌, ◌++◌, length, Option, Result, Ok, Err}
 use Rattle.std.specs.List.{concat, flat_map}
 use Rattle.std.specs.Io.KnownBytes.{Appends, Consumes, IsAtEnd}
 use Rattle.tm_frame.specs.declared.fault.FrameFault.{FrameFault}
@@ -13,7 +13,7 @@ use Rattle.tm_items.specs.Item.{Item}
 use Rattle.tm_reassembly.specs.Items.{closing}
 use Rattle.tm_faults.specs.declared.fault.RunFault.{RunFault}
 use Rattle.tm_faults.specs.declared.fault.RunFault.TheVariants.{Read, Write, Report, ShortRecording, TooMany, NoMemory}
-use Rattle.tm_output.specs.Outputs.{AppendsCut, Stopped, View, WantsMemory, line_pieces, lines_way}
+use Rattle.tm_output.specs.Outputs.{AppendsCut, Stopped, View, line_pieces, octets_way}
 use Rattle.tm_output.specs.Pieces.{noted_all}
 use Rattle.tm_output.specs.Records.{record_count, records, rest_of}
 use Rattle.tm_summary.specs.Lines.{summary_lines}
@@ -84,20 +84,20 @@ module _ (rules : Rules) (left_old left_new : Option (List ℕ)) where
     pub read : List (List ℕ)
     pub rest : List ℕ
     pub all : HasReadAll (record_length_of rules.layout) left_old left_new read rest
-    pub stopped : Stopped Appends lines_way old new (line_pieces (lines_after rules read (length rest))) fault
+    pub stopped : Stopped Appends octets_way old new (line_pieces (lines_after rules read (length rest))) fault
 
-  -- where a fault leaves the devices: nothing is written before all is read, and without memory for what is counted nothing is read
+  -- where a fault leaves the devices: nothing is written before all is read, no line takes memory, and without memory nothing is read
   abbrev pub IsSummaryStop : View (Option (List ℕ)) → View (Option (List ℕ)) → RunFault → Type 0
   IsSummaryStop old new Read = StopsInReading × (new ≡ old)
   IsSummaryStop old new Write = StopsInLines old new Write
   IsSummaryStop old new Report = ⊥
   IsSummaryStop old new ShortRecording = ⊥
   IsSummaryStop old new TooMany = StopsAtMost × (new ≡ old)
-  IsSummaryStop old new NoMemory = ((left_new ≡ left_old) × (new ≡ old)) ⊎ StopsInLines old new NoMemory
+  IsSummaryStop old new NoMemory = (left_new ≡ left_old) × (new ≡ old)
 
 -- What a fault says of a recording that tells its octets: there is one place up to which the lines of its summary were written; without memory
--- nothing was written of the next line; and it has more records than can be counted.
+-- nothing was; and it has more records than can be counted.
 pub record SummaryStopped (rules : Rules) (old new : View (Option (List ℕ))) (fault : RunFault) (octets : List ℕ) : Type 0 where
   pub cut : AppendsCut Appends old new (line_pieces (summary rules octets))
-  pub memory : fault ≡ NoMemory → (new ≡ old) ⊎ WantsMemory Appends lines_way old new (line_pieces (summary rules octets))
+  pub memory : fault ≡ NoMemory → new ≡ old
   pub too_many : fault ≡ TooMany → most_records < record_count (record_length_of rules.layout) octets

@@ -21,9 +21,6 @@ use tm_packet::Tracker;
 use tm_reassembly::{Reassembly, StepFault};
 use tm_summary::{Counting, Counts, put_summary};
 
-// The octets for which a line has room from the beginning. The longest has fewer.
-const LINE: usize = 512;
-
 impl RecordTaker for Counting<'_> {
     ghost use Rattle.tm_summary.specs.Numbers.{Numbers};
     ghost use Rattle.tm_tool.specs.code.Summing.{CountingNames, CountsRecord, RefusesCount};
@@ -145,7 +142,7 @@ fn count_into<R: Source>(
 /// # Errors
 ///
 /// `Read` or `Write` where a call of that device failed; `TooMany` where a whole record follows 2^32 - 1; `NoMemory` where memory for the
-/// numbers or for a line can't be had.
+/// numbers can't be had, and nothing was read or written then.
 pub fn summarize<R: Source, W: Drain>(
     alloc: Global,
     settings: &Settings,
@@ -169,9 +166,6 @@ pub fn summarize<R: Source, W: Drain>(
     let Ok(counts) = Counts::new(alloc) else {
         return Err(RunFault::NoMemory);
     };
-    let Ok(mut line) = String::with_capacity(alloc, LINE) else {
-        return Err(RunFault::NoMemory);
-    };
     let Work {
         reassembly,
         tracker,
@@ -182,13 +176,7 @@ pub fn summarize<R: Source, W: Drain>(
         Ok(records) => records,
         Err(fault) => return Err(fault),
     };
-    if let Err(fault) = put_summary(
-        &mut line,
-        &settings.channels(),
-        records,
-        &summing.counts,
-        out,
-    ) {
+    if let Err(fault) = put_summary(&settings.channels(), records, &summing.counts, out) {
         return Err(fault);
     }
     match out.flush() {

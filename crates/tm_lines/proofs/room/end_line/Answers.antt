@@ -3,4 +3,4 @@ use Rattle.tm_lines.proofs.RoomLemmas.{last_set}
 use Rattle.tm_lines.proofs.room.end_line.Goals as goal
 
 pub returns-clause-text : goal.returns-clause-text
-returns-clause-text c = last_set c.args.room.now 191 10 (omega arith)
+returns-clause-text c = last_set c.args.room.now 319 10 (omega arith)

@@ -1,8 +1,7 @@
-use Rattle.std.proofs.Common.{◌<◌, arith, lt-ltb}
-use Rattle.tm_summary.proofs.LineLemmas.{some_loss}
+use Rattle.std.proofs.Common.{◌<◌, ◌∙◌, arith, lt-ltb}
 use Rattle.tm_summary.proofs.writing.put_loss.Goals as goal
 
 pub returns : goal.returns
 returns g c =
     let more : 0 < c.args.loss.parts = omega arith in
-    rw (lt-ltb 0 c.args.loss.parts more) (c.put_made.ensures _ (some_loss _ _ _) (rw c.clear.ensures.bytes at c.push_loss-made.ensures))
+    rw (lt-ltb 0 c.args.loss.parts more) (rw (c.line_in.ensures ∙ c.format_loss-begin.ensures.line) at c.write_line.ensures)

@@ -1,5 +1,5 @@
-use Rattle.tm_summary.proofs.LineLemmas.{some_master}
+use Rattle.std.proofs.Common.{◌∙◌}
 use Rattle.tm_summary.proofs.writing.put_master.Goals as goal
 
 pub returns : goal.returns
-returns g c = c.put_made.ensures _ (some_master _ _) (rw c.clear.ensures.bytes at c.push_master-made.ensures)
+returns g c = rw (c.line_in.ensures ∙ c.format_master-begin.ensures.line) at c.write_line.ensures

@@ -1,7 +1,7 @@
 //! Where the links at the end of a path lead to.
 
 ghost use Rattle.std.specs.Path.{path_buf_bytes, path_bytes};
-ghost use Rattle.std.specs.Prelude.{◌≡◌, ℕ, List, None, option_map, IfOk, IfSome, MatchOption};
+ghost use Rattle.std.specs.Prelude.{◌≡◌, ℕ, List, option_map, IfOk, MatchOption};
 ghost use Rattle.tm_places.specs.Links.{IsEnd, folder_of, folder_named, path_behind};
 
 use std::alloc::{AllocError, Global};

@@ -1,5 +1,5 @@
 -- What buffers have after a write or a put that was refused.
-use Rattle.std.proofs.Common.{◌≡◌, ◌≢◌, ◌+◌, ◌++◌, ◌∙◌, ◌⊎◌, ℕ, List, [], None, Some, Option, Vec, sym, ap, refl, subst, arith, inl, inr, ⊎_elim}
+use Rattle.std.proofs.Common.{◌≡◌, ◌≢◌, ◌++◌, ◌∙◌, ◌⊎◌, ℕ, List, None, Some, Option, Vec, sym, ap, refl, subst, inl, inr, ⊎_elim}
 use Rattle.std.specs.Prelude.{Err, IfErr, Ok, OnErr, Result, option_map, slice_get, true}
 use Rattle.std.proofs.lemmas.Option.{slice_get-map}
 use Rattle.std.proofs.lemmas.Bool.{cases_eq}

@@ -1,5 +1,4 @@
 -- So many links led to the path.
-use Rattle.std.specs.Prelude.{string_bytes}
 use Rattle.std.specs.Path.{path_buf_bytes}
 use Rattle.tm_places.specs.Links.{IsReached}
 use Rattle.tm_places.proofs.links.end_of_links.Given as goal

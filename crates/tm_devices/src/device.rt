@@ -8,8 +8,33 @@ ghost use Rattle.tm_devices.specs.Devices.{Counts, PassesOver, Puts, PutsFront, 
 #[derive(Clone, Copy, Debug, PartialEq, Eq)]
 pub struct DeviceFailed;
 
-/// Where octets come from.
+/// Where octets come from. A source reads, and need not do more.
 pub trait Source {
+    /// How many calls have failed, up to 2^64 - 1.
+    ghost failures: { Self → ℕ };
+
+    /// The octets that are left, of a device that tells them.
+    ghost left: { Self → Option (List ℕ) } = { λ _. None };
+
+    /// Reads the next octets into the front of the buffer, and answers how many. It answers 0 for a
+    /// buffer that isn't empty only at the end. A failed call reads nothing.
+    fn read(&mut self, buffer: &mut [u8]) -> Result<usize, DeviceFailed>
+        ensures bound { IfOk result (λ n. n ≤ length buffer.new) }
+        ensures octets { ReadConsumes (left self.old) (left self.new) result buffer.new }
+        ensures counts { Counts (failures self.old) (failures self.new) result };
+
+    /// Passes over so many octets in one step, where there are so many and the device can, and answers whether it did. If it did not, or the
+    /// call failed, none was passed over. A device that can't says so, and its octets are read.
+    fn pass_over(&mut self, _octets: u64) -> Result<bool, DeviceFailed>
+        ensures octets { PassesOver (left self.old) (left self.new) _octets result }
+        ensures counts { Counts (failures self.old) (failures self.new) result }
+    {
+        Ok(false)
+    }
+}
+
+/// Where octets come from, with a loan of those at hand. The loops over recordings ask for this. Each `Source` is one, which has none at hand.
+pub trait Lender {
     /// How many calls have failed, up to 2^64 - 1.
     ghost failures: { Self → ℕ };
 
@@ -30,20 +55,38 @@ pub trait Source {
         ensures rest { at_hand self.new ≡ drop octets (at_hand self.old) }
         ensures counts { failures self.new ≡ failures self.old };
 
-    /// Reads the next octets into the front of the buffer, and answers how many. It answers 0 for a
-    /// buffer that isn't empty only at the end. A failed call reads nothing.
+    /// Reads as a source does.
     fn read(&mut self, buffer: &mut [u8]) -> Result<usize, DeviceFailed>
         ensures bound { IfOk result (λ n. n ≤ length buffer.new) }
         ensures octets { ReadConsumes (left self.old) (left self.new) result buffer.new }
         ensures counts { Counts (failures self.old) (failures self.new) result };
 
-    /// Passes over so many octets in one step, where there are so many and the device can, and answers whether it did. If it did not, or the
-    /// call failed, none was passed over. A device that can't says so, and its octets are read.
+    /// Passes over octets as a source does.
     fn pass_over(&mut self, _octets: u64) -> Result<bool, DeviceFailed>
         ensures octets { PassesOver (left self.old) (left self.new) _octets result }
         ensures counts { Counts (failures self.old) (failures self.new) result }
     {
         Ok(false)
+    }
+}
+
+impl<S: Source> Lender for S {
+    ghost failures = { λ s. S.failures s };
+
+    ghost left = { λ s. S.left s };
+
+    fn at_hand(&self) -> &[u8] {
+        &[]
+    }
+
+    fn take_at_hand(&mut self, _octets: usize) {}
+
+    fn read(&mut self, buffer: &mut [u8]) -> Result<usize, DeviceFailed> {
+        Source::read(self, buffer)
+    }
+
+    fn pass_over(&mut self, octets: u64) -> Result<bool, DeviceFailed> {
+        Source::pass_over(self, octets)
     }
 }
 

@@ -49,12 +49,6 @@ impl Source for MemorySource {
 
     ghost left = { λ s. Some (drop s.at s.octets.items) };
 
-    fn at_hand(&self) -> &[u8] {
-        &[]
-    }
-
-    fn take_at_hand(&mut self, _octets: usize) {}
-
     fn read(&mut self, buffer: &mut [u8]) -> Result<usize, DeviceFailed> {
         self.calls = self.calls.saturating_add(1);
         if self.calls == self.fails_at {

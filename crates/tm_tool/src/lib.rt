@@ -12,7 +12,9 @@ mod work;
 
 pub use job::{Done, Job, run, split};
 pub use summary::summarize;
-pub use tm_devices::{Buffered, DeviceFailed, Drain, Reading, Seeking, Shelf, Source, Writing};
+pub use tm_devices::{
+    Buffered, DeviceFailed, Drain, Lender, Reading, Seeking, Shelf, Source, Writing,
+};
 pub use tm_faults::{CheckpointFault, NoMemory, RunFault};
 pub use tm_octets::Octets;
 pub use tm_output::{Command, Ending, list_frames};

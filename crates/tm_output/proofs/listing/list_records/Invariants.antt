@@ -8,8 +8,8 @@ use Rattle.tm_output.proofs.listing.list_records.Given as goal
 abbrev pub invariant-loop-seen : goal.invariant-loop-seen
 invariant-loop-seen g l = record {
   exact : length l.buffer ≡ record_length_of l.layout;
-  stands : Stands l.layout (g.R.Source.left l.initial.recording) (g.R.Source.left l.recording) (out_alone g.W.Drain l.initial.out) (out_alone g.W.Drain l.out) l.seen;
-  reads : g.R.Source.failures l.recording ≡ g.R.Source.failures l.initial.recording;
+  stands : Stands l.layout (g.R.Lender.left l.initial.recording) (g.R.Lender.left l.recording) (out_alone g.W.Drain l.initial.out) (out_alone g.W.Drain l.out) l.seen;
+  reads : g.R.Lender.failures l.recording ≡ g.R.Lender.failures l.initial.recording;
   writes : g.W.Drain.failures l.out ≡ g.W.Drain.failures l.initial.out;
 }
 

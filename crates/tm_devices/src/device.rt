@@ -34,7 +34,7 @@ pub trait Source {
 }
 
 /// Where octets come from, with a loan of those at hand. The loops over recordings ask for this. Each `Source` is one, which has none at hand.
-pub trait Lender {
+pub trait BufferedSource {
     /// How many calls have failed, up to 2^64 - 1.
     ghost failures: { Self → ℕ };
 
@@ -70,7 +70,7 @@ pub trait Lender {
     }
 }
 
-impl<S: Source> Lender for S {
+impl<S: Source> BufferedSource for S {
     ghost failures = { λ s. S.failures s };
 
     ghost left = { λ s. S.left s };

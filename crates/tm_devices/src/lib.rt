@@ -5,6 +5,6 @@ mod device;
 mod standard;
 mod transfer;
 
-pub use device::{DeviceFailed, Drain, Lender, Shelf, Source};
+pub use device::{BufferedSource, DeviceFailed, Drain, Shelf, Source};
 pub use standard::{Buffered, Reading, Seeking, Writing};
 pub use transfer::{fill, put_all};

@@ -4,7 +4,7 @@ ghost use Rattle.std.specs.Prelude.{◌≡◌, true, None, IfOk};
 ghost use Rattle.std.specs.Io.Buffered.{reader_buffer};
 ghost use Rattle.tm_devices.specs.Devices.{AreAhead, Counts, HasMoved, PassesOver};
 
-use crate::{DeviceFailed, Drain, Lender, Source};
+use crate::{BufferedSource, DeviceFailed, Drain, Source};
 use std::io::{self, BufRead, BufReader, Read, Seek, SeekFrom, Write};
 
 /// A reader of std. Each error of it is a failure.
@@ -50,8 +50,8 @@ pub struct Buffered<R> {
 impl<R: Read> Buffered<R> {
     /// A source over the buffer, with no failure yet.
     pub fn new(reader: BufReader<R>) -> Self
-        ensures left { ⟦<Buffered<R> as Lender>⟧.left result ≡ ⟦<BufReader<R> as Read>⟧.remaining reader }
-        ensures failures { ⟦<Buffered<R> as Lender>⟧.failures result ≡ 0 }
+        ensures left { ⟦<Buffered<R> as BufferedSource>⟧.left result ≡ ⟦<BufReader<R> as Read>⟧.remaining reader }
+        ensures failures { ⟦<Buffered<R> as BufferedSource>⟧.failures result ≡ 0 }
         ensures reader { result.reading.reader ≡ reader }
     {
         Buffered {
@@ -60,7 +60,7 @@ impl<R: Read> Buffered<R> {
     }
 }
 
-impl<R: Read> Lender for Buffered<R> {
+impl<R: Read> BufferedSource for Buffered<R> {
     ghost failures = { λ s. s.reading.failed };
 
     ghost left = { λ s. ⟦<BufReader<R> as Read>⟧.remaining s.reading.reader };
@@ -89,7 +89,7 @@ pub struct Seeking<R> {
 impl<R: Read + Seek> Seeking<R> {
     /// A source over the buffer, with no failure yet. Nothing is read of it.
     pub fn new(reader: BufReader<R>) -> Self
-        ensures failures { ⟦<Seeking<R> as Lender>⟧.failures result ≡ 0 }
+        ensures failures { ⟦<Seeking<R> as BufferedSource>⟧.failures result ≡ 0 }
         ensures reader { result.buffered.reading.reader ≡ reader }
     {
         Seeking {
@@ -121,7 +121,7 @@ fn moved_on<R: Seek>(reader: &mut R, octets: u64) -> io::Result<bool>
     }
 }
 
-impl<R: Read + Seek> Lender for Seeking<R> {
+impl<R: Read + Seek> BufferedSource for Seeking<R> {
     ghost failures = { λ s. s.buffered.reading.failed };
 
     ghost at_hand = { λ s. reader_buffer s.buffered.reading.reader };

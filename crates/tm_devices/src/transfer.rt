@@ -4,7 +4,7 @@ ghost use Rattle.std.specs.Prelude.{ℕ, List, ◌<◌, ◌≤◌, length, take,
 ghost use Rattle.std.specs.Io.KnownBytes.{Appends, Consumes, IsAtEnd};
 ghost use Rattle.tm_devices.specs.Devices.{AppendsFront, Counts};
 
-use crate::{DeviceFailed, Drain, Lender};
+use crate::{BufferedSource, DeviceFailed, Drain};
 
 /// Writes all the octets, by as many writes as it takes.
 pub fn put_all<W: Drain>(out: &mut W, octets: &[u8]) -> Result<(), DeviceFailed>
@@ -21,7 +21,7 @@ pub fn put_all<W: Drain>(out: &mut W, octets: &[u8]) -> Result<(), DeviceFailed>
 }
 
 /// Fills the buffer, or answers how many octets there were before the end.
-pub fn fill<R: Lender>(source: &mut R, buffer: &mut [u8]) -> Result<usize, DeviceFailed>
+pub fn fill<R: BufferedSource>(source: &mut R, buffer: &mut [u8]) -> Result<usize, DeviceFailed>
     ensures bound { IfOk result (λ n. n ≤ length buffer.new) }
     ensures octets { IfOk result (λ n. Consumes (R.left source.old) (R.left source.new) (take n buffer.new)) }
     ensures end { IfOk result (λ n. n < length buffer.new → IsAtEnd (R.left source.new)) }

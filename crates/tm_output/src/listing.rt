@@ -12,7 +12,7 @@ ghost use Rattle.tm_output.specs.code.Listed.{NextListingStop};
 ghost use Rattle.tm_output.specs.code.Next.{EndsNext, ReadsNext};
 
 use std::alloc::Global;
-use tm_devices::{DeviceFailed, Drain, Lender, fill, put_all};
+use tm_devices::{DeviceFailed, Drain, BufferedSource, fill, put_all};
 use tm_faults::RunFault;
 use tm_frame::{Layout, read};
 use tm_lines::{ROOM, line_in, put_bad, put_frame, put_short};
@@ -69,7 +69,7 @@ fn put_end<W: Drain>(
 }
 
 // Lists the next record: where it is at hand as it stands there, else through this buffer. Answers how many octets are left where it is no whole one.
-fn list_next<R: Lender, W: Drain>(
+fn list_next<R: BufferedSource, W: Drain>(
     room: &mut [u8; ROOM],
     layout: &Layout,
     seen: u32,
@@ -113,7 +113,7 @@ fn list_next<R: Lender, W: Drain>(
 }
 
 // Lists records one at a time, through this buffer where they are not at hand.
-fn list_records<R: Lender, W: Drain>(
+fn list_records<R: BufferedSource, W: Drain>(
     layout: &Layout,
     buffer: &mut [u8],
     recording: &mut R,
@@ -145,7 +145,7 @@ fn list_records<R: Lender, W: Drain>(
 
 /// Writes a line for each record of the recording, of any channel, and one for octets that are left,
 /// and flushes. It answers the number of records. One record is read at a time.
-pub fn list_frames<R: Lender, W: Drain>(
+pub fn list_frames<R: BufferedSource, W: Drain>(
     alloc: Global,
     settings: &Settings,
     recording: &mut R,

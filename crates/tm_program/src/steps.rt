@@ -29,7 +29,7 @@ use tm_files::{
 use tm_places::Places;
 use tm_shelf::{FileShelf, ShelfFault, name_in};
 use tm_tool::{
-    Buffered, Command, Done, Drain, Ending, Job, Lender, Octets, RunFault, Seeking, Settings,
+    Buffered, Command, Done, Drain, Ending, Job, BufferedSource, Octets, RunFault, Seeking, Settings,
     Shelf, Writing, list_frames, run as run_job, split, summarize,
 };
 use tm_words::{Action, Plan, plan};
@@ -72,7 +72,7 @@ fn drain<W: Write + Drop>(alloc: Global, writer: W) -> Result<Writing<BufWriter<
 }
 
 // Lists the frames of a recording, or sums it up.
-fn list_to<S: Lender, W: Drain>(
+fn list_to<S: BufferedSource, W: Drain>(
     alloc: Global,
     action: Action,
     settings: &Settings,
@@ -95,7 +95,7 @@ fn list_to<S: Lender, W: Drain>(
 
 // Lists the frames of a recording, or sums it up, on standard output.
 #[tactic(auto, using(tm_files::proofs::FaultLemmas::starved_run))]
-fn list<R: Print + AllocGlobal, S: Lender + Drop>(
+fn list<R: Print + AllocGlobal, S: BufferedSource + Drop>(
     rt: &R,
     action: Action,
     settings: &Settings,
@@ -110,13 +110,13 @@ fn list<R: Print + AllocGlobal, S: Lender + Drop>(
 
 // The devices of every run of a job: the recording, and the report.
 #[derive(Drop)]
-struct Ends<S: Lender + Drop, V: Write + Drop> {
+struct Ends<S: BufferedSource + Drop, V: Write + Drop> {
     source: S,
     report: Writing<BufWriter<V>>,
 }
 
 // A buffer before the report.
-fn ends_with<S: Lender + Drop, V: Write + Drop>(
+fn ends_with<S: BufferedSource + Drop, V: Write + Drop>(
     alloc: Global,
     source: S,
     report: V,
@@ -129,7 +129,7 @@ fn ends_with<S: Lender + Drop, V: Write + Drop>(
 
 // Gives the packets of a recording to a drain.
 #[tactic(auto, using(crate::proofs::EndingLemmas::ran_done))]
-fn give_to<S: Lender, W: Drain, V: Drain>(
+fn give_to<S: BufferedSource, W: Drain, V: Drain>(
     alloc: Global,
     job: Job,
     command: Command<'_>,
@@ -152,7 +152,7 @@ fn give_to<S: Lender, W: Drain, V: Drain>(
 
 // Gives the packets of a recording on standard output.
 #[tactic(auto, using(tm_files::proofs::FaultLemmas::starved_run))]
-fn give_packets<R: Print + AllocGlobal, S: Lender + Drop, V: Write + Drop>(
+fn give_packets<R: Print + AllocGlobal, S: BufferedSource + Drop, V: Write + Drop>(
     rt: &R,
     job: Job,
     command: Command<'_>,
@@ -231,7 +231,7 @@ fn split_end(
 
 // Gives the packets of a recording to a shelf.
 #[tactic(auto, using(crate::proofs::EndingLemmas::ran_done))]
-fn split_to<S: Lender, H: Shelf, V: Drain>(
+fn split_to<S: BufferedSource, H: Shelf, V: Drain>(
     alloc: Global,
     job: Job,
     source: &mut S,
@@ -249,7 +249,7 @@ fn split_to<S: Lender, H: Shelf, V: Drain>(
 
 // Gives the packets of a recording to a file for each application.
 #[tactic(auto, using(tm_files::proofs::FaultLemmas::starved_run, crate::proofs::ProgramLemmas::put_there))]
-fn split_packets<R: Files + AllocGlobal, S: Lender + Drop, V: Write + Drop>(
+fn split_packets<R: Files + AllocGlobal, S: BufferedSource + Drop, V: Write + Drop>(
     rt: &R,
     job: Job,
     shelf: &mut FileShelf<'_, R>,
@@ -405,7 +405,7 @@ fn inputs_by<R: Files + AllocGlobal>(rt: &R, plan: &Plan) -> Result<Inputs, Tool
 
 // Goes on with the job over the recording, to where the plan wants the packets.
 #[tactic(auto, using(tm_files::proofs::FaultLemmas::starved_run, crate::proofs::ProgramLemmas::folder_there, crate::proofs::ProgramLemmas::split_there))]
-fn go_on<R: Files + Print + AllocGlobal, S: Lender + Drop, V: Write + Drop>(
+fn go_on<R: Files + Print + AllocGlobal, S: BufferedSource + Drop, V: Write + Drop>(
     rt: &R,
     plan: &Plan,
     definition: Option<&Definition>,
@@ -441,7 +441,7 @@ fn go_on<R: Files + Print + AllocGlobal, S: Lender + Drop, V: Write + Drop>(
 
 // Goes on with the job of the checkpoint, or else with a new one.
 #[tactic(auto, using(tm_files::proofs::FaultLemmas::starved_run))]
-fn begin<R: Files + Print + AllocGlobal, S: Lender + Drop, V: Write + Drop>(
+fn begin<R: Files + Print + AllocGlobal, S: BufferedSource + Drop, V: Write + Drop>(
     rt: &R,
     plan: &Plan,
     inputs: Inputs,
@@ -463,7 +463,7 @@ fn begin<R: Files + Print + AllocGlobal, S: Lender + Drop, V: Write + Drop>(
 
 // Does the job over the recording: that of the checkpoint, or else a new one. Names are looked up anew, now that the report is made: before, it may have been none.
 #[tactic(auto, using(tm_files::proofs::FaultLemmas::starved_run))]
-fn do_job<R: Files + Print + AllocGlobal, S: Lender + Drop, V: Write + Drop>(
+fn do_job<R: Files + Print + AllocGlobal, S: BufferedSource + Drop, V: Write + Drop>(
     rt: &R,
     plan: &Plan,
     inputs: Inputs,
@@ -495,7 +495,7 @@ struct Finished<'p> {
 // Does what the plan wants of the job over the recording, once the names of its files were checked, and answers what is done. The plan's checkpoint
 // is written in any case, also where no record is done.
 #[tactic(auto, using(crate::proofs::ProgramLemmas::run_ends, crate::proofs::EndingLemmas::file_of_done))]
-fn run_job_on<'p, R: Files + Print + AllocGlobal, S: Lender + Drop, E: Write + Drop>(
+fn run_job_on<'p, R: Files + Print + AllocGlobal, S: BufferedSource + Drop, E: Write + Drop>(
     rt: &R,
     plan: &'p Plan,
     inputs: Inputs,
@@ -559,7 +559,7 @@ fn checked_by<R: Files + AllocGlobal>(rt: &R, plan: &Plan) -> Result<Checked, To
 }
 
 // Checks the names of the plan's files, does what the plan asks for with the recording, and answers what its job has done, if it has one.
-fn check_and_run<'p, R: Files + Print + AllocGlobal, S: Lender + Drop, E: Write + Drop>(
+fn check_and_run<'p, R: Files + Print + AllocGlobal, S: BufferedSource + Drop, E: Write + Drop>(
     rt: &R,
     plan: &'p Plan,
     inputs: Inputs,

@@ -6,7 +6,7 @@ use std::alloc::Global;
 use std::io::{self, BufReader, Cursor, ErrorKind, Read, Seek, SeekFrom, Write};
 use tm_devices::fill;
 use tm_tool::{
-    Buffered, DeviceFailed, Drain, Lender, Reading, RunFault, Seeking, Writing, list_frames,
+    Buffered, DeviceFailed, Drain, BufferedSource, Reading, RunFault, Seeking, Writing, list_frames,
 };
 
 // A frame of 24 octets with a packet of 7 octets and one of 11.
@@ -151,7 +151,7 @@ const WITH_REST_LINES: &str =
     "frame record=0 channel=0 master=0 count=0 kind=packets place=0 secondary=0 ocf=no order=0 segment=3 octets=18\nframe record=1 channel=0 master=0 count=0 kind=packets place=0 secondary=0 ocf=no order=0 segment=3 octets=18\nshort record=2 octets=10\n";
 
 /// What a listing answers under the settings of a text.
-pub(crate) fn listed<R: Lender, W: Drain>(
+pub(crate) fn listed<R: BufferedSource, W: Drain>(
     alloc: Global,
     settings: &str,
     source: &mut R,

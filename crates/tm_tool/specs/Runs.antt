@@ -13,7 +13,7 @@ use Rattle.tm_output.specs.Faults.{RunCounted}
 use Rattle.tm_output.specs.Seen.{both, shelf_both}
 use Rattle.tm_devices.specs.declared.device.Drain as drain
 use Rattle.tm_devices.specs.declared.device.Shelf as shelf
-use Rattle.tm_devices.specs.declared.device.Lender as lender
+use Rattle.tm_devices.specs.declared.device.BufferedSource as source
 use Rattle.tm_checkpoint.specs.Works.{Work}
 use Rattle.tm_tool.specs.RecordingPieces.{records_for, further, worked, record_pieces, end_pieces, pieces}
 use Rattle.tm_output.specs.Records.{record_count, rest_of}
@@ -68,11 +68,11 @@ abbrev pub devices_at : {K : Type 0} → Option (List ℕ) → ℕ → View K �
 devices_at left failures outputs = record { left = left; failures = failures; outputs = outputs }
 
 -- those of a run into two drains
-abbrev pub devices : {R W V : Type 0} → lender.Ghosts R → drain.Ghosts W → drain.Ghosts V → R → W → V → Devices (Option (List ℕ))
+abbrev pub devices : {R W V : Type 0} → source.Ghosts R → drain.Ghosts W → drain.Ghosts V → R → W → V → Devices (Option (List ℕ))
 devices r w v recording out report = devices_at (r.left recording) (r.failures recording) (both w v out report)
 
 -- and into a shelf and a drain
-abbrev pub shelf_devices : {R H F V : Type 0} → lender.Ghosts R → shelf.Ghosts H F → drain.Ghosts V → R → H → V → Devices (Option (ℕ → List ℕ))
+abbrev pub shelf_devices : {R H F V : Type 0} → source.Ghosts R → shelf.Ghosts H F → drain.Ghosts V → R → H → V → Devices (Option (ℕ → List ℕ))
 shelf_devices r h v recording shelf report = devices_at (r.left recording) (r.failures recording) (shelf_both h v shelf report)
 
 -- a device is blamed only where a call of it failed

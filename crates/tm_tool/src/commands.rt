@@ -16,7 +16,7 @@ ghost use Rattle.tm_output.specs.Seen.{both, shelf_both};
 
 use crate::recording::{Ended, run_to_end};
 use crate::work::Work;
-use crate::{Command, Drain, Ending, Lender, RunFault, Shelf};
+use crate::{Command, Drain, Ending, BufferedSource, RunFault, Shelf};
 use std::alloc::Global;
 use tm_devices::put_all;
 use tm_fields::Rows;
@@ -52,7 +52,7 @@ pub fn put_head<W: Drain>(
 }
 
 /// What the command wants of the packets, into a drain.
-pub fn run_by<R: Lender, W: Drain, V: Drain>(
+pub fn run_by<R: BufferedSource, W: Drain, V: Drain>(
     alloc: Global,
     command: Command<'_>,
     work: Work,
@@ -98,7 +98,7 @@ pub fn run_by<R: Lender, W: Drain, V: Drain>(
 }
 
 /// The packets' octets into a shelf.
-pub fn run_split<R: Lender, H: Shelf, V: Drain>(
+pub fn run_split<R: BufferedSource, H: Shelf, V: Drain>(
     alloc: Global,
     work: Work,
     recording: &mut R,

@@ -11,7 +11,7 @@ ghost use Rattle.tm_output.specs.Shelves.{Shelves, shelf_text, shelf_way};
 use crate::commands::{put_head, run_by, run_split};
 use crate::recording::Ended;
 use crate::work::Work;
-use crate::{Command, Drain, Ending, Lender, NoMemory, RunFault, Settings, Shelf};
+use crate::{Command, Drain, Ending, BufferedSource, NoMemory, RunFault, Settings, Shelf};
 use std::alloc::Global;
 use std::marker::Model;
 use tm_packet::Tracker;
@@ -107,7 +107,7 @@ fn done_by(ended: Ended, fresh: bool) -> Done
 /// `Read`, `Write` or `Report` where a call of that device failed; `ShortRecording` where there are fewer whole records than are done;
 /// `TooMany` where a whole record follows 2^32 - 1; `NoMemory` where a
 /// line can't be made: with `Extract` only a line for the report. The job is given up.
-pub fn run<R: Lender, W: Drain, V: Drain>(
+pub fn run<R: BufferedSource, W: Drain, V: Drain>(
     alloc: Global,
     job: Job,
     command: Command<'_>,
@@ -120,21 +120,21 @@ pub fn run<R: Lender, W: Drain, V: Drain>(
 
     // With Ok just the pieces of what was read were written, and passed on; and what was read is what the ending reads.
     ensures ran { IfOk result (λ done. Ran Appends (way_of command.entry) (text_of command.entry) ending job.work (head_pieces command.entry job.fresh)
-        (devices R.Lender W.Drain V.Drain recording.old out.old report.old)
-        (devices R.Lender W.Drain V.Drain recording.new out.new report.new) done.records (option_map (λ j. j.work) done.kept)) }
+        (devices R.BufferedSource W.Drain V.Drain recording.old out.old report.old)
+        (devices R.BufferedSource W.Drain V.Drain recording.new out.new report.new) done.records (option_map (λ j. j.work) done.kept)) }
     ensures fresh { IfOk result (λ done. IfSome done.kept (λ j. j.fresh ≡ false)) }
     ensures flushed_out { OnOk result (Keeps (W.flushed out.new) (W.written out.new)) }
     ensures flushed_report { OnOk result (Keeps (V.flushed report.new) (V.written report.new)) }
 
     // After a fault there is one place up to which pieces were written, and nothing was read past the record at a piece of which writing stopped.
     ensures stopped { IfErr result (IsHeadedStop Appends (way_of command.entry) (text_of command.entry) ending job.work (head_pieces command.entry job.fresh)
-        (devices R.Lender W.Drain V.Drain recording.old out.old report.old)
-        (devices R.Lender W.Drain V.Drain recording.new out.new report.new)) }
+        (devices R.BufferedSource W.Drain V.Drain recording.old out.old report.old)
+        (devices R.BufferedSource W.Drain V.Drain recording.new out.new report.new)) }
 
     // A device is blamed only where a call of it failed.
     ensures counts { DevicesCounted
-        (devices R.Lender W.Drain V.Drain recording.old out.old report.old)
-        (devices R.Lender W.Drain V.Drain recording.new out.new report.new) result }
+        (devices R.BufferedSource W.Drain V.Drain recording.old out.old report.old)
+        (devices R.BufferedSource W.Drain V.Drain recording.new out.new report.new) result }
 {
     let Job { work, fresh } = job;
     if let Err(fault) = put_head(alloc, command, fresh, out) {
@@ -152,7 +152,7 @@ pub fn run<R: Lender, W: Drain, V: Drain>(
 /// # Errors
 ///
 /// As `run`: `Write` where a put was refused, and `NoMemory` only where a line for the report can't be made. The job is given up.
-pub fn split<R: Lender, H: Shelf, V: Drain>(
+pub fn split<R: BufferedSource, H: Shelf, V: Drain>(
     alloc: Global,
     job: Job,
     recording: &mut R,
@@ -164,20 +164,20 @@ pub fn split<R: Lender, H: Shelf, V: Drain>(
 
     // With Ok just the pieces of what was read were written, and passed on; and what was read is what the ending reads.
     ensures ran { IfOk result (λ done. Ran Shelves shelf_way shelf_text ending job.work []
-        (shelf_devices R.Lender H.Shelf V.Drain recording.old shelf.old report.old)
-        (shelf_devices R.Lender H.Shelf V.Drain recording.new shelf.new report.new) done.records (option_map (λ j. j.work) done.kept)) }
+        (shelf_devices R.BufferedSource H.Shelf V.Drain recording.old shelf.old report.old)
+        (shelf_devices R.BufferedSource H.Shelf V.Drain recording.new shelf.new report.new) done.records (option_map (λ j. j.work) done.kept)) }
     ensures fresh { IfOk result (λ done. IfSome done.kept (λ j. j.fresh ≡ job.fresh)) }
     ensures flushed_report { OnOk result (Keeps (V.flushed report.new) (V.written report.new)) }
 
     // After a fault there is one place up to which pieces were written, and nothing was read past the record at a piece of which writing stopped.
     ensures stopped { IfErr result (IsStop Shelves shelf_way shelf_text ending job.work
-        (shelf_devices R.Lender H.Shelf V.Drain recording.old shelf.old report.old)
-        (shelf_devices R.Lender H.Shelf V.Drain recording.new shelf.new report.new)) }
+        (shelf_devices R.BufferedSource H.Shelf V.Drain recording.old shelf.old report.old)
+        (shelf_devices R.BufferedSource H.Shelf V.Drain recording.new shelf.new report.new)) }
 
     // A device is blamed only where a call of it failed.
     ensures counts { DevicesCounted
-        (shelf_devices R.Lender H.Shelf V.Drain recording.old shelf.old report.old)
-        (shelf_devices R.Lender H.Shelf V.Drain recording.new shelf.new report.new) result }
+        (shelf_devices R.BufferedSource H.Shelf V.Drain recording.old shelf.old report.old)
+        (shelf_devices R.BufferedSource H.Shelf V.Drain recording.new shelf.new report.new) result }
 {
     let Job { work, fresh } = job;
     match run_split(alloc, work, recording, shelf, report, ending) {

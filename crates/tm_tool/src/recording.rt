@@ -15,7 +15,7 @@ ghost use Rattle.tm_output.specs.Seen.{fixture, outlet_both, output_both};
 
 use crate::taking::{RecordTaker, take_records};
 use crate::work::Work;
-use crate::{Drain, Ending, Lender, RunFault};
+use crate::{Drain, Ending, BufferedSource, RunFault};
 use std::alloc::Global;
 use tm_output::{Outlet, Output};
 use tm_packet::Tracker;
@@ -124,7 +124,7 @@ struct Taken {
 }
 
 // Takes what the ending reads of the recording, ends it, and flushes.
-fn take_all<R: Lender, O: Outlet, V: Drain>(
+fn take_all<R: BufferedSource, O: Outlet, V: Drain>(
     mut reassembly: Reassembly,
     buffer: &mut [u8],
     recording: &mut R,
@@ -173,7 +173,7 @@ struct Noting {
 }
 
 // The same, into an outlet and a report.
-fn take_all_into<R: Lender, O: Outlet, V: Drain>(
+fn take_all_into<R: BufferedSource, O: Outlet, V: Drain>(
     reassembly: Reassembly,
     noting: &mut Noting,
     buffer: &mut [u8],
@@ -252,7 +252,7 @@ fn kept_by(taken: Taken, tracker: Tracker, buffer: Vec<u8>) -> Ended
 }
 
 /// Takes what the ending reads of the recording, from where the work has got, ends it, and flushes.
-pub fn run_to_end<R: Lender, O: Outlet, V: Drain>(
+pub fn run_to_end<R: BufferedSource, O: Outlet, V: Drain>(
     alloc: Global,
     work: Work,
     recording: &mut R,

@@ -14,7 +14,7 @@ ghost use Rattle.tm_tool.specs.code.Summing.{CountCounted, CountingStopped, Coun
 use crate::job::Job;
 use crate::taking::{RecordTaker, take_records};
 use crate::work::Work;
-use crate::{Drain, Ending, Lender, RunFault, Settings};
+use crate::{Drain, Ending, BufferedSource, RunFault, Settings};
 use std::alloc::Global;
 use tm_frame::read_good;
 use tm_packet::Tracker;
@@ -73,7 +73,7 @@ fn count_end(reassembly: Reassembly, rest: usize, counting: &mut Counting<'_>)
 }
 
 // Counts a recording down to its closed end. Answers the number of its records.
-fn count_all<R: Lender>(
+fn count_all<R: BufferedSource>(
     mut reassembly: Reassembly,
     buffer: &mut [u8],
     recording: &mut R,
@@ -107,7 +107,7 @@ struct Summing {
 }
 
 // The same, into what holds the sequence counts and the numbers.
-fn count_into<R: Lender>(
+fn count_into<R: BufferedSource>(
     reassembly: Reassembly,
     buffer: &mut [u8],
     recording: &mut R,
@@ -143,7 +143,7 @@ fn count_into<R: Lender>(
 ///
 /// `Read` or `Write` where a call of that device failed; `TooMany` where a whole record follows 2^32 - 1; `NoMemory` where memory for the
 /// numbers can't be had, and nothing was read or written then.
-pub fn summarize<R: Lender, W: Drain>(
+pub fn summarize<R: BufferedSource, W: Drain>(
     alloc: Global,
     settings: &Settings,
     recording: &mut R,

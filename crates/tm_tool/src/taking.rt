@@ -11,7 +11,7 @@ ghost use Rattle.tm_tool.specs.Runs.{WantsFurther};
 ghost use Rattle.tm_tool.specs.code.Taking.{Enough, HasStepped, NextStopped, PassesRecords, TakesRecords, TakingStopped, TookNext};
 ghost use Rattle.tm_output.specs.code.Next.{EndsNext};
 
-use crate::{Ending, Lender, RunFault};
+use crate::{Ending, BufferedSource, RunFault};
 use tm_devices::fill;
 use tm_reassembly::Reassembly;
 
@@ -48,7 +48,7 @@ pub(crate) trait RecordTaker {
 }
 
 // Reads the records that are done, one by one.
-fn read_over<R: Lender>(count: u32, buffer: &mut [u8], recording: &mut R) -> Result<(), RunFault>
+fn read_over<R: BufferedSource>(count: u32, buffer: &mut [u8], recording: &mut R) -> Result<(), RunFault>
     requires some { 0 < length buffer.old }
     ensures { PassesRecords (length buffer.old) count (R.left recording.old) (R.left recording.new) (R.failures recording.old) (R.failures recording.new) result }
 {
@@ -64,7 +64,7 @@ fn read_over<R: Lender>(count: u32, buffer: &mut [u8], recording: &mut R) -> Res
 }
 
 // Passes over the records that are done: in one step where the recording can do so, else it reads them.
-fn skip_records<R: Lender>(count: u32, buffer: &mut [u8], recording: &mut R) -> Result<(), RunFault>
+fn skip_records<R: BufferedSource>(count: u32, buffer: &mut [u8], recording: &mut R) -> Result<(), RunFault>
     requires some { 0 < length buffer.old }
     ensures { PassesRecords (length buffer.old) count (R.left recording.old) (R.left recording.new) (R.failures recording.old) (R.failures recording.new) result }
 {
@@ -93,7 +93,7 @@ fn wants_more(ending: Ending, done: u32, records: u32) -> bool
 }
 
 // Takes the next record: where it is at hand as it stands there, else through this buffer. Answers how many octets are left where it is no whole one.
-fn take_next<R: Lender, K: RecordTaker>(
+fn take_next<R: BufferedSource, K: RecordTaker>(
     reassembly: &mut Reassembly,
     buffer: &mut [u8],
     recording: &mut R,
@@ -134,7 +134,7 @@ fn take_next<R: Lender, K: RecordTaker>(
 
 // Takes the records that the ending wants, one at a time through this buffer, behind those that are done. Answers how many octets are
 // left then, of a record that is no whole one.
-pub(crate) fn take_records<R: Lender, K: RecordTaker>(
+pub(crate) fn take_records<R: BufferedSource, K: RecordTaker>(
     reassembly: &mut Reassembly,
     buffer: &mut [u8],
     recording: &mut R,

@@ -5,8 +5,8 @@ use Rattle.tm_devices.proofs.transfer.fill.Given as goal
 
 abbrev pub invariant-loop-filled : goal.invariant-loop-filled
 invariant-loop-filled g l =
-    (l.filled ≤ length l.buffer) × Consumes (g.R.Lender.left l.initial.source) (g.R.Lender.left l.source) (take l.filled l.buffer)
-    × (g.R.Lender.failures l.source ≡ g.R.Lender.failures l.initial.source)
+    (l.filled ≤ length l.buffer) × Consumes (g.R.BufferedSource.left l.initial.source) (g.R.BufferedSource.left l.source) (take l.filled l.buffer)
+    × (g.R.BufferedSource.failures l.source ≡ g.R.BufferedSource.failures l.initial.source)
 
 abbrev pub decreases-loop-filled : goal.decreases-loop-filled
 decreases-loop-filled g l = length l.initial.buffer - l.filled

@@ -8,8 +8,8 @@ use Rattle.tm_output.proofs.listing.list_records.Given as goal
 abbrev pub invariant-loop-seen : goal.invariant-loop-seen
 invariant-loop-seen g l = record {
   exact : length l.buffer ≡ record_length_of l.layout;
-  stands : Stands l.layout (g.R.Lender.left l.initial.recording) (g.R.Lender.left l.recording) (out_alone g.W.Drain l.initial.out) (out_alone g.W.Drain l.out) l.seen;
-  reads : g.R.Lender.failures l.recording ≡ g.R.Lender.failures l.initial.recording;
+  stands : Stands l.layout (g.R.BufferedSource.left l.initial.recording) (g.R.BufferedSource.left l.recording) (out_alone g.W.Drain l.initial.out) (out_alone g.W.Drain l.out) l.seen;
+  reads : g.R.BufferedSource.failures l.recording ≡ g.R.BufferedSource.failures l.initial.recording;
   writes : g.W.Drain.failures l.out ≡ g.W.Drain.failures l.initial.out;
 }
 

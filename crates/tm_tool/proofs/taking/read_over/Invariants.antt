@@ -6,6 +6,6 @@ use Rattle.tm_tool.proofs.taking.read_over.Given as goal
 abbrev pub invariant-loop-passed : goal.invariant-loop-passed
 invariant-loop-passed g l = record {
   exact : length l.buffer ≡ length l.fn.buffer;
-  reads : g.R.Lender.failures l.recording ≡ g.R.Lender.failures l.fn.recording;
-  passed : HasPassed (length l.fn.buffer) l._passed (g.R.Lender.left l.fn.recording) (g.R.Lender.left l.recording);
+  reads : g.R.BufferedSource.failures l.recording ≡ g.R.BufferedSource.failures l.fn.recording;
+  passed : HasPassed (length l.fn.buffer) l._passed (g.R.BufferedSource.left l.fn.recording) (g.R.BufferedSource.left l.recording);
 }

@@ -9,14 +9,14 @@ use Rattle.tm_tool.proofs.taking.take_records.Goals as goal
 
 pub returns-in-Err-clause-stopped : goal.returns-in-Err-clause-stopped
 returns-in-Err-clause-stopped g c =
-    let stopped = subst (λ n. PassingStopped n c.args.reassembly.now.state.records (g.R.Lender.left c.args.recording.now) (g.R.Lender.left c.skip_records.new.recording)
-    (g.R.Lender.failures c.args.recording.now) (g.R.Lender.failures c.skip_records.new.recording) c.in-Err.fault) c.requires.exact
+    let stopped = subst (λ n. PassingStopped n c.args.reassembly.now.state.records (g.R.BufferedSource.left c.args.recording.now) (g.R.BufferedSource.left c.skip_records.new.recording)
+    (g.R.BufferedSource.failures c.args.recording.now) (g.R.BufferedSource.failures c.skip_records.new.recording) c.in-Err.fault) c.requires.exact
     (rw c.records-done.ensures at c.in-Err.ensures) in
     inl (stopped, refl)
 
 pub loop-ending-init : goal.loop-ending-init
 loop-ending-init g c =
-    let passed = subst (λ n. HasPassed n c.args.reassembly.now.state.records (g.R.Lender.left c.args.recording.now) (g.R.Lender.left c.skip_records.new.recording)) c.requires.exact
+    let passed = subst (λ n. HasPassed n c.args.reassembly.now.state.records (g.R.BufferedSource.left c.args.recording.now) (g.R.BufferedSource.left c.skip_records.new.recording)) c.requires.exact
     (rw c.records-done.ensures at c.in_default.ensures.0) in
     record {
       same = refl;

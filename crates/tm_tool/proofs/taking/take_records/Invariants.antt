@@ -12,11 +12,11 @@ invariant-loop-ending g l = record {
   going : IsGoing l.reassembly;
   few : l.reassembly.state.records < 2 ^ 32;
   exact : length l.buffer ≡ record_length_of l.fn.reassembly.rules.layout;
-  reads : g.R.Lender.failures l.recording ≡ g.R.Lender.failures l.fn.recording;
+  reads : g.R.BufferedSource.failures l.recording ≡ g.R.BufferedSource.failures l.fn.recording;
   done : l.done ≡ l.fn.reassembly.state.records;
   reached : Reached l.ending l.done l.reassembly.state.records;
   taken : HasTaken (TakesRecords (g.K.RecordTaker.takes (g.K.RecordTaker.fixed l.fn.taker))) (work_of l.fn.reassembly (g.K.RecordTaker.entries l.fn.taker))
-      (g.R.Lender.left l.fn.recording) (g.R.Lender.left l.recording)
+      (g.R.BufferedSource.left l.fn.recording) (g.R.BufferedSource.left l.recording)
       (g.K.RecordTaker.held l.fn.taker) (g.K.RecordTaker.held l.taker) (work_of l.reassembly (g.K.RecordTaker.entries l.taker));
 }
 

@@ -1,6 +1,6 @@
 use Rattle.std.proofs.Common.{◌==◌, ap}
 use Rattle.tm_devices.proofs.Holding.{taken_of_buffer}
-use Rattle.tm_devices.proofs.standard.BufferedLender.take_at_hand.Goals as goal
+use Rattle.tm_devices.proofs.standard.BufferedBufferedSource.take_at_hand.Goals as goal
 
 pub returns-clause-octets : goal.returns-clause-octets
 returns-clause-octets g c =

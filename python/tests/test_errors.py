@@ -1,0 +1,188 @@
+"""Each error, by what brings it: wrong files, failing devices, and programs that are missing, too old or killed."""
+
+import io
+import os
+import pickle
+import unittest
+from itertools import accumulate
+from unittest import mock
+
+from support import ATTITUDE, RECORDING, SETTINGS, TestCase, example, tmx
+
+SETTINGS_42 = tmx.Settings(spacecraft=42, frame_length=256, error_control=True)
+
+
+class Refused(TestCase):
+    def test_settings(self) -> None:
+        for settings, word, line in (
+            (tmx.Settings(1024, 256, True), "range", "range spacecraft"),
+            (tmx.Settings(42, "256", True), "kind", "kind frame_length"),  # type: ignore[arg-type]
+            (tmx.Settings(42, 256, None), "missing", "missing error_control"),  # type: ignore[arg-type]
+            (tmx.Settings(42, 256, True, channels=[]), "range", "range channels"),
+            (RECORDING, "toml", "toml"),
+        ):
+            recording = tmx.Recording(RECORDING, settings)
+            for call in (recording.summary, recording.report, lambda: list(recording.packets()), lambda: next(recording.frames())):
+                error = self.raises(tmx.SettingsError, word, call)
+                self.assertEqual((error.line, error.status), (f"tmx: settings: {line}", 2))
+
+    def test_definition(self) -> None:
+        for text, word in (("name,data_type\n", "column"), ("name,data_type,bit_length\nA,uint,65\n", "bits"), ("a\nb,c\n", "csv")):
+            self.folder.joinpath("d.csv").write_text(text)
+            self.raises(tmx.DefinitionError, word, example().fields, "d.csv", 101)
+        many = "name,data_type,bit_length\n" + "A,fill,1\n" * 1001
+        self.folder.joinpath("d.csv").write_text(many)
+        self.raises(tmx.DefinitionError, "too many", example().fields, "d.csv", 101)
+
+    def test_columns(self) -> None:
+        self.folder.joinpath("d.csv").write_text("name,data_type,bit_length\ntm_apid,uint,8\nF,float,32\n")
+        self.raises(tmx.ColumnError, None, example().fields, "d.csv", 101)
+        for time in ("NONE", "ANGLE_X", ("SECONDS", "FRACTION", "MODE"), ()):
+            self.raises(tmx.ColumnError, None, example().fields, ATTITUDE, 101, time=time, epoch="2000-01-01")
+        self.raises(tmx.ColumnError, None, example().fields, ATTITUDE, 101, time="SECONDS")
+
+    def test_checkpoint(self) -> None:
+        list(example().packets(checkpoint="day.chk", stop_after=100))
+        self.raises(tmx.CheckpointError, "magic", lambda: list(example().packets(resume=RECORDING)))
+        other = tmx.Recording(RECORDING, SETTINGS_42)
+        self.raises(tmx.CheckpointError, "settings", lambda: list(other.packets(resume="day.chk")))
+        self.raises(tmx.CheckpointError, "settings", lambda: list(other.packets(resume="day.chk", checkpoint="day.chk")))
+        short = tmx.Recording(io.BytesIO(RECORDING.read_bytes()[:2560]), SETTINGS)
+        self.raises(tmx.RunError, "recording is shorter than the checkpoint", lambda: list(short.packets(resume="day.chk")))
+        self.folder.joinpath("short.rec").write_bytes(RECORDING.read_bytes()[:2560])
+        short = tmx.Recording("short.rec", SETTINGS)
+        how = {"resume": "day.chk", "checkpoint": "day.chk"}
+        self.raises(tmx.RunError, "recording is shorter than the checkpoint", lambda: list(short.packets(**how)))
+        self.raises(tmx.UsageError, None, lambda: list(example().packets(stop_after=1)))
+
+    def test_files(self) -> None:
+        self.raises(tmx.FileError, "failed", tmx.Recording("none", SETTINGS).summary)
+        self.raises(tmx.FileError, "failed", tmx.Recording(RECORDING, "none").summary)
+        self.raises(tmx.FileError, "failed", example().fields, "none", 101)
+        self.raises(tmx.FileError, "failed", lambda: list(example().packets(report=self.folder)))
+        self.raises(tmx.UsageError, "usage", example().fields, ATTITUDE, 2048)
+        with open("long", "wb") as file:
+            file.truncate(1048577)
+        self.raises(tmx.FileError, "too long", tmx.Recording(RECORDING, "long").summary)
+        self.raises(FileNotFoundError, None, example().extract, "none/packets")
+
+    def test_nothing_is_written_over(self) -> None:
+        self.folder.joinpath("a.rec").write_bytes(RECORDING.read_bytes())
+        self.folder.joinpath("a.toml").write_bytes(SETTINGS.read_bytes())
+        os.link("a.rec", "b.rec")
+        for name in ("a.rec", "b.rec", "a.toml"):
+            self.raises(tmx.FileError, "failed", tmx.Recording("a.rec", "a.toml").extract, name)
+        self.assertEqual(self.folder.joinpath("a.rec").read_bytes(), RECORDING.read_bytes())
+        self.assertEqual(self.folder.joinpath("a.toml").read_bytes(), SETTINGS.read_bytes())
+
+    def test_devices(self) -> None:
+        self.raises(tmx.RunError, "read failed", tmx.Recording(self.folder, SETTINGS).summary)
+        self.raises(tmx.RunError, "write failed", example().extract, "/dev/full")
+        self.raises(tmx.RunError, "report failed", lambda: list(example().packets(report="/dev/full")))
+        self.raises(TypeError, None, tmx.Recording(io.StringIO("text"), SETTINGS).summary)
+
+    def test_errors_go_by_pickle(self) -> None:
+        error = self.raises(tmx.FileError, "failed", tmx.Recording("none", SETTINGS).summary)
+        again = pickle.loads(pickle.dumps(error))
+        self.assertEqual((str(again), again.line, again.status, again.word), (str(error), error.line, 1, "failed"))
+        self.assertEqual(pickle.loads(pickle.dumps(example())).summary(), example().summary())
+
+
+class Streams(TestCase):
+    def test_a_pipe_is_read_once(self) -> None:
+        read, written = os.pipe()
+        with open(read, "rb") as file, open(written, "wb") as to:
+            to.write(RECORDING.read_bytes()[:20480])
+            to.close()
+            recording = tmx.Recording(file, SETTINGS)
+            self.assertEqual(len(list(recording.frames())), 80)
+            self.raises(tmx.ConsumedError, None, recording.summary)
+
+    def test_a_stream_is_read_by_one_at_a_time(self) -> None:
+        recording = tmx.Recording(io.BytesIO(RECORDING.read_bytes()), SETTINGS)
+        frames = recording.frames()
+        next(frames)
+        self.raises(tmx.ConsumedError, None, recording.summary)
+        frames.close()
+        self.assertEqual(recording.summary(), example().summary())
+
+    def test_a_stream_that_fails(self) -> None:
+        failing = mock.Mock(spec=["read"], read=mock.Mock(side_effect=[RECORDING.read_bytes()[:2560], OSError("torn off")]))
+        packets = tmx.Recording(failing, SETTINGS).packets()
+        self.raises(OSError, None, lambda: list(packets))
+
+
+class Programs(TestCase):
+    def test_missing(self) -> None:
+        with mock.patch.dict(os.environ, {"TMX": "/nowhere/tmx"}):
+            self.raises(tmx.ProgramMissingError, None, example().summary)
+        with mock.patch.dict(os.environ, {"PATH": "/nowhere"}):
+            del os.environ["TMX"]
+            self.raises(tmx.ProgramMissingError, None, lambda: list(example().packets()))
+
+    def test_on_the_path(self) -> None:
+        self.folder.joinpath("tmx").symlink_to(os.environ["TMX"])
+        with mock.patch.dict(os.environ, {"PATH": str(self.folder)}):
+            del os.environ["TMX"]
+            self.assertEqual(example().summary().recording.records, 300)
+
+    def test_too_old(self) -> None:
+        self.program("echo \"error: unrecognized subcommand 'summary'\" >&2; exit 2")
+        self.raises(tmx.VersionError, None, example().summary)
+
+    def test_other_lines(self) -> None:
+        self.program('echo "packet record=0 channel=0"; exit 0')
+        self.raises(tmx.VersionError, None, lambda: list(example().packets()))
+        self.program('echo "frame record=0 channel=9"; exit 0')
+        self.raises(tmx.VersionError, None, lambda: list(example().frames()))
+        self.program("exit 0")
+        self.raises(tmx.VersionError, None, example().summary)
+        self.raises(tmx.DisagreementError, None, example().fields, ATTITUDE, 101)
+
+    def test_no_program(self) -> None:
+        self.folder.joinpath("text").write_text("no program")
+        self.folder.joinpath("text").chmod(0o755)
+        with mock.patch.dict(os.environ, {"TMX": str(self.folder / "text")}):
+            self.raises(tmx.ProgramMissingError, None, example().summary)
+
+    def test_out_of_memory(self) -> None:
+        self.program('echo "tmx: out of memory" >&2; exit 3')
+        self.assertEqual(self.raises(tmx.OutOfMemoryError, "out of memory", example().summary).status, 3)
+
+    def killed(self, command: str, how: str) -> list[tmx.Packet]:
+        """The packets that come when a program writes some of them and is killed then."""
+        self.program(f'[ "$1" = {command} ] || exec "$real" "$@"\n{how}\nkill -KILL $$')
+        found, packets = [], example().packets()
+        try:
+            for packet in packets:
+                found.append(packet)
+        except tmx.KilledError as error:
+            self.assertEqual((error.status, error.word), (-9, "SIGKILL"))
+            return found
+        self.fail("no error")
+
+    def test_killed(self) -> None:
+        whole = list(example().packets())
+        listed = "".join(f"{it}\n" for it in whole)[:30000].count("\n")
+        extracted = sum(it <= 30000 for it in accumulate(len(it.octets) for it in whole))
+        self.assertEqual(self.killed("packets", '"$real" "$@" | head -c 30000'), whole[:listed])
+        self.assertEqual(self.killed("extract", '"$real" "$@" | head -c 30000'), whole[:extracted])
+        self.assertEqual(self.killed("packets", ""), [])
+        self.assertEqual(self.killed("packets", '"$real" "$@"'), whole)
+
+    def test_killed_while_a_stream_is_fed(self) -> None:
+        self.program('[ "$1" = packets ] || exec "$real" "$@"\nhead -c 1000 > /dev/null\nkill -KILL $$')
+        recording = tmx.Recording(io.BytesIO(RECORDING.read_bytes() * 50), SETTINGS)
+        self.raises(tmx.KilledError, "SIGKILL", lambda: list(recording.packets()))
+
+    def test_disagreement(self) -> None:
+        self.program('[ "$1" = extract ] || exec "$real" "$@"\n"$real" "$@" | head -c 30000')
+        self.raises(tmx.DisagreementError, None, lambda: list(example().packets()))
+        self.program('[ "$1" = extract ] || exec "$real" "$@"\n"$real" "$@"; echo more')
+        self.raises(tmx.DisagreementError, None, lambda: list(example().packets()))
+        self.program('[ "$1" = frames ] || exec "$real" "$@"\n"$real" "$@" | head -c 30000')
+        self.raises(tmx.DisagreementError, None, lambda: list(example().frames()))
+
+
+if __name__ == "__main__":
+    unittest.main()

@@ -1,0 +1,102 @@
+"""Recordings of TM transfer frames (CCSDS 132.0-B-3) as Python values.
+
+    import tmx
+    recording = tmx.Recording("pass.rec", settings="settings.toml")
+    for packet in recording.packets():
+        print(packet.record, packet.channel, packet.apid, packet.count, packet.octets)
+
+The program `tmx` does the work: the environment variable TMX names it, else it is on the PATH.  docs/PYTHON.md is the guide.
+"""
+
+from .checkpoints import CutBackError, cut_back, records_done
+from .definition import Column
+from .errors import (
+    CheckpointError,
+    ColumnError,
+    ConsumedError,
+    DefinitionError,
+    DisagreementError,
+    Error,
+    FileError,
+    KilledError,
+    OutOfMemoryError,
+    ProgramError,
+    ProgramMissingError,
+    RunError,
+    SettingsError,
+    UsageError,
+    VersionError,
+)
+from .fields import Fields
+from .lines import (
+    ApplicationCounts,
+    Bad,
+    Broken,
+    ChannelCounts,
+    Dropped,
+    FaultCounts,
+    Frame,
+    Gap,
+    Group,
+    LossCounts,
+    MasterCounts,
+    MasterGap,
+    Packet,
+    RecordingCounts,
+    SequenceGap,
+    Short,
+    ShortPacket,
+    Stray,
+    Vca,
+)
+from .recording import Item, Recording
+from .settings import Settings
+from .summary import Summary
+
+__version__ = "0.1.0"
+
+__all__ = [
+    "ApplicationCounts",
+    "Bad",
+    "Broken",
+    "ChannelCounts",
+    "CheckpointError",
+    "Column",
+    "ColumnError",
+    "ConsumedError",
+    "CutBackError",
+    "DefinitionError",
+    "DisagreementError",
+    "Dropped",
+    "Error",
+    "FaultCounts",
+    "Fields",
+    "FileError",
+    "Frame",
+    "Gap",
+    "Group",
+    "Item",
+    "KilledError",
+    "LossCounts",
+    "MasterCounts",
+    "MasterGap",
+    "OutOfMemoryError",
+    "Packet",
+    "ProgramError",
+    "ProgramMissingError",
+    "Recording",
+    "RecordingCounts",
+    "RunError",
+    "SequenceGap",
+    "Settings",
+    "SettingsError",
+    "Short",
+    "ShortPacket",
+    "Stray",
+    "Summary",
+    "UsageError",
+    "Vca",
+    "VersionError",
+    "cut_back",
+    "records_done",
+]

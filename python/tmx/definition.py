@@ -1,0 +1,51 @@
+"""Definitions of fields: which columns a table has, and of which kind they are.
+
+The program reads the definition, and refuses a wrong one.  Here it is read a second time for the kinds of its fields; the
+names have to be those that the program prints.
+"""
+
+import csv
+import os
+from collections.abc import Sequence
+from dataclasses import dataclass
+
+from .errors import ColumnError
+
+Name = str | os.PathLike[str]
+
+LEAD = (("tm_record", 32), ("tm_channel", 8), ("tm_apid", 16), ("tm_count", 16))  # with bits that hold the number
+
+
+@dataclass(frozen=True, slots=True)
+class Column:
+    """A column of a table: its name, its type (`uint`, `int`, `float` or `str`) and its bits."""
+
+    name: str
+    type: str
+    bits: int
+
+
+def read_definition(path: Name) -> list[Column]:
+    """The columns that the rows of a definition have.  It has to be one that the program takes.
+
+    Raises ColumnError where a field has the name of one of tmx's own columns.
+    """
+    with open(path, encoding="utf-8-sig", errors="surrogateescape", newline="") as file:
+        head, *rows = [[it.strip(" \t") for it in record] for record in csv.reader(file) if record]
+    name, kind, bits = (head.index(it) for it in ("name", "data_type", "bit_length"))
+    columns = [Column(it, "uint", wide) for it, wide in LEAD]
+    for row in rows:
+        if row[kind] == "fill":
+            continue
+        if any(row[name] == it for it, _ in LEAD):
+            raise ColumnError(f"the definition has a field {row[name]!r}, which is a column of tmx itself: name it otherwise")
+        columns.append(Column(row[name], row[kind], int(row[bits])))
+    return columns
+
+
+def column_named(columns: Sequence[Column], name: str) -> Column:
+    """The column of this name.  Raises ColumnError where there is none."""
+    for column in columns:
+        if column.name == name:
+            return column
+    raise ColumnError(f"there is no column {name!r}")

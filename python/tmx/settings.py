@@ -1,0 +1,76 @@
+"""Settings: how the records of a recording are cut and read."""
+
+import json
+import os
+import tomllib
+from collections.abc import Iterator, Sequence
+from contextlib import contextmanager
+from dataclasses import dataclass, fields
+from tempfile import NamedTemporaryFile
+from typing import Self
+
+
+@dataclass(frozen=True)
+class Settings:
+    """The keys of a settings file, as docs/FORMATS.md has them.
+
+    spacecraft     the spacecraft's number, 0 to 1023
+    frame_length   the octets of a frame, 9 to 2048
+    error_control  whether frames end with two octets of error control
+    skip_before    the octets of a record before its frame, 0 to 1024, as a sync marker
+    skip_after     the octets of a record behind its frame, 0 to 1024, as check symbols
+    secondary      secondary headers: `flag` (each frame's flag says), `always` or `never`
+    ocf            operational control fields, by the same words
+    channels       the virtual channels that are wanted, each 0 to 7; None is all
+    max_packet     the octets of the longest packet, 7 to 65542; None is 65542
+
+    The values are not checked here: the program refuses wrong ones, and that is a SettingsError.
+    """
+
+    spacecraft: int
+    frame_length: int
+    error_control: bool
+    skip_before: int = 0
+    skip_after: int = 0
+    secondary: str = "flag"
+    ocf: str = "flag"
+    channels: Sequence[int] | None = None
+    max_packet: int | None = None
+
+    @classmethod
+    def read(cls, path: str | os.PathLike[str]) -> Self:
+        """The settings of a file.  Raises OSError, ValueError (no TOML) or TypeError (keys that settings don't have, or lack)."""
+        with open(path, "rb") as file:
+            return cls(**tomllib.load(file))
+
+    @property
+    def record_length(self) -> int:
+        """The octets of a record: of a frame and what is passed over before and behind it."""
+        return self.skip_before + self.frame_length + self.skip_after
+
+    def toml(self) -> str:
+        """The text of a settings file.  Keys that have their default are left out."""
+        said = ((it.name, getattr(self, it.name)) for it in fields(self) if getattr(self, it.name) != it.default)
+        return "".join(f"{key} = {spelled(value)}\n" for key, value in said if value is not None)
+
+    def write(self, path: str | os.PathLike[str]) -> None:
+        """Writes a settings file."""
+        with open(path, "w", encoding="utf-8") as file:
+            file.write(self.toml())
+
+
+def spelled(value: object) -> str:
+    """A value as TOML has it.  Numbers, words, lists and truth are spelled as in JSON."""
+    return json.dumps(list(value) if isinstance(value, (tuple, set, frozenset, range)) else value)
+
+
+@contextmanager
+def settings_file(settings: Settings | str | os.PathLike[str]) -> Iterator[str]:
+    """The name of a file with these settings; one of settings that have no file is there for so long."""
+    if not isinstance(settings, Settings):
+        yield os.fspath(settings)
+        return
+    with NamedTemporaryFile("w", suffix=".toml", encoding="utf-8") as file:
+        file.write(settings.toml())
+        file.flush()
+        yield file.name

@@ -1,0 +1,84 @@
+"""Where the octets of a recording come from: a file, or a stream that is read from its beginning to its end."""
+
+import os
+import stat
+import sys
+from typing import IO, Any
+
+from .errors import ConsumedError
+
+BLOCK = 1 << 17  # octets that are fed at once
+
+
+class Source:
+    """A file by its name, or a binary stream.
+
+    path    the name of a file, of which each run of the program reads what it needs; None for a stream
+    stream  the stream, while a run reads it; None for a file.  What is named and is no file, as a pipe, is a stream too
+    """
+
+    def __init__(self, recording: str | os.PathLike[str] | IO[bytes]) -> None:
+        self.given: Any = os.fspath(recording) if isinstance(recording, (str, os.PathLike)) else recording
+        self.stream: Any = None
+        self.was_read = False
+        self.beginning = None if isinstance(self.given, str) else position(self.given)
+
+    def __repr__(self) -> str:
+        return repr(self.given)
+
+    @property
+    def path(self) -> str | None:
+        """Its name, where it has one; also where no such file is there, which the program says."""
+        return self.given if isinstance(self.given, str) and self.given != "-" else None
+
+    @property
+    def words(self) -> list[str]:
+        """The word of the command line that names it; a stream has none."""
+        return ["--", self.given] if self.stream is None else []
+
+    @property
+    def is_stream(self) -> bool:
+        """Whether it has to be fed: where the octets that one program reads are lost for another."""
+        path = self.path
+        return path is None or os.path.exists(path) and not os.path.isdir(path) and not stat.S_ISREG(os.stat(path).st_mode)
+
+    def open(self) -> None:
+        """Opens what is a stream, at its beginning.
+
+        Raises ConsumedError where it is being read, or was read and has no way back.
+        """
+        if self.stream is not None:
+            raise ConsumedError("the recording is a stream, and is being read: only one thing at a time can read it")
+        if not self.is_stream:
+            return
+        if self.path is not None:
+            self.stream = open(self.path, "rb")
+            return
+        if self.was_read and self.beginning is None:
+            raise ConsumedError("the recording is a stream that can be read only once, and was read already")
+        self.stream = sys.stdin.buffer if self.given == "-" else self.given
+        if self.beginning is not None:
+            self.stream.seek(self.beginning)
+        self.was_read = True
+
+    def close(self) -> None:
+        """Closes what `open` has opened."""
+        if self.stream is not None and self.path is not None:
+            self.stream.close()
+        self.stream = None
+
+    def read_block(self) -> bytes:
+        """The next octets of the stream, as many as there are; none at its end.  Raises TypeError where they are no octets."""
+        read = getattr(self.stream, "read1", self.stream.read)
+        block = read(BLOCK)
+        if not isinstance(block, (bytes, bytearray, memoryview)):
+            raise TypeError("a recording has to be a binary stream, whose read() gives bytes")
+        return bytes(block)
+
+
+def position(stream: Any) -> int | None:
+    """Where a stream stands, if it can go back there."""
+    try:
+        return int(stream.tell()) if stream.seekable() else None
+    except (AttributeError, OSError):
+        return None

@@ -1,0 +1,173 @@
+"""Jobs that stop and go on: packets in steps, and packets of a recording that grows."""
+
+import os
+import tempfile
+import time
+from collections.abc import Iterator, Sequence
+from dataclasses import dataclass, replace
+from pathlib import Path
+
+from .checkpoints import Name, NewCheckpoint, records_done
+from .errors import DisagreementError
+from .lines import Packet
+from .pairs import Chosen
+from .program import Command, running
+from .settings import Settings
+from .source import Source
+
+
+def report_words(report: Name | None) -> list[str]:
+    """The words that say where the report goes; without a file it is thrown away."""
+    return ["--report", os.devnull if report is None else os.fspath(report)]
+
+
+def step_words(checkpoint: Name | None, resume: Name | None, stop_after: int | None) -> list[str]:
+    """The words of a job that is kept, goes on, or stops early."""
+    words: list[str] = []
+    if checkpoint is not None:
+        words += ["--checkpoint", os.fspath(checkpoint)]
+    if resume is not None:
+        words += ["--resume", os.fspath(resume)]
+    if stop_after is not None:
+        words += ["--stop-after", str(stop_after)]
+    return words
+
+
+@dataclass(frozen=True)
+class Job:
+    """Packets of a recording, from where a job goes on to where it stops.
+
+    report      a file that the report goes to
+    checkpoint  the file in which the job is kept at its end; without one the recording is closed there
+    resume      the checkpoint from which it goes on
+    stop_after  how many further records it reads
+    """
+
+    source: Source
+    settings: Name | Settings
+    chosen: Chosen
+    report: Name | None = None
+    checkpoint: Name | None = None
+    resume: Name | None = None
+    stop_after: int | None = None
+
+    def packets(self) -> Iterator[Packet]:
+        """The packets; with `checkpoint` the job is kept when the last one was given."""
+        if self.checkpoint is None:
+            yield from self.run([None, None], self.stop_after)
+            return
+        new = NewCheckpoint(self.checkpoint)
+        try:
+            with tempfile.TemporaryDirectory() as folder:
+                files = [Path(folder, "listed"), Path(folder, "extracted")]
+                yield from self.run_to(files)
+                listed, extracted = (it.read_bytes() for it in files)
+            if listed != extracted:
+                raise DisagreementError("the two runs of the program left different jobs: did the recording change?")
+            new.keep(listed)
+        finally:
+            new.discard()
+
+    def run_to(self, files: Sequence[Path]) -> Iterator[Packet]:
+        """One step.  Of a file it reads the records that are there now, since both runs have to read the same."""
+        if self.source.is_stream:
+            yield from self.run(files, self.stop_after)
+            return
+        there = self.records_there()
+        if there > 0:
+            yield from self.run(files, there if self.stop_after is None else min(there, self.stop_after))
+            return
+        self.keep_as_it_is(files)
+
+    def run(self, files: Sequence[Path | None], stop_after: int | None) -> Iterator[Packet]:
+        """Lists packets and extracts their octets side by side; each run keeps its job in a file of its own."""
+        words = [step_words(it, self.resume, stop_after) for it in files]
+        listed = Command(["packets", *report_words(self.report), *words[0]])
+        extracted = Command(["extract", *report_words(None), *words[1]])
+        with running(self.source, self.settings, listed, extracted) as runs:
+            yield from self.chosen.packets(runs)
+
+    def keep_as_it_is(self, files: Sequence[Path]) -> None:
+        """A step of no records.  The program checks the settings, the checkpoint and the recording's length."""
+        at = self.source if self.resume is not None else Source(os.devnull)
+        words = [*report_words(self.report), *step_words(files[0], self.resume, 1)]
+        with running(at, self.settings, Command(["packets", *words], reads="end")) as runs:
+            runs.finish()
+        kept = files[0].read_bytes() if self.resume is None else Path(self.resume).read_bytes()
+        for file in files:
+            file.write_bytes(kept)
+
+    def records_there(self) -> int:
+        """How many whole records the file has now behind those that are done; less than none where it is too short."""
+        length = record_length(self.settings)
+        done = 0 if self.resume is None else records_done(self.resume)
+        return os.path.getsize(self.source.given) // length - done
+
+
+def record_length(settings: Name | Settings) -> int:
+    """The octets of a record.  Raises SettingsError where the program refuses the settings."""
+    with running(Source(os.devnull), settings, Command(["frames"])) as runs:
+        runs.finish()
+    return (settings if isinstance(settings, Settings) else Settings.read(settings)).record_length
+
+
+def follow(job: Job, interval: float, timeout: float | None) -> Iterator[Packet]:
+    """The packets of a recording as it grows, in steps.  A file is looked at again after so many seconds.
+
+    Ends at the end of a stream, or when a file hasn't grown for `timeout` seconds.  The job is kept.
+    """
+    with tempfile.TemporaryDirectory() as folder:
+        kept = Path(folder, "checkpoint") if job.checkpoint is None else Path(job.checkpoint)
+        job = replace(job, checkpoint=kept)
+        if job.source.is_stream:
+            yield from follow_stream(job, Path(folder, "part"))
+        else:
+            yield from follow_file(job, interval, timeout)
+
+
+def next_step(job: Job) -> Job:
+    """The job, going on from what it kept."""
+    assert job.checkpoint is not None
+    return replace(job, resume=job.checkpoint if os.path.exists(job.checkpoint) else None)
+
+
+def follow_file(job: Job, interval: float, timeout: float | None) -> Iterator[Packet]:
+    """A step whenever the file has another length and a record is there that isn't done."""
+    grown, length = time.monotonic(), -1
+    while True:
+        length, before = os.path.getsize(job.source.given), length
+        step = next_step(job)
+        if length != before and step.records_there() != 0:
+            yield from step.packets()
+            grown = time.monotonic()
+        elif timeout is not None and time.monotonic() - grown >= timeout:
+            return
+        else:
+            time.sleep(interval if timeout is None else min(interval, timeout))
+
+
+def follow_stream(job: Job, part: Path) -> Iterator[Packet]:
+    """Each step has a file of its own: a hole for the records that are done, which are passed over, and those that came."""
+    length = record_length(job.settings)
+    step = next_step(job)
+    done = 0 if step.resume is None else records_done(step.resume)
+    skip, rest = done * length, b""
+    job.source.open()
+    try:
+        while block := job.source.read_block():
+            passed = min(skip, len(block))
+            skip, rest = skip - passed, rest + block[passed:]
+            records = len(rest) // length
+            if records:
+                write_part(part, done * length, rest[: records * length])
+                yield from replace(next_step(job), source=Source(part)).packets()
+                done, rest = done + records, rest[records * length :]
+    finally:
+        job.source.close()
+
+
+def write_part(part: Path, hole: int, octets: bytes) -> None:
+    """A file with these octets behind so many that are not written."""
+    with open(part, "wb") as file:
+        file.seek(hole)
+        file.write(octets)

@@ -134,7 +134,8 @@ def objects(numpy: Any, values: list[Any]) -> Any:
 
 def decoded(numpy: Any, texts: Sequence[str], bits: int) -> Any:
     """Floats of so many bits, of raw bits as `0x3f800000`."""
-    digits = numpy.array(texts, f"S{2 + bits // 4}").view(numpy.uint8).reshape(len(texts), -1)[:, 2:]
+    letters = 2 + bits // 4
+    digits = numpy.array(texts, f"S{letters}").view(numpy.uint8).reshape(len(texts), letters)[:, 2:]
     halves = numpy.where(digits > ord("9"), digits - (ord("a") - 10), digits - ord("0"))
     octets = halves[:, ::2] << 4 | halves[:, 1::2]
     return numpy.ascontiguousarray(octets).view(FLOATS_OF_NUMPY[bits]).reshape(-1).astype(f"float{bits}")

@@ -1,0 +1,73 @@
+"""Reads a long recording from a stream, and says how much memory that took.
+
+    memory.py KIND OCTETS
+
+KIND is `long`, packets of 65542 octets, or `short`, packets of 1021 octets, which is half of a data field.  The recording is
+256 frames again and again, whose data fields whole packets fill; it has so many octets, rounded down to whole frames.
+"""
+
+import json
+import resource
+import sys
+
+from support import tmx
+
+FRAME, FIELD, FRAMES = 2048, 2042, 256
+LENGTHS = {"long": 65542, "short": 1021}
+
+
+class Again:
+    """A stream that gives the same octets so many times."""
+
+    def __init__(self, octets: bytes, times: int) -> None:
+        self.octets, self.times = octets, times
+
+    def read(self, most: int) -> bytes:
+        self.times -= 1
+        return self.octets if self.times >= 0 else b""
+
+
+def packets_of(length: int, octets: int) -> bytes:
+    """Packets of one length, and a last one that fills up."""
+    found = bytearray()
+    while len(found) < octets:
+        here = min(length, octets - len(found))
+        here = here if octets - len(found) - here == 0 or octets - len(found) - here > 6 else here - 7
+        found += (100).to_bytes(2, "big") + b"\xc0\x00" + (here - 7).to_bytes(2, "big") + bytes(here - 6)
+    return bytes(found)
+
+
+def starts_of(packets: bytes) -> list[int]:
+    found, at = [], 0
+    while at < len(packets):
+        found.append(at)
+        at += int.from_bytes(packets[at + 4 : at + 6], "big") + 7
+    return found
+
+
+def cycle(length: int) -> tuple[bytes, int]:
+    """256 frames, and how many packets they have."""
+    packets = packets_of(length, FIELD * FRAMES)
+    starts, frames = starts_of(packets), []
+    for number in range(FRAMES):
+        inside = [it - number * FIELD for it in starts if number * FIELD <= it < (number + 1) * FIELD]
+        pointer = inside[0] if inside else 2047
+        head = 42 << 36 | number << 24 | number << 16 | pointer
+        frames.append(head.to_bytes(6, "big") + packets[number * FIELD : (number + 1) * FIELD])
+    return b"".join(frames), len(starts)
+
+
+def main(kind: str, octets: str) -> None:
+    frames, packets = cycle(LENGTHS[kind])
+    times = int(octets) // len(frames)
+    recording = tmx.Recording(Again(frames, times), tmx.Settings(42, FRAME, False))
+    lengths = [0, 0]
+    for packet in recording.packets():
+        lengths[0] += 1
+        lengths[1] += len(packet.octets)
+    found = {"packets": lengths[0], "octets": lengths[1], "resident": resource.getrusage(resource.RUSAGE_SELF).ru_maxrss << 10}
+    print(json.dumps(found | {"packets_wanted": packets * times, "octets_wanted": FIELD * FRAMES * times}))
+
+
+if __name__ == "__main__":
+    main(*sys.argv[1:])

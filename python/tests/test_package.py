@@ -1,0 +1,102 @@
+"""The package as a whole: built, installed and used from elsewhere, in little memory, its settings and its summaries."""
+
+import importlib.util
+import json
+import os
+import subprocess
+import sys
+import tomllib
+import unittest
+import zipfile
+from pathlib import Path
+
+from support import PACKAGE, RECORDING, SETTINGS, TESTS, TestCase, example, tmx
+
+MEMORY = 64 << 20  # octets, of the process that reads
+GIBIBYTE = 1 << 30
+
+
+def wheels():
+    """The backend that builds the wheel."""
+    spec = importlib.util.spec_from_file_location("wheels", PACKAGE / "backend" / "wheels.py")
+    module = importlib.util.module_from_spec(spec)
+    spec.loader.exec_module(module)
+    return module
+
+
+class Installed(TestCase):
+    SCRIPT = "import sys, tmx; print(tmx.__file__); print(len(list(tmx.Recording(*sys.argv[1:]).packets())))"
+
+    def used_from(self, folder: Path) -> None:
+        """Has the package be used from a folder that it was put into, and from nowhere else."""
+        line = [sys.executable, "-c", self.SCRIPT, str(RECORDING), str(SETTINGS)]
+        ran = subprocess.run(line, env=os.environ | {"PYTHONPATH": str(folder)}, capture_output=True, text=True, check=True)
+        self.assertEqual(ran.stdout.splitlines(), [str(folder / "tmx" / "__init__.py"), "848"])
+
+    def test_wheel(self) -> None:
+        name = wheels().build_wheel(str(self.folder))
+        with zipfile.ZipFile(name) as wheel:
+            self.assertIn("tmx/py.typed", wheel.namelist())
+            wheel.extractall("there")
+        self.used_from(self.folder / "there")
+
+    def test_pip(self) -> None:
+        if importlib.util.find_spec("pip") is None:
+            self.skipTest("pip is not there")
+        line = [sys.executable, "-m", "pip", "install", "--quiet", "--no-index", "--target", "there", str(PACKAGE)]
+        subprocess.run(line, check=True, capture_output=True)
+        self.used_from(self.folder / "there")
+
+    def test_version(self) -> None:
+        with open(PACKAGE / "pyproject.toml", "rb") as file:
+            self.assertEqual(tomllib.load(file)["project"]["version"], tmx.__version__)
+
+
+class Memory(TestCase):
+    def test_a_gibibyte(self) -> None:
+        for kind in ("long", "short"):
+            ran = subprocess.run([sys.executable, TESTS / "memory.py", kind, str(GIBIBYTE)], capture_output=True, text=True)
+            self.assertEqual(ran.returncode, 0, ran.stderr)
+            found = json.loads(ran.stdout)
+            self.assertEqual((found["packets"], found["octets"]), (found["packets_wanted"], found["octets_wanted"]), kind)
+            self.assertLess(found["resident"], MEMORY, kind)
+
+
+class TheSettings(TestCase):
+    def test_toml(self) -> None:
+        settings = tmx.Settings(42, 256, True, 4, 32, "never", "always", (0, 3), 880)
+        self.assertEqual(
+            settings.toml(),
+            "spacecraft = 42\nframe_length = 256\nerror_control = true\nskip_before = 4\nskip_after = 32\n"
+            'secondary = "never"\nocf = "always"\nchannels = [0, 3]\nmax_packet = 880\n',
+        )
+        settings.write("s.toml")
+        self.assertEqual(tmx.Settings.read("s.toml").toml(), settings.toml())
+        self.assertEqual(settings.record_length, 292)
+        self.assertEqual(tmx.Recording(RECORDING, tmx.Settings.read(SETTINGS)).report(), example().report())
+
+
+class TheSummary(TestCase):
+    def test_numbers(self) -> None:
+        summary = example().summary()
+        self.assertEqual(summary.recording, tmx.RecordingCounts(records=300, good=299, bad=1, rest=0))
+        self.assertEqual(summary.faults, {"crc": 1})
+        self.assertEqual(summary.master.missing, 2)
+        self.assertEqual((summary.channels[1].packets, summary.channels[1].lost), (87, 632))
+        self.assertEqual(summary.losses[1, "no-start"].parts, 2)
+        self.assertEqual(summary.applications[1, 200].groups, 6)
+
+    def test_lines(self) -> None:
+        line = [os.environ["TMX"], "summary", "--settings", SETTINGS, RECORDING]
+        printed = subprocess.run(line, capture_output=True, text=True, check=True).stdout
+        self.assertEqual([str(it) for it in example().summary().lines()], printed.splitlines())
+
+    def test_table(self) -> None:
+        table = str(example().summary())
+        self.assertIn("300 records: 299 good, 1 bad (1 by crc). Master channel: 2 gaps, 2 frames missing.", table)
+        self.assertIn("\nchannel  apid  packets  octets  first  last", table)
+        self.assertIn("<td>26672</td>", example().summary()._repr_html_())
+
+
+if __name__ == "__main__":
+    unittest.main()

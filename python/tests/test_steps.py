@@ -1,0 +1,125 @@
+"""Jobs that stop and go on, and recordings that grow."""
+
+import io
+import os
+import threading
+import time
+import unittest
+from pathlib import Path
+
+from support import ATTITUDE, RECORDING, SETTINGS, TestCase, damaged, example, tmx
+
+
+class Steps(TestCase):
+    def test_steps_give_what_one_run_gives(self) -> None:
+        for seed in range(1000, 1020):
+            with self.subTest(seed=seed):
+                settings, octets = damaged(seed)
+                for given in ("recording", io.BytesIO(octets)):
+                    Path("chk").unlink(missing_ok=True)
+                    self.compare(tmx.Recording(given, "settings"), len(octets) // settings.record)
+
+    def compare(self, recording: tmx.Recording, records: int) -> None:
+        found: list[tmx.Packet] = []
+        for number in range(0, records + 1, records // 3 + 1):
+            resume = "chk" if number else None
+            found += recording.packets(checkpoint="chk", resume=resume, stop_after=records // 3 + 1, report="report")
+            self.assertEqual(tmx.records_done("chk"), min(records, number + records // 3 + 1))
+        found += recording.packets(checkpoint="chk", resume="chk")
+        found += recording.packets(resume="chk", report="report")
+        self.assertEqual(found, list(recording.packets()))
+        self.assertEqual(Path("report").read_text().splitlines(), [str(it) for it in recording.report()])
+
+    def test_a_job_that_is_ended_early_is_done_again(self) -> None:
+        recording = example()
+        first = list(recording.packets(checkpoint="chk", stop_after=100))
+        before = Path("chk").read_bytes()
+        packets = recording.packets(checkpoint="chk", resume="chk")
+        begun = [next(packets) for _ in range(50)]
+        packets.close()
+        self.assertEqual(Path("chk").read_bytes(), before)
+        again = list(recording.packets(checkpoint="chk", resume="chk"))
+        self.assertEqual(again[:50], begun)
+        self.assertEqual(first + again, list(recording.packets()))
+        self.assertEqual(os.listdir(), ["chk"])
+
+    def test_a_job_of_no_records(self) -> None:
+        Path("empty").touch()
+        self.assertEqual(list(tmx.Recording("empty", SETTINGS).packets(checkpoint="chk")), [])
+        self.assertEqual(tmx.records_done("chk"), 0)
+        self.assertEqual(list(example().packets(resume="chk")), list(example().packets()))
+
+    def test_files_of_the_program(self) -> None:
+        recording, step = example(), {"checkpoint": "chk", "stop_after": 100}
+        recording.extract("whole")
+        recording.extract("parts", **step)
+        recording.extract("parts", resume="chk")
+        self.assertEqual(Path("parts").read_bytes(), Path("whole").read_bytes())
+        recording.split("parts.d", **step)
+        recording.split("parts.d", resume="chk")
+        recording.split("whole.d")
+        self.assertEqual(*[{it.name: it.read_bytes() for it in Path(at).iterdir()} for at in ("parts.d", "whole.d")])
+        whole = recording.fields(ATTITUDE, 101)
+        parts = [recording.fields(ATTITUDE, 101, **step), recording.fields(ATTITUDE, 101, resume="chk")]
+        for name in whole:
+            self.assertEqual(list(whole[name]), [value for it in parts for value in it[name]])
+
+
+class Follow(TestCase):
+    def grow(self, file, octets: bytes, parts: int) -> None:
+        """Writes some octets at a time."""
+        length = len(octets) // parts + 1
+        for at in range(0, len(octets), length):
+            file.write(octets[at : at + length])
+            file.flush()
+            time.sleep(0.02)
+
+    def test_a_file_that_grows(self) -> None:
+        octets = RECORDING.read_bytes()
+        with open("growing.rec", "wb") as file:
+            writer = threading.Thread(target=self.grow, args=(file, octets, 12))
+            writer.start()
+            found = list(tmx.Recording("growing.rec", SETTINGS).follow(checkpoint="chk", interval=0.01, timeout=1))
+            writer.join()
+        self.assertEqual(found, list(example().packets()))
+        self.assertEqual(tmx.records_done("chk"), 300)
+
+    def test_a_file_is_followed_from_where_the_job_stands(self) -> None:
+        Path("growing.rec").write_bytes(RECORDING.read_bytes()[:50000])
+        recording = tmx.Recording("growing.rec", SETTINGS)
+        found = list(recording.follow(apid=101, checkpoint="chk", timeout=0))
+        Path("growing.rec").write_bytes(RECORDING.read_bytes())
+        found += recording.follow(apid=101, checkpoint="chk", timeout=0)
+        self.assertEqual(found, list(example().packets(apid=101)))
+
+    def test_a_pipe(self) -> None:
+        read, written = os.pipe()
+        with open(read, "rb") as file, open(written, "wb") as to:
+            recording = tmx.Recording(file, SETTINGS)
+            packets = recording.follow()
+            octets = RECORDING.read_bytes()
+            self.grow(to, octets[:2660], 1)
+            found = [next(packets)]  # it comes before the pipe ends
+            writer = threading.Thread(target=lambda: (self.grow(to, octets[2660:], 12), to.close()))
+            writer.start()
+            found += packets
+            writer.join()
+        self.assertEqual(found, list(example().packets()))
+
+
+class CutBack(TestCase):
+    def test_outputs_are_cut_back(self) -> None:
+        recording = example()
+        first = "".join(f"{it}\n" for it in recording.packets(checkpoint="chk", stop_after=100, report="report"))
+        report = Path("report").read_text()
+        Path("list").write_text(first + "".join(f"{it}\n" for it in recording.packets(resume="chk", report="report")) + "packet rec")
+        lost = tmx.cut_back("chk", "list", "report")
+        self.assertEqual((Path("list").read_text(), Path("report").read_text()), (first, report))
+        self.assertEqual(set(lost), {"list", "report"})
+        Path("other").write_text("something else\n")
+        self.raises(tmx.CutBackError, None, tmx.cut_back, "chk", "list", "other")
+        self.raises(tmx.CutBackError, None, tmx.cut_back, "other", "list")
+
+
+if __name__ == "__main__":
+    unittest.main()

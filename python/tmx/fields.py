@@ -3,6 +3,7 @@
 import csv
 import io
 import os
+import re
 import tempfile
 from collections.abc import Iterator, Mapping, Sequence
 from datetime import UTC, date, datetime, timedelta
@@ -10,7 +11,7 @@ from typing import Any
 
 from .definition import Column, column_named, read_definition
 from .errors import ColumnError, DisagreementError
-from .lines import REPORT, ShortPacket, read_lines
+from .lines import ShortPacket, read_lines
 from .program import Command, line_blocks, running
 from .settings import Settings
 from .source import Source
@@ -22,6 +23,7 @@ Epoch = str | date | datetime
 
 MOST_ROWS = 10  # that are shown
 NANOSECONDS = 10**9
+SHORT_PACKET = re.compile(rb"^shortpacket .*\n", re.MULTILINE)
 
 
 class Fields(Mapping[str, Any]):
@@ -36,10 +38,10 @@ class Fields(Mapping[str, Any]):
     short_packets  the packets of the application that have no row, since they are shorter than the definition
     """
 
-    def __init__(self, columns: Sequence[Column], values: Sequence[Any], short_packets: Sequence[ShortPacket]) -> None:
+    def __init__(self, columns: Sequence[Column], values: Sequence[Any], short_lines: Sequence[bytes]) -> None:
         self.columns = list(columns)
         self.by_name = {it.name: found for it, found in zip(columns, values)}
-        self.short_packets = list(short_packets)
+        self.short_lines = list(short_lines)
         self.time: Any = None
 
     def __getitem__(self, name: str) -> Any:
@@ -51,6 +53,11 @@ class Fields(Mapping[str, Any]):
     def __len__(self) -> int:
         """How many columns it has; `rows` says how many rows."""
         return len(self.by_name)
+
+    @property
+    def short_packets(self) -> list[ShortPacket]:
+        """The packets that have no row."""
+        return list(read_lines(b"".join(self.short_lines).decode("ascii"), (ShortPacket,)))
 
     @property
     def rows(self) -> int:
@@ -79,7 +86,8 @@ class Fields(Mapping[str, Any]):
 
     def ending(self) -> str:
         """How much of it there is."""
-        short = f", {len(self.short_packets)} packets too short for a row" if self.short_packets else ""
+        number = len(self.short_lines)
+        short = f", {number} packet{'' if number == 1 else 's'} too short for a row" if number else ""
         return f"{self.rows} rows, {len(self)} columns{short}"
 
     def __repr__(self) -> str:
@@ -106,8 +114,7 @@ def read_fields(
             if rows.error:
                 raise rows.error
             runs.finish()
-        short = [it for it in read_lines(report.read().decode("ascii"), REPORT) if isinstance(it, ShortPacket)]
-    return Fields(columns, values, short)
+        return Fields(columns, values, SHORT_PACKET.findall(report.read()))
 
 
 def blocks_behind(first: bytes, blocks: Iterator[bytes]) -> Iterator[bytes]:

@@ -1,5 +1,6 @@
 """The program `tmx`: where it is, and how runs of it over one recording are started, fed, read and ended."""
 
+import fcntl
 import os
 import selectors
 import shutil
@@ -7,7 +8,7 @@ import subprocess
 import tempfile
 from collections import deque
 from collections.abc import Iterator, Sequence
-from contextlib import contextmanager
+from contextlib import contextmanager, suppress
 from dataclasses import dataclass, replace
 from types import TracebackType
 from typing import IO, Literal, Self
@@ -17,6 +18,7 @@ from .settings import Settings, settings_file
 from .source import Source
 
 BLOCK = 1 << 16  # octets that are read at once
+PIPE = 1 << 20  # octets that a pipe holds, where the system lets it
 
 
 def find_program() -> str:
@@ -46,6 +48,14 @@ class Command:
     out: IO[bytes] | None = None
 
 
+def wide_pipe() -> tuple[int, int]:
+    """A pipe that holds much, so that the program goes on while what it gave is read."""
+    output, written = os.pipe()
+    with suppress(AttributeError, OSError):
+        fcntl.fcntl(written, fcntl.F_SETPIPE_SZ, PIPE)
+    return output, written
+
+
 class Run:
     """One run of the program.  It has a pipe, of which what it gives is read; the pipe ends when the program does."""
 
@@ -54,7 +64,7 @@ class Run:
         line = [find_program(), *command.words]
         self.at_end = False
         self.errors = tempfile.TemporaryFile()
-        self.output, written = os.pipe()
+        self.output, written = wide_pipe()
         if command.reads == "report":
             line += ["--report", f"/dev/fd/{written}"]
         out: int | IO[bytes] = written if command.reads == "out" else command.out or subprocess.DEVNULL

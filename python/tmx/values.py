@@ -43,19 +43,21 @@ class Rows(io.RawIOBase):
         return len(octets)
 
 
-def unescaped(text: str) -> bytes:
-    """The octets of a `str` value, whose escapes are undone."""
-    first, *others = text.split("\\x")
-    return first.encode("ascii") + b"".join(bytes.fromhex(it[:2]) + it[2:].encode("ascii") for it in others)
+def strings(texts: Sequence[str], bits: int, encoding: str | None) -> list[Any]:
+    """The values of a `str` column: octets, or text in an encoding.  Each value has so many bits, so all are unescaped at once.
 
-
-def strings(texts: Iterable[str], encoding: str | None, known: dict[str, bytes | str]) -> Iterator[bytes | str]:
-    """The values of a `str` column: octets, or text in an encoding.  Those that come again are made once."""
-    for text in texts:
-        if text not in known:
-            octets = unescaped(text)
-            known[text] = octets if encoding is None else octets.decode(encoding)
-        yield known[text]
+    An octet other than 20 to 7E, and the backslash, stand as `\\x` and two digits, as in texts of Python.
+    """
+    joined = "".join(texts)
+    escaped = "\\" in joined
+    if not escaped and encoding is not None and joined.encode("ascii").decode(encoding) == joined:
+        return list(texts)
+    if not escaped:
+        found: list[bytes] = list(map(str.encode, texts))
+    else:
+        octets, length = joined.encode("ascii").decode("unicode_escape").encode("latin-1"), bits // 8
+        found = [octets[at : at + length] for at in range(0, len(octets), length)]
+    return found if encoding is None else [it.decode(encoding) for it in found]
 
 
 def read_columns(rows: io.BufferedReader, columns: Sequence[Column], encoding: str | None) -> list[Any]:
@@ -91,8 +93,7 @@ def list_reader(column: Column, encoding: str | None) -> Callable[[Sequence[str]
     if column.type == "float":
         return lambda texts: [struct.unpack(FLOATS[column.bits], bytes.fromhex(it[2:]))[0] for it in texts]
     if column.type == "str":
-        known: dict[str, bytes | str] = {}
-        return lambda texts: strings(texts, encoding, known)
+        return lambda texts: strings(texts, column.bits, encoding)
     return lambda texts: map(int, texts)
 
 
@@ -119,8 +120,7 @@ def array_reader(numpy: Any, column: Column, encoding: str | None) -> Callable[[
     if column.type == "float":
         return lambda texts: decoded(numpy, texts, column.bits)
     if column.type == "str":
-        known: dict[str, bytes | str] = {}
-        return lambda texts: objects(numpy, list(strings(texts, encoding, known)))
+        return lambda texts: objects(numpy, strings(texts, column.bits, encoding))
     kind = number_type(numpy, column)
     return lambda texts: numpy.fromiter(map(int, texts), kind, len(texts))
 

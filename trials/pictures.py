@@ -1,5 +1,5 @@
 #!/usr/bin/env python3
-"""Tries example/loss_map.py on recordings whose frames and reports reference.py works out.
+"""Tries `python3 -m tmx map` on recordings whose frames and reports reference.py works out.
 
     pictures.py RECORDS
 
@@ -10,6 +10,7 @@ colours apart.  Alters lines, and has each such input refused with one line that
 or `FAILED: ..` for each.  Works in the current folder.
 """
 
+import os
 import random
 import re
 import subprocess
@@ -23,14 +24,14 @@ import colours
 import reference
 
 HERE = Path(__file__).resolve().parent
-LOSS_MAP = HERE.parent / "example" / "loss_map.py"
+PACKAGE = HERE.parent / "python"
 SVG = "{http://www.w3.org/2000/svg}"
 MOST_OCTETS = 3000000  # of a picture
 LEAST_DISTANCE = 0.07  # of two colours
 
 sys.dont_write_bytecode = True
-sys.path.insert(0, str(LOSS_MAP.parent))
-import loss_map  # noqa: E402
+sys.path.insert(0, str(PACKAGE))
+from tmx import loss_map  # noqa: E402
 
 
 def tell(name, wrong):
@@ -40,8 +41,9 @@ def tell(name, wrong):
 def draw(frames, report):
     Path("frames").write_text(frames, encoding="latin-1")
     Path("report").write_text(report, encoding="latin-1")
-    words = [sys.executable, LOSS_MAP, "--title", "A < B & C", "frames", "report"]
-    return subprocess.run(words, capture_output=True, text=True, check=False)
+    words = [sys.executable, "-m", "tmx", "map", "--title", "A < B & C", "frames", "report"]
+    found = os.environ | {"PYTHONPATH": str(PACKAGE), "PYTHONDONTWRITEBYTECODE": "1"}
+    return subprocess.run(words, capture_output=True, text=True, check=False, env=found)
 
 
 # Recordings.
@@ -318,7 +320,7 @@ def refusals(frames, report):
 
 def refused(name, frames, report, wanted):
     ran = draw(frames, report)
-    if (ran.returncode, ran.stdout, ran.stderr) == (1, "", f"loss_map.py: {wanted}\n"):
+    if (ran.returncode, ran.stdout, ran.stderr) == (1, "", f"tmx map: {wanted}\n"):
         tell(f"refused: {name}", "")
     else:
         tell(f"refused: {name}", f"status {ran.returncode}: {ran.stderr[:300]}")

@@ -49,6 +49,8 @@ from .lines import (
     Stray,
     Vca,
 )
+from .loss_map import LossMap, LossMapError
+from .markers import Cut, Slip, cut
 from .recording import Item, Recording
 from .settings import Settings
 from .summary import Summary
@@ -64,6 +66,7 @@ __all__ = [
     "Column",
     "ColumnError",
     "ConsumedError",
+    "Cut",
     "CutBackError",
     "DefinitionError",
     "DisagreementError",
@@ -78,6 +81,8 @@ __all__ = [
     "Item",
     "KilledError",
     "LossCounts",
+    "LossMap",
+    "LossMapError",
     "MasterCounts",
     "MasterGap",
     "OutOfMemoryError",
@@ -92,11 +97,13 @@ __all__ = [
     "SettingsError",
     "Short",
     "ShortPacket",
+    "Slip",
     "Stray",
     "Summary",
     "UsageError",
     "Vca",
     "VersionError",
+    "cut",
     "cut_back",
     "records_done",
 ]

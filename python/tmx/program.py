@@ -241,6 +241,14 @@ def whole_lines(runs: Runs, number: int) -> Iterator[str]:
         yield lines.decode("utf-8", "backslashreplace")
 
 
+def single_lines(runs: Runs, number: int) -> Iterator[str]:
+    """Each line with its end.  At the end the error of a run that ended with a fault is raised."""
+    for lines in whole_lines(runs, number):
+        yield from lines.splitlines(keepends=True)
+    if fault := runs.runs[number].fault():
+        raise fault
+
+
 def line_blocks(runs: Runs, number: int) -> Iterator[bytes]:
     """The same in octets.  A last line that isn't whole comes only of a run with a fault, which is raised."""
     rest = b""

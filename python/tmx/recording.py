@@ -26,8 +26,9 @@ from .lines import (
     Vca,
     read_lines,
 )
+from .loss_map import Lines, LossMap, drawing
 from .pairs import Chosen, Numbers, spelled
-from .program import Command, running, whole_lines
+from .program import Command, running, single_lines, whole_lines
 from .settings import Settings
 from .source import Source
 from .steps import Job, follow, report_words, step_words
@@ -152,6 +153,17 @@ class Recording:
         if time is not None and epoch is not None:
             found.time = time_of(found, [time] if isinstance(time, str) else time, epoch)
         return found
+
+    def loss_map(self, title: str = "What was lost") -> LossMap:
+        """A picture of where, on which channel and why something was lost: one SVG, which a notebook shows.
+
+        It has the same size whatever the recording's length, and the figures on hover.
+        """
+        frames, report = Command(["frames"]), Command(["extract"], reads="report")
+        with running(self.source, self.settings, frames, report) as runs:
+            svg = drawing(Lines("frames", single_lines(runs, 0)), Lines("report", single_lines(runs, 1)), title)
+            runs.finish()
+        return LossMap(svg)
 
     def extract(
         self,

@@ -43,14 +43,17 @@ class Source:
         return path is None or os.path.exists(path) and not os.path.isdir(path) and not stat.S_ISREG(os.stat(path).st_mode)
 
     def open(self) -> None:
-        """Opens what is a stream, at its beginning.
+        """Opens what has to be fed to programs, at its beginning.  Raises what `open_stream` does."""
+        if self.is_stream:
+            self.open_stream()
 
-        Raises ConsumedError where it is being read, or was read and has no way back.
+    def open_stream(self) -> None:
+        """Opens it as a stream, at its beginning.
+
+        Raises OSError, and ConsumedError where it is being read, or was read and has no way back.
         """
         if self.stream is not None:
             raise ConsumedError("the recording is a stream, and is being read: only one thing at a time can read it")
-        if not self.is_stream:
-            return
         if self.path is not None:
             self.stream = open(self.path, "rb")
             return

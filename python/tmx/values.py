@@ -48,16 +48,19 @@ def strings(texts: Sequence[str], bits: int, encoding: str | None) -> list[Any]:
 
     An octet other than 20 to 7E, and the backslash, stand as `\\x` and two digits, as in texts of Python.
     """
+    found: list[bytes]
     joined = "".join(texts)
     escaped = "\\" in joined
     if not escaped and encoding is not None and joined.encode("ascii").decode(encoding) == joined:
         return list(texts)
-    if not escaped:
-        found: list[bytes] = list(map(str.encode, texts))
-    else:
+    if escaped:
         octets, length = joined.encode("ascii").decode("unicode_escape").encode("latin-1"), bits // 8
         found = [octets[at : at + length] for at in range(0, len(octets), length)]
-    return found if encoding is None else [it.decode(encoding) for it in found]
+    else:
+        found = list(map(str.encode, texts))
+    if encoding is None:
+        return found
+    return [it.decode(encoding) for it in found]
 
 
 def read_columns(rows: io.BufferedReader, columns: Sequence[Column], encoding: str | None) -> list[Any]:

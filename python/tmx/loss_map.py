@@ -1,12 +1,14 @@
-#!/usr/bin/env python3
 """Draws what was lost of a recording: where, on which channel, and why.  One SVG that stands alone.
+
+    python3 -m tmx map [--title TEXT] --settings SETTINGS RECORDING > map.svg
+
+or, of what the program has printed,
 
     tmx frames --settings SETTINGS RECORDING > frames.txt
     tmx extract --settings SETTINGS --report report.txt RECORDING > packets.pkt
-    python3 loss_map.py [--title TEXT] frames.txt report.txt > map.svg
+    python3 -m tmx map [--title TEXT] frames.txt report.txt > map.svg
 
-Either file may be `-`, which is standard input.  The report may be that of any command.  Python 3.10 or later and its
-standard library are all that is needed.
+Either of the two files may be `-`, which is standard input.  The report may be that of any command.
 
 From left to right are the records.  From above to below come, for each channel that has a good frame,
 
@@ -26,12 +28,16 @@ Lines that are not of `tmx`, and a report that isn't the whole one of this recor
 file and line.  The status is 1 then, and nothing is written to standard output.
 """
 
-import argparse
+import math
+import os
 import re
-import sys
 from collections import Counter, defaultdict
+from collections.abc import Iterable, Iterator, Mapping, Sequence
 from functools import partial
 from html import escape
+from typing import NoReturn
+
+from .errors import Error
 
 # What the lines say.
 
@@ -84,7 +90,7 @@ VALUES = {
 }
 
 
-def patterns(lines):
+def patterns(lines: Mapping[str, str]) -> dict[str, re.Pattern[str]]:
     """For each first word of a line a pattern of what follows it, with a group for each value."""
     found = {}
     for word, keys in lines.items():
@@ -93,25 +99,22 @@ def patterns(lines):
     return found
 
 
-class Refused(Exception):
-    """What can't be read, drawn or written.  The text is the line that says so."""
+class LossMapError(Error):
+    """What can't be read or drawn.  The text is the line that says so."""
 
 
-class Source:
-    """A file of lines, the number of the line that was read last, and how to refuse it."""
+class Lines:
+    """Lines with their ends, the number of the line that was read last, and how to refuse it."""
 
-    def __init__(self, name):
-        self.name = "standard input" if name == "-" else name
+    def __init__(self, name: str, lines: Iterable[str]) -> None:
+        self.name = name
+        self.lines = lines
         self.number = 0
-        try:
-            self.file = open(0 if name == "-" else name, encoding="ascii", errors="replace")
-        except OSError as error:
-            raise Refused(f"{name}: {error.strerror}") from None
 
-    def read(self, lines, what):
+    def read(self, forms: Mapping[str, str], what: str) -> Iterator[tuple[str, re.Match[str]]]:
         """Each line as its first word and its values."""
-        known = patterns(lines)
-        for line in self.lines():
+        known = patterns(forms)
+        for line in self.lines:
             self.number += 1
             word, _, rest = line.partition(" ")
             said = known[word].fullmatch(rest) if word in known else None
@@ -119,16 +122,23 @@ class Source:
                 self.refuse(f"no line of {what}")
             yield word, said
 
-    def lines(self):
-        """The lines with their ends.  Of one that is too long only its beginning, so that it finds room."""
-        with self.file:
-            try:
-                yield from iter(partial(self.file.readline, LONGEST_LINE), "")
-            except OSError as error:
-                raise Refused(f"{self.name}: {error.strerror}") from None
+    def refuse(self, why: str) -> NoReturn:
+        raise LossMapError(f"{self.name}, line {self.number}: {why}")
 
-    def refuse(self, why):
-        raise Refused(f"{self.name}, line {self.number}: {why}")
+
+def lines_of_file(name: str) -> Lines:
+    """The lines of a file; `-` is standard input.  Raises LossMapError where it can't be read."""
+    said = "standard input" if name == "-" else name
+    return Lines(said, file_lines(name, said))
+
+
+def file_lines(name: str, said: str) -> Iterator[str]:
+    """Of a line that is too long only its beginning, so that it finds room."""
+    try:
+        with open(0 if name == "-" else name, encoding="ascii", errors="replace") as file:
+            yield from iter(partial(file.readline, LONGEST_LINE), "")
+    except OSError as error:
+        raise LossMapError(f"{said}: {error.strerror}") from None
 
 
 # The recording.
@@ -141,31 +151,31 @@ MASTER = "master"
 TWICE = "twice"  # a gap of 255 frames, which may be one frame that was recorded twice
 
 
-class Recording:
+class Records:
     """What `tmx frames` says.  Of each record an octet in each of four lists, so that long recordings find room."""
 
-    def __init__(self):
+    def __init__(self) -> None:
         self.channels = bytearray()  # NO_CHANNEL where the frame is bad
         self.kinds = bytearray()  # a place in STATES, of a bad frame one in FAULTS
         self.missing = bytearray()  # how many frames of the channel are missing before this one
         self.master_missing = bytearray()  # the same of the master channel
         self.rest = 0  # the octets that are left at the end
-        self.bad = []  # the records of bad frames
-        self.suspects = defaultdict(list)  # of each channel the bad records that may be its own
-        self.last_counts = {}
-        self.bad_before = {}  # of each channel how many bad frames there were at its last good one
+        self.bad: list[int] = []  # the records of bad frames
+        self.suspects: defaultdict[int, list[int]] = defaultdict(list)  # of each channel the bad records that may be its own
+        self.last_counts: dict[int | str, int] = {}
+        self.bad_before: dict[int, int] = {}  # of each channel how many bad frames there were at its last good one
 
-    def __len__(self):
+    def __len__(self) -> int:
         return len(self.kinds)
 
-    def add_bad(self, fault):
+    def add_bad(self, fault: str) -> None:
         self.bad.append(len(self))
         self.channels.append(NO_CHANNEL)
         self.missing.append(0)
         self.master_missing.append(0)
         self.kinds.append(FAULTS.index(fault))
 
-    def add_good(self, channel, kind, count, master):
+    def add_good(self, channel: int, kind: str, count: int, master: int) -> None:
         missing = self.step(channel, count)
         if missing:
             self.suspects[channel] += self.bad[self.bad_before[channel] :]
@@ -175,15 +185,15 @@ class Recording:
         self.master_missing.append(self.step(MASTER, master))
         self.kinds.append(STATES.index(STATE_OF_KIND[kind]))
 
-    def step(self, name, count):
+    def step(self, name: int | str, count: int) -> int:
         """How many frames are missing before this count."""
         missing = (count - self.last_counts.get(name, count - 1) - 1) % 256
         self.last_counts[name] = count
         return missing
 
 
-def read_frames(source):
-    recording, ended = Recording(), False
+def read_frames(source: Lines) -> Records:
+    recording, ended = Records(), False
     for word, said in source.read(FRAME_LINES, "`tmx frames`"):
         if int(said["record"]) != len(recording) or ended:
             source.refuse(f"record {said['record']} is not the next one")
@@ -199,28 +209,29 @@ def read_frames(source):
 # The columns of the picture.
 
 MOST_COLUMNS = 400
+Tallies = defaultdict[tuple[int, int], Counter[str]]  # by channel and column
 
 
 class Columns:
     """So many records are in each column, but fewer in the last."""
 
-    def __init__(self, records):
+    def __init__(self, records: int) -> None:
         self.records = records
         self.each = max(1, -(-records // MOST_COLUMNS))
         self.number = -(-records // self.each)
 
-    def of(self, record):
+    def of(self, record: int) -> int:
         """The column of a record.  What is known at the recording's end stands in its last column."""
         return min(record, self.records - 1) // self.each
 
-    def ends(self, column):
+    def ends(self, column: int) -> tuple[int, int]:
         """The first record of the column, and that behind its last."""
         return column * self.each, min((column + 1) * self.each, self.records)
 
 
-def tally_frames(recording, columns):
+def tally_frames(recording: Records, columns: Columns) -> Tallies:
     """For each channel and column how many frames are in each state; for NO_CHANNEL how many have each fault."""
-    tallies = defaultdict(Counter)
+    tallies: Tallies = defaultdict(Counter)
     for column in range(columns.number):
         first, end = columns.ends(column)
         here = zip(recording.channels[first:end], recording.kinds[first:end])
@@ -241,13 +252,13 @@ def tally_frames(recording, columns):
 class Report:
     """What the report says, by column."""
 
-    def __init__(self):
-        self.dropped = defaultdict(Counter)  # for each channel and column, octets by reason
-        self.parts = Counter()  # for each channel and column, how many parts
-        self.master_gaps = defaultdict(list)  # for each column, how many are missing in each gap
+    def __init__(self) -> None:
+        self.dropped: Tallies = defaultdict(Counter)  # for each channel and column, octets by reason
+        self.parts: Counter[tuple[int, int]] = Counter()  # for each channel and column, how many parts
+        self.master_gaps: defaultdict[int, list[int]] = defaultdict(list)  # for each column, how many are missing in each gap
 
 
-def check_line(source, word, said, recording):
+def check_line(source: Lines, word: str, said: re.Match[str], recording: Records) -> None:
     """Refuses a line that doesn't agree with the frames."""
     record = int(said["record"])
     at_end = word == "short" or said.groupdict().get("reason") == "end"
@@ -275,12 +286,12 @@ class Order:
 
     ONCE = ("bad", "mastergap", "gap", "vca", "short")  # of these a record has one at most
 
-    def __init__(self):
+    def __init__(self) -> None:
         self.last = 0  # the record of the line before
-        self.last_of = {}  # the same by word, for those above
-        self.lines = Counter()
+        self.last_of: dict[str, int] = {}  # the same by word, for those above
+        self.lines: Counter[str] = Counter()
 
-    def take(self, source, word, record):
+    def take(self, source: Lines, word: str, record: int) -> None:
         """Refuses a line of a record that is done, and a second one of a word that comes once."""
         if record < self.last:
             source.refuse(f"record {record} stands behind record {self.last}")
@@ -291,7 +302,7 @@ class Order:
         self.last = record
         self.lines[word] += 1
 
-    def end(self, source, recording):
+    def end(self, source: Lines, recording: Records) -> None:
         """Refuses a report that lacks lines of the frames.
 
         Behind a checkpoint of an older version one gap of the master channel isn't known.
@@ -303,7 +314,7 @@ class Order:
                 source.refuse(f"the report ends with {self.lines[word]} of {there} `{word}` lines")
 
 
-def read_report(source, recording, columns):
+def read_report(source: Lines, recording: Records, columns: Columns) -> Report:
     report, order = Report(), Order()
     for word, said in source.read(REPORT_LINES, "a report"):
         check_line(source, word, said, recording)
@@ -322,28 +333,28 @@ def read_report(source, recording, columns):
 # Texts.
 
 
-def figure(number):
+def figure(number: int) -> str:
     return f"{number:,}"
 
 
-def counted(number, word):
+def counted(number: int, word: str) -> str:
     return f"{figure(number)} {word}{'' if number == 1 else 's'}"
 
 
-def where(columns, column, last=None):
+def where(columns: Columns, column: int, last: int | None = None) -> str:
     """The records of a column, or of all columns from one to another."""
     first, end = columns.ends(column)[0], columns.ends(column if last is None else last)[1]
     return f"record {figure(first)}" if end - first == 1 else f"records {figure(first)} to {figure(end - 1)}"
 
 
-def frames_text(tally):
+def frames_text(tally: Counter[str]) -> str:
     words = {GOOD: "good", IDLE: "idle", VCA: "with a VCA_SDU", BAD: "bad, of no known channel", MISSING: "missing"}
     said = [f"{figure(tally[state])} {words[state]}" for state in STATES if tally[state]]
     note = f" ({counted(tally[TWICE], 'gap')} of 255: perhaps a frame recorded twice)" if tally[TWICE] else ""
     return ", ".join(said) + note
 
 
-def dropped_text(parts, octets):
+def dropped_text(parts: int, octets: Counter[str]) -> str:
     reasons = ", ".join(f"{counted(number, 'octet')} by {reason}" for reason, number in octets.most_common())
     return f"{counted(parts, 'part')} dropped: {reasons}"
 
@@ -375,20 +386,20 @@ g:hover > rect, rect.hover:hover { stroke: #222; stroke-width: 1 }
 """
 
 
-def spelled(words):
+def spelled(words: str) -> str:
     """Words as XML has them.  Letters that it doesn't know become question marks."""
     return escape(re.sub("[^\t\n\r -\ud7ff\ue000-\ufffd\U00010000-\U0010ffff]", "?", words))
 
 
-def text(x, y, words, kind=""):
+def text(x: float, y: float, words: str, kind: str = "") -> str:
     return f'<text class="{kind}" x="{x:.6g}" y="{y:.6g}">{spelled(words)}</text>'
 
 
-def line(kind, x1, y1, x2, y2):
+def line(kind: str, x1: float, y1: float, x2: float, y2: float) -> str:
     return f'<line class="{kind}" x1="{x1:.6g}" y1="{y1:.6g}" x2="{x2:.6g}" y2="{y2:.6g}"/>'
 
 
-def rectangle(kind, x, y, width, height, title=""):
+def rectangle(kind: str, x: float, y: float, width: float, height: float, title: str = "") -> str:
     box = f'<rect class="{kind}" x="{x:.6g}" y="{y:.6g}" width="{width:.6g}" height="{height:.6g}"'
     return f"{box}><title>{spelled(title)}</title></rect>" if title else f"{box}/>"
 
@@ -396,39 +407,39 @@ def rectangle(kind, x, y, width, height, title=""):
 class Picture:
     """Elements of the SVG, drawn from above to below.  `y` is where the next one goes."""
 
-    def __init__(self, recording, columns, report):
+    def __init__(self, recording: Records, columns: Columns, report: Report) -> None:
         self.recording, self.columns, self.report = recording, columns, report
         self.tallies = tally_frames(recording, columns)
         self.channels = sorted({channel for channel, _ in self.tallies if channel != NO_CHANNEL})
         self.greatest = {"dropped": max((tally.total() for tally in report.dropped.values()), default=0)}
-        self.marks = []
-        self.y = 0
+        self.marks: list[str] = []
+        self.y: float = 0
 
-    def add(self, *marks):
+    def add(self, *marks: str) -> None:
         self.marks += marks
 
-    def left(self, record):
+    def left(self, record: int) -> float:
         return LEFT + PLOT * record / max(1, self.columns.records)
 
-    def span(self, column, last=None):
+    def span(self, column: int, last: int | None = None) -> tuple[float, float]:
         """The left border and the width of a column, or of all from one to another."""
         first, end = self.columns.ends(column)[0], self.columns.ends(column if last is None else last)[1]
         return self.left(first), self.left(end) - self.left(first)
 
-    def of_channel(self, tallies, channel):
+    def of_channel(self, tallies: Tallies, channel: int) -> dict[int, Counter[str]]:
         """The tallies of a channel by column, rising."""
         return {column: tallies[at, column] for at, column in sorted(tallies) if at == channel}
 
 
-def total(tallies):
+def total(tallies: Iterable[Counter[str]]) -> Counter[str]:
     """The sum of tallies."""
-    found = Counter()
+    found: Counter[str] = Counter()
     for tally in tallies:
         found.update(tally)
     return found
 
 
-def draw_head(picture, title):
+def draw_head(picture: Picture, title: str) -> None:
     picture.add(text(16, 28, title, "head"), text(16, 48, records_text(picture)), text(16, 66, losses_text(picture)))
     picture.y = 92
     dropped = total(picture.report.dropped.values())
@@ -440,20 +451,20 @@ def draw_head(picture, title):
     picture.y += 6
 
 
-def records_text(picture):
+def records_text(picture: Picture) -> str:
     recording = picture.recording
     said = f"{counted(len(recording), 'record')}: {figure(len(recording) - len(recording.bad))} good,"
     said += f" {figure(len(recording.bad))} bad."
     return said + (f" {counted(recording.rest, 'octet')} left over at the end." if recording.rest else "")
 
 
-def losses_text(picture):
+def losses_text(picture: Picture) -> str:
     octets = total(picture.report.dropped.values()).total()
     said = f"{counted(sum(picture.recording.missing), 'frame')} missing by the channels' counts."
     return said + f" {counted(picture.report.parts.total(), 'part')} of {counted(octets, 'octet')} dropped."
 
 
-def draw_legend(picture, name, entries):
+def draw_legend(picture: Picture, name: str, entries: Sequence[tuple[str, str]]) -> None:
     picture.add(text(16, picture.y, name, "name"))
     x = LEFT
     for kind, words in entries:
@@ -464,7 +475,7 @@ def draw_legend(picture, name, entries):
     picture.y += 22
 
 
-def draw_channel(picture, channel):
+def draw_channel(picture: Picture, channel: int) -> None:
     frames = picture.of_channel(picture.tallies, channel)
     dropped = picture.of_channel(picture.report.dropped, channel)
     all_frames, octets = total(frames.values()), total(dropped.values()).total()
@@ -481,18 +492,18 @@ def draw_channel(picture, channel):
     picture.y += BAND
 
 
-def draw_name(picture, name, said):
+def draw_name(picture: Picture, name: str, said: Sequence[str]) -> None:
     picture.add(text(LEFT - 10, picture.y + 4, name, "name end"))
     for number, words in enumerate(said):
         picture.add(text(LEFT - 10, picture.y + 18 + 13 * number, words, "small end"))
 
 
-def height(number, greatest):
+def height(number: int, greatest: int) -> float:
     """How high a bar is, by the square root, so that small ones are seen beside great ones."""
-    return max(LEAST_BAR, BAR * (number / greatest) ** 0.5)
+    return max(LEAST_BAR, BAR * math.sqrt(number / greatest))
 
 
-def draw_dropped(picture, channel, column, tally):
+def draw_dropped(picture: Picture, channel: int, column: int, tally: Counter[str]) -> None:
     """A bar for the octets that a column drops, in parts by their reasons."""
     x, width = picture.span(column)
     least = LEAST_PART * len(tally)  # each reason is seen
@@ -507,13 +518,13 @@ def draw_dropped(picture, channel, column, tally):
     picture.add("</g>")
 
 
-def worst(tally):
+def worst(tally: Counter[str]) -> str:
     return next(state for state in WORST_FIRST if tally[state])
 
 
-def runs(frames):
+def runs(frames: Mapping[int, Counter[str]]) -> list[list[int]]:
     """Stretches of columns side by side whose worst is the same, by first and last.  Losses stand alone."""
-    found = []
+    found: list[list[int]] = []
     for column, tally in frames.items():
         state = worst(tally)
         before = found[-1][1] if found else None
@@ -524,7 +535,7 @@ def runs(frames):
     return found
 
 
-def draw_run(picture, channel, frames, first, last):
+def draw_run(picture: Picture, channel: int, frames: Mapping[int, Counter[str]], first: int, last: int) -> None:
     tally = total(frames[column] for column in range(first, last + 1))
     words = f"Channel {channel}, {where(picture.columns, first, last)}: {frames_text(tally)}"
     x, width = picture.span(first, last)
@@ -533,7 +544,7 @@ def draw_run(picture, channel, frames, first, last):
     picture.add(rectangle(f"hover s-{state}", x, picture.y + low, width, BAND - 1 - low, words))
 
 
-def draw_bars(picture, kind, name, said, bars):
+def draw_bars(picture: Picture, kind: str, name: str, said: Sequence[str], bars: Mapping[int, tuple[int, str]]) -> None:
     """A row of bars of so many frames: their heights by column, and what is said of each on hover."""
     picture.y += BETWEEN
     draw_name(picture, name, said)
@@ -549,7 +560,7 @@ def draw_bars(picture, kind, name, said, bars):
     picture.y += 6
 
 
-def draw_bad(picture):
+def draw_bad(picture: Picture) -> None:
     bars = {}
     for column, tally in picture.of_channel(picture.tallies, NO_CHANNEL).items():
         faults = ", ".join(f"{figure(number)} by {fault}" for fault, number in tally.most_common())
@@ -561,18 +572,18 @@ def draw_bad(picture):
     draw_bars(picture, "faults", "Bad frames", said, bars)
 
 
-def draw_master(picture):
+def draw_master(picture: Picture) -> None:
     bars = {}
     for column, gaps in picture.report.master_gaps.items():
         words = f"{counted(len(gaps), 'gap')} of the master channel, {counted(sum(gaps), 'frame')} missing"
         bars[column] = sum(gaps), words
     missing = sum(number for number, _ in bars.values())
-    gaps = sum(len(it) for it in picture.report.master_gaps.values())
-    said = [counted(gaps, "gap"), f"{figure(missing)} missing"] if gaps else ["no gap"]
+    number = sum(len(it) for it in picture.report.master_gaps.values())
+    said = [counted(number, "gap"), f"{figure(missing)} missing"] if number else ["no gap"]
     draw_bars(picture, "master", "Master channel", said, bars)
 
 
-def tick_step(records):
+def tick_step(records: int) -> int:
     """The least of 1, 2, 5, 10, 20, 50 and so on that gives at most ten ticks."""
     step = 1
     while records > 10 * step:
@@ -580,7 +591,7 @@ def tick_step(records):
     return step
 
 
-def draw_axis(picture, top):
+def draw_axis(picture: Picture, top: float) -> None:
     """Ticks below all, and at each a line behind all."""
     records, grid = picture.columns.records, []
     for record in range(0, records + 1, tick_step(records)):
@@ -595,7 +606,7 @@ def draw_axis(picture, top):
 BAR_WORDS = {"dropped": "dropped octet", "faults": "bad frame", "master": "missing frame"}
 
 
-def draw_notes(picture):
+def draw_notes(picture: Picture) -> None:
     notes = []
     if picture.columns.each > 1:
         states = ", ".join(STATE_WORDS[state].split()[0].rstrip(",") for state in WORST_FIRST)
@@ -609,7 +620,7 @@ def draw_notes(picture):
         picture.y += 16
 
 
-def draw(recording, columns, report, title):
+def draw(recording: Records, columns: Columns, report: Report, title: str) -> str:
     picture = Picture(recording, columns, report)
     draw_head(picture, title)
     top = picture.y
@@ -627,7 +638,7 @@ def draw(recording, columns, report, title):
     return document(picture, title)
 
 
-def document(picture, title):
+def document(picture: Picture, title: str) -> str:
     wide, high = LEFT + PLOT + RIGHT, round(picture.y)
     size = f'width="{wide}" height="{high}"'
     colours = {f"s-{state}": colour for state, colour in STATE_COLOURS.items()}
@@ -647,31 +658,26 @@ def document(picture, title):
     )
 
 
-def put(drawn):
-    """Writes to standard output."""
-    try:
-        with open(1, "wb", closefd=False) as out:
-            out.write(drawn.encode())
-    except OSError as error:
-        raise Refused(f"standard output: {error.strerror}") from None
+def drawing(frames: Lines, report: Lines, title: str) -> str:
+    """The SVG of these lines of frames and of a report.  Raises LossMapError where they don't belong together."""
+    recording = read_frames(frames)
+    columns = Columns(len(recording))
+    return draw(recording, columns, read_report(report, recording, columns), title)
 
 
-def main():
-    parser = argparse.ArgumentParser(description="Draws what was lost of a recording.")
-    parser.add_argument("--title", default="What was lost", help="the picture's heading")
-    parser.add_argument("frames", help="what `tmx frames` prints; - is standard input")
-    parser.add_argument("report", help="a report of tmx; - is standard input")
-    words = parser.parse_args()
-    if words.frames == words.report == "-":
-        parser.error("only one of the files can be standard input")
-    try:
-        recording = read_frames(Source(words.frames))
-        columns = Columns(len(recording))
-        report = read_report(Source(words.report), recording, columns)
-        put(draw(recording, columns, report, words.title))
-    except Refused as refused:
-        sys.exit(f"loss_map.py: {refused}")
+class LossMap:
+    """A picture of what was lost: `svg` is its text, and a notebook shows it."""
 
+    def __init__(self, svg: str) -> None:
+        self.svg = svg
 
-if __name__ == "__main__":
-    main()
+    def __str__(self) -> str:
+        return self.svg
+
+    def _repr_svg_(self) -> str:
+        return self.svg
+
+    def write(self, path: str | os.PathLike[str]) -> None:
+        """Writes the picture to a file.  Raises OSError."""
+        with open(path, "w", encoding="utf-8", newline="\n") as file:
+            file.write(self.svg)

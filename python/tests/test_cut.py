@@ -1,0 +1,114 @@
+"""Raw streams with slips, cut into records.  What is wanted is known, since the streams are made here."""
+
+import io
+import os
+import random
+import subprocess
+import sys
+import unittest
+from pathlib import Path
+
+from support import PACKAGE, RECORDING, SETTINGS, TestCase, example, tmx
+
+MARKER = bytes.fromhex("1ACFFC1D")
+
+
+def records_of(number: int, length: int, seed: int) -> list[bytes]:
+    chance = random.Random(seed)
+    return [chance.randbytes(length) for _ in range(number)]
+
+
+def stream_of(records: list[bytes]) -> bytes:
+    return b"".join(MARKER + it for it in records)
+
+
+class Cut(TestCase):
+    def found(self, stream: bytes, length: int, **how) -> tuple[list[bytes], list[tuple[int, int, int]], int]:
+        cut = tmx.cut(io.BytesIO(stream), MARKER, length, **how)
+        records = list(cut)
+        self.assertEqual(cut.records, len(records))
+        self.assertEqual(len(stream), cut.records * (length + len(MARKER)) + cut.left_out)
+        return records, [(it.at, it.octets, it.shift) for it in cut.slips], cut.left_out
+
+    def test_no_slip(self) -> None:
+        records = records_of(20, 100, 1)
+        self.assertEqual(self.found(stream_of(records), 100), (records, [], 0))
+        self.assertEqual(self.found(b"", 100), ([], [], 0))
+
+    def test_octets_before_and_behind(self) -> None:
+        records = records_of(5, 100, 2)
+        stream = b"noise" + stream_of(records)
+        self.assertEqual(self.found(stream + b"ab", 100), (records, [(0, 5, 0)], 7))
+        self.assertEqual(self.found(stream[:-1], 100), (records[:-1], [(0, 5, 0)], 5 + 103))
+
+    def test_one_slip(self) -> None:
+        records, step = records_of(9, 100, 3), 104
+        stream = stream_of(records)
+        at = 4 * step
+        lost = stream[: at + 50] + stream[at + 57 :]
+        self.assertEqual(self.found(lost, 100), (records[:4] + records[5:], [(at, step - 7, -7)], step - 7))
+        added = stream[: at + 50] + b"three" + stream[at + 50 :]
+        self.assertEqual(self.found(added, 100), (records[:4] + records[5:], [(at, step + 5, 5)], step + 5))
+        torn = stream[: at + 50] + stream[at + 150 :]
+        self.assertEqual(self.found(torn, 100), (records[:4] + records[6:], [(at, 2 * step - 100, 4)], 2 * step - 100))
+
+    def test_random_slips(self) -> None:
+        for seed in range(50):
+            with self.subTest(seed=seed):
+                chance = random.Random(seed)
+                records, length = records_of(200, 300, seed), 300
+                stream, kept, slips = bytearray(), [], 0
+                hurt = set(chance.sample(range(3, 197, 5), 8))
+                for number, record in enumerate(records):
+                    if number not in hurt:
+                        stream += MARKER + record
+                        kept.append(record)
+                        continue
+                    slips += 1
+                    at, octets = chance.randrange(1, 290), chance.randrange(1, 9)
+                    more = chance.random() < 0.5
+                    stream += MARKER + record[:at] + (chance.randbytes(octets) + record[at:] if more else record[at + octets :])
+                found, places, _ = self.found(bytes(stream), length)
+                self.assertEqual((found, len(places)), (kept, slips))
+
+    def test_damaged_markers(self) -> None:
+        records, step = records_of(30, 100, 5), 104
+        stream = bytearray(stream_of(records))
+        stream[5 * step] ^= 0x80  # one flip: the record is placed by the markers around it
+        stream[9 * step : 9 * step + 4] = stream[10 * step : 10 * step + 4] = bytes(4)
+        self.assertEqual(self.found(bytes(stream), 100), (records, [], 0))
+        stream[0] ^= 1
+        self.assertEqual(self.found(bytes(stream), 100), (records[1:], [(0, step, 0)], step))
+        self.assertEqual(self.found(bytes(stream), 100, flips=1), (records, [], 0))
+
+    def test_markers_within_records(self) -> None:
+        records = records_of(10, 100, 6)
+        records[3] = records[3][:20] + MARKER + records[3][24:]
+        stream = stream_of(records)
+        self.assertEqual(self.found(stream, 100), (records, [], 0))
+        slipped = stream[: 3 * 104 + 50] + stream[3 * 104 + 51 :]
+        self.assertEqual(self.found(slipped, 100)[0], records[:3] + records[4:])
+
+    def test_noise(self) -> None:
+        noise = random.Random(7).randbytes(3 << 20)
+        for flips in (0, 1):
+            self.assertEqual(self.found(noise, 1115, flips=flips), ([], [], len(noise)))
+
+    def test_a_recording_of_it(self) -> None:
+        octets = RECORDING.read_bytes()
+        stream = stream_of([octets[at : at + 256] for at in range(0, len(octets), 256)])
+        recording = tmx.Recording(tmx.cut(io.BytesIO(b"slip" + stream), length=256), SETTINGS)
+        self.assertEqual(list(recording.packets()), list(example().packets()))
+
+    def test_the_command(self) -> None:
+        records = records_of(9, 100, 8)
+        Path("raw").write_bytes(b"noise" + stream_of(records))
+        line = [sys.executable, "-m", "tmx", "cut", "--length", "100", "raw"]
+        ran = subprocess.run(line, capture_output=True, check=True, env=os.environ | {"PYTHONPATH": str(PACKAGE)})
+        self.assertEqual(ran.stdout, b"".join(records))
+        self.assertEqual(ran.stderr.decode().splitlines(), ["slip at=0 octets=5 shift=0", "cut records=9 slips=1 left=5"])
+        self.raises(ValueError, None, tmx.cut, "raw", "", 100)
+
+
+if __name__ == "__main__":
+    unittest.main()

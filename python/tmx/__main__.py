@@ -1,0 +1,112 @@
+"""The package's commands: `python3 -m tmx COMMAND`."""
+
+import argparse
+import os
+import sys
+from collections.abc import Callable, Iterable
+
+from .checkpoints import cut_back, records_done
+from .errors import Error, ProgramError
+from .loss_map import drawing, lines_of_file
+from .markers import cut
+from .recording import Recording
+
+
+def put(octets: bytes) -> None:
+    """Writes to standard output.  Raises OSError that says so."""
+    try:
+        with open(1, "wb", closefd=False) as out:
+            out.write(octets)
+    except OSError as error:
+        raise OSError(error.errno, error.strerror, "standard output") from None
+
+
+def say(lines: Iterable[str]) -> None:
+    put("".join(f"{it}\n" for it in lines).encode())
+
+
+# The commands.
+
+
+def map_words(parser: argparse.ArgumentParser) -> None:
+    parser.add_argument("--title", default="What was lost", help="the picture's heading")
+    parser.add_argument("--settings", metavar="FILE", help="the settings of the recording")
+    parser.add_argument("files", nargs="+", metavar="FILE", help="with --settings the recording, else FRAMES REPORT: what tmx printed")
+
+
+def draw_map(words: argparse.Namespace, parser: argparse.ArgumentParser) -> None:
+    if len(words.files) != (2 if words.settings is None else 1):
+        parser.error("the words are --settings SETTINGS RECORDING, or FRAMES REPORT")
+    if words.settings is not None:
+        svg = Recording(words.files[0], words.settings).loss_map(words.title).svg
+    elif words.files == ["-", "-"]:
+        parser.error("only one of the files can be standard input")
+    else:
+        svg = drawing(lines_of_file(words.files[0]), lines_of_file(words.files[1]), words.title)
+    put(svg.encode())
+
+
+def cut_back_words(parser: argparse.ArgumentParser) -> None:
+    parser.add_argument("checkpoint", metavar="CHECKPOINT")
+    parser.add_argument("files", nargs="*", metavar="FILE", help="lists of packets, rows of fields, reports")
+
+
+def cut_files_back(words: argparse.Namespace, parser: argparse.ArgumentParser) -> None:
+    lost = cut_back(words.checkpoint, *words.files)
+    lines = [f"{words.checkpoint} has {records_done(words.checkpoint)} records"]
+    lines += [f"{name}: {octets} octets cut, {os.path.getsize(name)} stay" for name, octets in lost.items()]
+    say(lines)
+
+
+def cut_words(parser: argparse.ArgumentParser) -> None:
+    parser.add_argument("--marker", default="1ACFFC1D", metavar="HEX", help="the sync marker (1ACFFC1D)")
+    parser.add_argument("--length", required=True, type=int, metavar="N", help="the octets behind each marker")
+    parser.add_argument("--flips", default=0, type=int, metavar="N", help="how many bits of a marker may be wrong (0)")
+    parser.add_argument("stream", nargs="?", default="-", metavar="STREAM", help="the raw stream; standard input without it")
+
+
+def cut_stream(words: argparse.Namespace, parser: argparse.ArgumentParser) -> None:
+    try:
+        found = cut(words.stream, words.marker, words.length, words.flips)
+    except ValueError as error:
+        parser.error(str(error))
+    while block := found.read(1 << 18):
+        put(block)
+    for slip in found.slips:
+        print(slip, file=sys.stderr)
+    print(f"cut records={found.records} slips={len(found.slips)} left={found.left_out}", file=sys.stderr)
+
+
+Command = tuple[str, Callable[[argparse.ArgumentParser], None], Callable[[argparse.Namespace, argparse.ArgumentParser], None]]
+
+COMMANDS: dict[str, Command] = {
+    "map": ("draws what was lost of a recording, as an SVG", map_words, draw_map),
+    "cut": ("cuts a raw stream with sync markers into records of one length", cut_words, cut_stream),
+    "cut-back": ("cuts outputs back to a checkpoint, after a run that was ended", cut_back_words, cut_files_back),
+}
+
+
+def reason(error: Exception) -> str:
+    """What went wrong, in a line."""
+    if isinstance(error, OSError) and error.strerror:
+        return f"{error.filename}: {error.strerror}" if error.filename else error.strerror
+    return str(error)
+
+
+def main(arguments: list[str] | None = None) -> int:
+    parser = argparse.ArgumentParser("python3 -m tmx", description="Works with recordings of TM transfer frames.")
+    commands = parser.add_subparsers(dest="command", required=True, metavar="COMMAND")
+    for name, (what, add_words, _) in COMMANDS.items():
+        add_words(commands.add_parser(name, help=what, description=what.capitalize() + "."))
+    words = parser.parse_args(arguments)
+    try:
+        COMMANDS[words.command][2](words, commands.choices[words.command])
+    except (Error, OSError) as error:
+        said = error.line if isinstance(error, ProgramError) else f"tmx {words.command}: {reason(error)}"
+        print(said, file=sys.stderr)
+        return 1
+    return 0
+
+
+if __name__ == "__main__":
+    sys.exit(main())

@@ -1,6 +1,7 @@
 """The package as a whole: built, installed and used from elsewhere, in little memory, its settings and its summaries."""
 
 import importlib.util
+import io
 import json
 import os
 import subprocess
@@ -10,7 +11,7 @@ import unittest
 import zipfile
 from pathlib import Path
 
-from support import PACKAGE, RECORDING, SETTINGS, TESTS, TestCase, example, tmx
+from support import CLONE, PACKAGE, RECORDING, SETTINGS, TESTS, TestCase, example, tmx
 
 MEMORY = 64 << 20  # octets, of the process that reads
 GIBIBYTE = 1 << 30
@@ -96,6 +97,29 @@ class TheSummary(TestCase):
         self.assertIn("300 records: 299 good, 1 bad (1 by crc). Master channel: 2 gaps, 2 frames missing.", table)
         self.assertIn("\nchannel  apid  packets  octets  first  last", table)
         self.assertIn("<td>26672</td>", example().summary()._repr_html_())
+
+
+class TheLossMap(TestCase):
+    def test_the_picture_in_the_docs(self) -> None:
+        wanted = (CLONE / "docs" / "loss_map.svg").read_text()
+        for recording in (example(), tmx.Recording(io.BytesIO(RECORDING.read_bytes()), SETTINGS)):
+            drawn = recording.loss_map("The example recording")
+            self.assertEqual((drawn.svg, drawn._repr_svg_()), (wanted, wanted))
+            drawn.write("map.svg")
+            self.assertEqual(Path("map.svg").read_text(), wanted)
+
+    def test_a_program_that_is_killed(self) -> None:
+        self.program('[ "$1" = frames ] || exec "$real" "$@"\n"$real" "$@" | head -c 20000\nkill -KILL $$')
+        self.raises(tmx.KilledError, "SIGKILL", example().loss_map)
+
+
+class TheTypes(TestCase):
+    def test_mypy(self) -> None:
+        if importlib.util.find_spec("mypy") is None:
+            self.skipTest("mypy is not there")
+        line = [sys.executable, "-m", "mypy", "--strict", "--cache-dir", "cache", str(PACKAGE / "tmx")]
+        ran = subprocess.run(line, capture_output=True, text=True, check=False)
+        self.assertEqual(ran.returncode, 0, ran.stdout)
 
 
 if __name__ == "__main__":

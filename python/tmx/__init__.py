@@ -51,6 +51,7 @@ from .lines import (
 )
 from .loss_map import LossMap, LossMapError
 from .markers import Cut, Slip, cut
+from .probing import Fit, Probe, probe
 from .recording import Item, Recording
 from .settings import Settings
 from .summary import Summary
@@ -75,6 +76,7 @@ __all__ = [
     "FaultCounts",
     "Fields",
     "FileError",
+    "Fit",
     "Frame",
     "Gap",
     "Group",
@@ -87,6 +89,7 @@ __all__ = [
     "MasterGap",
     "OutOfMemoryError",
     "Packet",
+    "Probe",
     "ProgramError",
     "ProgramMissingError",
     "Recording",
@@ -105,5 +108,6 @@ __all__ = [
     "VersionError",
     "cut",
     "cut_back",
+    "probe",
     "records_done",
 ]

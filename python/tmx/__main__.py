@@ -9,6 +9,7 @@ from .checkpoints import cut_back, records_done
 from .errors import Error, ProgramError
 from .loss_map import drawing, lines_of_file
 from .markers import cut
+from .probing import probe
 from .recording import Recording
 
 
@@ -58,6 +59,24 @@ def cut_files_back(words: argparse.Namespace, parser: argparse.ArgumentParser) -
     say(lines)
 
 
+def probe_words(parser: argparse.ArgumentParser) -> None:
+    parser.add_argument("recording", metavar="RECORDING", help="the recording; - is standard input")
+
+
+def probe_recording(words: argparse.Namespace, parser: argparse.ArgumentParser) -> None:
+    found = probe(words.recording)
+    if not found:
+        raise NothingFitsError(found.note)
+    put(found[0].toml().encode())
+    for other in found[1:]:
+        said = f"{other.share:.1%} good frames, {other.whole:.1%} of data in whole packets"
+        print(f"also: {', '.join(other.settings.toml().splitlines())}: {said}", file=sys.stderr)
+
+
+class NothingFitsError(Error):
+    """No settings fit a recording."""
+
+
 def cut_words(parser: argparse.ArgumentParser) -> None:
     parser.add_argument("--marker", default="1ACFFC1D", metavar="HEX", help="the sync marker (1ACFFC1D)")
     parser.add_argument("--length", required=True, type=int, metavar="N", help="the octets behind each marker")
@@ -81,6 +100,7 @@ Command = tuple[str, Callable[[argparse.ArgumentParser], None], Callable[[argpar
 
 COMMANDS: dict[str, Command] = {
     "map": ("draws what was lost of a recording, as an SVG", map_words, draw_map),
+    "probe": ("finds settings that fit an unknown recording", probe_words, probe_recording),
     "cut": ("cuts a raw stream with sync markers into records of one length", cut_words, cut_stream),
     "cut-back": ("cuts outputs back to a checkpoint, after a run that was ended", cut_back_words, cut_files_back),
 }

@@ -21,7 +21,7 @@ ln -s "$tmx" "$folder/bin/tmx"
 # Debian's own Python has Debian's packages, whatever another one stands before it.
 [ ! -x /usr/bin/python3 ] || ln -s /usr/bin/python3 "$folder/bin/python3"
 ln -s "$here/example" "$folder/work/example"
-export PATH=$folder/bin:$PATH LC_ALL=C.UTF-8
+export PATH=$folder/bin:$PATH LC_ALL=C.UTF-8 PYTHONPATH=$here/python PYTHONDONTWRITEBYTECODE=1
 cd "$folder/work" || exit 2
 passed=0
 failed=0

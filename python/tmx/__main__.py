@@ -7,6 +7,7 @@ from collections.abc import Callable, Iterable
 
 from .checkpoints import cut_back, records_done
 from .errors import Error, ProgramError
+from .following import next_step, steps
 from .loss_map import drawing, lines_of_file
 from .markers import cut
 from .probing import probe
@@ -45,6 +46,22 @@ def draw_map(words: argparse.Namespace, parser: argparse.ArgumentParser) -> None
     else:
         svg = drawing(lines_of_file(words.files[0]), lines_of_file(words.files[1]), words.title)
     put(svg.encode())
+
+
+def follow_words(parser: argparse.ArgumentParser) -> None:
+    parser.add_argument("--settings", required=True, metavar="FILE", help="the settings of the recording")
+    parser.add_argument("--once", action="store_true", help="one step, and no waiting for more")
+    parser.add_argument("--interval", default=10.0, type=float, metavar="SECONDS", help="when it looks again (10)")
+    parser.add_argument("recording", metavar="RECORDING", help="a file that grows")
+    parser.add_argument("folder", metavar="FOLDER", help="where the files of the steps go")
+
+
+def follow_recording(words: argparse.Namespace, parser: argparse.ArgumentParser) -> None:
+    if words.once:
+        next_step(words.recording, words.settings, words.folder)
+        return
+    for step in steps(words.recording, words.settings, words.folder, words.interval):
+        say([f"{step} has {records_done(step)} records"])
 
 
 def cut_back_words(parser: argparse.ArgumentParser) -> None:
@@ -102,6 +119,7 @@ COMMANDS: dict[str, Command] = {
     "map": ("draws what was lost of a recording, as an SVG", map_words, draw_map),
     "probe": ("finds settings that fit an unknown recording", probe_words, probe_recording),
     "cut": ("cuts a raw stream with sync markers into records of one length", cut_words, cut_stream),
+    "follow": ("reads a growing recording in steps, each with files of its own", follow_words, follow_recording),
     "cut-back": ("cuts outputs back to a checkpoint, after a run that was ended", cut_back_words, cut_files_back),
 }
 
@@ -121,6 +139,8 @@ def main(arguments: list[str] | None = None) -> int:
     words = parser.parse_args(arguments)
     try:
         COMMANDS[words.command][2](words, commands.choices[words.command])
+    except KeyboardInterrupt:
+        return 130
     except (Error, OSError) as error:
         said = error.line if isinstance(error, ProgramError) else f"tmx {words.command}: {reason(error)}"
         print(said, file=sys.stderr)

@@ -34,6 +34,13 @@ class Installed(TestCase):
         ran = subprocess.run(line, env=os.environ | {"PYTHONPATH": str(folder)}, capture_output=True, text=True, check=True)
         self.assertEqual(ran.stdout.splitlines(), [str(folder / "tmx" / "__init__.py"), "848"])
 
+    def test_standard_input(self) -> None:
+        line = [sys.executable, "-c", self.SCRIPT, "-", str(SETTINGS)]
+        with open(RECORDING, "rb") as file:
+            found = os.environ | {"PYTHONPATH": str(PACKAGE)}
+            ran = subprocess.run(line, stdin=file, env=found, capture_output=True, text=True, check=True)
+        self.assertEqual(ran.stdout.splitlines()[1], "848")
+
     def test_wheel(self) -> None:
         name = wheels().build_wheel(str(self.folder))
         with zipfile.ZipFile(name) as wheel:

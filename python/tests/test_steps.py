@@ -2,12 +2,14 @@
 
 import io
 import os
+import subprocess
+import sys
 import threading
 import time
 import unittest
 from pathlib import Path
 
-from support import ATTITUDE, RECORDING, SETTINGS, TestCase, damaged, example, tmx
+from support import ATTITUDE, PACKAGE, RECORDING, SETTINGS, TestCase, damaged, example, tmx
 
 
 class Steps(TestCase):
@@ -105,6 +107,21 @@ class Follow(TestCase):
             found += packets
             writer.join()
         self.assertEqual(found, list(example().packets()))
+
+
+class Commands(TestCase):
+    def test_steps_with_files(self) -> None:
+        octets = RECORDING.read_bytes()
+        for length in (20000, 20010, 50000, 60000, len(octets)):
+            Path("growing.rec").write_bytes(octets[:length])
+            line = [sys.executable, "-m", "tmx", "follow", "--once", "--settings", SETTINGS, "growing.rec", "steps"]
+            subprocess.run(line, check=True, env=os.environ | {"PYTHONPATH": str(PACKAGE)})
+            if length == 50000:
+                Path("steps/step-0000002.chk").unlink()  # as a crash leaves it
+        names = [f"step-000000{number}.{kind}" for number in (1, 2, 3) for kind in ("chk", "packets", "report")]
+        self.assertEqual(sorted(os.listdir("steps")), names)
+        listed = "".join(it.read_text() for it in sorted(Path("steps").glob("*.packets")))
+        self.assertEqual(listed.splitlines(), [str(it) for it in example().packets()])
 
 
 class CutBack(TestCase):

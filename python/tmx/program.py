@@ -159,8 +159,16 @@ class Runs:
         if self.source.stream is None:
             return b"" if run.at_end else run.read()
         while not self.kept[number] and not run.at_end:
-            self.feed_block()
+            if not self.read_what_is_there():
+                self.feed_block()
         return self.kept[number].popleft() if self.kept[number] else b""
+
+    def read_what_is_there(self) -> bool:
+        """Reads what runs have given by now, without waiting; whether there was anything."""
+        there = self.selector.select(0)
+        for key, _ in there:
+            self.read_from(key.data)
+        return bool(there)
 
     def feed_block(self) -> None:
         """Feeds the next block to all runs that take it; at the recording's end reads what they still give."""

@@ -3,16 +3,14 @@
 
     on_dask.py SCHEDULER each SETTINGS DEFINITION APID TABLE RECORDING..
     on_dask.py SCHEDULER stream SETTINGS DEFINITION APID TABLE RECORDING..
-    on_dask.py SCHEDULER summary SETTINGS TABLE RECORDING..
 
 SCHEDULER is its address, as tcp://10.0.0.1:8786, or the file that it was started with.  With `each` every recording stands by itself, and is a task by
 itself; the table has the rows of `tmx fields`.  With `stream` the recordings are pieces of one spacecraft's stream, in
 the order in which they are named: a packet may begin in one and end in the next.  Each is then a task that takes the
-checkpoint of the one before, and hands on its own.  With `summary` every recording is a task by itself too, and the
-table has the lines of `tmx summary`.
+checkpoint of the one before, and hands on its own.
 
 Every worker needs `tmx` (TMX names it, else it is on the PATH), and the files under the same names.  Rows get the name
-of their recording in front, and lines get it behind them, as ` recording=NAME`.  A line on standard error says what
+of their recording in front.  A line on standard error says what
 became of each task.  One that failed is named, and is tried again, three times in all.  The status is 1 where one failed
 in the end.
 """
@@ -64,13 +62,6 @@ def named(recording, text):
 def read_alone(words, recording):
     """The head and the rows of a recording that stands by itself."""
     return named(recording, printed(line_of(words, [recording])))
-
-
-def read_summary(words, recording):
-    """The lines of a recording's summary, which have no head."""
-    name = b" recording=" + Path(recording).name.encode() + b"\n"
-    lines = printed([program(), "summary", "--settings", *words, recording]).splitlines()
-    return b"", b"".join([line + name for line in lines])
 
 
 def octets_done(checkpoint):
@@ -156,13 +147,9 @@ def results(client, tasks):
     return found, failed
 
 
-def each(client, words, recordings, read=read_alone):
+def each(client, words, recordings):
     """One task a recording."""
-    return results(client, {it: client.submit(read, words, it, pure=False) for it in recordings})
-
-
-def summary(client, words, recordings):
-    return each(client, words, recordings, read_summary)
+    return results(client, {it: client.submit(read_alone, words, it, pure=False) for it in recordings})
 
 
 def stream(client, words, recordings):
@@ -184,16 +171,17 @@ def write_table(name, found):
         table.writelines(rows for _, rows in found)
 
 
-# Each way of reading, and how many words it has before the table.
-WAYS = {"each": (each, 3), "stream": (stream, 3), "summary": (summary, 1)}
+# Each way of reading.
+WAYS = {"each": each, "stream": stream}
+WORDS = 3  # before the table: settings, definition, application
 
 
 def main():
     given = sys.argv[1:]
-    read, number = WAYS.get(given[1] if len(given) > 1 else "", (None, 0))
-    if read is None or len(given) < number + 4:
+    read = WAYS.get(given[1]) if len(given) > 1 else None
+    if read is None or len(given) < WORDS + 4:
         sys.exit(__doc__)
-    scheduler, words, table, recordings = given[0], given[2 : number + 2], given[number + 2], given[number + 3 :]
+    scheduler, words, table, recordings = given[0], given[2 : WORDS + 2], given[WORDS + 2], given[WORDS + 3 :]
     with Client(**({"address": scheduler} if "://" in scheduler else {"scheduler_file": scheduler})) as client:
         found, failed = read(client, words, recordings)
     write_table(table, [found[it] for it in recordings if it in found])

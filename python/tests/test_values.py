@@ -1,4 +1,4 @@
-"""Columns of fields: their types, floats, texts and times, by pandas, by numpy and as lists."""
+"""Columns of fields: their types, floats, texts and times, as arrays and as lists."""
 
 import csv
 import io
@@ -18,11 +18,11 @@ from tmx import values
 
 FLOATS = (0.0, -0.0, 1.0, -2.5, 65504.0, 2.0**-24, math.inf, -math.inf, math.nan)
 TEXTS = (b"plain!", b'a,b"c\'', b"\\x41\\\\", b"\0\xff\r\n \0", b"      ", b"NA\0\0\0\0", b"\xc3\xa9abcd")
-ENGINES = {"pandas": (), "numpy": ("pandas",), "lists": ("pandas", "numpy")}
+KINDS = {"arrays": (), "lists": ("numpy",)}  # of columns, and the modules that are missing for them
 
 
 @contextmanager
-def engine(missing):
+def without(missing):
     """Has modules be missing."""
     there = values.module
     with ExitStack() as stack:
@@ -48,19 +48,19 @@ def rows_of(payloads: list[bytes], definition: str, **how) -> tmx.Fields:
 
 
 class Values(TestCase):
-    def engines(self):
-        """Each way of reading columns that this machine has."""
-        for name, missing in ENGINES.items():
-            if name == "lists" or values.module(name):
-                with self.subTest(engine=name), engine(missing):
-                    yield name
+    def kinds(self):
+        """Each kind of columns that this machine has."""
+        for kind, missing in KINDS.items():
+            if kind == "lists" or values.module("numpy"):
+                with self.subTest(kind=kind), without(missing):
+                    yield kind
 
     def test_the_example(self) -> None:
         for definition, apid in ((ATTITUDE, 101), (HOUSEKEEPING, 100), (ATTITUDE, 5)):
             line = [os.environ["TMX"], "fields", "--settings", SETTINGS, "--definition", definition, "--apid", str(apid)]
             text = subprocess.run([*line, RECORDING], capture_output=True, text=True, check=True).stdout
             rows = list(csv.DictReader(io.StringIO(text)))
-            for _ in self.engines():
+            for _ in self.kinds():
                 fields = example().fields(definition, apid, encoding="ascii")
                 self.assertEqual(fields.rows, len(rows))
                 self.assertEqual(list(fields), text.partition("\n")[0].split(","))
@@ -69,7 +69,7 @@ class Values(TestCase):
 
     def test_floats(self) -> None:
         payloads = [struct.pack(">efd", it, it, it) for it in FLOATS]
-        for name in self.engines():
+        for name in self.kinds():
             fields = rows_of(payloads, "A,float,16\nB,float,32\nC,float,64\n")
             for column in "ABC":
                 found = [struct.pack(">d", it) for it in fields[column]]
@@ -80,7 +80,7 @@ class Values(TestCase):
     def test_integers(self) -> None:
         payloads = [b"\0" * 16, b"\xff" * 16, b"\x80" + b"\0" * 15, bytes(range(16))]
         definition = "A,uint,64,\nB,int,64,\nC,uint,1,48\nD,int,9,48\nE,uint,17,48\nF,int,33,48\n"
-        for name in self.engines():
+        for name in self.kinds():
             Path("definition.csv").write_text(f"name,data_type,bit_length,bit_offset\n{definition}")
             settings = tmx.Settings(42, 28, False)
             fields = tmx.Recording(io.BytesIO(packets_of(payloads)), settings).fields("definition.csv", 300)
@@ -92,20 +92,26 @@ class Values(TestCase):
                 self.assertEqual(types, ["uint64", "int64", "uint8", "int16", "uint32", "int64"])
 
     def test_texts(self) -> None:
-        for _ in self.engines():
+        for _ in self.kinds():
             self.assertEqual(list(rows_of(list(TEXTS), "T,str,48\n")["T"]), list(TEXTS))
             texts = [it.decode("latin-1") for it in TEXTS]
             self.assertEqual(list(rows_of(list(TEXTS), "T,str,48\n", encoding="latin-1")["T"]), texts)
             self.raises(UnicodeDecodeError, None, rows_of, list(TEXTS), "T,str,48\n", encoding="utf-8")
 
+    def test_long_texts(self) -> None:
+        texts = [it * 20 for it in TEXTS]
+        for _ in self.kinds():
+            self.assertEqual(list(rows_of(texts, "T,str,960\n")["T"]), texts)
+            self.assertEqual(list(rows_of([b"\\" * 64, b"\0" * 64], "T,str,512\n")["T"]), [b"\\" * 64, b"\0" * 64])
+
     def test_names_that_csv_quotes(self) -> None:
-        for _ in self.engines():
+        for _ in self.kinds():
             fields = rows_of([b"ab"], '"A, ""quoted""\nname",uint,8\n\N{GREEK SMALL LETTER ALPHA},uint,8\n')
             self.assertEqual(list(fields)[4:], ['A, "quoted"\nname', "\N{GREEK SMALL LETTER ALPHA}"])
 
     def test_times(self) -> None:
         payloads = [struct.pack(">IH", *it) for it in ((0, 0), (1, 0x8000), (2**32 - 1, 0xFFFF))]
-        for name in self.engines():
+        for name in self.kinds():
             fields = rows_of(payloads, "S,uint,32\nF,uint,16\n", time=("S", "F"), epoch="1958-01-01")
             begin = datetime(1958, 1, 1)
             wanted = [begin, begin + timedelta(seconds=1.5), begin + timedelta(seconds=2**32 - 1, microseconds=999984)]
@@ -116,11 +122,11 @@ class Values(TestCase):
             self.assertEqual(found, [it.replace(microsecond=0) for it in wanted])
 
     def test_a_time_that_is_too_late(self) -> None:
-        for _ in self.engines():
+        for _ in self.kinds():
             self.raises(OverflowError, None, rows_of, [b"\xff" * 8], "S,uint,64\n", time="S", epoch="2000-01-01")
 
     def test_short_packets(self) -> None:
-        for _ in self.engines():
+        for _ in self.kinds():
             fields = rows_of([b"ab"], "S,uint,64\n")
             self.assertEqual(fields.rows, 0)
             short = tmx.ShortPacket(record=0, channel=0, from_=0, at=0, needed=112, found=64)
@@ -145,7 +151,7 @@ class Values(TestCase):
             self.assertEqual(int(fields.to_numpy()["ANGLE_X"].max()), 899)
 
     def test_shown(self) -> None:
-        for _ in self.engines():
+        for _ in self.kinds():
             fields = example().fields(ATTITUDE, 101, time="SECONDS", epoch="2000-01-01")
             self.assertIn("503 rows, 14 columns", repr(fields))
             self.assertIn("<th>ANGLE_X</th>", fields._repr_html_())

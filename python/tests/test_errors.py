@@ -44,6 +44,11 @@ class Refused(TestCase):
     def test_checkpoint(self) -> None:
         list(example().packets(checkpoint="day.chk", stop_after=100))
         self.raises(tmx.CheckpointError, "magic", lambda: list(example().packets(resume=RECORDING)))
+        how = {"checkpoint": "new.chk"}
+        self.raises(tmx.CheckpointError, "magic", lambda: list(example().packets(resume=RECORDING, **how)))
+        self.raises(tmx.FileError, "failed", lambda: list(example().packets(resume="none", **how)))
+        self.raises(tmx.FileError, "failed", lambda: list(tmx.Recording("none", SETTINGS).packets(**how)))
+        self.assertEqual(os.listdir(), ["day.chk"])
         other = tmx.Recording(RECORDING, SETTINGS_42)
         self.raises(tmx.CheckpointError, "settings", lambda: list(other.packets(resume="day.chk")))
         self.raises(tmx.CheckpointError, "settings", lambda: list(other.packets(resume="day.chk", checkpoint="day.chk")))

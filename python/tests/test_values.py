@@ -102,7 +102,26 @@ class Values(TestCase):
         texts = [it * 20 for it in TEXTS]
         for _ in self.kinds():
             self.assertEqual(list(rows_of(texts, "T,str,960\n")["T"]), texts)
-            self.assertEqual(list(rows_of([b"\\" * 64, b"\0" * 64], "T,str,512\n")["T"]), [b"\\" * 64, b"\0" * 64])
+            for length in (64, 65, 1500):
+                others = [b"\\" * length, b"\0" * length, b"a" * length]
+                self.assertEqual(list(rows_of(others, f"T,str,{8 * length}\n")["T"]), others)
+
+    def test_the_longest_text(self) -> None:
+        packet = (300).to_bytes(2, "big") + b"\xc0\0\xff\xff" + b"\xff" * 65536
+        frames = []
+        for number in range(34):
+            part = packet[number * 2042 : (number + 1) * 2042]
+            filler = 2042 - len(part)
+            pointer = 0 if number == 0 else 2047
+            if filler and number == 32:
+                part += b"\x07\xff\xc0\0" + (filler - 7).to_bytes(2, "big") + bytes(filler - 6)
+                pointer = 2042 - filler
+            if part:
+                frames.append(struct.pack(">HBBH", 42 << 4, number, number, pointer) + part)
+        Path("definition.csv").write_text("name,data_type,bit_length\nT,str,524288\n")
+        for _ in self.kinds():
+            recording = tmx.Recording(io.BytesIO(b"".join(frames)), tmx.Settings(42, 2048, False))
+            self.assertEqual(list(recording.fields("definition.csv", 300)["T"]), [b"\xff" * 65536])
 
     def test_names_that_csv_quotes(self) -> None:
         for _ in self.kinds():

@@ -6,14 +6,26 @@ names have to be those that the program prints.
 
 import csv
 import os
-from collections.abc import Sequence
+from collections.abc import Iterator, Sequence
+from contextlib import contextmanager
 from dataclasses import dataclass
 
 from .errors import ColumnError
 
 Name = str | os.PathLike[str]
 
+LONGEST_VALUE = 1 << 21  # octets of a value in a CSV
 LEAD = (("tm_record", 32), ("tm_channel", 8), ("tm_apid", 16), ("tm_count", 16))  # with bits that hold the number
+
+
+@contextmanager
+def long_values() -> Iterator[None]:
+    """Lets values of a CSV be as long as any that the program reads or prints."""
+    before = csv.field_size_limit(LONGEST_VALUE)
+    try:
+        yield
+    finally:
+        csv.field_size_limit(before)
 
 
 @dataclass(frozen=True, slots=True)
@@ -30,7 +42,7 @@ def read_definition(path: Name) -> list[Column]:
 
     Raises ColumnError where a field has the name of one of tmx's own columns.
     """
-    with open(path, encoding="utf-8-sig", errors="surrogateescape", newline="") as file:
+    with long_values(), open(path, encoding="utf-8-sig", errors="surrogateescape", newline="") as file:
         head, *rows = [[it.strip(" \t") for it in record] for record in csv.reader(file) if record]
     name, kind, bits = (head.index(it) for it in ("name", "data_type", "bit_length"))
     columns = [Column(it, "uint", wide) for it, wide in LEAD]

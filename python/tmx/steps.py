@@ -7,7 +7,7 @@ from collections.abc import Iterator, Sequence
 from dataclasses import dataclass, replace
 from pathlib import Path
 
-from .checkpoints import Name, NewCheckpoint, records_done
+from .checkpoints import CutBackError, Name, NewCheckpoint, records_done
 from .errors import DisagreementError
 from .lines import Packet
 from .pairs import Chosen
@@ -70,10 +70,10 @@ class Job:
 
     def run_to(self, files: Sequence[Path]) -> Iterator[Packet]:
         """One step.  Of a file it reads the records that are there now, since both runs have to read the same."""
-        if self.source.is_stream:
+        there = None if self.source.is_stream else self.records_there()
+        if there is None:
             yield from self.run(files, self.stop_after)
             return
-        there = self.records_there()
         if there > 0:
             yield from self.run(files, there if self.stop_after is None else min(there, self.stop_after))
             return
@@ -97,11 +97,17 @@ class Job:
         for file in files:
             file.write_bytes(kept)
 
-    def records_there(self) -> int:
-        """How many whole records the file has now behind those that are done; less than none where it is too short."""
+    def records_there(self) -> int | None:
+        """How many whole records the file has now behind those that are done; less than none where it is too short.
+
+        None where a file is missing, or the checkpoint is none: the program says so.
+        """
         length = record_length(self.settings)
-        done = 0 if self.resume is None else records_done(self.resume)
-        return os.path.getsize(self.source.given) // length - done
+        try:
+            done = 0 if self.resume is None else records_done(self.resume)
+            return os.path.getsize(self.source.given) // length - done
+        except (OSError, CutBackError):
+            return None
 
 
 def record_length(settings: Name | Settings) -> int:

@@ -9,7 +9,7 @@ from collections.abc import Callable, Iterable, Iterator, Sequence
 from itertools import islice
 from typing import Any
 
-from .definition import Column
+from .definition import Column, long_values
 
 ROWS = 10000  # that are read at once
 LONGEST_ESCAPE = 4  # letters of an octet
@@ -72,9 +72,10 @@ def read_as_lists(rows: io.BufferedReader, columns: Sequence[Column], encoding: 
     readers = [list_reader(it, encoding) for it in columns]
     found: list[list[Any]] = [[] for _ in columns]
     lines = csv.reader(io.TextIOWrapper(rows, "ascii", newline=""))
-    while block := list(islice(lines, ROWS)):
-        for values, reader, texts in zip(found, readers, zip(*block)):
-            values += reader(texts)
+    with long_values():
+        while block := list(islice(lines, ROWS)):
+            for values, reader, texts in zip(found, readers, zip(*block)):
+                values += reader(texts)
     return found
 
 

@@ -33,7 +33,8 @@ def say(lines: Iterable[str]) -> None:
 def map_words(parser: argparse.ArgumentParser) -> None:
     parser.add_argument("--title", default="What was lost", help="the picture's heading")
     parser.add_argument("--settings", metavar="FILE", help="the settings of the recording")
-    parser.add_argument("files", nargs="+", metavar="FILE", help="with --settings the recording, else FRAMES REPORT: what tmx printed")
+    what = "with --settings the recording, else two files: the frames and the report that tmx printed"
+    parser.add_argument("files", nargs="+", metavar="FILE", help=what)
 
 
 def draw_map(words: argparse.Namespace, parser: argparse.ArgumentParser) -> None:

@@ -227,7 +227,8 @@ def spread(records: int, most: int) -> list[int]:
     if records <= most:
         return list(range(records))
     stretches = most // 16
-    return [first + it for first in (records * n // stretches for n in range(stretches)) for it in range(16) if first + it < records]
+    firsts = (records * number // stretches for number in range(stretches))
+    return [first + it for first in firsts for it in range(16) if first + it < records]
 
 
 # What the frames are like.

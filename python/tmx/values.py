@@ -101,7 +101,7 @@ def read_as_arrays(numpy: Any, rows: io.BufferedReader, columns: Sequence[Column
 
 
 def text_type(numpy: Any, column: Column) -> Any:
-    """As what the text of a value is read: a number of the smallest type that holds it, or a text.  That of a float has its digits."""
+    """As what the text of a value is read: a number of the smallest type that holds it, or a text, also for floats."""
     if column.type == "float":
         return f"S{2 + column.bits // 4}"
     if column.type == "str":

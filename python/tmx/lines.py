@@ -281,7 +281,7 @@ class ChannelCounts(Line):
     octets: int
     dropped: int
     lost: int
-    data: int | None = None  # programs before this key are still taken: without ` | None = None` they are refused
+    data: int
 
 
 @dataclass(frozen=True, slots=True)

@@ -12,7 +12,7 @@ ghost use Rattle.tm_output.specs.code.Listed.{NextListingStop};
 ghost use Rattle.tm_output.specs.code.Next.{EndsNext, ReadsNext};
 
 use std::alloc::Global;
-use tm_devices::{DeviceFailed, Drain, BufferedSource, fill, put_all};
+use tm_devices::{BufferedSource, DeviceFailed, Drain, fill, put_all};
 use tm_faults::RunFault;
 use tm_frame::{Layout, read};
 use tm_lines::{ROOM, line_in, put_bad, put_frame, put_short};

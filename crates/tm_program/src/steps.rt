@@ -29,8 +29,8 @@ use tm_files::{
 use tm_places::Places;
 use tm_shelf::{FileShelf, ShelfFault, name_in};
 use tm_tool::{
-    Buffered, Command, Done, Drain, Ending, Job, BufferedSource, Octets, RunFault, Seeking, Settings,
-    Shelf, Writing, list_frames, run as run_job, split, summarize,
+    Buffered, BufferedSource, Command, Done, Drain, Ending, Job, Octets, RunFault, Seeking,
+    Settings, Shelf, Writing, list_frames, run as run_job, split, summarize,
 };
 use tm_words::{Action, Plan, plan};
 

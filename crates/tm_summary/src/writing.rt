@@ -61,11 +61,7 @@ fn write_line<W: Drain>(line: &[u8], out: &mut W) -> Result<(), RunFault>
 }
 
 // Writes the line of the records.
-fn put_recording<W: Drain>(
-    records: u32,
-    counts: &Counts,
-    out: &mut W,
-) -> Result<(), RunFault>
+fn put_recording<W: Drain>(records: u32, counts: &Counts, out: &mut W) -> Result<(), RunFault>
     ensures { Written Appends octets_way (out_alone W.Drain out.old) (out_alone W.Drain out.new)
         (line_piece (recording_line records counts.now.good counts.now.bad counts.now.rest) ∷ []) result }
 {
@@ -75,11 +71,7 @@ fn put_recording<W: Drain>(
 }
 
 // Writes the line of a fault that so many records have, if any has it.
-fn put_fault<W: Drain>(
-    fault: FrameFault,
-    records: u64,
-    out: &mut W,
-) -> Result<(), RunFault>
+fn put_fault<W: Drain>(fault: FrameFault, records: u64, out: &mut W) -> Result<(), RunFault>
     ensures { Written Appends octets_way (out_alone W.Drain out.old) (out_alone W.Drain out.new)
         (line_pieces (line_if (nat_lt 0 records) (fault_line fault records))) result }
 {
@@ -105,11 +97,7 @@ fn put_faults<W: Drain>(faults: &[u64; 8], out: &mut W) -> Result<(), RunFault>
 }
 
 // Writes the line of the master channel.
-fn put_master<W: Drain>(
-    gaps: u64,
-    missing: u64,
-    out: &mut W,
-) -> Result<(), RunFault>
+fn put_master<W: Drain>(gaps: u64, missing: u64, out: &mut W) -> Result<(), RunFault>
     ensures { Written Appends octets_way (out_alone W.Drain out.old) (out_alone W.Drain out.new)
         (line_piece (master_line gaps missing) ∷ []) result }
 {
@@ -119,12 +107,7 @@ fn put_master<W: Drain>(
 }
 
 // Writes the line of what is lost of a channel for a reason, if there is something.
-fn put_loss<W: Drain>(
-    channel: u8,
-    reason: Reason,
-    loss: Loss,
-    out: &mut W,
-) -> Result<(), RunFault>
+fn put_loss<W: Drain>(channel: u8, reason: Reason, loss: Loss, out: &mut W) -> Result<(), RunFault>
     ensures { Written Appends octets_way (out_alone W.Drain out.old) (out_alone W.Drain out.new)
         (line_pieces (line_if (nat_lt 0 loss.parts) (loss_line channel reason loss))) result }
 {
@@ -137,11 +120,7 @@ fn put_loss<W: Drain>(
 }
 
 // Writes the lines of what is lost of a channel, for each reason that came.
-fn put_losses<W: Drain>(
-    channel: u8,
-    losses: &[Loss; 7],
-    out: &mut W,
-) -> Result<(), RunFault>
+fn put_losses<W: Drain>(channel: u8, losses: &[Loss; 7], out: &mut W) -> Result<(), RunFault>
     ensures { Written Appends octets_way (out_alone W.Drain out.old) (out_alone W.Drain out.new)
         (line_pieces (loss_lines channel losses.now)) result }
 {
@@ -154,11 +133,7 @@ fn put_losses<W: Drain>(
 }
 
 // Writes the line of a channel.
-fn put_counts<W: Drain>(
-    channel: u8,
-    counts: &ChannelCounts,
-    out: &mut W,
-) -> Result<(), RunFault>
+fn put_counts<W: Drain>(channel: u8, counts: &ChannelCounts, out: &mut W) -> Result<(), RunFault>
     ensures { Written Appends octets_way (out_alone W.Drain out.old) (out_alone W.Drain out.new)
         (line_piece (channel_line channel counts.now) ∷ []) result }
 {

@@ -6,7 +6,7 @@ use std::alloc::Global;
 use std::io::{self, BufReader, Cursor, ErrorKind, Read, Seek, SeekFrom, Write};
 use tm_devices::fill;
 use tm_tool::{
-    Buffered, DeviceFailed, Drain, BufferedSource, Reading, RunFault, Seeking, Writing, list_frames,
+    Buffered, BufferedSource, DeviceFailed, Drain, Reading, RunFault, Seeking, Writing, list_frames,
 };
 
 // A frame of 24 octets with a packet of 7 octets and one of 11.

@@ -16,7 +16,7 @@ ghost use Rattle.tm_output.specs.Seen.{both, shelf_both};
 
 use crate::recording::{Ended, run_to_end};
 use crate::work::Work;
-use crate::{Command, Drain, Ending, BufferedSource, RunFault, Shelf};
+use crate::{BufferedSource, Command, Drain, Ending, RunFault, Shelf};
 use std::alloc::Global;
 use tm_devices::put_all;
 use tm_fields::Rows;

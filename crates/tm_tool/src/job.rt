@@ -11,7 +11,7 @@ ghost use Rattle.tm_output.specs.Shelves.{Shelves, shelf_text, shelf_way};
 use crate::commands::{put_head, run_by, run_split};
 use crate::recording::Ended;
 use crate::work::Work;
-use crate::{Command, Drain, Ending, BufferedSource, NoMemory, RunFault, Settings, Shelf};
+use crate::{BufferedSource, Command, Drain, Ending, NoMemory, RunFault, Settings, Shelf};
 use std::alloc::Global;
 use std::marker::Model;
 use tm_packet::Tracker;

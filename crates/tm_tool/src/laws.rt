@@ -136,7 +136,7 @@ pub fn older_versions()
 
 /// Summaries of recordings that tell their octets: what `summarize` says of the octets that were read holds of the whole recording. With `Ok` just the
 /// lines of its summary were written, and the answer is the number of its whole records. After a fault there is one place up to which they were
-/// written. `NoMemory` comes before all, or where a line was to be made.
+/// written. `NoMemory` comes before all.
 pub fn summaries()
     ensures summarized { (rules : Rules) (left_old left_new old new : Option (List ℕ)) (count : ℕ) → IsSummarized rules left_old left_new old new count →
         IfSome left_old (λ octets. Appends old new (concat (summary rules octets)) × (count ≡ record_count (record_length_of rules.layout) octets)) }

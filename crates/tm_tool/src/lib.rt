@@ -13,7 +13,7 @@ mod work;
 pub use job::{Done, Job, run, split};
 pub use summary::summarize;
 pub use tm_devices::{
-    Buffered, DeviceFailed, Drain, BufferedSource, Reading, Seeking, Shelf, Source, Writing,
+    Buffered, BufferedSource, DeviceFailed, Drain, Reading, Seeking, Shelf, Source, Writing,
 };
 pub use tm_faults::{CheckpointFault, NoMemory, RunFault};
 pub use tm_octets::Octets;

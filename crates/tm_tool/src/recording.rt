@@ -15,7 +15,7 @@ ghost use Rattle.tm_output.specs.Seen.{fixture, outlet_both, output_both};
 
 use crate::taking::{RecordTaker, take_records};
 use crate::work::Work;
-use crate::{Drain, Ending, BufferedSource, RunFault};
+use crate::{BufferedSource, Drain, Ending, RunFault};
 use std::alloc::Global;
 use tm_output::{Outlet, Output};
 use tm_packet::Tracker;

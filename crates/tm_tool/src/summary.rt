@@ -14,7 +14,7 @@ ghost use Rattle.tm_tool.specs.code.Summing.{CountCounted, CountingStopped, Coun
 use crate::job::Job;
 use crate::taking::{RecordTaker, take_records};
 use crate::work::Work;
-use crate::{Drain, Ending, BufferedSource, RunFault, Settings};
+use crate::{BufferedSource, Drain, Ending, RunFault, Settings};
 use std::alloc::Global;
 use tm_frame::read_good;
 use tm_packet::Tracker;

@@ -11,7 +11,7 @@ ghost use Rattle.tm_tool.specs.Runs.{WantsFurther};
 ghost use Rattle.tm_tool.specs.code.Taking.{Enough, HasStepped, NextStopped, PassesRecords, TakesRecords, TakingStopped, TookNext};
 ghost use Rattle.tm_output.specs.code.Next.{EndsNext};
 
-use crate::{Ending, BufferedSource, RunFault};
+use crate::{BufferedSource, Ending, RunFault};
 use tm_devices::fill;
 use tm_reassembly::Reassembly;
 
@@ -48,7 +48,11 @@ pub(crate) trait RecordTaker {
 }
 
 // Reads the records that are done, one by one.
-fn read_over<R: BufferedSource>(count: u32, buffer: &mut [u8], recording: &mut R) -> Result<(), RunFault>
+fn read_over<R: BufferedSource>(
+    count: u32,
+    buffer: &mut [u8],
+    recording: &mut R,
+) -> Result<(), RunFault>
     requires some { 0 < length buffer.old }
     ensures { PassesRecords (length buffer.old) count (R.left recording.old) (R.left recording.new) (R.failures recording.old) (R.failures recording.new) result }
 {
@@ -64,7 +68,11 @@ fn read_over<R: BufferedSource>(count: u32, buffer: &mut [u8], recording: &mut R
 }
 
 // Passes over the records that are done: in one step where the recording can do so, else it reads them.
-fn skip_records<R: BufferedSource>(count: u32, buffer: &mut [u8], recording: &mut R) -> Result<(), RunFault>
+fn skip_records<R: BufferedSource>(
+    count: u32,
+    buffer: &mut [u8],
+    recording: &mut R,
+) -> Result<(), RunFault>
     requires some { 0 < length buffer.old }
     ensures { PassesRecords (length buffer.old) count (R.left recording.old) (R.left recording.new) (R.failures recording.old) (R.failures recording.new) result }
 {

@@ -64,8 +64,8 @@ def example() -> tmx.Recording:
 def damaged(seed: int) -> tuple[reference.Settings, bytes]:
     """Random settings and a damaged recording, in the files `settings` and `recording` of the current folder."""
     chance = random.Random(seed)
-    settings = anything.make_settings(chance)
-    return settings, anything.make_recording(chance, seed, settings)
+    settings = anything.make_settings(chance, ".")
+    return settings, anything.make_recording(chance, seed, settings, ".")
 
 
 def lines(items) -> list[str]:

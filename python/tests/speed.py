@@ -3,7 +3,8 @@
     speed.py RECORDING SETTINGS DEFINITION [ROUNDS]
 
 Of the application with the most packets the fields are read.  Prints the median of the rounds, in seconds, and the least.
-`written` is the program that writes the rows to a file, `read_csv` what pandas takes to read that file.
+`written` is the program that writes the rows to a file, `read_csv` what pandas takes to read that file, and `read_csv of a pipe`
+what it takes to read them from the program itself.
 """
 
 import os
@@ -46,10 +47,15 @@ def main(name: str, settings: str, definition: str, rounds: str = "5") -> None:
             with open(rows, "wb") as file:
                 subprocess.run([*line, "--report", os.devnull, name], stdout=file, check=True)
 
+        def read_piped() -> None:
+            with subprocess.Popen([*line, "--report", os.devnull, name], stdout=subprocess.PIPE) as program:
+                pandas.read_csv(program.stdout)
+
         print(f"octets={os.path.getsize(name)} packets={sum(1 for _ in recording.packets())}")
         print("packets()", timed(number, lambda: sum(1 for _ in recording.packets())))
         print("written", timed(number, write), f"rows={rows.read_bytes().count(10) - 1} octets={rows.stat().st_size}")
         print("read_csv", timed(number, lambda: pandas.read_csv(rows)))
+        print("read_csv of a pipe", timed(number, read_piped))
         print("fields().to_pandas()", timed(number, lambda: recording.fields(definition, apid).to_pandas()))
 
 

@@ -5,6 +5,7 @@ import os
 import random
 import subprocess
 import sys
+import threading
 import unittest
 from pathlib import Path
 
@@ -108,6 +109,23 @@ class Cut(TestCase):
         self.assertEqual(ran.stdout, b"".join(records))
         self.assertEqual(ran.stderr.decode().splitlines(), ["slip at=0 octets=5 shift=0", "cut records=9 slips=1 left=5"])
         self.raises(ValueError, None, tmx.cut, "raw", "", 100)
+
+    def test_the_command_in_a_slow_pipe(self) -> None:
+        records = records_of(5, 100, 9)
+        line = [sys.executable, "-m", "tmx", "cut", "--length", "100"]
+        pipes = dict.fromkeys(("stdin", "stdout", "stderr"), subprocess.PIPE)
+        with subprocess.Popen(line, bufsize=0, env=os.environ | {"PYTHONPATH": str(PACKAGE)}, **pipes) as ran:
+            end = threading.Timer(20, ran.kill)
+            end.start()
+            self.addCleanup(end.cancel)
+            ran.stdin.write(b"noise" + stream_of(records[:4]))
+            found = b""
+            while len(found) < 300 and (octets := os.read(ran.stdout.fileno(), 300)):
+                found += octets
+            self.assertEqual(found, b"".join(records[:3]))  # of the fourth the marker behind it is wanting
+            self.assertEqual(ran.stderr.readline(), b"slip at=0 octets=5 shift=0\n")
+            rest, said = ran.communicate(stream_of(records[4:]), 10)
+        self.assertEqual((rest, said), (b"".join(records[3:]), b"cut records=5 slips=1 left=5\n"))
 
 
 if __name__ == "__main__":

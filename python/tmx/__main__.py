@@ -107,10 +107,13 @@ def cut_stream(words: argparse.Namespace, parser: argparse.ArgumentParser) -> No
         found = cut(words.stream, words.marker, words.length, words.flips)
     except ValueError as error:
         parser.error(str(error))
-    while block := found.read(1 << 18):
+    said, block = 0, b"more"
+    while block:
+        block = found.read(1 << 18)
         put(block)
-    for slip in found.slips:
-        print(slip, file=sys.stderr)
+        for slip in found.slips[said:]:
+            print(slip, file=sys.stderr)
+        said = len(found.slips)
     print(f"cut records={found.records} slips={len(found.slips)} left={found.left_out}", file=sys.stderr)
 
 

@@ -82,6 +82,8 @@ class Cut:
         self.records = 0
         self.left_out = 0
         self.slips: list[Slip] = []
+        self.window = Window(source)
+        self.at = 0  # where the next record is looked for
         self.found = self.cut()
         self.rest = b""
 
@@ -89,9 +91,12 @@ class Cut:
         return self.found
 
     def read(self, most: int = -1) -> bytes:
-        """Some octets of the records, one behind the other, so that the records are a stream; none at the end."""
+        """Some octets of the records, one behind the other, so that the records are a stream; none at the end.
+
+        Waits for no second record: what a slow stream has brought is given at once.  Without a number it gives all there are.
+        """
         parts, there = [self.rest], len(self.rest)
-        while most < 0 or there < most:
+        while most < 0 or there < most and (not there or self.is_at_hand()):
             record = next(self.found, None)
             if record is None:
                 break
@@ -102,6 +107,10 @@ class Cut:
         self.rest = octets[end:]
         return octets[:end]
 
+    def is_at_hand(self) -> bool:
+        """Whether the next record and the marker behind it were read already."""
+        return self.window.ended or self.window.end >= self.at + self.step + len(self.marker)
+
     def write(self, path: str | os.PathLike[str]) -> None:
         """Writes the records that are left to a file."""
         with open(path, "wb") as file:
@@ -111,18 +120,19 @@ class Cut:
         """Each record."""
         self.source.open_stream()
         try:
-            window = Window(self.source)
-            at = self.next_marker(window, 0, 0)
-            while window.reach(at + self.step):
-                placed = self.placed(window, at)
-                for record in range(at, at + placed * self.step, self.step):
+            window = self.window
+            self.at = self.next_marker(window, 0, 0)
+            while window.reach(self.at + self.step):
+                placed = self.placed(window, self.at)
+                for _ in range(placed):
+                    begin = self.at + len(self.marker)
+                    self.at += self.step
                     self.records += 1
-                    yield window.part(record + len(self.marker), record + self.step)
-                at += placed * self.step
+                    yield window.part(begin, self.at)
                 if not placed:
-                    at = self.next_marker(window, at, at + 1)
-                window.forget(at)
-            self.left_out += window.end - at
+                    self.at = self.next_marker(window, self.at, self.at + 1)
+                window.forget(self.at)
+            self.left_out += window.end - self.at
         finally:
             self.source.close()
 

@@ -1,14 +1,13 @@
 -- What is done by a run, of what its contract says.
-use Rattle.std.proofs.Common.{◌≡◌, ◌⊎◌, ℕ, List, Option, None, Some, Result, Ok, inl, inr, option_map, refl, subst, ⊎_elim}
-use Rattle.std.specs.Prelude.{IfOk, MatchOption}
+use Rattle.std.proofs.Common.{◌≡◌, ◌⊎◌, ℕ, List, Option, None, Some, inl, inr, option_map, refl, ⊎_elim}
 use Rattle.tm_output.specs.declared.command.Ending.{Ending}
 use Rattle.tm_output.specs.Outputs.{Piece, Way}
 use Rattle.tm_output.specs.Pieces.{Texts}
-use Rattle.tm_checkpoint.specs.Works.{JobState, new_job, Work}
+use Rattle.tm_checkpoint.specs.Works.{JobState, Work}
 use Rattle.tm_tool.specs.Runs.{Devices, IsEnough, Ran, kept_of}
 use Rattle.tm_tool.specs.declared.job.Done.{Done}
 use Rattle.tm_settings.specs.Settings.{Rules}
-use Rattle.tm_program.specs.code.Endings.{HasDone, IsDone, ending_of, ending_with, wanted_file, work_from}
+use Rattle.tm_program.specs.code.Endings.{HasDone, IsDone, ending_with, wanted_file}
 use Rattle.tm_words.specs.declared.request.Plan.{Plan}
 
 -- what was read is enough, whatever the source tells
@@ -19,17 +18,6 @@ module _ {A K : Type 0} (grows : K → K → List A → Type 0) (way : Way) (tex
   pub ran_done : (old new : Devices K) (head : List (Piece A)) (done : Done) → Ran grows way text ending w head old new done.records (option_map (λ job. job.work) done.kept)
       → IsDone ending w done
   ran_done old new head done r = (r.read, untold ending w new.left r.read r.enough, r.outcome.count_is, r.outcome.kept_is)
-
--- what is done from the job that is gone on with, or else from a new one
-pub done_from : {E : Type 0} (found : Result JobState E) (p : Plan) (settings : Rules) (resumed : Option JobState) (job : JobState) (done : Done)
-    → MatchOption resumed (IfOk found (λ j. j ≡ new_job settings)) (λ j. found ≡ Ok j) → found ≡ Ok job → IsDone (ending_of p) job.work done
-    → HasDone p settings resumed done
-done_from {E} found p settings None job done from is d =
-    let new : job ≡ new_job settings = subst (λ (r : Result JobState E). IfOk r (λ j. j ≡ new_job settings)) is from in
-    subst (λ (j : JobState). IsDone (ending_of p) j.work done) new d
-done_from found p settings (Some old) job done from is d =
-    let same : job ≡ old = cc in
-    subst (λ (j : JobState). IsDone (ending_of p) j.work done) same d
 
 -- no checkpoint is wanted
 pub file_unwanted : {J : Type 0} (name : Option (List ℕ)) (kept : Option J) → (name ≡ None) ⊎ (kept ≡ None) → wanted_file name kept ≡ None

@@ -1,2 +1,3 @@
+pub mod BlameLemmas
 pub mod EndingLemmas
 pub mod ProgramLemmas

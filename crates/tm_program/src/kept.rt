@@ -1,16 +1,15 @@
 //! The checkpoint that a run goes on from, and the one that it leaves.
 
-ghost use Rattle.std.specs.Prelude.{◌≡◌, ◌⊎◌, None, Ok, Some, IfErr, IfOk, IfSome, MatchOption, is_some, option_map};
+ghost use Rattle.std.specs.Prelude.{◌≡◌, ◌⊎◌, None, Ok, Some, IfErr, IfOk, MatchOption, option_map};
 ghost use Rattle.tm_checkpoint.specs.Checkpoints.{checkpoint_of};
-ghost use Rattle.tm_checkpoint.specs.Works.{JobState, new_job};
-ghost use Rattle.tm_program.specs.code.Endings.{ending_of, wanted_file};
-ghost use Rattle.tm_program.specs.code.Faults.{IsOfResumed, IsResumed};
+ghost use Rattle.tm_checkpoint.specs.Works.{JobState};
+ghost use Rattle.tm_program.specs.code.Endings.{ending_of, wanted_file, work_from};
 ghost use Rattle.tm_files.specs.code.Files.{HasFault, IsNoMemory};
 ghost use Rattle.tm_files.specs.code.Replacements.{replaced_name};
 
 use std::alloc::Global;
 use std::rt::Files;
-use tm_files::{Replaced, ToolFault, read_file, replace};
+use tm_files::{Replaced, ToolFault, replace};
 use tm_tool::{Done, Ending, Job, Octets, RunFault, Settings};
 use tm_words::Plan;
 
@@ -25,33 +24,13 @@ pub fn ending_by(plan: &Plan) -> Ending
     }
 }
 
-/// The job of the checkpoint that the plan goes on from, where it has one.
-pub fn resumed_by<R: Files + AllocGlobal>(
-    rt: &R,
-    plan: &Plan,
-    settings: &Settings,
-) -> Result<Option<Job>, ToolFault>
-    ensures found { IfOk result (λ found. is_some found ≡ is_some plan.now.resume) }
-    ensures job { IfOk result (λ found. IfSome found (IsResumed settings.now)) }
-    ensures refused { IfErr result (IsOfResumed plan.now) }
-{
-    let Some(name) = &plan.resume else {
-        return Ok(None);
-    };
-    let octets = read_file(rt, name)?;
-    match Job::resume(rt.alloc(), settings, octets.as_slice()) {
-        Ok(job) => Ok(Some(job)),
-        Err(fault) => Err(ToolFault::Checkpoint(fault)),
-    }
-}
-
 /// The job to go on with, or else a new one.
 pub fn job_by<R: AllocGlobal>(
     rt: &R,
     resumed: Option<Job>,
     settings: &Settings,
 ) -> Result<Job, ToolFault>
-    ensures job { MatchOption resumed (IfOk result (λ job. job ≡ new_job settings.now)) (λ job. result ≡ Ok job) }
+    ensures job { IfOk result (λ job. job.work ≡ work_from settings.now resumed) }
     ensures refused { IfErr result IsNoMemory }
 {
     match resumed {
@@ -83,7 +62,8 @@ fn wanted<'p>(
     }
 }
 
-/// Writes the checkpoint that the plan wants of what a run kept, and answers which file it replaced. What the file then holds has no place in a contract.
+/// Writes the checkpoint that the plan wants of what a run kept, and answers which file it replaced. What the file then holds has no place in a
+/// contract.
 #[tactic(auto, using(tm_files::proofs::FaultLemmas::starved_there, crate::proofs::EndingLemmas::file_unwanted, crate::proofs::EndingLemmas::file_wanted))]
 pub fn keep<'p, R: Files + AllocGlobal>(
     rt: &R,

@@ -1,7 +1,11 @@
 //! What the program does: the order of its steps, from the words of the command line to the checkpoint of the run.
 #![tactic(auto)]
 
+mod checks;
+mod folder;
+mod inputs;
 mod kept;
+mod opening;
 mod steps;
 
 pub use steps::run;

@@ -1,7 +1,7 @@
 -- Which device a run's fault blames, and how splitting ends.
-use Rattle.std.specs.Prelude.{⊤, ℕ, Bool, true, false, List, Option, None, Some, Result, Ok, Err}
-use Rattle.tm_output.specs.Faults.{CausedByDevice, RunCaused}
-use Rattle.tm_output.specs.Outputs.{View}
+use Rattle.std.specs.Prelude.{◌≡◌, ⊤, ℕ, Bool, true, false, List, Option, None, Some, Result, Ok, Err}
+use Rattle.tm_devices.specs.Devices.{raised}
+use Rattle.tm_output.specs.Faults.{CausedByDevice}
 use Rattle.tm_faults.specs.declared.fault.RunFault.{RunFault}
 use Rattle.tm_faults.specs.declared.fault.RunFault.TheVariants as run
 use Rattle.tm_files.specs.declared.fault.ToolFault.{ToolFault}
@@ -14,10 +14,11 @@ abbrev pub IsBlamed : ℕ → ℕ → ℕ → ℕ → ToolFault → Type 0
 IsBlamed source_old source_new out_old out_new (tool.Run fault) = CausedByDevice source_old source_new out_old out_new fault
 IsBlamed source_old source_new out_old out_new _ = ⊥
 
--- likewise, of a source and two outputs
-abbrev pub IsBlamedOf : {K : Type 0} → ℕ → ℕ → View K → View K → ToolFault → Type 0
-IsBlamedOf source_old source_new old new (tool.Run fault) = RunCaused source_old source_new old new fault
-IsBlamedOf source_old source_new old new _ = ⊥
+-- Of a run into an output that it has itself: `Read` comes only where the count of failures of the source rose, and `Report` only where that of the report did.
+abbrev pub IsBlamedBeside : ℕ → ℕ → ℕ → ℕ → ToolFault → Type 0
+IsBlamedBeside source_old source_new report_old report_new (tool.Run run.Read) = source_new ≡ raised source_old
+IsBlamedBeside source_old source_new report_old report_new (tool.Run run.Report) = report_new ≡ raised report_old
+IsBlamedBeside source_old source_new report_old report_new _ = ⊤
 
 -- the fault of a put that was refused: whether memory was wanting, and else the name of its file where that is another file of the run
 abbrev pub put_fault_of : Bool → Option (List ℕ) → ToolFault

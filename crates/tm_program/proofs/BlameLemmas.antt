@@ -1,0 +1,56 @@
+-- Whom the fault of a run blames.
+use Rattle.std.proofs.Common.{ℕ, Bool, true, false, List, Option, None, Some, Result, Ok, Err}
+use Rattle.std.specs.Prelude.{⊤, IfErr}
+use Rattle.tm_faults.specs.declared.fault.RunFault.{RunFault}
+use Rattle.tm_faults.specs.declared.fault.RunFault.TheVariants as run
+use Rattle.tm_files.specs.code.Files.{IsNoMemory}
+use Rattle.tm_files.specs.declared.fault.ToolFault.{ToolFault}
+use Rattle.tm_files.specs.declared.fault.ToolFault.TheVariants as tool
+use Rattle.tm_output.specs.Faults.{RunCaused, RunCounted}
+use Rattle.tm_output.specs.Outputs.{View}
+use Rattle.tm_program.specs.code.Blames.{IsBlamedBeside, split_end_of}
+use Rattle.tm_shelf.specs.declared.files.ShelfFault.{ShelfFault}
+use Rattle.tm_shelf.specs.declared.files.ShelfFault.TheVariants as shelf
+
+-- a run's fault
+pub run_blames : {K : Type 0} (s t : ℕ) (old new : View K) (fault : RunFault) → RunCaused s t old new fault
+    → IsBlamedBeside s t old.report_failures new.report_failures (tool.Run fault)
+run_blames s t old new run.Read h = h.0
+run_blames s t old new run.Write h = tt
+run_blames s t old new run.Report h = h.1.1
+run_blames s t old new run.ShortRecording h = tt
+run_blames s t old new run.TooMany h = tt
+run_blames s t old new run.NoMemory h = tt
+
+-- what splitting ends with
+pub split_blames : {D K : Type 0} (s t : ℕ) (old new : View K) (done : Result D RunFault) (written : Result ⊤ ShelfFault) (starved : Bool)
+    (taken : Option (List ℕ)) → RunCounted s t old new done
+    → IfErr (split_end_of done written starved taken) (IsBlamedBeside s t old.report_failures new.report_failures)
+split_blames s t old new (Ok done) (Ok nothing) starved taken h = tt
+split_blames s t old new (Ok done) (Err shelf.NoMemory) starved taken h = tt
+split_blames s t old new (Ok done) (Err shelf.NotWritten) starved taken h = tt
+split_blames s t old new (Ok done) (Err shelf.Taken) starved taken h = tt
+split_blames s t old new (Err run.Read) written starved taken h = h.0
+split_blames s t old new (Err run.Write) written true taken h = tt
+split_blames s t old new (Err run.Write) written false (Some name) h = tt
+split_blames s t old new (Err run.Write) written false None h = tt
+split_blames s t old new (Err run.Report) written starved taken h = h.1.1
+split_blames s t old new (Err run.ShortRecording) written starved taken h = tt
+split_blames s t old new (Err run.TooMany) written starved taken h = tt
+split_blames s t old new (Err run.NoMemory) written starved taken h = tt
+
+-- want of memory blames no device
+pub starved_blames : (s t r q : ℕ) (fault : ToolFault) → IsNoMemory fault → IsBlamedBeside s t r q fault
+starved_blames s t r q (tool.Usage f) h = absurd h
+starved_blames s t r q (tool.Settings f) h = absurd h
+starved_blames s t r q (tool.Definition f) h = absurd h
+starved_blames s t r q (tool.Checkpoint f) h = absurd h
+starved_blames s t r q (tool.File name) h = absurd h
+starved_blames s t r q (tool.TooLong name) h = absurd h
+starved_blames s t r q tool.Errors h = absurd h
+starved_blames s t r q (tool.Run run.Read) h = absurd h
+starved_blames s t r q (tool.Run run.Write) h = absurd h
+starved_blames s t r q (tool.Run run.Report) h = absurd h
+starved_blames s t r q (tool.Run run.ShortRecording) h = absurd h
+starved_blames s t r q (tool.Run run.TooMany) h = absurd h
+starved_blames s t r q (tool.Run run.NoMemory) h = tt

@@ -2,7 +2,7 @@
 
 ghost use Rattle.std.specs.Prelude.{◌≡◌, ◌⊎◌, None, Ok, Some, IfErr, IfOk, MatchOption, option_map};
 ghost use Rattle.tm_checkpoint.specs.Checkpoints.{checkpoint_of};
-ghost use Rattle.tm_checkpoint.specs.Works.{JobState};
+ghost use Rattle.tm_checkpoint.specs.Works.{JobState, new_job};
 ghost use Rattle.tm_program.specs.code.Endings.{ending_of, wanted_file, work_from};
 ghost use Rattle.tm_files.specs.code.Files.{HasFault, IsNoMemory};
 ghost use Rattle.tm_files.specs.code.Replacements.{replaced_name};
@@ -30,7 +30,8 @@ pub fn job_by<R: AllocGlobal>(
     resumed: Option<Job>,
     settings: &Settings,
 ) -> Result<Job, ToolFault>
-    ensures job { IfOk result (λ job. job.work ≡ work_from settings.now resumed) }
+    ensures job { MatchOption resumed (IfOk result (λ job. job ≡ new_job settings.now)) (λ job. result ≡ Ok job) }
+    ensures work { IfOk result (λ job. job.work ≡ work_from settings.now resumed) }
     ensures refused { IfErr result IsNoMemory }
 {
     match resumed {

@@ -57,7 +57,7 @@ def main(tmx, settings, recording):
     octets = Path(recording).read_bytes() * TIMES
     Path("repeated").write_bytes(octets)
     packets = reference.read_recording(reference.Settings(settings), octets)[0].packets
-    whole, starved, enough = sum(len(it[1]) for it in packets), [], 0
+    whole, out_of_memory, enough = sum(len(it[1]) for it in packets), [], 0
     words = [tmx, "split", "--settings", settings, "--dir", "split", "--report", "report", "repeated"]
     for limit in LIMITS:
         status, line, files = run(words, limit)
@@ -66,14 +66,14 @@ def main(tmx, settings, recording):
             return f"{limit} KiB: the files don't end at one place: { {it: len(files[it]) for it in files} }"
         enough = enough + 1 if (status, line, found) == (0, b"", whole) else 0
         if (status, line) == (3, b"tmx: out of memory\n"):
-            starved.append(found)
-        elif not enough and (starved or status not in (126, 127, -9, -11)):
+            out_of_memory.append(found)
+        elif not enough and (out_of_memory or status not in (126, 127, -9, -11)):
             return f"{limit} KiB: status {status}, {found} of {whole} octets, {line[:100]!r}"
         if enough == ENOUGH:
             break
-    if not any(starved) or enough < ENOUGH:
-        return f"out of memory with {starved} octets, status {status} at the end"
-    print(f"out of memory {len(starved)} times, with {min(starved)} to {max(starved)} of {whole} octets written")
+    if not any(out_of_memory) or enough < ENOUGH:
+        return f"out of memory with {out_of_memory} octets, status {status} at the end"
+    print(f"out of memory {len(out_of_memory)} times, with {min(out_of_memory)} to {max(out_of_memory)} of {whole} octets written")
     return 0
 
 

@@ -3,18 +3,19 @@
 #
 #   trials/hostile.sh TMX [GROUP..]
 #
-# TMX is the program. The groups are random, anything, zero, long, killed, devices, files, faults, clashes, starved, many, pictures and
-# python; README.md says what they are. All are tried where none is named.
+# TMX is the program. The groups are random, anything, zero, long, killed, live, devices, files, faults, clashes, low_memory, many, pictures,
+# python, install, terminal, arguments and library; README.md says what they are. All are tried where none is named.
 # OCTETS is how long the recording of `long` is (2 GiB), ROUNDS how many rounds `killed` has for each command (8), LARGEST how many octets
 # the longest recording of `random` has (1 MiB; with less, recordings of 4 MB with damaged lengths of packets are left out), ANYTHING how
-# many seconds `anything` takes (120), and PICTURED how many records the longest recording of `pictures` has (1,000,000).
+# many seconds `anything` takes (120), PICTURED how many records the longest recording of `pictures` has (1,000,000), and CHUNKED how many
+# random recordings `library` has (40).
 # Prints a line for each trial, and a count at the end. What was measured on the way stands in lines that begin with `note`.
 
 set -u
 here=$(cd "$(dirname "$0")" && pwd)
 tmx=$(realpath "${1:?the path of the program tmx is missing}")
 shift
-groups=${*:-random anything zero long killed devices files faults clashes starved many pictures python}
+groups=${*:-random anything zero long killed live devices files faults clashes low_memory many pictures python install terminal arguments library}
 OCTETS=${OCTETS:-2147483648}
 ROUNDS=${ROUNDS:-8}
 LARGEST=${LARGEST:-1048576}

@@ -5,9 +5,10 @@
 
 Draws the example, recordings of eight channels with damage, empty ones, noise, and three of so many records.  The figures
 that a picture says on hover are counted again from the lines.  Each mark has to stand at the records that it names, and
-each part of a band has to show the worst of them.  Texts must not lie over each other.  The colour-blind have to tell the
-colours apart.  Alters lines, and has each such input refused with one line that names file and line.  Prints a line `ok ..`
-or `FAILED: ..` for each.  Works in the current folder.
+each part of a band has to show the worst of them.  The marks of a bad frame light up together, and say in which bands they
+stand.  The highest bar of each row bears its number, and bars stand apart from the band below.  Texts must not lie over each
+other.  The colour-blind have to tell the colours apart.  Alters lines, and has each such input refused with one line that
+names file and line.  Prints a line `ok ..` or `FAILED: ..` for each.  Works in the current folder.
 """
 
 import os
@@ -26,8 +27,9 @@ import reference
 HERE = Path(__file__).resolve().parent
 PACKAGE = HERE.parent / "python"
 SVG = "{http://www.w3.org/2000/svg}"
-MOST_OCTETS = 3000000  # of a picture
+MOST_OCTETS = 3500000  # of a picture
 LEAST_DISTANCE = 0.07  # of two colours
+LEAST_SPACE = 3  # between a bar and the band below
 
 sys.dont_write_bytecode = True
 sys.path.insert(0, str(PACKAGE))
@@ -163,7 +165,7 @@ def found_figures(picture):
             for number, what in re.findall(pattern, words):
                 found[name[1], what] += int(number)
         elif "bad frame" in words:
-            for number, fault in re.findall(r"(\d+) by (\S+)", words):
+            for number, fault in re.findall(r"(\d+) by ([\w-]+)", words):
                 found["bad", fault] += int(number)
         elif "master channel" in words:
             found["master", "missing"] += int(re.search(r"(\d+) frames? missing", words)[1])
@@ -196,6 +198,97 @@ def misplaced(picture, records):
             if kind != f"hover s-{min(found, key=WORST_FIRST.index).lower()}":
                 return f"{words} is shown as {kind}; "
     return ""
+
+
+def suspected(frames):
+    """Of each bad record the channels that miss frames around it, by what the lines say."""
+    found, last, bad = {}, {}, []
+    for line in frames.splitlines():
+        said = dict(re.findall(r"(\w+)=(\S+)", line))
+        if line.startswith("bad "):
+            bad.append(int(said["record"]))
+        elif line.startswith("frame "):
+            name, count = said["channel"], int(said["count"])
+            before, known = last.get(name, (len(bad), count - 1))
+            if (count - known) % 256 != 1:
+                for record in bad[before:]:
+                    found.setdefault(record, set()).add(name)
+            last[name] = len(bad), count
+    return found
+
+
+def columns_of(frames):
+    """How many records a column has."""
+    records = frames.count("record=") - frames.count("short ")
+    return max(1, -(-records // loss_map.MOST_COLUMNS))
+
+
+def wanted_bands(frames):
+    """For the column of each bad record: in which bands it stands, and of each of these with which others it shares a record."""
+    each, bands = columns_of(frames), {}
+    for record, names in suspected(frames).items():
+        column = bands.setdefault(record // each, {})
+        for name in names:
+            column.setdefault(name, set()).update(names - {name})
+    return bands
+
+
+def found_bands(picture, frames):
+    """The same by the groups of marks that light up together, each of which has a bar of bad frames."""
+    each, bands = columns_of(frames), {}
+    for group in (it for it in picture.iter(f"{SVG}g") if it.find(f"{SVG}title") is None):
+        bar, *marks_of_bands = [it.find(f"{SVG}title").text.replace(",", "") for it in group]
+        here = bands.setdefault(int(re.match(r"Records? (\d+)", bar)[1]) // each, {})
+        for words in marks_of_bands:
+            also = re.search(r"\d bad of no known channel \(also in the bands? of channels? ([^)]*)\)", words)
+            here[re.match(r"Channel (\d)", words)[1]] = set(re.findall(r"\d", also[1])) if also else set()
+        perhaps = bar.partition("; perhaps of channel")[2]
+        if set(re.findall(r"\d", perhaps)) != set(here):
+            return {bar: here}
+    return bands
+
+
+def apart(picture):
+    """Marks of bad frames that don't stand in a group, and bars that touch the band below."""
+    grouped = {it for group in picture.iter(f"{SVG}g") for it in group}
+    for mark in picture.iter(f"{SVG}rect"):
+        title = mark.find(f"{SVG}title")
+        if title is not None and mark not in grouped and re.search(r"\d bad, of", title.text):
+            return f"{title.text} doesn't light up with others; "
+    tops = [float(it.get("y")) for it in picture.iter(f"{SVG}rect") if it.get("class") == "frame"]
+    for bar in (it for it in picture.iter(f"{SVG}rect") if it.get("class", "").startswith("r-")):
+        bottom = float(bar.get("y")) + float(bar.get("height"))
+        if any(bottom < top < bottom + LEAST_SPACE for top in tops):
+            return f"a bar ends at {bottom}, and its band is below it at once; "
+    return ""
+
+
+def numbers_of_bars(picture):
+    """For each row of bars the number of its highest, and where the number has to stand: above it, within two of its width."""
+    rows = {}
+    for kind, x, width, words in marks(picture):
+        said = words.replace(",", "")
+        if "dropped" in said:
+            row, numbers = said[:9], re.findall(r"(\d+) octets? by", said)
+        elif kind in ("hover faults", "hover master"):
+            row, numbers = kind, re.findall(r"(\d+) (?:bad frames?|frames? missing)", said)
+        else:
+            continue
+        number = sum(map(int, numbers))
+        if row not in rows or number > rows[row][0]:
+            rows[row] = number, x + width / 2
+    return rows
+
+
+def unnumbered(picture):
+    """A row whose highest bar bears another number, or none."""
+    there = [it for it in picture.iter(f"{SVG}text") if it.get("class") == "small middle"]
+    rows = numbers_of_bars(picture)
+    for row, (number, middle) in rows.items():
+        said = [it for it in there if it.text == f"{number:,}"]
+        if not any(abs(float(it.get("x")) - middle) < 50 for it in said):
+            return f"the highest bar of {row} doesn't bear {number}; "
+    return "" if len(there) == len(rows) else f"{len(there)} numbers on bars of {len(rows)} rows; "
 
 
 def text_box(text):
@@ -243,13 +336,16 @@ def judge(frames, report, texts=()):
         return f"{len(ran.stdout)} octets"
     wrong = misplaced(picture, frames.count("record=") - frames.count("short ")) + unreadable(picture)
     there = {it.text for it in picture.iter(f"{SVG}text")}
+    wrong += apart(picture) + unnumbered(picture)
+    if found_bands(picture, frames) != (bands := wanted_bands(frames)):
+        wrong += f"bands of bad frames: wanted {str(bands)[:300]}, found {str(found_bands(picture, frames))[:300]}; "
     return wrong + "".join(f"no text {it}; " for it in ("A < B & C", *texts) if it not in there)
 
 
 def pictures(settings, records):
     example = HERE.parent / "example"
     lines = lines_of(reference.Settings(example / "settings.toml"), (example / "pass.rec").read_bytes())
-    tell("the example", judge(*lines, ["Channel 0", "Channel 1", "Channel 3", "84 frames", "106 octets dropped"]))
+    tell("the example", judge(*lines, ["Channel 0", "84 frames", "106 octets dropped", "no frame of this channel here"]))
     for number, seed in ((1, 1), (50, 2), (399, 3), (400, 4), (401, 5), (3000, 6), (8111, 7)):
         recording = eight_channels(settings, number, seed)
         tell(f"{number} records of eight channels", judge(*lines_of(settings, recording)))
@@ -270,6 +366,7 @@ def pictures(settings, records):
     tell("a gap of the master channel that the report doesn't know", judge(lines[0], unknown))
     tell("colours of frames", too_like(loss_map.STATE_COLOURS))
     tell("colours of reasons", too_like(loss_map.REASONS))
+    tell("the colour of missing frames", too_like({"missing": loss_map.STATE_COLOURS["missing"]} | loss_map.REASONS))
     return lines
 
 

@@ -1,17 +1,23 @@
 #!/usr/bin/env python3
 """docs/PROVED.md and the tree agree.
 
+A promise is an entry: a heading, what it promises, and the parts **Means:**, **Carried by:** and **Guarded by:**. The entries stand before
+the section on what is only tested.
+
 What the page names has to be there: the files and headings that it links to; the definitions, in the file of specs/ that is linked; the
 functions, in the file of src/ that is linked, and the clauses at them; the planted bugs, in their crate's must-fail/; the tests, in their
-file; and the groups of trials, in theirs. And the page has to name each file of must-fail/, each test, and each public function that has a
-contract.
+file; and the groups of trials, in theirs. The same goes for the functions, planted bugs and trials of the section on what the contracts
+let through.
+
+An entry has to name each file of must-fail/, each test, and each public function that has a contract. Each heading has an anchor of its
+own, and no line is over 160 columns.
 
 Public are the functions that a crate's lib.rt hands out, by name or in a `pub mod`, and those of the types and traits that it hands out.
 Those that a derive or an `impl` of std's traits gives aren't: they have no contract of their own. The functions of tm_tests and
-tm_program_tests, whose devices only tests use, need no row.
+tm_program_tests, whose devices only tests use, need no entry.
 
 It prints a line for each fault, else one for each kind of thing that was looked for, and last how many passed and how many failed. Its
-status is 0 where none failed. It proves nothing: whether a row says what its clauses say is for its reader to see."""
+status is 0 if none failed. It proves nothing: whether an entry says what its clauses say is for its reader to see."""
 
 import pathlib
 import re
@@ -23,6 +29,9 @@ import names
 ROOT = pathlib.Path(__file__).resolve().parent.parent
 CRATES = ROOT / "crates"
 PAGE = ROOT / "docs" / "PROVED.md"
+
+# The trait of std that thiserror's derive gives, without a name of its own in the source.
+DERIVED = "Display"
 
 # These have the tests, and devices for them.
 FOR_TESTS = ("tm_tests", "tm_program_tests")
@@ -36,7 +45,26 @@ ONLY_NAMES = re.compile(r"(?:(?:, | and )?`[^`]+`)+")
 NAMES = re.compile(r"[^`]*: ((?:(?:, | and )?`[^`]+`)+)")
 NAMES_OF_FILE = re.compile(r"\]\(([^)]*\.(?:rt|antt))\): ((?:(?:, | and )?`[^`]+`)+)")
 ONLY_TESTED = "\n## What is only tested\n"
-FUNCTION = re.compile(r"\s*(pub )?(?:pub\(\w+\) )?(?:const )?(?:unsafe )?fn (\w+)")
+LET_THROUGH = "\n## What the contracts let through\n"
+REFUSALS = "\n### How planted bugs are refused\n"
+
+# The parts of an entry, in their order, and the columns that a line may have.
+PARTS = ("Means", "Carried by", "Guarded by")
+PART = re.compile(r"- \*\*([^*]*):\*\* (.*)")
+COLUMNS = 160
+
+# What may guard a promise: planted bugs, tests and worked examples of a file, groups of trials, or a place on another page.
+SEVERAL = r"(?:(?:, | and )?`[^`]+`)+"
+BUGS = re.compile(f"planted bugs? ({SEVERAL})")
+GUARDS = (
+    BUGS,
+    re.compile(r"(?:tests |worked examples in )?\[[^\]]*\]\([^)]*\.(?:rt|antt)\): " + SEVERAL),
+    re.compile(r"trials (?:(?:, )?\[[^\]]*\]\([^)]*\.sh\))+"),
+    re.compile(r"\[[^\]]*\]\([^)]*\.md#[^)]*\)"),
+)
+UNGUARDED = "the proof alone"
+TRIALS = re.compile(r"\btrials ((?:(?:, | and )?`\w+`)+)")
+FUNCTION = re.compile(r"\s*(pub )?(?:pub\(\w+\) )?(?:const )?(?:unsafe )?(?:extern \"C\" )?fn (\w+)")
 CLAUSE = re.compile(r"\s+(ensures|requires)\b(?: ([\w-]+))? \{")
 BLOCK = re.compile(r"(?:pub(?:\(\w+\))? )?(impl|trait)\b(?:<.*?>(?= ))? ?(?:(.*) for )?(\w+)")
 
@@ -59,12 +87,22 @@ class Function:
 
 
 @dataclass
-class Row:
-    """A row of a table: its line, and the cells as a dictionary from their headings."""
+class Entry:
+    """A promise: the line of its heading, its crate, its heading and what stands below it, and the parts with their names, in their order."""
 
     line: int
     crate: str
-    cells: dict
+    heading: str
+    promise: list = field(default_factory=list)
+    parts: list = field(default_factory=list)
+    stray: list = field(default_factory=list)
+
+    def __getitem__(self, name):
+        return dict(self.parts).get(name, "")
+
+    def is_whole(self):
+        has_all = tuple(name for name, _ in self.parts) == PARTS and all(text.strip() for _, text in self.parts)
+        return bool(self.heading and self.promise and has_all and not self.stray)
 
 
 def block_of(line):
@@ -114,32 +152,40 @@ def public_functions(functions):
                 yield it
 
 
-def rows_of(text):
-    """The rows of the page's tables of promises."""
-    crate, headings, found = CRATE_OF_THE_WHOLE, [], []
-    for number, line in enumerate(text.splitlines(), 1):
+def entries_of(text):
+    """The entries of the page: each heading of the third level before what is only tested begins one, and any heading ends it."""
+    crate, found, entry = CRATE_OF_THE_WHOLE, [], None
+    for number, line in enumerate(text.partition(ONLY_TESTED)[0].splitlines(), 1):
+        part = PART.fullmatch(line)
         if line.startswith("## "):
-            crate = (QUOTED.findall(line) or [CRATE_OF_THE_WHOLE])[0]
-        if not line.startswith("| "):
+            crate, entry = (QUOTED.findall(line) or [CRATE_OF_THE_WHOLE])[0], None
+        elif line.startswith("### "):
+            entry = Entry(number, crate, line[4:].strip())
+            found.append(entry)
+        elif line.startswith("#"):
+            entry = None
+        elif entry is None or not line.strip():
             continue
-        cells = [it.strip() for it in line.strip("| ").split(" | ")]
-        if cells[0] == "Promise":
-            headings = cells
-        elif len(cells) != len(headings):
-            found.append(Row(number, crate, {}))
+        elif part:
+            entry.parts.append(part.groups())
+        elif not entry.parts:
+            entry.promise.append(line)
+        elif line.startswith("  "):
+            name, before = entry.parts[-1]
+            entry.parts[-1] = (name, f"{before} {line.strip()}")
         else:
-            found.append(Row(number, crate, dict(zip(headings, cells))))
+            entry.stray.append(line)
     return found
 
 
-def parts_of(cell):
-    """The parts of a cell between semicolons: the file that each is on, which is that of the last link so far, and the text behind the link."""
+def pieces_of(part):
+    """The pieces of a part between semicolons: the file that each is on, which is that of the last link so far, and the text behind the link."""
     path = None
-    for part in cell.split("; "):
-        link = LINK.search(part)
+    for piece in part.split("; "):
+        link = LINK.search(piece)
         if link:
             path = (PAGE.parent / link.group(2).split("#")[0]).resolve()
-        yield path, bool(link), part[link.end() :] if link else part
+        yield path, bool(link), piece[link.end() :] if link else piece
 
 
 def slug(heading):
@@ -166,9 +212,9 @@ def definitions_in(path):
     return set(names.names_in(path.read_text(encoding="utf-8"))) if path.exists() else set()
 
 
-def wrong_definitions(row):
+def wrong_definitions(entry):
     """Names that stand directly behind a link to their file are looked for; what follows them, as `over std's ..`, is not."""
-    for path, linked, text in parts_of(row.cells["Defined in"]):
+    for path, linked, text in pieces_of(entry["Means"]):
         if linked:
             quoted = NAMES.match(text)
             found = QUOTED.findall(quoted.group(1)) if quoted else []
@@ -184,7 +230,7 @@ def named_functions(functions, path, name):
 
 
 def read_clauses(text):
-    """What a part of a cell on clauses says: the functions, the kind of their clauses, and the names of these; ``""`` is the one without a name."""
+    """What a piece on clauses says: the functions, the kind of their clauses, and the names of these; ``""`` is the one without a name."""
     before, colon, behind = text.partition("`: ")
     if colon:
         kind = "requires" if "the `requires` clause" in behind else "ensures"
@@ -203,10 +249,10 @@ def has_them(function, kind, clauses, text):
     return all(it in function.clauses[kind] for it in clauses)
 
 
-def clauses_of(row, functions):
-    """Of each function that the row's clauses are of: what is wrong, if anything, and the functions that have them."""
+def clauses_of(entry, functions):
+    """For each function that the entry's clauses are of: what is wrong, if anything, and the functions that have them."""
     before = []
-    for path, linked, text in parts_of(row.cells["Clause"]):
+    for path, linked, text in pieces_of(entry["Carried by"]):
         named, kind, clauses = read_clauses(text)
         if path is None or not named:
             yield f"no function of a file is named by {text}", []
@@ -225,11 +271,18 @@ def clauses_of(row, functions):
                 yield None, able
 
 
-def planted(row):
-    """The planted bugs that a row names, as files."""
-    for it in QUOTED.findall(row.cells["Planted bugs"]):
-        crate, _, name = it.rpartition("/")
-        yield CRATES / (crate or row.crate) / "must-fail" / f"{name}.edit"
+def planted(entry):
+    """The planted bugs that an entry names, as files."""
+    for bugs in filter(None, map(BUGS.fullmatch, entry["Guarded by"].split("; "))):
+        for it in QUOTED.findall(bugs.group(1)):
+            crate, _, name = it.rpartition("/")
+            yield CRATES / (crate or entry.crate) / "must-fail" / f"{name}.edit"
+
+
+def wrong_guards(entry):
+    """What stands among an entry's guards and is none of them."""
+    if entry["Guarded by"] != UNGUARDED:
+        yield from (f"{it} is no guard" for it in entry["Guarded by"].split("; ") if not any(form.fullmatch(it) for form in GUARDS))
 
 
 def groups_of_trials():
@@ -238,7 +291,7 @@ def groups_of_trials():
 
 
 def tests_of(text, functions):
-    """Of each test and worked example that a text names behind a link to its file: what is wrong, if anything, and the test."""
+    """For each test and worked example that a text names behind a link to its file: what is wrong, if anything, and the test."""
     for target, quoted in NAMES_OF_FILE.findall(text):
         path = (PAGE.parent / target).resolve()
         for it in QUOTED.findall(quoted):
@@ -262,34 +315,64 @@ def wrong_trials(text, groups):
                 yield f"{name} is no group of trials of {path.name}"
 
 
+def wrong_bodies(text, functions, groups):
+    """Names in the section on what the contracts let through that are none of the tree's."""
+    section = text.partition(LET_THROUGH)[2]
+    tables, _, refusals = section.partition(REFUSALS)
+    crates = {path.name for path in CRATES.iterdir()}
+    source = "\n".join(path.read_text(encoding="utf-8") for path in functions)
+    known = crates | set(re.findall(r"\b(?:struct|enum|trait) (\w+)", source)) | {DERIVED}
+    every = [it for those in functions.values() for it in those]
+    for row in re.findall(r"^\| (.*?) \| ", tables, re.M):
+        for name in QUOTED.findall(row):
+            owner, _, last = name.rpartition("::")
+            if name not in known and not any(it.name == last and owner in ("", it.owner) for it in every):
+                yield f"{name}, whose bodies the contracts let through, is no function"
+    edits = {path.stem for path in CRATES.glob("*/must-fail/*.edit")}
+    yield from (f"{it}, which was looked at, is no planted bug" for it in QUOTED.findall(refusals) if it not in edits | crates)
+    for several in TRIALS.findall(re.sub(r"\s+", " ", section)):
+        yield from (f"{it} is no group of trials" for it in QUOTED.findall(several) if it not in groups)
+    if not tables.strip() or not refusals.strip():
+        yield "what the contracts let through does not stand in its two parts"
+
+
+def wrong_lines(text):
+    """Lines that are too long, and headings whose anchor an earlier one has."""
+    yield from (f"line {number} has {len(line)} columns" for number, line in enumerate(text.splitlines(), 1) if len(line) > COLUMNS)
+    anchors = [slug(it) for it in re.findall(r"^#+ .*$", text, re.M)]
+    yield from (f"two headings have the anchor #{it}" for it in dict.fromkeys(anchors) if anchors.count(it) > 1)
+
+
 def judge(text):
     """The faults of each kind, by what was looked for."""
-    rows = rows_of(text)
+    entries = entries_of(text)
     functions = {path: functions_in(path) for path in sorted(CRATES.glob("*/src/*.rt"))}
-    whole = [row for row in rows if row.cells]
     groups = groups_of_trials()
-    clauses = [(row, it) for row in whole for it in clauses_of(row, functions)]
-    tests = [(f"line {row.line}", it) for row in whole for it in tests_of(row.cells["Tests and trials"], functions)]
+    clauses = [(entry, it) for entry in entries for it in clauses_of(entry, functions)]
+    tests = [(f"line {entry.line}", it) for entry in entries for it in tests_of(entry["Guarded by"], functions)]
     tests += [("what is only tested", it) for it in tests_of(only_tested(text), functions)]
-    edits = {it for row in whole for it in planted(row)}
+    edits = {it for entry in entries for it in planted(entry)}
     named = {id(it) for _, (_, able) in clauses for it in able}
     tested = {id(it) for _, (_, found) in tests for it in found}
     every = [it for those in functions.values() for it in those]
     return {
-        "each row has its five cells": [f"line {row.line} has other cells" for row in rows if not row.cells],
+        "each entry has its four parts": [f"line {entry.line} begins no whole entry" for entry in entries if not entry.is_whole()],
+        "each line is short, and each heading has an anchor": list(wrong_lines(text)),
         "each link leads somewhere": list(wrong_links(text)),
-        "each definition is in its file": [f"line {row.line}: {it}" for row in whole for it in wrong_definitions(row)],
-        "each function and clause is in its file": [f"line {row.line}: {it[0]}" for row, it in clauses if it[0]],
+        "each definition is in its file": [f"line {entry.line}: {it}" for entry in entries for it in wrong_definitions(entry)],
+        "each function and clause is in its file": [f"line {entry.line}: {it[0]}" for entry, it in clauses if it[0]],
+        "each guard is one": [f"line {entry.line}: {it}" for entry in entries for it in wrong_guards(entry)],
         "each planted bug that is named is there": [f"{it.relative_to(CRATES)} is not there" for it in sorted(edits) if not it.exists()],
         "each test that is named is there": [f"{where}: {it[0]}" for where, it in tests if it[0]],
         "each group of trials that is named is there": list(wrong_trials(text, groups)),
         "each planted bug is named": [
-            f"no row names {it.relative_to(CRATES)}" for it in sorted(CRATES.glob("*/must-fail/*")) if it not in edits
+            f"no entry names {it.relative_to(CRATES)}" for it in sorted(CRATES.glob("*/must-fail/*")) if it not in edits
         ],
         "each public function with a contract is named": [
-            f"no row names {it}" for it in public_functions(functions) if id(it) not in named
+            f"no entry names {it}" for it in public_functions(functions) if id(it) not in named
         ],
-        "each test is named": [f"no row names the test {it}" for it in every if it.tested and id(it) not in tested],
+        "each test is named": [f"no entry names the test {it}" for it in every if it.tested and id(it) not in tested],
+        "each name that the contracts let through is there": list(wrong_bodies(text, functions, groups)),
     }
 
 

@@ -81,7 +81,7 @@ class Follow(TestCase):
         with open("growing.rec", "wb") as file:
             writer = threading.Thread(target=self.grow, args=(file, octets, 12))
             writer.start()
-            found = list(tmx.Recording("growing.rec", SETTINGS).follow(checkpoint="chk", interval=0.01, timeout=1))
+            found = list(tmx.Recording("growing.rec", SETTINGS).follow(checkpoint="chk", interval=0.01, timeout=5))
             writer.join()
         self.assertEqual(found, list(example().packets()))
         self.assertEqual(tmx.records_done("chk"), 300)
@@ -119,9 +119,58 @@ class Commands(TestCase):
             if length == 50000:
                 Path("steps/step-0000002.chk").unlink()  # as a crash leaves it
         names = [f"step-000000{number}.{kind}" for number in (1, 2, 3) for kind in ("chk", "packets", "report")]
-        self.assertEqual(sorted(os.listdir("steps")), names)
+        self.assertEqual(sorted(os.listdir("steps")), ["job", *names])
         listed = "".join(it.read_text() for it in sorted(Path("steps").glob("*.packets")))
         self.assertEqual(listed.splitlines(), [str(it) for it in example().packets()])
+
+    def follow(self, folder: str, *words: object) -> str:
+        """What a call of `follow` says on standard error."""
+        line = [sys.executable, "-m", "tmx", "follow", "--once", "--settings", SETTINGS, *map(str, words), "growing.rec", folder]
+        return subprocess.run(line, capture_output=True, text=True, env=os.environ | {"PYTHONPATH": str(PACKAGE)}).stderr
+
+    def grow_with(self, folder: str, *words: object) -> None:
+        """Steps of a growing recording; a whole one loses its checkpoint, and one more call finds nothing new."""
+        for length in (30000, 60000, 76800, 76800):
+            Path("growing.rec").write_bytes(RECORDING.read_bytes()[:length])
+            self.assertEqual(self.follow(folder, *words), "")
+            if length == 60000:
+                Path(folder, "step-0000002.chk").unlink()
+
+    def test_steps_of_each_command(self) -> None:
+        recording = example()
+        recording.extract("whole")
+        self.grow_with("octets", "--command", "extract")
+        self.assertEqual(b"".join(it.read_bytes() for it in sorted(Path("octets").glob("*.pkt"))), Path("whole").read_bytes())
+        recording.split("whole.d")
+        self.grow_with("apart", "--command", "split")
+        for file in Path("whole.d").iterdir():
+            parts = (it.read_bytes() for it in sorted(Path("apart").glob(f"*.split/{file.name}")))
+            self.assertEqual(b"".join(parts), file.read_bytes())
+        self.grow_with("rows", "--command", "fields", "--definition", ATTITUDE, "--apid", 101)
+        rows = "".join(it.read_text() for it in sorted(Path("rows").glob("*.csv"))).splitlines()
+        self.assertEqual(len(rows), 1 + recording.fields(ATTITUDE, 101).rows)
+
+    def test_a_folder_of_another_job_is_refused(self) -> None:
+        fields = ("--command", "fields", "--definition", ATTITUDE, "--apid")
+        self.grow_with("steps", *fields, 101)
+        kept = {it.name: it.read_bytes() for it in Path("steps").iterdir()}
+        says = "tmx follow: steps has steps of another {}: name another folder, or take the steps away\n".format
+        self.assertEqual(self.follow("steps"), says("command"))
+        self.assertEqual(self.follow("steps", *fields, 100), says("application"))
+        Path("other.csv").write_text("name,data_type,bit_length\nA,uint,8\n")
+        self.assertEqual(self.follow("steps", *fields[:3], "other.csv", "--apid", 101), says("definition"))
+        Path("growing.rec").write_bytes(RECORDING.read_bytes()[256:] + RECORDING.read_bytes())
+        self.assertEqual(self.follow("steps", *fields, 101), says("recording"))
+        Path("growing.rec").write_bytes(RECORDING.read_bytes()[:5000])
+        self.assertIn("growing.rec has fewer records than the steps of steps", self.follow("steps", *fields, 101))
+        self.assertEqual({it.name: it.read_bytes() for it in Path("steps").iterdir()}, kept)
+
+    def test_what_follow_passes_on(self) -> None:
+        self.assertEqual(self.follow("steps"), "tmx: growing.rec: failed\n")
+        self.assertIn("--definition and --apid are for --command fields", self.follow("steps", "--apid", 101))
+        Path("growing.rec").write_bytes(bytes(100))
+        self.assertEqual(self.follow("steps"), "")
+        self.assertEqual(os.listdir("steps"), [])
 
 
 class CutBack(TestCase):

@@ -10,6 +10,7 @@ The program `tmx` does the work: the environment variable TMX names it, else it 
 
 from .checkpoints import CutBackError, cut_back, records_done
 from .definition import Column
+from .engine import Engine, Given
 from .errors import (
     CheckpointError,
     ColumnError,
@@ -19,6 +20,7 @@ from .errors import (
     Error,
     FileError,
     KilledError,
+    LibraryMissingError,
     OutOfMemoryError,
     ProgramError,
     ProgramMissingError,
@@ -72,6 +74,7 @@ __all__ = [
     "DefinitionError",
     "DisagreementError",
     "Dropped",
+    "Engine",
     "Error",
     "FaultCounts",
     "Fields",
@@ -79,9 +82,11 @@ __all__ = [
     "Fit",
     "Frame",
     "Gap",
+    "Given",
     "Group",
     "Item",
     "KilledError",
+    "LibraryMissingError",
     "LossCounts",
     "LossMap",
     "LossMapError",

@@ -7,7 +7,7 @@ from collections.abc import Callable, Iterable
 
 from .checkpoints import cut_back, records_done
 from .errors import Error, ProgramError
-from .following import next_step, steps
+from .following import OUTPUTS, Wanted, next_step, steps
 from .loss_map import drawing, lines_of_file
 from .markers import cut
 from .probing import probe
@@ -51,6 +51,10 @@ def draw_map(words: argparse.Namespace, parser: argparse.ArgumentParser) -> None
 
 def follow_words(parser: argparse.ArgumentParser) -> None:
     parser.add_argument("--settings", required=True, metavar="FILE", help="the settings of the recording")
+    what = "the program's command for each step (packets)"
+    parser.add_argument("--command", dest="job", choices=list(OUTPUTS), default="packets", help=what)
+    parser.add_argument("--definition", metavar="FILE", help="the definition that fields needs")
+    parser.add_argument("--apid", type=int, metavar="N", help="the application that fields needs")
     parser.add_argument("--once", action="store_true", help="one step, and no waiting for more")
     parser.add_argument("--interval", default=10.0, type=float, metavar="SECONDS", help="when it looks again (10)")
     parser.add_argument("recording", metavar="RECORDING", help="a file that grows")
@@ -58,10 +62,14 @@ def follow_words(parser: argparse.ArgumentParser) -> None:
 
 
 def follow_recording(words: argparse.Namespace, parser: argparse.ArgumentParser) -> None:
+    needed = [words.definition is not None, words.apid is not None]
+    if needed != [words.job == "fields"] * 2:
+        parser.error("--definition and --apid are for --command fields, which needs both")
+    wanted = Wanted(words.job, words.definition, words.apid)
     if words.once:
-        next_step(words.recording, words.settings, words.folder)
+        next_step(words.recording, words.settings, words.folder, wanted)
         return
-    for step in steps(words.recording, words.settings, words.folder, words.interval):
+    for step in steps(words.recording, words.settings, words.folder, wanted, words.interval):
         say([f"{step} has {records_done(step)} records"])
 
 

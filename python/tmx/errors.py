@@ -15,6 +15,10 @@ class ProgramMissingError(Error):
     """The program `tmx` is not there: TMX doesn't name it, and it isn't on the PATH."""
 
 
+class LibraryMissingError(Error):
+    """The library `libtmx` is not there: TMX_LIBRARY doesn't name it, and the system doesn't find it."""
+
+
 class VersionError(Error):
     """The program is another one than this package needs: it refuses its words, or prints lines that it doesn't know."""
 

@@ -13,13 +13,15 @@ Either of the two files may be `-`, which is standard input.  The report may be 
 From left to right are the records.  From above to below come, for each channel that has a good frame,
 
   - the parts that were dropped, as bars: how high says how many octets, the colour says for which reason;
-  - a band of its frames.  Records of other channels leave it white.
+  - a band of its frames.  It is white where no frame of this channel is.
 
-and below all channels the bad frames, and the gaps of the master channel, as bars of so many frames.
+and below all channels the bad frames, and the gaps of the master channel, as bars of so many frames.  The highest bar of
+each row bears its number.
 
 Nothing is known of a bad frame, not even its channel.  It stands in the band of each channel that misses frames around
-it: that of the good frames before and after it which have a gap between them.  It may be one of those.  `Missing`
-stands at the first good frame behind the gap.  All else stands at the record that the report names.
+it: that of the good frames before and after it which have a gap between them.  It may be one of those.  On hover all its
+marks light up, and each says in which other bands it stands.  `Missing` stands at the first good frame behind the gap.  All
+else stands at the record that the report names.
 
 A long recording has several records in a column.  A band's column then shows the worst of them: missing frames, else a
 bad one, else a VCA frame, else a good one, else an idle one.  A browser shows the figures on hover.
@@ -32,7 +34,7 @@ import math
 import os
 import re
 from collections import Counter, defaultdict
-from collections.abc import Iterable, Iterator, Mapping, Sequence
+from collections.abc import Collection, Iterable, Iterator, Mapping, Sequence
 from functools import partial
 from html import escape
 from typing import NoReturn
@@ -210,6 +212,7 @@ def read_frames(source: Lines) -> Records:
 
 MOST_COLUMNS = 400
 Tallies = defaultdict[tuple[int, int], Counter[str]]  # by channel and column
+Shared = defaultdict[tuple[int, int], set[int]]  # by channel and column
 
 
 class Columns:
@@ -247,6 +250,19 @@ def tally_frames(recording: Records, columns: Columns) -> Tallies:
         for record in records:
             tallies[channel, columns.of(record)][BAD] += 1
     return tallies
+
+
+def shared_suspects(recording: Records, columns: Columns) -> Shared:
+    """For each channel and column the other channels in whose bands a bad frame of this band stands too."""
+    channels: defaultdict[int, list[int]] = defaultdict(list)
+    for channel, records in recording.suspects.items():
+        for record in records:
+            channels[record].append(channel)
+    shared: Shared = defaultdict(set)
+    for record, found in channels.items():
+        for channel in found:
+            shared[channel, columns.of(record)].update(it for it in found if it != channel)
+    return shared
 
 
 class Report:
@@ -347,8 +363,24 @@ def where(columns: Columns, column: int, last: int | None = None) -> str:
     return f"record {figure(first)}" if end - first == 1 else f"records {figure(first)} to {figure(end - 1)}"
 
 
-def frames_text(tally: Counter[str]) -> str:
-    words = {GOOD: "good", IDLE: "idle", VCA: "with a VCA_SDU", BAD: "bad, of no known channel", MISSING: "missing"}
+def listed(channels: Iterable[int], word: str) -> str:
+    """Numbers of channels, with a word before the last of several."""
+    *others, last = [str(it) for it in sorted(channels)]
+    return f"{', '.join(others)} {word} {last}" if others else last
+
+
+def bands_text(channels: Collection[int]) -> str:
+    """The other bands in which a bad frame stands."""
+    if not channels:
+        return ""
+    many = "s" * (len(channels) > 1)
+    return f" (also in the band{many} of channel{many} {listed(channels, 'and')})"
+
+
+def frames_text(tally: Counter[str], others: Collection[int]) -> str:
+    """What is in a band; `others` are the channels in whose bands its bad frames stand too."""
+    bad = f"bad, of no known channel{bands_text(others)}"
+    words = {GOOD: "good", IDLE: "idle", VCA: "with a VCA_SDU", BAD: bad, MISSING: "missing"}
     said = [f"{figure(tally[state])} {words[state]}" for state in STATES if tally[state]]
     note = f" ({counted(tally[TWICE], 'gap')} of 255: perhaps a frame recorded twice)" if tally[TWICE] else ""
     return ", ".join(said) + note
@@ -362,9 +394,11 @@ def dropped_text(parts: int, octets: Counter[str]) -> str:
 # Drawing.
 
 LEFT, PLOT, RIGHT = 204, 800, 38
-BAR, BAND, BETWEEN = 26, 18, 20  # heights
+BAR, BAND, BETWEEN, APART = 26, 18, 20, 4  # heights; the last stands between the bars of a channel and its band
 LEAST_BAR, LEAST_PART = 3, 1.5
-STATE_COLOURS = {GOOD: "#8fbbdb", IDLE: "#8a8e92", VCA: "#f0e442", BAD: "#000000", MISSING: "#d55e00"}
+LETTER = 6.6  # the width of a small letter, at the most
+STATE_COLOURS = {GOOD: "#8fbbdb", IDLE: "#8a8e92", VCA: "#f0e442", BAD: "#000000", MISSING: "#a50026"}
+NONE_WORDS = "no frame of this channel here"  # of white
 STATE_WORDS = {
     GOOD: "good",
     IDLE: "idle",
@@ -382,7 +416,7 @@ text { font: 12px "DejaVu Sans", Verdana, Arial, sans-serif; fill: #222 }
 .line { stroke: #999; stroke-width: 1 }
 .grid { stroke: #e8e8e8; stroke-width: 1 }
 .frame { fill: #fff; stroke: #bbb; stroke-width: 1 }
-g:hover > rect, rect.hover:hover { stroke: #222; stroke-width: 1 }
+g:hover > rect, rect.hover:hover { stroke: #1f5fff; stroke-width: 2 }
 """
 
 
@@ -410,9 +444,11 @@ class Picture:
     def __init__(self, recording: Records, columns: Columns, report: Report) -> None:
         self.recording, self.columns, self.report = recording, columns, report
         self.tallies = tally_frames(recording, columns)
+        self.shared = shared_suspects(recording, columns)
         self.channels = sorted({channel for channel, _ in self.tallies if channel != NO_CHANNEL})
-        self.greatest = {"dropped": max((tally.total() for tally in report.dropped.values()), default=0)}
+        self.most_dropped = max((tally.total() for tally in report.dropped.values()), default=0)
         self.marks: list[str] = []
+        self.of_bad: defaultdict[int, list[str]] = defaultdict(list)  # by column the marks of bad frames, which light up together
         self.y: float = 0
 
     def add(self, *marks: str) -> None:
@@ -446,7 +482,7 @@ def draw_head(picture: Picture, title: str) -> None:
     with_vca = any(tally[VCA] for tally in picture.tallies.values())
     states = [(f"s-{state}", STATE_WORDS[state]) for state in STATES if state != VCA or with_vca]
     reasons = [(f"r-{reason}", reason) for reason in REASONS if dropped[reason]]
-    draw_legend(picture, "Frames", [*states, ("s-none", "none of this channel")])
+    draw_legend(picture, "Frames", [*states, ("s-none", NONE_WORDS)])
     draw_legend(picture, "Dropped, by reason", reasons or [("", "nothing")])
     picture.y += 6
 
@@ -471,7 +507,7 @@ def draw_legend(picture: Picture, name: str, entries: Sequence[tuple[str, str]])
         if kind:
             picture.add(rectangle(kind, x, picture.y - 10, 12, 12), rectangle("edge", x, picture.y - 10, 12, 12))
         picture.add(text(x + 18 * bool(kind), picture.y, words))
-        x += 40 + 7 * len(words)
+        x += 36 + 7 * len(words)
     picture.y += 22
 
 
@@ -485,7 +521,9 @@ def draw_channel(picture: Picture, channel: int) -> None:
     draw_name(picture, f"Channel {channel}", said)
     for column, tally in dropped.items():
         draw_dropped(picture, channel, column, tally)
-    picture.y += BAR + 1
+    tops = {column: (tally.total(), dropped_height(picture, tally)) for column, tally in dropped.items()}
+    draw_number(picture, picture.y + BAR, tops)
+    picture.y += BAR + APART
     picture.add(rectangle("frame", LEFT, picture.y, PLOT, BAND))
     for first, last in runs(frames):
         draw_run(picture, channel, frames, first, last)
@@ -503,11 +541,28 @@ def height(number: int, greatest: int) -> float:
     return max(LEAST_BAR, BAR * math.sqrt(number / greatest))
 
 
+def dropped_height(picture: Picture, tally: Counter[str]) -> float:
+    """How high the bar of a column's dropped octets is, in which each reason is seen."""
+    return max(LEAST_PART * len(tally), height(tally.total(), picture.most_dropped))
+
+
+def draw_number(picture: Picture, base: float, bars: Mapping[int, tuple[int, float]]) -> None:
+    """The number on the highest of a row's bars, the first of equals.  A bar is a number and a height, by column."""
+    if not bars:
+        return
+    column = max(bars, key=lambda it: bars[it][0])
+    number, high = bars[column]
+    x, width = picture.span(column)
+    half = LETTER * len(figure(number)) / 2
+    middle = min(max(x + width / 2, LEFT + half), LEFT + PLOT + RIGHT - half)
+    picture.add(text(middle, base - high - 3, figure(number), "small middle"))
+
+
 def draw_dropped(picture: Picture, channel: int, column: int, tally: Counter[str]) -> None:
     """A bar for the octets that a column drops, in parts by their reasons."""
     x, width = picture.span(column)
-    least = LEAST_PART * len(tally)  # each reason is seen
-    high, base = max(least, height(tally.total(), picture.greatest["dropped"])), picture.y + BAR
+    least = LEAST_PART * len(tally)
+    high, base = dropped_height(picture, tally), picture.y + BAR
     words = dropped_text(picture.report.parts[channel, column], tally)
     picture.add(f"<g><title>{spelled(f'Channel {channel}, {where(picture.columns, column)}: {words}')}</title>")
     for reason in REASONS:
@@ -537,11 +592,12 @@ def runs(frames: Mapping[int, Counter[str]]) -> list[list[int]]:
 
 def draw_run(picture: Picture, channel: int, frames: Mapping[int, Counter[str]], first: int, last: int) -> None:
     tally = total(frames[column] for column in range(first, last + 1))
-    words = f"Channel {channel}, {where(picture.columns, first, last)}: {frames_text(tally)}"
+    words = f"Channel {channel}, {where(picture.columns, first, last)}: {frames_text(tally, picture.shared.get((channel, first), ()))}"
     x, width = picture.span(first, last)
     state = worst(tally)
     low = BAND / 2 if state == IDLE else 1  # idle ones are half as high
-    picture.add(rectangle(f"hover s-{state}", x, picture.y + low, width, BAND - 1 - low, words))
+    marks = picture.of_bad[first] if tally[BAD] else picture.marks
+    marks.append(rectangle(f"hover s-{state}", x, picture.y + low, width, BAND - 1 - low, words))
 
 
 def draw_bars(picture: Picture, kind: str, name: str, said: Sequence[str], bars: Mapping[int, tuple[int, str]]) -> None:
@@ -549,22 +605,31 @@ def draw_bars(picture: Picture, kind: str, name: str, said: Sequence[str], bars:
     picture.y += BETWEEN
     draw_name(picture, name, said)
     greatest = max((number for number, _ in bars.values()), default=0)
-    picture.greatest[kind] = greatest
-    for column, (number, words) in bars.items():
+    heights = {column: (number, height(number, greatest)) for column, (number, _) in bars.items()}
+    for column, (_, words) in bars.items():
         x, width = picture.span(column)
-        high = height(number, greatest)
+        high = heights[column][1]
         title = f"{where(picture.columns, column).capitalize()}: {words}"
-        picture.add(rectangle(f"hover {kind}", x, picture.y + BAR + 1 - high, width, high, title))
+        draw_bar(picture, column, rectangle(f"hover {kind}", x, picture.y + BAR + 1 - high, width, high, title))
+    draw_number(picture, picture.y + BAR + 1, heights)
     picture.y += BAR + 1
     picture.add(line("line", LEFT, picture.y + 0.5, LEFT + PLOT, picture.y + 0.5))
     picture.y += 6
+
+
+def draw_bar(picture: Picture, column: int, bar: str) -> None:
+    """A bar of a row.  That of bad frames comes with their marks in bands, so that all light up together."""
+    marks = picture.of_bad.pop(column, [])
+    picture.add(*(["<g>", bar, *marks, "</g>"] if marks else [bar]))
 
 
 def draw_bad(picture: Picture) -> None:
     bars = {}
     for column, tally in picture.of_channel(picture.tallies, NO_CHANNEL).items():
         faults = ", ".join(f"{figure(number)} by {fault}" for fault, number in tally.most_common())
-        bars[column] = tally.total(), f"{counted(tally.total(), 'bad frame')}: {faults}"
+        bands = [it for it in picture.channels if picture.tallies.get((it, column), Counter())[BAD]]
+        perhaps = f"; perhaps of channel {listed(bands, 'or')}" if bands else ""
+        bars[column] = tally.total(), f"{counted(tally.total(), 'bad frame')}: {faults}{perhaps}"
     found = total(picture.of_channel(picture.tallies, NO_CHANNEL).values()).most_common()
     if len(found) > 2:
         found[1:] = [("others", sum(number for _, number in found[1:]))]
@@ -603,18 +668,14 @@ def draw_axis(picture: Picture, top: float) -> None:
     picture.y += 40
 
 
-BAR_WORDS = {"dropped": "dropped octet", "faults": "bad frame", "master": "missing frame"}
-
-
 def draw_notes(picture: Picture) -> None:
     notes = []
     if picture.columns.each > 1:
         states = ", ".join(STATE_WORDS[state].split()[0].rstrip(",") for state in WORST_FIRST)
         each = figure(picture.columns.each)
         notes.append(f"A column is {each} records. A band shows the worst: {states}, in this order.")
-    highest = [counted(number, BAR_WORDS[kind]) for kind, number in picture.greatest.items() if number]
-    if highest:
-        notes.append(f"The highest bars: {', '.join(highest)}. Bars go by the square root.")
+    if picture.most_dropped or picture.recording.bad or picture.report.master_gaps:
+        notes.append("The highest bar of each row bears its number, of octets or of frames. Bars go by the square root.")
     for words in notes:
         picture.add(text(LEFT, picture.y, words, "small"))
         picture.y += 16

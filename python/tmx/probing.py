@@ -2,7 +2,9 @@
 
 A record is looked for that comes again and again: at one place of it the first octet of frames, which has the version and a
 part of the spacecraft's number, stays the same, and the frame counts behind it go up by one.  Then the length of the frame
-is that by which error control holds.  Whatever is found so is tried by the program, whose word is what counts.
+is that by which error control holds: in a fifth of the records that are tried, and in two at least.  By chance it holds in one
+of 256 where a length is one off, and in one of 65,536 elsewhere.  Whatever is found so is tried by the program, whose word
+is what counts.
 """
 
 import os

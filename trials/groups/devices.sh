@@ -23,11 +23,60 @@ whole() {
     esac
 }
 
-# A checkpoint that can't be written whole: the one before stays.
+# The name of a trial, the status, the line, and a command that doesn't come to write its checkpoint, or not all of it: the one before stays.
 checkpoint_stays() {
     echo before >c
-    gives "$1" 1 "tmx: c: failed" "$2"
-    tell "$1: the one before is as it was, and nothing is left beside it" "$(echo before | cmp - c 2>&1; ls c.new 2>/dev/null)"
+    gives "$1" "$2" "$3" "$4"
+    tell "$1: the checkpoint before is as it was, and nothing is left beside it" "$(echo before | cmp - c 2>&1; ls c.new 2>/dev/null)"
+}
+
+# The name of a trial, a checkpoint whose file can't be made ready, a command, and what it is run by: it ends before it reads or gives anything.
+unready() {
+    rm -f split/*
+    echo before >r
+    gives "$1" 1 "tmx: $2: failed" "exec 4<$rec; $4 $3 --report r --checkpoint $2 <&4; found=\$?; cat <&4 >unread; exit \$found"
+    tell "$1: nothing is read, and no octet is given" "$(cmp unread "$rec" 2>&1; cat out r | wc -c | grep -vx 0; ls split)"
+}
+
+# Likewise in a folder that the modes of files close, also to root, which runs without its right to pass over modes.
+closed_folder() {
+    local by=""
+    [ "$(id -u)" != 0 ] || by="setpriv --bounding-set=-dac_override"
+    mkdir closed
+    echo before >closed/c
+    chmod 555 closed
+    if ! $by true 2>/dev/null || $by touch closed/new 2>/dev/null; then
+        echo "note nobody is kept out of a folder here, so no trial has a checkpoint in one that is closed"
+    else
+        unready "checkpoint in a folder that is closed" closed/c "$packets" "$by"
+        tell "checkpoint in a folder that is closed: the one before is as it was" "$(echo before | cmp - closed/c 2>&1)"
+    fi
+    chmod 755 closed
+    rm -r closed
+}
+
+# Checkpoints that can't be made ready, beside those of each command.
+unready_checkpoints() {
+    mkdir c.new
+    unready "checkpoint beside which a folder has the name of its new file" c "$packets" ""
+    rmdir c.new
+    closed_folder
+    python3 "$here/reference.py" keep "$s" "$rec" 20 3 >after20
+    echo before >r
+    gives "checkpoint in a folder that is missing, from another one on" 1 "tmx: missing/c: failed" \
+        "$packets --resume after20 --report r --checkpoint missing/c $rec"
+    tell "checkpoint in a folder that is missing, from another one on: the report is as it was" "$(echo before | cmp - r 2>&1)"
+}
+
+# Runs that keep a checkpoint, and end with a fault.
+faults_of_keepers() {
+    checkpoint_stays "a checkpoint, standard output on a full device" 1 "tmx: write failed" "$packets --report r --checkpoint c $rec >/dev/full"
+    checkpoint_stays "a checkpoint, the report on a full device" 1 "tmx: report failed" "$extract --report /dev/full --checkpoint c $rec"
+    checkpoint_stays "a checkpoint, the recording a folder" 1 "tmx: read failed" "$fields --report r --checkpoint c ."
+    checkpoint_stays "a checkpoint, the files of split in a folder that can't be written" 1 "tmx: write failed" \
+        "$tmx split --settings $s --dir /proc --report r --checkpoint c $rec"
+    checkpoint_stays "a checkpoint, the recording shorter than the one to go on from" 2 "tmx: recording is shorter than the checkpoint" \
+        "$packets --resume after20 --report r --checkpoint c /dev/null"
 }
 
 # A recording that can't be read on: the call for it is one of a library of the trial's own, which gives 4096 octets at the most, and fails
@@ -62,6 +111,8 @@ END
             tell "$command of a recording that can't be read on: a front is written" "$([ -s out ] && is_front out expected/$command || echo no)"
         fi
     done
+    checkpoint_stays "a checkpoint of a recording that can't be read on" 1 "tmx: read failed" \
+        "LD_PRELOAD=$PWD/read.so $packets --report r --checkpoint c $rec"
 }
 
 # A disk that doesn't take a checkpoint: the call for it is one of a library of the trial's own, and fails.
@@ -72,7 +123,7 @@ disk_fails() {
     fi
     printf '%s\n' '#include <errno.h>' 'int fsync(int file) { (void)file; errno = EIO; return -1; }' >sync.c
     cc -shared -fPIC -o sync.so sync.c
-    checkpoint_stays "a checkpoint that the disk doesn't take" "LD_PRELOAD=$PWD/sync.so $packets --report r --checkpoint c $rec"
+    checkpoint_stays "a checkpoint that the disk doesn't take" 1 "tmx: c: failed" "LD_PRELOAD=$PWD/sync.so $packets --report r --checkpoint c $rec"
 }
 
 # Where no packet comes, a folder that isn't there is found before the run: no report is begun, and no checkpoint written.
@@ -125,13 +176,15 @@ devices() {
         rm -f split/*
         gives "report of $2 to a closed standard error" 1 "" "$command $rec 2>&-"
         tell "report of $2 to a closed standard error: nothing is begun" "$(ls split; ! [ -s out ] || wc -c out)"
-        gives "checkpoint of $2 in a folder that is missing" 1 "tmx: missing/c: failed" "$command --report r --checkpoint missing/c $rec"
-        gives "checkpoint of $2 in a folder that can't be written" 1 "tmx: /proc/c: failed" "$command --report r --checkpoint /proc/c $rec"
+        unready "checkpoint of $2 in a folder that is missing" missing/c "$command" ""
+        unready "checkpoint of $2 in a folder that can't be written" /proc/c "$command" ""
         gives "checkpoint of $2 that is a folder" 1 "tmx: split: failed" "$command --report r --checkpoint split $rec"
         gives "report of $2 in a folder that is missing" 1 "tmx: missing/r: failed" "$command --report missing/r $rec"
         tell "nothing is left of a checkpoint of $2" "$(ls -d split.new 2>/dev/null)"
         gives "$2 with closed standard input" 1 "tmx: read failed" "$command --report r <&-"
     done
+    unready_checkpoints
+    faults_of_keepers
     rm -rf split
     gives "split to a folder that is missing" 1 "tmx: write failed" "$split --report r $rec"
     no_folder
@@ -145,10 +198,10 @@ devices() {
     gives "split with its first file on a full device" 1 "tmx: write failed" "$split --report r $rec"
     tell "split with its first file on a full device: the others are whole" "$(diff -r -x apid-0100.pkt expected/split split 2>&1)"
     ln -s /dev/full c.new
-    checkpoint_stays "a checkpoint on a full device" "$extract --report r --checkpoint c --stop-after 20 $rec"
+    checkpoint_stays "a checkpoint on a full device" 1 "tmx: c: failed" "$extract --report r --checkpoint c --stop-after 20 $rec"
     disk_fails
     reading_fails
     wide_recording
-    checkpoint_stays "a checkpoint of 40 KB with room for 8 KiB" \
+    checkpoint_stays "a checkpoint of 40 KB with room for 8 KiB" 1 "tmx: c: failed" \
         "trap '' XFSZ; ulimit -f 8; $tmx extract --settings wide.toml --report r --checkpoint c --stop-after 20 wide.rec"
 }

@@ -220,7 +220,11 @@ order_of_faults() {
     gives "the name of the checkpoint before that of the report" 1 "tmx: own.rec: failed" "$own --report own.toml own.rec"
     gives "the names before the report" 1 "tmx: own.rec: failed" "$own --report missing/r own.rec"
     gives "the report before the run" 1 "tmx: missing/r: failed" "$packets --report missing/r split"
-    gives "the run before its checkpoint" 1 "tmx: read failed" "$packets --report r --checkpoint missing/c split"
+    gives "the report before the file beside the checkpoint" 1 "tmx: missing/r: failed" "$packets --report missing/r --checkpoint missing/c split"
+    gives "the file beside the checkpoint before the run" 1 "tmx: missing/c: failed" "$packets --report r --checkpoint missing/c split"
+    gives "a folder as the checkpoint before the run" 1 "tmx: expected: failed" "$packets --report r --checkpoint expected split"
+    gives "the run before its checkpoint" 1 "tmx: read failed" "$packets --report r --checkpoint c split"
+    tell "the run before its checkpoint: no file is left beside it" "$(ls -d expected.new c.new 2>/dev/null)"
 }
 
 run_faults() {
@@ -344,18 +348,18 @@ long_words() {
 import resource, subprocess, sys
 names = [letter * 100000 for letter in "abcdef"]
 words = "--settings {} --dir {} --report {} --checkpoint {} --resume {} {}".format(*names).split()
-last, starved = "", []
+last, out_of_memory = "", []
 for limit in range(1024, 8193, 64):
     run = subprocess.run([sys.argv[1], "split", *words], stdin=subprocess.DEVNULL, capture_output=True,
                          preexec_fn=lambda: resource.setrlimit(resource.RLIMIT_AS, (limit * 1024, limit * 1024)))
     last = run.returncode, run.stderr.decode()
     if last == (3, "tmx: out of memory\n"):
-        starved.append(limit)
-    elif last != (1, f"tmx: {names[0]}: failed\n") and (starved or run.returncode not in (126, 127, -9, -11)):
+        out_of_memory.append(limit)
+    elif last != (1, f"tmx: {names[0]}: failed\n") and (out_of_memory or run.returncode not in (126, 127, -9, -11)):
         sys.exit(f"{limit} KiB: status {run.returncode}, {run.stderr[:100]}")
-if not starved or last[0] != 1:
-    sys.exit(f"out of memory at {starved}, status {last[0]} at the end")
-print(f"out of memory from {starved[0]} to {starved[-1]} KiB of address space")
+if not out_of_memory or last[0] != 1:
+    sys.exit(f"out of memory at {out_of_memory}, status {last[0]} at the end")
+print(f"out of memory from {out_of_memory[0]} to {out_of_memory[-1]} KiB of address space")
 END
     ); then ok "long words with little memory: $said"; else no "long words with little memory: $said"; fi
 }
@@ -438,10 +442,10 @@ many() {
     rm -f r
     truncate -s $((9 * 4294967296)) sparse
     forged last "$head ffffffff $none"
-    gives "2^32 records" 1 "tmx: too many records" "timeout 10 $tmx packets --settings nine --report r --resume last sparse"
+    gives "2^32 records" 1 "tmx: too many records" "ulimit -t 10; timeout 600 $tmx packets --settings nine --report r --resume last sparse"
     truncate -s $((9 * 4294967295)) sparse
     forged near "$head fffffff0 $none"
-    gives "the last of 2^32 - 1 records" 0 "" "timeout 10 $tmx packets --settings nine --report r --resume near sparse"
+    gives "the last of 2^32 - 1 records" 0 "" "ulimit -t 10; timeout 600 $tmx packets --settings nine --report r --resume near sparse"
     tell "the last of 2^32 - 1 records: a line for each" "$(seq 4294967280 4294967294 | sed 's/.*/bad record=& fault=spacecraft/' | diff - r)"
     rm sparse
 }

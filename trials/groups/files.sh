@@ -1,10 +1,11 @@
 # shellcheck shell=bash disable=SC2154
 # Group `files`: settings, definitions and checkpoints that are none.
 
-# The name of a trial, a pattern of the line on standard error, and a command line; status 2 is wanted.
+# The name of a trial, a pattern of the line on standard error, and a command line; status 2 is wanted. It may take twenty
+# seconds of processor time. The clock sets no such limit, since other trials may have the processors.
 refused() {
     local found
-    timeout 20 bash -c "$3" >out 2>err </dev/null
+    timeout 600 bash -c "ulimit -t 20; $3" >out 2>err </dev/null
     found=$?
     if [ $found = 2 ] && [ "$(wc -l <err)" = 1 ] && grep -qxE "$2" err && ! [ -s out ]; then
         ok "$1"

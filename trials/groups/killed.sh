@@ -14,6 +14,7 @@ killed() {
         done
     done
     rm "$long"
+    live_trials killed
     stopped
 }
 

@@ -1,6 +1,10 @@
-//! Octets as bits, and bits as numbers.
+//! Octets as bits and as numbers.
 //!
 //! Frames, packet headers and packet fields are all read as slices of the bits of octets, the most
 //! significant bit of each octet first. This crate holds the definitions (`specs/`) and the lemmas
-//! (`proofs/`) that they share. It has no code.
+//! (`proofs/`) that they share. Its code reads and appends numbers in octets, as checkpoints have them.
 #![tactic(auto)]
+
+mod numbers;
+
+pub use numbers::{push, push_two, two_at};

@@ -11,7 +11,7 @@ use Rattle.tm_reassembly.specs.Checkpoint.{block_read, blocks_read, state_decodi
 use Rattle.tm_rules.specs.Rules.{Rules}
 use Rattle.tm_faults.specs.declared.fault.CheckpointFault.TheVariants as fault
 use Rattle.tm_checkpoint.specs.declared.version.Version.TheVariants.{One, Two}
-use Rattle.tm_checkpoint.specs.Checkpoints.{checkpoint_of, framed, resumed, spelled_in, with_check, work_without_master}
+use Rattle.tm_checkpoint.specs.Checkpoints.{checkpoint_of, version_in, resumed, spelled_in, with_check, work_without_master}
 use Rattle.tm_checkpoint.specs.Works.{Work}
 
 -- frames of so many octets of spacecraft 42, all channels, and packets of at most so many octets
@@ -26,8 +26,8 @@ rules n limit = record {
 begun : List ℕ
 begun = 0x00 ∷ 0x64 ∷ 0xC0 ∷ 0x00 ∷ 0x00 ∷ 0x13 ∷ replicate 12 0x55
 
--- three records are done, the last of master channel count 2: channel 0 holds these octets, channel 1 had a frame of count 1, and a packet of
--- application 100 with count 1
+-- Three records are done, the last of master channel count 2. Channel 0 holds these octets. Channel 1 had a frame of count 1 and
+-- a packet of application 100 with count 1.
 after_three : Work
 after_three = record {
   rules = rules 24 65542;
@@ -41,8 +41,8 @@ after_three = record {
   entries = slice_set no_entries 2148 (Some (record { count = 1; first = None }));
 }
 
--- the parts of its checkpoint: the letters, a version and twelve octets of the settings; the limit on packets; the records; the last master
--- channel count; and the channels, of which the first has this flag, and the sequence counts
+-- The parts of its checkpoint: the letters, a version and twelve octets of the settings; the limit on packets; the records; the
+-- last master channel count. Then come the channels, the first with this flag, and the sequence counts.
 start : ℕ → List ℕ
 start version = 0x54 ∷ 0x4D ∷ 0x58 ∷ 0x43 ∷ version ∷ 0x00 ∷ 0x2A ∷ 0x00 ∷ 0x18 ∷ 0x00 ∷ 0x00 ∷ 0x00 ∷ 0x00 ∷ 0x00 ∷ 0x00 ∷ 0x00 ∷ 0xFF ∷ []
 
@@ -87,73 +87,73 @@ in_version_1 = refl
 -- ---- read
 
 read : resumed (rules 24 65542) (third ++ 0x07 ∷ 0x4F ∷ []) ≡ Ok (record { work = after_three; fresh = false })
-unfolding resumed framed after_three rules start limit records master counts third begun no_entries state_of block_read blocks_read master_read state_decoding_of error_control_of long_division subtract bits_of low_bits number part
+unfolding resumed version_in after_three rules start limit records master counts third begun no_entries state_of block_read blocks_read master_read state_decoding_of error_control_of long_division subtract bits_of low_bits number part
 read = refl
 
--- of an older version the last master channel count is not there
+-- an older version has no last master channel count
 read_version_2 : resumed (rules 24 65542) (second ++ 0x74 ∷ 0xE5 ∷ []) ≡ Ok (record { work = work_without_master after_three; fresh = false })
-unfolding resumed framed after_three rules start limit records counts second begun no_entries state_of block_read blocks_read old_decoding_of error_control_of long_division subtract bits_of low_bits number part
+unfolding resumed version_in after_three rules start limit records counts second begun no_entries state_of block_read blocks_read old_decoding_of error_control_of long_division subtract bits_of low_bits number part
 read_version_2 = refl
 
 read_version_1 : resumed (rules 24 65542) (first ++ 0x7D ∷ 0xE1 ∷ []) ≡ Ok (record { work = work_without_master after_three; fresh = false })
-unfolding resumed framed after_three rules start records counts first begun no_entries state_of block_read blocks_read old_decoding_of error_control_of long_division subtract bits_of low_bits number part
+unfolding resumed version_in after_three rules start records counts first begun no_entries state_of block_read blocks_read old_decoding_of error_control_of long_division subtract bits_of low_bits number part
 read_version_1 = refl
 
 -- ---- refused
 
 -- one octet too few for any checkpoint, and for one of version 2 and of version 3
 short : resumed (rules 24 65542) (take 32 third) ≡ Err fault.Short
-unfolding resumed framed start limit records master counts third begun
+unfolding resumed version_in start limit records master counts third begun
 short = refl
 
 short_version_2 : resumed (rules 24 65542) (take 35 second) ≡ Err fault.Short
-unfolding resumed framed start limit records counts second begun
+unfolding resumed version_in start limit records counts second begun
 short_version_2 = refl
 
 short_version_3 : resumed (rules 24 65542) (take 36 third) ≡ Err fault.Short
-unfolding resumed framed start limit records master counts third begun
+unfolding resumed version_in start limit records master counts third begun
 short_version_3 = refl
 
 letters : resumed (rules 24 65542) (0x55 ∷ drop 1 third ++ 0x07 ∷ 0x4F ∷ []) ≡ Err fault.Magic
-unfolding resumed framed start limit records master counts third begun
+unfolding resumed version_in start limit records master counts third begun
 letters = refl
 
 no_version : resumed (rules 24 65542) (start 7 ++ (drop 17 third ++ 0x07 ∷ 0x4F ∷ [])) ≡ Err fault.Version
-unfolding resumed framed start limit records master counts third begun
+unfolding resumed version_in start limit records master counts third begun
 no_version = refl
 
 -- a version that is another
 other_version_1 : resumed (rules 24 65542) (start 1 ++ (drop 17 third ++ 0x07 ∷ 0x4F ∷ [])) ≡ Err fault.Check
-unfolding resumed framed start limit records master counts third begun error_control_of long_division subtract bits_of low_bits number
+unfolding resumed version_in start limit records master counts third begun error_control_of long_division subtract bits_of low_bits number
 other_version_1 = refl
 
 other_version_2 : resumed (rules 24 65542) (start 2 ++ (drop 17 third ++ 0x07 ∷ 0x4F ∷ [])) ≡ Err fault.Check
-unfolding resumed framed start limit records master counts third begun error_control_of long_division subtract bits_of low_bits number
+unfolding resumed version_in start limit records master counts third begun error_control_of long_division subtract bits_of low_bits number
 other_version_2 = refl
 
 last_octet : resumed (rules 24 65542) (third ++ 0x07 ∷ 0x4E ∷ []) ≡ Err fault.Check
-unfolding resumed framed start limit records master counts third begun error_control_of long_division subtract bits_of low_bits number
+unfolding resumed version_in start limit records master counts third begun error_control_of long_division subtract bits_of low_bits number
 last_octet = refl
 
 -- other settings: another frame length, and another limit on packets, which version 1 does not tell
 other_length : resumed (rules 25 65542) (third ++ 0x07 ∷ 0x4F ∷ []) ≡ Err fault.Settings
-unfolding resumed framed rules start limit records master counts third begun error_control_of long_division subtract bits_of low_bits number
+unfolding resumed version_in rules start limit records master counts third begun error_control_of long_division subtract bits_of low_bits number
 other_length = refl
 
 other_limit : resumed (rules 24 12) (third ++ 0x07 ∷ 0x4F ∷ []) ≡ Err fault.Settings
-unfolding resumed framed rules start limit records master counts third begun error_control_of long_division subtract bits_of low_bits number
+unfolding resumed version_in rules start limit records master counts third begun error_control_of long_division subtract bits_of low_bits number
 other_limit = refl
 
 limit_of_version_1 : resumed (rules 24 12) (first ++ 0x7D ∷ 0xE1 ∷ []) ≡ Err fault.Settings
-unfolding resumed framed rules start records counts first begun error_control_of long_division subtract bits_of low_bits number
+unfolding resumed version_in rules start records counts first begun error_control_of long_division subtract bits_of low_bits number
 limit_of_version_1 = refl
 
 -- a flag of channel 0 that there is not, before a right check
 flag : resumed (rules 24 65542) (with_check (start 3 ++ (limit ++ (records ++ (master ++ counts 3))))) ≡ Err fault.State
-unfolding resumed framed rules start limit records master counts begun block_read blocks_read master_read state_decoding_of error_control_of long_division subtract bits_of low_bits number
+unfolding resumed version_in rules start limit records master counts begun block_read blocks_read master_read state_decoding_of error_control_of long_division subtract bits_of low_bits number
 flag = refl
 
 -- an octet before a right check
 trailing : resumed (rules 24 65542) (with_check (third ++ 0x00 ∷ [])) ≡ Err fault.Trailing
-unfolding resumed framed rules start limit records master counts third begun no_entries state_of block_read blocks_read master_read state_decoding_of error_control_of long_division subtract bits_of low_bits number part
+unfolding resumed version_in rules start limit records master counts third begun no_entries state_of block_read blocks_read master_read state_decoding_of error_control_of long_division subtract bits_of low_bits number part
 trailing = refl

@@ -27,7 +27,7 @@ use Rattle.tm_faults.specs.declared.fault.CheckpointFault.TheVariants as fault
 use Rattle.tm_checkpoint.specs.declared.version.Version.{Version}
 use Rattle.tm_checkpoint.specs.declared.version.Version.TheVariants.{One, Two, Three}
 use Rattle.tm_checkpoint.specs.Works.{IsWork, JobState, Work}
-use Rattle.tm_checkpoint.specs.Checkpoints.{form_of, version_named, tells, kept_state, kept_in, magic, settings_in, head_octets, state_octets, with_check, spelled_in, checkpoint_of, check_holds, says_settings, framed_as, framed, inner, job_of, with_entries, with_state, state_in, resumed_as, resumed}
+use Rattle.tm_checkpoint.specs.Checkpoints.{form_of, version_named, tells, kept_state, kept_in, magic, settings_in, head_octets, state_octets, with_check, spelled_in, checkpoint_of, check_holds, says_settings, version_of_form, version_in, inner, job_of, with_entries, with_state, state_in, resumed_as, resumed}
 use Rattle.tm_packet.specs.Merge.{Entries}
 use Rattle.tm_checkpoint.proofs.CheckpointLength.{state_most, state_least, sequence_most, sequence_least}
 use Rattle.tm_checkpoint.proofs.ReadValid.{state_valid}
@@ -36,7 +36,7 @@ use Rattle.tm_checkpoint.proofs.VersionLemmas.{named, own_octet, around_fits, le
 -- ---- the octets around
 
 -- nothing is wrong around the state, in a version
-pub record IsFramed (v : Version) (s : Rules) (octets : List ℕ) : Type 0 where
+pub record IsInVersion (v : Version) (s : Rules) (octets : List ℕ) : Type 0 where
   pub long : (form_of v).least ≤ length octets
   pub magic_is : take 4 octets ≡ magic
   pub version_is : slice_index octets 4 ≡ (form_of v).octet
@@ -48,10 +48,10 @@ passed : (b : Bool) (found : CheckpointFault) (rest : Result Version CheckpointF
 passed true found rest v e = cc
 passed false found rest v e = (refl, e)
 
-framed_in : (s : Rules) (octets : List ℕ) (x : Option Version) (v : Version) → take 4 octets ≡ magic → version_named (slice_index octets 4) ≡ x → framed_as s octets x ≡ Ok v
-    → IsFramed v s octets
-framed_in s octets None v first is e = cc
-framed_in s octets (Some u) v first is e =
+version_in_form : (s : Rules) (octets : List ℕ) (x : Option Version) (v : Version) → take 4 octets ≡ magic → version_named (slice_index octets 4) ≡ x → version_of_form s octets x ≡ Ok v
+    → IsInVersion v s octets
+version_in_form s octets None v first is e = cc
+version_in_form s octets (Some u) v first is e =
     let says : Bool = says_settings u s octets in
     let three : Result Version CheckpointFault = Ok u in
     let two_octets : Result Version CheckpointFault = if not says then Err fault.Settings else three in
@@ -61,7 +61,7 @@ framed_in s octets (Some u) v first is e =
     let c = passed (not says) fault.Settings three v b.1 in
     let same : u ≡ v = cc in
     let both_are = and_parts (tells u s) (bytes_eq (slice_range octets 5 (5 + (form_of u).settings)) (settings_in u s)) (not-false says c.0) in
-    subst (λ (w : Version). IsFramed w s octets) same
+    subst (λ (w : Version). IsInVersion w s octets) same
     (record {
       long = ltb-false (length octets) (form_of u).least a.0;
       magic_is = first;
@@ -71,18 +71,18 @@ framed_in s octets (Some u) v first is e =
       settings_are = (bytes_eq-Decides (slice_range octets 5 (5 + (form_of u).settings)) (settings_in u s)).0 both_are.1;
     })
 
-pub is_framed : (s : Rules) (octets : List ℕ) (v : Version) → framed s octets ≡ Ok v → IsFramed v s octets
-unfolding framed
-is_framed s octets v e =
-    let two_octets : Result Version CheckpointFault = framed_as s octets (version_named (slice_index octets 4)) in
+pub is_in_version : (s : Rules) (octets : List ℕ) (v : Version) → version_in s octets ≡ Ok v → IsInVersion v s octets
+unfolding version_in
+is_in_version s octets v e =
+    let two_octets : Result Version CheckpointFault = version_of_form s octets (version_named (slice_index octets 4)) in
     let one : Result Version CheckpointFault = if not (bytes_eq (take 4 octets) magic) then Err fault.Magic else two_octets in
     let a = passed (ltb (length octets) 33) fault.Short one v e in
     let b = passed (not (bytes_eq (take 4 octets) magic)) fault.Magic two_octets v a.1 in
-    framed_in s octets (version_named (slice_index octets 4)) v ((bytes_eq-Decides (take 4 octets) magic).0 (not-false _ b.0)) refl b.1
+    version_in_form s octets (version_named (slice_index octets 4)) v ((bytes_eq-Decides (take 4 octets) magic).0 (not-false _ b.0)) refl b.1
 
-pub framed_again : (s : Rules) (octets : List ℕ) (v : Version) → IsFramed v s octets → framed s octets ≡ Ok v
-unfolding framed
-framed_again s octets v h =
+pub version_again : (s : Rules) (octets : List ℕ) (v : Version) → IsInVersion v s octets → version_in s octets ≡ Ok v
+unfolding version_in
+version_again s octets v h =
     let magic_there : bytes_eq (take 4 octets) magic ≡ true = (bytes_eq-Decides (take 4 octets) magic).1 h.magic_is in
     let settings_there : bytes_eq (slice_range octets 5 (5 + (form_of v).settings)) (settings_in v s) ≡ true =
     (bytes_eq-Decides (slice_range octets 5 (5 + (form_of v).settings)) (settings_in v s)).1 h.settings_are in
@@ -142,9 +142,9 @@ settings_there One w = refl
 settings_there Two w = refl
 settings_there Three w = refl
 
-framed_spelled : (v : Version) (w : Work) → IsWork w → tells v w.rules ≡ true → IsFramed v w.rules (spelled_in v w)
+version_spelled : (v : Version) (w : Work) → IsWork w → tells v w.rules ≡ true → IsInVersion v w.rules (spelled_in v w)
 unfolding spelled_in
-framed_spelled v w h told = record {
+version_spelled v w h told = record {
   long =
       let a = length-spelled v w in
       let b = state_least v w.rules w.state h.state in
@@ -194,7 +194,7 @@ body_again v w h =
 pub older_again : (v : Version) (w : Work) → IsWork w → tells v w.rules ≡ true → resumed w.rules (spelled_in v w) ≡ Ok (record { work = kept_in v w; fresh = false })
 unfolding resumed
 older_again v w h told =
-    rw (framed_again w.rules (spelled_in v w) v (framed_spelled v w h told), inner_spelled v w) (body_again v w h)
+    rw (version_again w.rules (spelled_in v w) v (version_spelled v w h told), inner_spelled v w) (body_again v w h)
 
 pub read_again : (w : Work) → IsWork w → resumed w.rules (checkpoint_of w) ≡ Ok (record { work = w; fresh = false })
 read_again w h = older_again Three w h refl
@@ -207,29 +207,29 @@ joined w a b c d first second third last = rw (last, third, second, first) refl
 
 -- ---- read
 
-pub refused_around : (s : Rules) (octets : List ℕ) (found : CheckpointFault) → framed s octets ≡ Err found → resumed s octets ≡ Err found
+pub refused_around : (s : Rules) (octets : List ℕ) (found : CheckpointFault) → version_in s octets ≡ Err found → resumed s octets ≡ Err found
 unfolding resumed
 refused_around s octets found e = ap (resumed_as s octets) e
 
-pub resumed_in : (s : Rules) (octets : List ℕ) (v : Version) (between : List ℕ) (r : Result JobState CheckpointFault) → framed s octets ≡ Ok v → between ≡ inner v octets
+pub resumed_in : (s : Rules) (octets : List ℕ) (v : Version) (between : List ℕ) (r : Result JobState CheckpointFault) → version_in s octets ≡ Ok v → between ≡ inner v octets
     → with_state s between (state_in v s between) ≡ r → resumed s octets ≡ r
 unfolding resumed
 resumed_in s octets v between r around is e = rw (around, ← is) e
 
 -- where the state is read, what is said of the octets behind it decides
-pub resumed_behind : (s : Rules) (octets : List ℕ) (v : Version) (between rest : List ℕ) (state : State) (read : ℕ) (r : Result JobState CheckpointFault) → framed s octets ≡ Ok v
+pub resumed_behind : (s : Rules) (octets : List ℕ) (v : Version) (between rest : List ℕ) (state : State) (read : ℕ) (r : Result JobState CheckpointFault) → version_in s octets ≡ Ok v
     → between ≡ inner v octets → state_in v s between ≡ Ok (record { state = state; octets = read }) → rest ≡ drop read between
     → with_entries s state (length rest) (sequence.entries_decoding_of rest) ≡ r → resumed s octets ≡ r
 resumed_behind s octets v between rest state read r around is there behind e = resumed_in s octets v between r around is (rw (there, ← behind) e)
 
--- a job that is made, or want of memory
+-- a job that is made, or out of memory
 -- octets that are accepted have a version
 record IsResumed (s : Rules) (octets : List ℕ) (job : JobState) : Type 0 where
   version : Version
-  around : framed s octets ≡ Ok version
+  around : version_in s octets ≡ Ok version
   inside : with_state s (inner version octets) (state_in version s (inner version octets)) ≡ Ok job
 
-by_version : (s : Rules) (octets : List ℕ) (job : JobState) (x : Result Version CheckpointFault) → framed s octets ≡ x → resumed_as s octets x ≡ Ok job → IsResumed s octets job
+by_version : (s : Rules) (octets : List ℕ) (job : JobState) (x : Result Version CheckpointFault) → version_in s octets ≡ x → resumed_as s octets x ≡ Ok job → IsResumed s octets job
 by_version s octets job (Ok v) is e = record { version = v; around = is; inside = e }
 by_version s octets job (Err found) is e = cc
 
@@ -311,7 +311,7 @@ check_again octets h long e =
     let len : length ys ≡ 2 = length-drop n octets ∙ omega arith in
     rw (← number, last_two ys (octets_behind n octets h) len) (sym (take-append-drop n octets))
 
--- octets behind a front of four and one more
+-- octets behind a prefix of four and one more
 front_again : (k : ℕ) (octets first written : List ℕ) (v : ℕ) → 5 ≤ length octets → take 4 octets ≡ first → slice_index octets 4 ≡ v
     → slice_range octets 5 (5 + k) ≡ written → take (5 + k) octets ≡ first ++ v ∷ written
 front_again k octets first written v long fore named behind =
@@ -320,7 +320,7 @@ front_again k octets first written v long fore named behind =
     rw (n, take-add 4 (suc k) octets, fore, drop-cons octets 4 0 (omega arith), named, rw m at behind) refl
 
 -- what is before the check: the octets in front, and those between
-before_check : (v : Version) (s : Rules) (octets : List ℕ) → IsFramed v s octets → take (length octets - 2) octets ≡ head_octets v s ++ inner v octets
+before_check : (v : Version) (s : Rules) (octets : List ℕ) → IsInVersion v s octets → take (length octets - 2) octets ≡ head_octets v s ++ inner v octets
 before_check v s octets h =
     let long = h.long in
     let fits = (around_fits v).0 in
@@ -334,19 +334,19 @@ before_check v s octets h =
 -- octets that are accepted
 record IsAccepted (s : Rules) (octets : List ℕ) (job : JobState) : Type 0 where
   version : Version
-  around : IsFramed version s octets
+  around : IsInVersion version s octets
   read : IsBody version s (inner version octets) job
 
 accepted : (s : Rules) (octets : List ℕ) (job : JobState) → AreOctets octets → resumed s octets ≡ Ok job → IsAccepted s octets job
 unfolding resumed
 accepted s octets job h e =
-    let found = by_version s octets job (framed s octets) refl e in
+    let found = by_version s octets job (version_in s octets) refl e in
     let v : Version = found.version in
     let k : ℕ = 5 + (form_of v).settings in
     let within : AreOctets (inner v octets) = octets_front (length octets - 2 - k) (drop k octets) (octets_behind k octets h) in
     record {
       version = v;
-      around = is_framed s octets v found.around;
+      around = is_in_version s octets v found.around;
       read = body_read v s (inner v octets) job (state_in v s (inner v octets)) within refl found.inside;
     }
 

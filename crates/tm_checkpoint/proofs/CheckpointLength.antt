@@ -34,7 +34,7 @@ entries_behind k (l ∷ a) b =
 split_at : (k : ℕ) (a b : Entries) → many k (a ++ b) ≡ many k a + many (k + length a) b
 split_at k a b = ap length (entries_behind k a b) ∙ length-append (sequence.entries_from k a) (sequence.entries_from (k + length a) b)
 
--- of each n places the last is empty
+-- the last of each n places is empty
 per_channel : (n m k : ℕ) (s : Entries) → length s ≡ (n + 1) * m → ((c : ℕ) → get_or s ((n + 1) * c + n) None ≡ None) → many k s ≤ n * m
 per_channel n zero k s l h = let few_here = few k s in omega arith
 per_channel n (suc m) k s l h =

@@ -1,4 +1,4 @@
--- What is wrong with octets of a state is never want of memory.
+-- What is wrong with octets of a state is never that memory ran out.
 use Rattle.std.proofs.Common.{◌≡◌, ℕ, zero, suc, ◌+◌, Bool, not, ◌||◌, Ok, Err, None, Option, Result, List, [], ◌∷◌, length, drop, refl, subst, ltb, leb, eqb}
 use Rattle.std.specs.Prelude.{slice_index, slice_range}
 use Rattle.std.proofs.lemmas.Bool.{cond_both}

@@ -15,7 +15,7 @@ use Rattle.tm_rules.specs.Rules.{Rules}
 use Rattle.tm_reassembly.specs.State.{State}
 use Rattle.tm_faults.specs.declared.fault.CheckpointFault.{CheckpointFault}
 use Rattle.tm_faults.specs.declared.fault.CheckpointFault.TheVariants as fault
-use Rattle.tm_checkpoint.specs.declared.version.Form.{Form}
+use Rattle.tm_checkpoint.specs.declared.version.VersionForm.{VersionForm}
 use Rattle.tm_checkpoint.specs.declared.version.Version.{Version}
 use Rattle.tm_checkpoint.specs.declared.version.Version.TheVariants.{One, Two, Three}
 use Rattle.tm_checkpoint.specs.Works.{JobState, Work}
@@ -23,9 +23,9 @@ use Rattle.tm_packet.specs.Merge.{Entries}
 
 -- ---- versions
 
--- What each version has: the octet that names it, the number of octets of its settings, the fewest octets of a checkpoint, and whether its
+-- What each version has: its own octet, how many octets its settings have, the fewest octets of a checkpoint, and whether its
 -- state has the last master channel count.
-abbrev pub form_of : Version → Form
+abbrev pub form_of : Version → VersionForm
 form_of One = record { octet = 1; settings = 12; least = 33; with_master = false }
 form_of Two = record { octet = 2; settings = 15; least = 36; with_master = false }
 form_of Three = record { octet = 3; settings = 15; least = 37; with_master = true }
@@ -108,20 +108,20 @@ abbrev pub says_settings : Version → Rules → List ℕ → Bool
 says_settings v s octets = tells v s && bytes_eq (slice_range octets 5 (5 + (form_of v).settings)) (settings_in v s)
 
 -- the version, where nothing is wrong with the octets around the state and the entries; else what is wrong first behind the fifth octet
-abbrev pub framed_as : Rules → List ℕ → Option Version → Result Version CheckpointFault
-framed_as s octets None = Err fault.Version
-framed_as s octets (Some v) =
+abbrev pub version_of_form : Rules → List ℕ → Option Version → Result Version CheckpointFault
+version_of_form s octets None = Err fault.Version
+version_of_form s octets (Some v) =
     if nat_lt (length octets) (form_of v).least then Err fault.Short
     else if not (check_holds octets) then Err fault.Check
     else if not (says_settings v s octets) then Err fault.Settings
     else Ok v
 
 -- what is wrong first with the octets around the state and the entries, or the version
-unfoldable pub framed : Rules → List ℕ → Result Version CheckpointFault
-framed s octets =
+unfoldable pub version_in : Rules → List ℕ → Result Version CheckpointFault
+version_in s octets =
     if nat_lt (length octets) 33 then Err fault.Short
     else if not (bytes_eq (take 4 octets) magic) then Err fault.Magic
-    else framed_as s octets (version_named (slice_index octets 4))
+    else version_of_form s octets (version_named (slice_index octets 4))
 
 -- the octets between the settings and the check
 abbrev pub inner : Version → List ℕ → List ℕ
@@ -153,10 +153,10 @@ resumed_as s octets (Err found) = Err found
 
 -- the job that octets say under these settings, or what is wrong first
 unfoldable pub resumed : Rules → List ℕ → Result JobState CheckpointFault
-resumed s octets = resumed_as s octets (framed s octets)
+resumed s octets = resumed_as s octets (version_in s octets)
 
 -- Memory is first asked for where nothing is wrong around the state, and the state can be read.
 pub record AsksMemory (s : Rules) (octets : List ℕ) : Type 0 where
   pub version : Version
-  pub around : framed s octets ≡ Ok version
+  pub around : version_in s octets ≡ Ok version
   pub state : IsOk (state_in version s (inner version octets))

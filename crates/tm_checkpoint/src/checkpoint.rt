@@ -10,7 +10,7 @@ ghost use Rattle.tm_reassembly.specs.Steps.{progress_in};
 ghost use Rattle.tm_reassembly.specs.Valid.{IsValidState};
 ghost use Rattle.tm_checkpoint.specs.declared.version.Version.TheVariants as version;
 ghost use Rattle.tm_checkpoint.specs.Works.{IsGoing, IsWork, work_of};
-ghost use Rattle.tm_checkpoint.specs.Checkpoints.{AsksMemory, checkpoint_of, check_holds, form_of, framed, head_octets, inner, job_of, presence_octet, resumed, says_settings, settings_octets, state_in, tells, three_octets, with_check, with_entries, with_state};
+ghost use Rattle.tm_checkpoint.specs.Checkpoints.{AsksMemory, checkpoint_of, check_holds, form_of, version_in, head_octets, inner, job_of, presence_octet, resumed, says_settings, settings_octets, state_in, tells, three_octets, with_check, with_entries, with_state};
 
 use crate::version::Version;
 use std::alloc::{AllocError, Global};
@@ -23,9 +23,9 @@ use tm_settings::Settings;
 // The letters TMXC, with which a checkpoint begins.
 const MAGIC: [u8; 4] = [0x54, 0x4D, 0x58, 0x43];
 
-/// The checkpoint of a job that has got so far: the letters TMXC and the version 3; the settings in fifteen octets; the state of the channels
-/// and the sequence counts, as `Reassembly::encode` and `Tracker::encode` write them; and the error control of all these. No step of the
-/// reassembly was refused.
+/// The checkpoint of a job that has got so far. First come the letters TMXC, the version 3, and the settings in fifteen octets.
+/// Then come the state of the channels and the sequence counts, as `Reassembly::encode` and `Tracker::encode` write them. Last
+/// comes the error control of all these. No step of the reassembly was refused.
 ///
 /// # Errors
 ///
@@ -58,29 +58,30 @@ pub fn write_checkpoint(
     }
 }
 
-/// How far the job has got that these octets say, which were written with the same settings, in version 3 or in one of the older versions 1
-/// and 2. Version 1 has no limit on packets in its settings: it stands for the greatest, 65,542. Of an older version the job has no last master
-/// channel count, so that no gap of the master channel is reported at its first good frame. Room is reserved as `Reassembly::new` and
-/// `Tracker::new` do.
+/// How far the job has got that these octets say, which were written with the same settings, in version 3 or in one of the older
+/// versions 1 and 2. Version 1 has no limit on packets in its settings: it stands for the greatest, 65,542. A job from an older
+/// version has no last master channel count, so its first good frame has no gap of the master channel. Room is reserved as
+/// `Reassembly::new` and `Tracker::new` do.
 ///
 /// # Errors
 ///
-/// What is wrong first: `Short` where there are fewer than 33 octets; `Magic` where they don't begin with TMXC; `Version` where the fifth
-/// is none of 1, 2 and 3; `Short` where there are fewer than 36 in version 2, or 37 in version 3; `Check` where the last two aren't the
-/// error control of those before; `Settings` where they were written with other settings; `State` where `Reassembly::decode`, of an older
-/// version `Reassembly::decode_old`, or, behind the octets that it read, `Tracker::decode` refuses them; `Trailing` where octets are
+/// What is wrong first, in this order. `Short` where there are fewer than 33 octets. `Magic` where they don't begin with TMXC. `Version`
+/// where the fifth is none of 1, 2 and 3. `Short` where there are fewer than 36 in version 2, or 37 in version 3. `Check` where the last two
+/// aren't the error control of those before. `Settings` where they were written with other settings. `State` where `Reassembly::decode`
+/// refuses them, or `Reassembly::decode_old` in an older version, or `Tracker::decode` the octets behind those. `Trailing` where octets are
 /// left over. `NoMemory` comes at the earliest after the checks of the state.
 pub fn read_checkpoint(
     alloc: Global,
     settings: &Settings,
     octets: &[u8],
 ) -> Result<(Reassembly, Tracker), CheckpointFault>
-    ensures ok { IfOk result (λ read. resumed settings.now octets.now ≡ Ok (record { work = work_of read.0 read.1; fresh = false })) }
+    ensures ok { IfOk result (λ read. resumed settings.now octets.now
+        ≡ Ok (record { work = work_of read.0 read.1; fresh = false })) }
     ensures going { IfOk result (λ read. IsGoing read.0) }
     ensures refused { IfErr result (λ found. found ≢ CheckpointFault.NoMemory → resumed settings.now octets.now ≡ Err found) }
     ensures memory { IsErrOf result CheckpointFault.NoMemory ⊎ IsOk result → AsksMemory settings.now octets.now }
 {
-    let version = match framed(settings, octets) {
+    let version = match version_in(settings, octets) {
         Ok(version) => version,
         Err(fault) => return Err(fault),
     };
@@ -171,9 +172,9 @@ fn presence_octet(presence: Presence) -> u8
 }
 
 // The version, or what is wrong first around the state and the entries.
-#[tactic(auto, unfolding(crate::specs::Checkpoints::framed))]
-fn framed(settings: &Settings, octets: &[u8]) -> Result<Version, CheckpointFault>
-    ensures value { result ≡ framed settings.now octets.now }
+#[tactic(auto, unfolding(crate::specs::Checkpoints::version_in))]
+fn version_in(settings: &Settings, octets: &[u8]) -> Result<Version, CheckpointFault>
+    ensures value { result ≡ version_in settings.now octets.now }
     ensures memory { result ≢ Err CheckpointFault.NoMemory }
     ensures long { IfOk result (λ v. (form_of v).least ≤ length octets.now) }
 {
@@ -247,7 +248,8 @@ fn decode_state(
     version: Version,
     octets: &[u8],
 ) -> Result<(Reassembly, usize), StateFault>
-    ensures ok { IfOk result (λ read. state_in version settings.now octets.now ≡ Ok (record { state = read.0.state; octets = read.1 })) }
+    ensures ok { IfOk result (λ read. state_in version settings.now octets.now
+        ≡ Ok (record { state = read.0.state; octets = read.1 })) }
     ensures same { IfOk result (λ read. read.0 ≡ progress_in settings.now read.0.state) }
     ensures refused { IfErr result (λ fault. (state_in version settings.now octets.now ≡ Err fault)
         ⊎ ((fault ≡ found.NoMemory) × IsOk (state_in version settings.now octets.now))) }
@@ -269,11 +271,13 @@ fn read_state(
     version: Version,
     octets: &[u8],
 ) -> Result<(Reassembly, usize), CheckpointFault>
-    ensures ok { IfOk result (λ read. state_in version settings.now octets.now ≡ Ok (record { state = read.0.state; octets = read.1 })) }
+    ensures ok { IfOk result (λ read. state_in version settings.now octets.now
+        ≡ Ok (record { state = read.0.state; octets = read.1 })) }
     ensures same { IfOk result (λ read. read.0 ≡ progress_in settings.now read.0.state) }
     ensures valid { IfOk result (λ read. IsValidState read.0.rules read.0.state) }
     ensures inside { IfOk result (λ read. read.1 ≤ length octets.now) }
-    ensures refused { IfErr result (λ found. found ≢ CheckpointFault.NoMemory → with_state settings.now octets.now (state_in version settings.now octets.now) ≡ Err found) }
+    ensures refused { IfErr result (λ found. found ≢ CheckpointFault.NoMemory
+        → with_state settings.now octets.now (state_in version settings.now octets.now) ≡ Err found) }
     ensures memory { IsErrOf result CheckpointFault.NoMemory → IsOk (state_in version settings.now octets.now) }
 {
     match decode_state(alloc, settings, version, octets) {
@@ -289,7 +293,8 @@ fn read_state(
 // The entries that these octets are.
 fn read_entries(alloc: Global, octets: &[u8]) -> Result<Tracker, CheckpointFault>
     ensures ok { IfOk result (λ entries. (settings : Rules) (state : State) →
-        with_entries settings state (length octets.now) (sequence.entries_decoding_of octets.now) ≡ Ok (job_of settings state entries)) }
+        with_entries settings state (length octets.now) (sequence.entries_decoding_of octets.now)
+        ≡ Ok (job_of settings state entries)) }
     ensures refused { IfErr result (λ found. found ≢ CheckpointFault.NoMemory → (settings : Rules) (state : State) →
         with_entries settings state (length octets.now) (sequence.entries_decoding_of octets.now) ≡ Err found) }
 {

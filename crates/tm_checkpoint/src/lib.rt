@@ -8,4 +8,4 @@ pub mod laws;
 mod version;
 
 pub use checkpoint::{read_checkpoint, write_checkpoint};
-pub use version::{Form, Version};
+pub use version::{Version, VersionForm};

@@ -12,7 +12,7 @@ pub enum Version {
 
 /// What the form of a version has.
 #[derive(Clone, Copy, Debug, PartialEq, Eq)]
-pub struct Form {
+pub struct VersionForm {
     /// The octet that names the version.
     pub octet: u8,
     /// The number of octets of the settings.
@@ -39,23 +39,23 @@ impl Version {
     }
 
     /// What its form has.
-    pub fn form(self) -> Form
+    pub fn form(self) -> VersionForm
         ensures { result ≡ form_of self }
     {
         match self {
-            Version::One => Form {
+            Version::One => VersionForm {
                 octet: 1,
                 settings: 12,
                 least: 33,
                 with_master: false,
             },
-            Version::Two => Form {
+            Version::Two => VersionForm {
                 octet: 2,
                 settings: 15,
                 least: 36,
                 with_master: false,
             },
-            Version::Three => Form {
+            Version::Three => VersionForm {
                 octet: 3,
                 settings: 15,
                 least: 37,

@@ -32,9 +32,9 @@ HasMoved old new n did = IfSome old (λ at. new ≡ Some (if did then at + n els
 abbrev pub AreAhead : Option ℕ → Option (List ℕ) → ℕ → Type 0
 AreAhead position all n = IfSome position (λ at. IfSome all (λ octets. at + n ≤ length octets))
 
--- known octets grew by a front of these, by a proper one if there are any
-abbrev pub AppendsFront : Option (List ℕ) → Option (List ℕ) → List ℕ → Type 0
-AppendsFront old new octets = (front rest : List ℕ) × (octets ≡ front ++ rest) × (octets ≢ [] → rest ≢ []) × Appends old new front
+-- known octets grew by a prefix of these, by a proper one if there are any
+abbrev pub AppendsPrefix : Option (List ℕ) → Option (List ℕ) → List ℕ → Type 0
+AppendsPrefix old new octets = (prefix rest : List ℕ) × (octets ≡ prefix ++ rest) × (octets ≢ [] → rest ≢ []) × Appends old new prefix
 
 -- known places grow by octets of one application, and no other place changes
 abbrev pub Puts : Option (ℕ → List ℕ) → Option (ℕ → List ℕ) → ℕ → List ℕ → Type 0
@@ -42,6 +42,10 @@ Puts None new application octets = ⊤
 Puts (Some held) None application octets = ⊥
 Puts (Some held) (Some now) application octets = (k : ℕ) → now k ≡ held k ++ (if application == k then octets else [])
 
--- likewise by a front of them
-abbrev pub PutsFront : Option (ℕ → List ℕ) → Option (ℕ → List ℕ) → ℕ → List ℕ → Type 0
-PutsFront old new application octets = (front rest : List ℕ) × (octets ≡ front ++ rest) × (octets ≢ [] → rest ≢ []) × Puts old new application front
+-- likewise by a prefix of them
+abbrev pub PutsPrefix : Option (ℕ → List ℕ) → Option (ℕ → List ℕ) → ℕ → List ℕ → Type 0
+PutsPrefix old new application octets = (prefix rest : List ℕ) × (octets ≡ prefix ++ rest) × (octets ≢ [] → rest ≢ []) × Puts old new application prefix
+
+-- known places stay as they are
+abbrev pub PutsNone : Option (ℕ → List ℕ) → Option (ℕ → List ℕ) → Type 0
+PutsNone old new = new ≡ old

@@ -1,8 +1,8 @@
 //! Where octets come from, and where they go to.
 
-ghost use Rattle.std.specs.Prelude.{◌≡◌, ◌≤◌, ℕ, List, [], drop, length, take, Option, None, IfOk, OnOk, OnErr};
+ghost use Rattle.std.specs.Prelude.{◌≡◌, ◌≤◌, ℕ, Bool, true, List, [], drop, length, take, Option, None, IfOk, OnOk, OnErr};
 ghost use Rattle.std.specs.Io.KnownBytes.{Consumes, Keeps, ReadConsumes, WriteAppends};
-ghost use Rattle.tm_devices.specs.Devices.{Counts, PassesOver, Puts, PutsFront, TakesSome};
+ghost use Rattle.tm_devices.specs.Devices.{Counts, PassesOver, Puts, PutsPrefix, PutsNone, TakesSome};
 
 /// A call of a device failed.
 #[derive(Clone, Copy, Debug, PartialEq, Eq)]
@@ -16,7 +16,10 @@ pub trait Source {
     /// The octets that are left, of a device that tells them.
     ghost left: { Self → Option (List ℕ) } = { λ _. None };
 
-    /// Reads the next octets into the front of the buffer, and answers how many. It answers 0 for a
+    /// A read may wait until octets come.
+    ghost waits: { Self → Bool } = { λ _. true };
+
+    /// Reads the next octets into the beginning of the buffer, and answers how many. It answers 0 for a
     /// buffer that isn't empty only at the end. A failed call reads nothing.
     fn read(&mut self, buffer: &mut [u8]) -> Result<usize, DeviceFailed>
         ensures bound { IfOk result (λ n. n ≤ length buffer.new) }
@@ -31,6 +34,14 @@ pub trait Source {
     {
         Ok(false)
     }
+
+    /// Whether a read may wait until octets come. Before such a read all that was written is flushed. A source that never waits, as a
+    /// regular file, may say so.
+    fn may_wait(&self) -> bool
+        ensures { waits self.now ≡ true → result ≡ true }
+    {
+        true
+    }
 }
 
 /// Where octets come from, with a loan of those at hand. The loops over recordings ask for this. Each `Source` is one, which has none at hand.
@@ -44,12 +55,15 @@ pub trait BufferedSource {
     /// The octets at hand: the next ones, as far as the device holds them already.
     ghost at_hand: { Self → List ℕ } = { λ _. [] };
 
+    /// A read may wait until octets come.
+    ghost waits: { Self → Bool } = { λ _. true };
+
     /// Lends the octets at hand.
     fn at_hand(&self) -> &[u8]
         ensures { result.now ≡ at_hand self.now };
 
     /// Takes so many of the octets at hand. No call fails.
-    fn take_at_hand(&mut self, octets: usize)
+    fn consume(&mut self, octets: usize)
         requires { octets ≤ length (at_hand self.old) }
         ensures octets { Consumes (left self.old) (left self.new) (take octets (at_hand self.old)) }
         ensures rest { at_hand self.new ≡ drop octets (at_hand self.old) }
@@ -68,6 +82,13 @@ pub trait BufferedSource {
     {
         Ok(false)
     }
+
+    /// Whether a read may wait, as a source says it.
+    fn may_wait(&self) -> bool
+        ensures { waits self.now ≡ true → result ≡ true }
+    {
+        true
+    }
 }
 
 impl<S: Source> BufferedSource for S {
@@ -75,11 +96,13 @@ impl<S: Source> BufferedSource for S {
 
     ghost left = { λ s. S.left s };
 
+    ghost waits = { λ s. S.waits s };
+
     fn at_hand(&self) -> &[u8] {
         &[]
     }
 
-    fn take_at_hand(&mut self, _octets: usize) {}
+    fn consume(&mut self, _octets: usize) {}
 
     fn read(&mut self, buffer: &mut [u8]) -> Result<usize, DeviceFailed> {
         Source::read(self, buffer)
@@ -87,6 +110,10 @@ impl<S: Source> BufferedSource for S {
 
     fn pass_over(&mut self, octets: u64) -> Result<bool, DeviceFailed> {
         Source::pass_over(self, octets)
+    }
+
+    fn may_wait(&self) -> bool {
+        Source::may_wait(self)
     }
 }
 
@@ -130,6 +157,13 @@ pub trait Shelf {
     /// Nothing is changed for other applications.
     fn put(&mut self, application: u16, octets: &[u8]) -> Result<(), Self::Fault>
         ensures whole { OnOk result (Puts (kept self.old) (kept self.new) application octets.now) }
-        ensures front { OnErr result (PutsFront (kept self.old) (kept self.new) application octets.now) }
+        ensures prefix { OnErr result (PutsPrefix (kept self.old) (kept self.new) application octets.now) }
         ensures counts { Counts (refusals self.old) (refusals self.new) result };
+
+    /// Writes out what the shelf holds in memory. A run asks for it before its source may wait. What can't be written then shows at the next put,
+    /// or where the shelf's user ends it. A shelf that holds nothing need not do anything.
+    fn write_out(&mut self)
+        ensures kept { PutsNone (kept self.old) (kept self.new) }
+        ensures refusals { refusals self.new ≡ refusals self.old }
+    {}
 }

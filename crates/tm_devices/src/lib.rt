@@ -7,4 +7,4 @@ mod transfer;
 
 pub use device::{BufferedSource, DeviceFailed, Drain, Shelf, Source};
 pub use standard::{Buffered, Reading, Seeking, Writing};
-pub use transfer::{fill, put_all};
+pub use transfer::{fill, may_wait_for, write_all};

@@ -71,7 +71,7 @@ impl<R: Read> BufferedSource for Buffered<R> {
         self.reading.reader.buffer()
     }
 
-    fn take_at_hand(&mut self, octets: usize) {
+    fn consume(&mut self, octets: usize) {
         self.reading.reader.consume(octets);
     }
 
@@ -84,24 +84,28 @@ impl<R: Read> BufferedSource for Buffered<R> {
 #[derive(Drop)]
 pub struct Seeking<R> {
     buffered: Buffered<R>,
+    waits: bool,
 }
 
 impl<R: Read + Seek> Seeking<R> {
-    /// A source over the buffer, with no failure yet. Nothing is read of it.
-    pub fn new(reader: BufReader<R>) -> Self
+    /// A source over the buffer, with no failure yet. Nothing is read of it. A regular file never waits; a named pipe does.
+    pub fn new(reader: BufReader<R>, waits: bool) -> Self
         ensures failures { ⟦<Seeking<R> as BufferedSource>⟧.failures result ≡ 0 }
         ensures reader { result.buffered.reading.reader ≡ reader }
+        ensures waits { ⟦<Seeking<R> as BufferedSource>⟧.waits result ≡ waits }
     {
         Seeking {
             buffered: Buffered::new(reader),
+            waits,
         }
     }
 }
 
 // Moves a reader on by so many octets, if there are so many ahead, and answers whether there are. If it can't be moved, as a pipe, there are none.
-fn moved_on<R: Seek>(reader: &mut R, octets: u64) -> io::Result<bool>
+fn seek_forward<R: Seek>(reader: &mut R, octets: u64) -> io::Result<bool>
     ensures moved { IfOk result (HasMoved (R.stream_position reader.old) (R.stream_position reader.new) octets) }
-    ensures within { IfOk result (λ did. did ≡ true → AreAhead (R.stream_position reader.old) (R.stream_bytes reader.old) octets) }
+    ensures within { IfOk result (λ did. did ≡ true
+        → AreAhead (R.stream_position reader.old) (R.stream_bytes reader.old) octets) }
 {
     let Ok(at) = reader.stream_position() else {
         return Ok(false);
@@ -126,12 +130,14 @@ impl<R: Read + Seek> BufferedSource for Seeking<R> {
 
     ghost at_hand = { λ s. reader_buffer s.buffered.reading.reader };
 
+    ghost waits = { λ s. s.waits };
+
     fn at_hand(&self) -> &[u8] {
         self.buffered.at_hand()
     }
 
-    fn take_at_hand(&mut self, octets: usize) {
-        self.buffered.take_at_hand(octets);
+    fn consume(&mut self, octets: usize) {
+        self.buffered.consume(octets);
     }
 
     fn read(&mut self, buffer: &mut [u8]) -> Result<usize, DeviceFailed> {
@@ -143,16 +149,21 @@ impl<R: Read + Seek> BufferedSource for Seeking<R> {
         ensures counts { Counts self.old.buffered.reading.failed self.new.buffered.reading.failed result }
         ensures moved { IfOk result (HasMoved (⟦<BufReader<R> as Seek>⟧.stream_position self.old.buffered.reading.reader)
             (⟦<BufReader<R> as Seek>⟧.stream_position self.new.buffered.reading.reader) octets) }
-        ensures within { IfOk result (λ did. did ≡ true → AreAhead (⟦<BufReader<R> as Seek>⟧.stream_position self.old.buffered.reading.reader)
+        ensures within { IfOk result (λ did. did ≡ true
+            → AreAhead (⟦<BufReader<R> as Seek>⟧.stream_position self.old.buffered.reading.reader)
             (⟦<BufReader<R> as Seek>⟧.stream_bytes self.old.buffered.reading.reader) octets) }
     {
-        match moved_on(&mut self.buffered.reading.reader, octets) {
+        match seek_forward(&mut self.buffered.reading.reader, octets) {
             Ok(did) => Ok(did),
             Err(_) => {
                 self.buffered.reading.failed = self.buffered.reading.failed.saturating_add(1);
                 Err(DeviceFailed)
             }
         }
+    }
+
+    fn may_wait(&self) -> bool {
+        self.waits
     }
 }
 

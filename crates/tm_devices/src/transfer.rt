@@ -1,15 +1,15 @@
 //! Whole slices from a source and into a drain.
 
-ghost use Rattle.std.specs.Prelude.{ℕ, List, ◌<◌, ◌≤◌, length, take, IfOk, OnOk, OnErr};
+ghost use Rattle.std.specs.Prelude.{ℕ, List, ◌≡◌, ◌<◌, ◌≤◌, true, length, take, IfOk, OnOk, OnErr};
 ghost use Rattle.std.specs.Io.KnownBytes.{Appends, Consumes, IsAtEnd};
-ghost use Rattle.tm_devices.specs.Devices.{AppendsFront, Counts};
+ghost use Rattle.tm_devices.specs.Devices.{AppendsPrefix, Counts};
 
 use crate::{BufferedSource, DeviceFailed, Drain};
 
 /// Writes all the octets, by as many writes as it takes.
-pub fn put_all<W: Drain>(out: &mut W, octets: &[u8]) -> Result<(), DeviceFailed>
+pub fn write_all<W: Drain>(out: &mut W, octets: &[u8]) -> Result<(), DeviceFailed>
     ensures whole { OnOk result (Appends (W.written out.old) (W.written out.new) octets.now) }
-    ensures front { OnErr result (AppendsFront (W.written out.old) (W.written out.new) octets.now) }
+    ensures prefix { OnErr result (AppendsPrefix (W.written out.old) (W.written out.new) octets.now) }
     ensures counts { Counts (W.failures out.old) (W.failures out.new) result }
 {
     let mut rest = octets;
@@ -20,12 +20,21 @@ pub fn put_all<W: Drain>(out: &mut W, octets: &[u8]) -> Result<(), DeviceFailed>
     Ok(())
 }
 
+/// Whether the next so many octets are not all at hand, and the source may wait for them.
+pub fn may_wait_for<R: BufferedSource>(source: &R, octets: usize) -> bool
+    ensures short { result ≡ true → length (R.at_hand source.now) < octets }
+    ensures asked { R.waits source.now ≡ true → length (R.at_hand source.now) < octets → result ≡ true }
+{
+    source.may_wait() && source.at_hand().len() < octets
+}
+
 /// Fills the buffer, or answers how many octets there were before the end.
 pub fn fill<R: BufferedSource>(source: &mut R, buffer: &mut [u8]) -> Result<usize, DeviceFailed>
     ensures bound { IfOk result (λ n. n ≤ length buffer.new) }
     ensures octets { IfOk result (λ n. Consumes (R.left source.old) (R.left source.new) (take n buffer.new)) }
     ensures end { IfOk result (λ n. n < length buffer.new → IsAtEnd (R.left source.new)) }
-    ensures part { OnErr result ((part : List ℕ) × Consumes (R.left source.old) (R.left source.new) part × (length part < length buffer.new)) }
+    ensures part { OnErr result ((part : List ℕ) × Consumes (R.left source.old) (R.left source.new) part
+        × (length part < length buffer.new)) }
     ensures counts { Counts (R.failures source.old) (R.failures source.new) result }
 {
     let mut filled = 0;

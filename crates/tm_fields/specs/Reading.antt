@@ -22,7 +22,7 @@ type_named word = if bytes_eq word (codes "uint") then Some Uint
     else (if bytes_eq word (codes "str") then Some Str
     else (if bytes_eq word (codes "fill") then Some Fill else None))))
 
--- the word, an opening bracket, and any octets of which the last is a closing bracket
+-- the word, an opening bracket, and any octets, the last one a closing bracket
 abbrev pub is_array_of : List ℕ → List ℕ → Bool
 is_array_of text word = starts_with nat_eq text (word ++ codes "(") && ends_with nat_eq text (codes ")")
 

@@ -73,7 +73,7 @@ row_from fields lead packet =
 abbrev pub IsRow : List Field → Lead → List ℕ → List ℕ → Type 0
 IsRow fields lead packet text = row_from fields lead packet ≡ Ok text
 
--- memory was wanting, or the packet has no row for this reason
+-- memory ran out, or the packet has no row for this reason
 abbrev pub RefusesRow : List Field → Lead → List ℕ → RowFault → Type 0
 RefusesRow fields lead packet refusal = refusal ≢ fault.NoMemory → row_from fields lead packet ≡ Err refusal
 

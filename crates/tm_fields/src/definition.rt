@@ -12,11 +12,11 @@ ghost use Rattle.tm_fields.specs.declared.field.Field.{Field};
 use crate::columns::{Columns, find_columns};
 use crate::faults::{Column, DefinitionFault, NoMemory, RowFault};
 use crate::field::Field;
-use crate::lead::{Lead, put_lead, put_lead_names};
+use crate::lead::{Lead, write_lead, write_lead_names};
 use crate::line::{begin, end, into_text, pass};
 use crate::reading::read_field;
 use crate::table::read_table;
-use crate::values::{put_name, put_value};
+use crate::values::{write_field_name, write_field_value};
 use csv::{ByteRecord, Writer};
 use std::alloc::{AllocError, Global};
 use std::marker::Model;
@@ -45,7 +45,8 @@ fn read_fields(
 ) -> Result<Definition, DefinitionFault>
     requires { length records.now ≤ 1000 }
     ensures ok { IfOk result (λ d. fields_from columns.now [] (map fields_of records.now) ≡ Ok d) }
-    ensures refused { IfErr result (λ f. f ≢ DefinitionFault.NoMemory → fields_from columns.now [] (map fields_of records.now) ≡ Err f) }
+    ensures refused { IfErr result (λ f. f ≢ DefinitionFault.NoMemory
+        → fields_from columns.now [] (map fields_of records.now) ≡ Err f) }
 {
     let mut fields = Vec::new(alloc);
     // The bit behind the last field: the first begins behind the packet's header.
@@ -84,10 +85,10 @@ impl Definition {
     ///
     /// # Errors
     ///
-    /// The first of these: `Csv` where two records have different numbers of values; `Column` for the first column that has no
-    /// heading or more than one; `TooMany` where there are more than 1000 records after the heading; then record by record,
-    /// numbered from 1, the first of `Array` or `Kind`, `Bits`, `Offset` and `Name` that applies. `NoMemory` where memory runs out
-    /// before.
+    /// What is wrong first, in this order. `Csv` where two records have different numbers of values. `Column` for the first column
+    /// that has no heading or more than one. `TooMany` where there are more than 1000 records after the heading. Then record by
+    /// record, numbered from 1, the first of `Array` or `Kind`, `Bits`, `Offset` and `Name` that applies. `NoMemory` where memory
+    /// runs out before.
     pub fn read(alloc: Global, text: &[u8]) -> Result<Definition, DefinitionFault>
         ensures ok { IfOk result (λ d. definition_of text.now ≡ Ok d) }
         ensures refused { IfErr result (λ f. f ≢ DefinitionFault.NoMemory → definition_of text.now ≡ Err f) }
@@ -113,9 +114,9 @@ impl Definition {
         ensures { IfOk result (λ text. text.items ≡ head_of self.now) }
     {
         let mut writer = begin(alloc);
-        put_lead_names(&mut writer)?;
+        write_lead_names(&mut writer)?;
         for field in &self.fields {
-            put_name(&mut writer, field)?;
+            write_field_name(&mut writer, field)?;
         }
         end(&mut writer)?;
         Ok(into_text(writer)?)
@@ -124,7 +125,8 @@ impl Definition {
     /// A packet must have all bits that are needed.
     pub(crate) fn check_length(&self, packet: &[u8]) -> Result<(), RowFault>
         ensures long { OnOk result (bits_needed self.now ≤ bits_in packet.now) }
-        ensures short { IfErr result (λ f. (bits_in packet.now < bits_needed self.now) × (f ≡ RowFault.ShortPacket (bits_needed self.now) (bits_in packet.now))) }
+        ensures short { IfErr result (λ f. (bits_in packet.now < bits_needed self.now)
+            × (f ≡ RowFault.ShortPacket (bits_needed self.now) (bits_in packet.now))) }
     {
         let needed = self.bits_needed();
         if packet.len() < needed.div_ceil(8) as usize {
@@ -137,7 +139,7 @@ impl Definition {
     }
 
     /// Writes the row of a packet that is long enough behind whole lines, and passes it on. The text of each value is made in `text`, whatever that holds.
-    pub(crate) fn put_row(
+    pub(crate) fn write_row(
         &self,
         alloc: Global,
         writer: &mut Writer<Vec<u8>>,
@@ -146,11 +148,12 @@ impl Definition {
         packet: &[u8],
     ) -> Result<(), AllocError>
         requires { bits_needed self.now ≤ bits_in packet.now }
-        ensures { OnOk result ((lines : List ℕ) → HasPassedOn (λ v. Some v.items) writer.old lines → HasPassedOn (λ v. Some v.items) writer.new (lines ++ row_of self.now lead packet.now)) }
+        ensures { OnOk result ((lines : List ℕ) → HasPassedOn (λ v. Some v.items) writer.old lines
+            → HasPassedOn (λ v. Some v.items) writer.new (lines ++ row_of self.now lead packet.now)) }
     {
-        put_lead(writer, lead)?;
+        write_lead(writer, lead)?;
         for field in &self.fields {
-            put_value(alloc, writer, text, field, packet)?;
+            write_field_value(alloc, writer, text, field, packet)?;
         }
         end(writer)?;
         pass(writer)
@@ -163,7 +166,7 @@ impl Definition {
     {
         let mut writer = begin(alloc);
         let mut text = Vec::new(alloc);
-        self.put_row(alloc, &mut writer, &mut text, lead, packet)?;
+        self.write_row(alloc, &mut writer, &mut text, lead, packet)?;
         into_text(writer)
     }
 

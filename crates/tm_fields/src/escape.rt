@@ -31,7 +31,7 @@ fn push_octet(text: &mut Vec<u8>, octet: u8) -> Result<(), AllocError>
     ensures appended { OnOk result (text.new.items ≡ text.old.items ++ octet_text octet) }
     ensures room { vec_capacity text.old ≤ vec_capacity text.new }
     ensures full { OnErr result (vec_capacity text.old < vec_len text.old + length (octet_text octet)) }
-    ensures front { OnErr result (take (vec_len text.old) text.new.items ≡ text.old.items) }
+    ensures prefix { OnErr result (take (vec_len text.old) text.new.items ≡ text.old.items) }
 {
     if is_plain_octet(octet) {
         text.push(octet)?;
@@ -42,8 +42,8 @@ fn push_octet(text: &mut Vec<u8>, octet: u8) -> Result<(), AllocError>
     Ok(())
 }
 
-/// Writes octets at the end of a text as they are printed: each from `20` to `7E` other than a backslash as itself, each other as
-/// `\x` and two lower-case hexadecimal digits.
+/// Writes octets at the end of a text as they are printed. Octets from `20` to `7E`, other than a backslash, stand for
+/// themselves. Each other one is `\x` and two lower-case hexadecimal digits.
 ///
 /// # Errors
 ///
@@ -52,7 +52,7 @@ fn push_octet(text: &mut Vec<u8>, octet: u8) -> Result<(), AllocError>
 pub fn push_escaped(text: &mut Vec<u8>, octets: &[u8]) -> Result<(), AllocError>
     ensures appended { OnOk result (text.new.items ≡ text.old.items ++ escaped octets.now) }
     ensures full { OnErr result (vec_capacity text.old < vec_len text.old + length (escaped octets.now)) }
-    ensures front { OnErr result (take (vec_len text.old) text.new.items ≡ text.old.items) }
+    ensures prefix { OnErr result (take (vec_len text.old) text.new.items ≡ text.old.items) }
 {
     for octet in octets {
         push_octet(text, *octet)?;

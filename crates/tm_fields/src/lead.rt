@@ -4,7 +4,7 @@ ghost use Rattle.std.specs.Prelude.{◌++◌, ◌∷◌, [], ℕ, List, OnOk};
 ghost use Rattle.tm_fields.specs.code.Line.{HasValues};
 ghost use Rattle.tm_fields.specs.Rows.{lead_names, lead_texts};
 
-use crate::line::put;
+use crate::line::write_value;
 use csv::Writer;
 use itoa::{Buffer, Integer};
 use std::alloc::AllocError;
@@ -24,36 +24,39 @@ pub struct Lead {
 }
 
 // Writes a number as a further value.
-fn put_number<W: Write + Drop, I: Integer>(
+fn write_number<W: Write + Drop, I: Integer>(
     writer: &mut Writer<W>,
     number: I,
 ) -> Result<(), AllocError>
-    ensures { OnOk result ((lines : List ℕ) (values : List (List ℕ)) → HasValues W.contents writer.old lines values → HasValues W.contents writer.new lines (values ++ I.text number ∷ [])) }
+    ensures { OnOk result ((lines : List ℕ) (values : List (List ℕ)) → HasValues W.contents writer.old lines values
+        → HasValues W.contents writer.new lines (values ++ I.text number ∷ [])) }
 {
-    put(writer, Buffer::new().format(number).as_bytes())
+    write_value(writer, Buffer::new().format(number).as_bytes())
 }
 
 /// Writes the names that a head begins with.
-pub(crate) fn put_lead_names<W: Write + Drop>(writer: &mut Writer<W>) -> Result<(), AllocError>
-    ensures { OnOk result ((lines : List ℕ) → HasValues W.contents writer.old lines [] → HasValues W.contents writer.new lines lead_names) }
+pub(crate) fn write_lead_names<W: Write + Drop>(writer: &mut Writer<W>) -> Result<(), AllocError>
+    ensures { OnOk result ((lines : List ℕ) → HasValues W.contents writer.old lines []
+        → HasValues W.contents writer.new lines lead_names) }
 {
-    put(writer, b"tm_record")?;
-    put(writer, b"tm_channel")?;
-    put(writer, b"tm_apid")?;
-    put(writer, b"tm_count")?;
+    write_value(writer, b"tm_record")?;
+    write_value(writer, b"tm_channel")?;
+    write_value(writer, b"tm_apid")?;
+    write_value(writer, b"tm_count")?;
     Ok(())
 }
 
 /// Writes the numbers that a row begins with.
-pub(crate) fn put_lead<W: Write + Drop>(
+pub(crate) fn write_lead<W: Write + Drop>(
     writer: &mut Writer<W>,
     lead: Lead,
 ) -> Result<(), AllocError>
-    ensures { OnOk result ((lines : List ℕ) → HasValues W.contents writer.old lines [] → HasValues W.contents writer.new lines (lead_texts lead)) }
+    ensures { OnOk result ((lines : List ℕ) → HasValues W.contents writer.old lines []
+        → HasValues W.contents writer.new lines (lead_texts lead)) }
 {
-    put_number(writer, lead.seen)?;
-    put_number(writer, lead.channel)?;
-    put_number(writer, lead.application)?;
-    put_number(writer, lead.count)?;
+    write_number(writer, lead.seen)?;
+    write_number(writer, lead.channel)?;
+    write_number(writer, lead.application)?;
+    write_number(writer, lead.count)?;
     Ok(())
 }

@@ -1,8 +1,8 @@
 //! Field definitions, read from CSV, and what packets give under them: a head and a row for each packet, as CSV.
 //!
-//! The format of definitions and rows is the project's own. A definition says which bits of a packet are which field; bits are
-//! counted from the first bit of the packet on, the 48 bits of its header included, and the most significant bit comes first, as
-//! CCSDS 133.0-B-2 numbers the bits of a packet (section 4.1).
+//! The format of definitions and rows is the project's own. A definition says which bits of a packet are which field. Bits are
+//! counted from the first bit of the packet on, its header's 48 bits included. The most significant bit comes first, as CCSDS
+//! 133.0-B-2 numbers the bits of a packet (section 4.1).
 #![tactic(auto)]
 
 mod columns;

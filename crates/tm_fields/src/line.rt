@@ -24,9 +24,13 @@ pub(crate) fn begin_again(alloc: Global, writer: &mut Writer<Vec<u8>>)
     *writer = begin(alloc);
 }
 
-/// Writes a further value. A line in memory fails for want of memory alone.
-pub(crate) fn put<W: Write + Drop>(writer: &mut Writer<W>, value: &[u8]) -> Result<(), AllocError>
-    ensures { OnOk result ((lines : List ℕ) (values : List (List ℕ)) → HasValues W.contents writer.old lines values → HasValues W.contents writer.new lines (values ++ value.now ∷ [])) }
+/// Writes a further value. A line in memory fails only if memory runs out.
+pub(crate) fn write_value<W: Write + Drop>(
+    writer: &mut Writer<W>,
+    value: &[u8],
+) -> Result<(), AllocError>
+    ensures { OnOk result ((lines : List ℕ) (values : List (List ℕ)) → HasValues W.contents writer.old lines values
+        → HasValues W.contents writer.new lines (values ++ value.now ∷ [])) }
 {
     if writer.write_field(value).is_err() {
         return Err(AllocError);
@@ -36,7 +40,9 @@ pub(crate) fn put<W: Write + Drop>(writer: &mut Writer<W>, value: &[u8]) -> Resu
 
 /// Ends a line of two values or more.
 pub(crate) fn end<W: Write + Drop>(writer: &mut Writer<W>) -> Result<(), AllocError>
-    ensures { OnOk result ((lines : List ℕ) (values : List (List ℕ)) → 2 ≤ length values → HasValues W.contents writer.old lines values → HasValues W.contents writer.new (lines ++ row_text default_writer values) []) }
+    ensures { OnOk result ((lines : List ℕ) (values : List (List ℕ)) → 2 ≤ length values
+        → HasValues W.contents writer.old lines values
+        → HasValues W.contents writer.new (lines ++ row_text default_writer values) []) }
 {
     if writer.end_record().is_err() {
         return Err(AllocError);
@@ -46,7 +52,8 @@ pub(crate) fn end<W: Write + Drop>(writer: &mut Writer<W>) -> Result<(), AllocEr
 
 /// Passes whole lines on to what is underneath.
 pub(crate) fn pass<W: Write + Drop>(writer: &mut Writer<W>) -> Result<(), AllocError>
-    ensures { OnOk result ((lines : List ℕ) → HasValues W.contents writer.old lines [] → HasPassedOn W.contents writer.new lines) }
+    ensures { OnOk result ((lines : List ℕ) → HasValues W.contents writer.old lines []
+        → HasPassedOn W.contents writer.new lines) }
 {
     if writer.flush().is_err() {
         return Err(AllocError);

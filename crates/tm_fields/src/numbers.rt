@@ -7,7 +7,7 @@ ghost use Rattle.tm_fields.specs.Numbers.{bits_in, number_within};
 use byteorder::{BigEndian, ByteOrder};
 
 // The number that at most nine octets spell.
-fn spelled(octets: &[u8]) -> u128
+fn big_endian(octets: &[u8]) -> u128
     requires few { length octets.now ≤ 9 }
     ensures value { result ≡ number (bits_of octets.now) }
     ensures bound { result < 256 ^ length octets.now }
@@ -20,7 +20,7 @@ fn spelled(octets: &[u8]) -> u128
 }
 
 // The bits of a word in front of the last `behind`, so many of them.
-fn cut(word: u64, behind: u32, count: u32) -> u64
+fn cut_bits(word: u64, behind: u32, count: u32) -> u64
     requires some { 1 ≤ count }
     requires within { behind + count ≤ 64 }
     ensures value { result ≡ word / 2 ^ behind % 2 ^ count }
@@ -31,7 +31,7 @@ fn cut(word: u64, behind: u32, count: u32) -> u64
 
 // The number in so many bits: the octets that hold them are put together, the bits behind are shifted away, and those in front are
 // masked.
-fn number_by_octets(octets: &[u8], at: u32, count: u32) -> u64
+fn number_across_octets(octets: &[u8], at: u32, count: u32) -> u64
     requires few { count ≤ 64 }
     requires within { at + count ≤ bits_in octets.now }
     ensures value { result ≡ part octets.now at (at + count) }
@@ -40,7 +40,7 @@ fn number_by_octets(octets: &[u8], at: u32, count: u32) -> u64
     let end = u64::from(at) + u64::from(count);
     let first = at as usize / 8;
     let last = end.div_ceil(8) as usize;
-    let all = spelled(&octets[first..last]);
+    let all = big_endian(&octets[first..last]);
     let behind = 8 * last as u64 - end;
     ((all >> behind) % (1 << count)) as u64
 }
@@ -56,14 +56,14 @@ pub(crate) fn number_from(octets: &[u8], at: u32, count: u32) -> u64
     let end = at as usize + count as usize;
     let last = octets.len().min(at as usize / 8 + 8);
     if last < 8 || end > 8 * last {
-        return number_by_octets(octets, at, count);
+        return number_across_octets(octets, at, count);
     }
     let word = BigEndian::read_u64(&octets[last - 8..]);
-    cut(word, (8 * last - end) as u32, count)
+    cut_bits(word, (8 * last - end) as u32, count)
 }
 
-/// The number in so many bits from the bit `offset` on, the most significant first: bit 0 is the most significant bit of the first
-/// octet. `None` exactly where `bits` is 0 or over 64, or the last of them would lie behind the octets.
+/// The number in so many bits from the bit `offset` on, the most significant first: bit 0 is the most significant bit of the
+/// first octet. `None` if and only if `bits` is 0 or over 64, or the last of them would lie behind the octets.
 pub fn number_at(octets: &[u8], offset: u32, bits: u32) -> Option<u64>
     ensures { result ≡ number_within octets.now offset bits }
 {

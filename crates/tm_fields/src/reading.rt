@@ -67,7 +67,7 @@ fn read_begin(row: u32, before: u32, length: u32, text: &[u8]) -> Result<u32, De
 }
 
 // The name is that of a field of these that has a column.
-fn is_name_taken(name: &[u8], fields: &[Field]) -> bool
+fn is_name_used(name: &[u8], fields: &[Field]) -> bool
     ensures { result ≡ is_earlier_name name.now fields.now }
 {
     fields.iter().any(|field| field.data_type.has_column() && is_text(field.name.as_slice(), name))
@@ -77,7 +77,7 @@ fn is_name_taken(name: &[u8], fields: &[Field]) -> bool
 fn refuses_name(data_type: DataType, name: &[u8], fields: &[Field]) -> bool
     ensures { result ≡ is_refused_name data_type name.now fields.now }
 {
-    name.is_empty() || data_type.has_column() && is_name_taken(name, fields)
+    name.is_empty() || data_type.has_column() && is_name_used(name, fields)
 }
 
 // The name in a row.
@@ -100,7 +100,7 @@ fn read_name(
     }
 }
 
-/// The field of a record that comes after these fields, of which the last ends at `before`.
+/// The field of a record that comes after these fields. The last of them ends at `before`.
 pub(crate) fn read_field(
     alloc: Global,
     columns: &Columns,
@@ -111,7 +111,8 @@ pub(crate) fn read_field(
     requires few { length fields.now < 1000 }
     requires before { before ≡ last_end 48 fields.now }
     ensures ok { IfOk result (λ f. defined_field_of columns.now fields.now (fields_of values.now) ≡ Ok f) }
-    ensures refused { IfErr result (λ f. f ≢ DefinitionFault.NoMemory → defined_field_of columns.now fields.now (fields_of values.now) ≡ Err f) }
+    ensures refused { IfErr result (λ f. f ≢ DefinitionFault.NoMemory
+        → defined_field_of columns.now fields.now (fields_of values.now) ≡ Err f) }
     ensures sound { IfOk result (λ f. is_sound f ≡ true) }
 {
     let row = fields.len() as u32 + 1;

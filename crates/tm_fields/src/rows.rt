@@ -42,7 +42,7 @@ impl<'a> Model for Rows<'a> {
 }
 
 impl<'a> Rows<'a> {
-    /// The rows of a definition, of which none is written.
+    /// The rows of a definition, none of them written.
     pub fn new(alloc: Global, definition: &'a Definition) -> Rows<'a>
         ensures fields { result.fields ≡ definition.now }
         ensures none { result.row ≡ [] }
@@ -91,11 +91,11 @@ impl<'a> Rows<'a> {
             return Err(fault);
         }
         let (writer, text) = (&mut self.writer, &mut self.text);
-        let put = self
+        let write_value = self
             .definition
-            .put_row(self.alloc, writer, text, lead, packet);
-        if put.is_err() {
-            // The front of a row is let go of.
+            .write_row(self.alloc, writer, text, lead, packet);
+        if write_value.is_err() {
+            // The beginning of a row is dropped.
             begin_again(self.alloc, &mut self.writer);
             self.before = 0;
             return Err(RowFault::NoMemory);

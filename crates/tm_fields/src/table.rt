@@ -21,7 +21,7 @@ fn fault_of(error: Error) -> DefinitionFault
 }
 
 // As many records as can count: the heading, 1000 fields, and one that is too many.
-const KEPT: usize = 1002;
+const MOST_ROWS: usize = 1002;
 
 // Keeps a further record, if it can count.
 fn keep(rows: &mut Vec<ByteRecord>, row: ByteRecord) -> Result<(), AllocError>
@@ -29,7 +29,7 @@ fn keep(rows: &mut Vec<ByteRecord>, row: ByteRecord) -> Result<(), AllocError>
     ensures kept { OnOk result (map fields_of rows.new.items ≡ kept (map fields_of rows.old.items ++ (fields_of row ∷ []))) }
     ensures few { length rows.new.items ≤ 1002 }
 {
-    if rows.len() < KEPT {
+    if rows.len() < MOST_ROWS {
         rows.push(row)?;
     }
     Ok(())

@@ -8,7 +8,7 @@ ghost use Rattle.tm_fields.specs.Rows.{named, printed, signed, typed_text};
 
 use crate::escape::{push_escaped, push_raw};
 use crate::field::{DataType, Field};
-use crate::line::put;
+use crate::line::write_value;
 use crate::numbers::number_from;
 use csv::Writer;
 use itoa::Buffer;
@@ -47,7 +47,12 @@ fn push_signed(text: &mut Vec<u8>, bits: u32, number: u64) -> Result<(), AllocEr
 }
 
 // So many octets from a bit on, of a field that doesn't begin on an octet's border.
-fn put_together(alloc: Global, packet: &[u8], at: u32, count: u32) -> Result<Vec<u8>, AllocError>
+fn unaligned_octets(
+    alloc: Global,
+    packet: &[u8],
+    at: u32,
+    count: u32,
+) -> Result<Vec<u8>, AllocError>
     requires within { at + 8 * count ≤ bits_in packet.now }
     requires small { at + 8 * count ≤ greatest_end }
     ensures { IfOk result (λ octets. octets.items ≡ octets_at packet.now at count) }
@@ -60,7 +65,7 @@ fn put_together(alloc: Global, packet: &[u8], at: u32, count: u32) -> Result<Vec
 }
 
 // So many octets of a packet from a bit on, which is the first of an octet.
-fn lent(packet: &[u8], at: u32, count: u32) -> &[u8]
+fn aligned_octets(packet: &[u8], at: u32, count: u32) -> &[u8]
     requires border { at % 8 ≡ 0 }
     requires within { at + 8 * count ≤ bits_in packet.now }
     ensures { result.now ≡ octets_at packet.now at count }
@@ -86,16 +91,22 @@ fn push_typed(
     match data_type {
         DataType::Uint => push_number(text, number_from(packet, at, bits)),
         DataType::Int => push_signed(text, bits, number_from(packet, at, bits)),
-        DataType::Float if at % 8 == 0 => push_raw(text, lent(packet, at, bits / 8)),
-        DataType::Float => push_raw(text, put_together(alloc, packet, at, bits / 8)?.as_slice()),
-        DataType::Str if at % 8 == 0 => push_escaped(text, lent(packet, at, bits / 8)),
-        DataType::Str => push_escaped(text, put_together(alloc, packet, at, bits / 8)?.as_slice()),
+        DataType::Float if at % 8 == 0 => push_raw(text, aligned_octets(packet, at, bits / 8)),
+        DataType::Float => push_raw(
+            text,
+            unaligned_octets(alloc, packet, at, bits / 8)?.as_slice(),
+        ),
+        DataType::Str if at % 8 == 0 => push_escaped(text, aligned_octets(packet, at, bits / 8)),
+        DataType::Str => push_escaped(
+            text,
+            unaligned_octets(alloc, packet, at, bits / 8)?.as_slice(),
+        ),
         DataType::Fill => Ok(()),
     }
 }
 
 /// Writes a field's value in a line, if it has a column. Its text is made in `text`, whatever that holds.
-pub(crate) fn put_value<W: Write + Drop>(
+pub(crate) fn write_field_value<W: Write + Drop>(
     alloc: Global,
     writer: &mut Writer<W>,
     text: &mut Vec<u8>,
@@ -104,7 +115,8 @@ pub(crate) fn put_value<W: Write + Drop>(
 ) -> Result<(), AllocError>
     requires sound { is_sound field.now ≡ true }
     requires within { end_of field.now ≤ bits_in packet.now }
-    ensures { OnOk result ((lines : List ℕ) (values : List (List ℕ)) → HasValues W.contents writer.old lines values → HasValues W.contents writer.new lines (values ++ printed packet.now field.now)) }
+    ensures { OnOk result ((lines : List ℕ) (values : List (List ℕ)) → HasValues W.contents writer.old lines values
+        → HasValues W.contents writer.new lines (values ++ printed packet.now field.now)) }
 {
     if field.data_type.has_column() {
         text.clear();
@@ -116,20 +128,21 @@ pub(crate) fn put_value<W: Write + Drop>(
             field.begin,
             field.length,
         )?;
-        put(writer, text.as_slice())?;
+        write_value(writer, text.as_slice())?;
     }
     Ok(())
 }
 
 /// Writes a field's name in a line, if it has a column.
-pub(crate) fn put_name<W: Write + Drop>(
+pub(crate) fn write_field_name<W: Write + Drop>(
     writer: &mut Writer<W>,
     field: &Field,
 ) -> Result<(), AllocError>
-    ensures { OnOk result ((lines : List ℕ) (values : List (List ℕ)) → HasValues W.contents writer.old lines values → HasValues W.contents writer.new lines (values ++ named field.now)) }
+    ensures { OnOk result ((lines : List ℕ) (values : List (List ℕ)) → HasValues W.contents writer.old lines values
+        → HasValues W.contents writer.new lines (values ++ named field.now)) }
 {
     if field.data_type.has_column() {
-        put(writer, field.name.as_slice())?;
+        write_value(writer, field.name.as_slice())?;
     }
     Ok(())
 }

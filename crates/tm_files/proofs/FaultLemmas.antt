@@ -1,4 +1,4 @@
--- Faults of files: that they name their file, which of two comes first, and that want of memory is one.
+-- Faults of files: that they name their file, which of two comes first, and that out of memory is one.
 use Rattle.std.proofs.Common.{ℕ, ◌≡◌, ◌⊎◌, List, Option, None, Some, ap, inl, inr, refl, subst, sym}
 use Rattle.tm_files.specs.code.Clashes.{first_clash}
 use Rattle.tm_files.specs.code.Files.{HasFault, IsFileFault, IsNoMemory, IsRunFault}
@@ -6,7 +6,7 @@ use Rattle.tm_files.specs.declared.fault.ToolFault.{ToolFault}
 use Rattle.tm_files.specs.declared.fault.ToolFault.TheVariants as tool
 use Rattle.tm_faults.specs.declared.fault.RunFault.TheVariants.{NoMemory, Read, Report, ShortRecording, TooMany, Write}
 
--- the fault of a file is that of its name, unless memory is wanting
+-- the fault of a file is that of its name, unless memory ran out
 pub fault_exactly : (name : List ℕ) (fault : ToolFault) → IsFileFault name fault → IsNoMemory fault ⊎ (Some (tool.File name) ≡ Some fault)
 fault_exactly name (tool.Usage f) h = absurd h
 fault_exactly name (tool.Settings f) h = absurd h
@@ -34,35 +34,35 @@ pub first_here : (one next : Option ToolFault) (fault : ToolFault) → IsNoMemor
 first_here one next fault (inl h) = inl h
 first_here one next fault (inr h) = inr (rw h refl)
 
--- want of memory is a fault of a run, and may come of each file
-pub starved_run : (fault : ToolFault) → IsNoMemory fault → IsRunFault fault
-starved_run (tool.Usage f) h = absurd h
-starved_run (tool.Settings f) h = absurd h
-starved_run (tool.Definition f) h = absurd h
-starved_run (tool.Checkpoint f) h = absurd h
-starved_run (tool.File given) h = absurd h
-starved_run (tool.TooLong given) h = absurd h
-starved_run tool.Errors h = absurd h
-starved_run (tool.Run f) h = tt
+-- out of memory is a fault of a run, and may come of each file
+pub no_memory_run : (fault : ToolFault) → IsNoMemory fault → IsRunFault fault
+no_memory_run (tool.Usage f) h = absurd h
+no_memory_run (tool.Settings f) h = absurd h
+no_memory_run (tool.Definition f) h = absurd h
+no_memory_run (tool.Checkpoint f) h = absurd h
+no_memory_run (tool.File given) h = absurd h
+no_memory_run (tool.TooLong given) h = absurd h
+no_memory_run tool.Errors h = absurd h
+no_memory_run (tool.Run f) h = tt
 
-pub starved_file : (name : List ℕ) (fault : ToolFault) → IsNoMemory fault → IsFileFault name fault
-starved_file name (tool.Usage f) h = absurd h
-starved_file name (tool.Settings f) h = absurd h
-starved_file name (tool.Definition f) h = absurd h
-starved_file name (tool.Checkpoint f) h = absurd h
-starved_file name (tool.File given) h = absurd h
-starved_file name (tool.TooLong given) h = absurd h
-starved_file name tool.Errors h = absurd h
-starved_file name (tool.Run Read) h = absurd h
-starved_file name (tool.Run Write) h = absurd h
-starved_file name (tool.Run Report) h = absurd h
-starved_file name (tool.Run ShortRecording) h = absurd h
-starved_file name (tool.Run TooMany) h = absurd h
-starved_file name (tool.Run NoMemory) h = tt
+pub no_memory_file : (name : List ℕ) (fault : ToolFault) → IsNoMemory fault → IsFileFault name fault
+no_memory_file name (tool.Usage f) h = absurd h
+no_memory_file name (tool.Settings f) h = absurd h
+no_memory_file name (tool.Definition f) h = absurd h
+no_memory_file name (tool.Checkpoint f) h = absurd h
+no_memory_file name (tool.File given) h = absurd h
+no_memory_file name (tool.TooLong given) h = absurd h
+no_memory_file name tool.Errors h = absurd h
+no_memory_file name (tool.Run Read) h = absurd h
+no_memory_file name (tool.Run Write) h = absurd h
+no_memory_file name (tool.Run Report) h = absurd h
+no_memory_file name (tool.Run ShortRecording) h = absurd h
+no_memory_file name (tool.Run TooMany) h = absurd h
+no_memory_file name (tool.Run NoMemory) h = tt
 
 -- a file that there is
-pub starved_there : (file : Option (List ℕ)) (name : List ℕ) (fault : ToolFault) → file ≡ Some name → IsNoMemory fault → HasFault file fault
-starved_there file name fault is h = subst (λ o. HasFault o fault) (sym is) (starved_file name fault h)
+pub no_memory_there : (file : Option (List ℕ)) (name : List ℕ) (fault : ToolFault) → file ≡ Some name → IsNoMemory fault → HasFault file fault
+no_memory_there file name fault is h = subst (λ o. HasFault o fault) (sym is) (no_memory_file name fault h)
 
 pub fault_there : (file : Option (List ℕ)) (name : List ℕ) (fault : ToolFault) → file ≡ Some name → IsFileFault name fault → HasFault file fault
 fault_there file name fault is h = subst (λ o. HasFault o fault) (sym is) h

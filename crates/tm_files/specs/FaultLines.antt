@@ -14,8 +14,8 @@ use Rattle.tm_settings.specs.declared.fault.SettingsFault.{SettingsFault}
 use Rattle.tm_settings.specs.declared.fault.SettingsFault.TheVariants as settings
 use Rattle.tm_faults.specs.declared.fault.RunFault.{RunFault}
 use Rattle.tm_faults.specs.declared.fault.RunFault.TheVariants as run
-use Rattle.tm_words.specs.declared.request.UsageFault.{UsageFault}
-use Rattle.tm_words.specs.declared.request.UsageFault.TheVariants as usage
+use Rattle.tm_arguments.specs.declared.request.UsageFault.{UsageFault}
+use Rattle.tm_arguments.specs.declared.request.UsageFault.TheVariants as usage
 use Rattle.tm_files.specs.declared.fault.ToolFault.{ToolFault}
 use Rattle.tm_files.specs.declared.fault.ToolFault.TheVariants as tool
 

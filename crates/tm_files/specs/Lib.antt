@@ -1,4 +1,4 @@
 pub mod FaultLines
 pub mod Names
-pub mod Places
+pub mod FileIdentities
 pub mod code

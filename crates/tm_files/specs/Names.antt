@@ -1,7 +1,7 @@
 -- Which files of a plan are in each other's way by their names.
 use Rattle.std.specs.Prelude.{◌≡◌, ℕ, Bool, ◌||◌, false, List, ◌++◌, codes, Option, Some, None, IfSome}
 use Rattle.std.specs.Str.{bytes_eq}
-use Rattle.tm_words.specs.declared.request.Plan.{Plan}
+use Rattle.tm_arguments.specs.declared.request.Plan.{Plan}
 
 -- there is such a file, and it has this name
 abbrev pub has_name : List ℕ → Option (List ℕ) → Bool
@@ -17,13 +17,13 @@ abbrev pub is_checkpoint : Plan → List ℕ → Bool
 is_checkpoint p name = has_name name p.checkpoint || has_name name p.resume
 
 -- the file in which a checkpoint is written before it takes its name
-abbrev pub beside : List ℕ → List ℕ
-beside name = name ++ codes ".new"
+abbrev pub temporary_checkpoint : List ℕ → List ℕ
+temporary_checkpoint name = name ++ codes ".new"
 
 -- a file that the plan reads or writes has the name of the checkpoint or of the file beside it
 abbrev pub is_in_the_way : Plan → List ℕ → Bool
-is_in_the_way p name = is_read p name || is_read p (beside name) || has_name (beside name) p.report || has_name (beside name) p.resume
+is_in_the_way p name = is_read p name || is_read p (temporary_checkpoint name) || has_name (temporary_checkpoint name) p.report || has_name (temporary_checkpoint name) p.resume
 
--- neither the checkpoint nor the report takes the place of a file that is read, or of one another
+-- neither the checkpoint nor the report takes the identity of a file that is read, or of one another
 abbrev pub AreClear : Plan → Type 0
 AreClear p = IfSome p.checkpoint (λ name. is_in_the_way p name ≡ false) × IfSome p.report (λ name. (is_read p name ≡ false) × (is_checkpoint p name ≡ false))

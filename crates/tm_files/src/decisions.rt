@@ -1,12 +1,12 @@
 //! What a plan decides of files and streams, before any is opened. The steps carry it out.
 
 ghost use Rattle.std.specs.Prelude.{◌≡◌};
-ghost use Rattle.tm_files.specs.code.Decisions.{is_job, IsDestination, IsOpening, IsRecording, stream_fault_of, writes_errors, writes_output};
+ghost use Rattle.tm_files.specs.code.Decisions.{is_job, IsDestination, IsReportTarget, IsRecording, stream_fault_of, writes_errors, writes_output};
 
 use crate::fault::ToolFault;
+use tm_arguments::{Action, Plan};
 use tm_faults::RunFault;
 use tm_octets::Octets;
-use tm_words::{Action, Plan};
 
 /// Where the recording comes from.
 pub enum Recording<'p> {
@@ -17,18 +17,18 @@ pub enum Recording<'p> {
 }
 
 /// How the report is opened.
-pub enum Opening<'p> {
+pub enum ReportTarget<'p> {
     /// The file of this name begins empty.
     New(&'p Octets),
     /// It is written behind what the file of this name has.
-    Behind(&'p Octets),
+    Append(&'p Octets),
     /// It goes to standard error.
     Errors,
 }
 
 /// Where the packets go.
 pub enum Destination<'p> {
-    /// To files in a folder, which are gone on with or else begin empty.
+    /// To files in a folder, which are appended to or else begin empty.
     Folder { dir: &'p Octets, goes_on: bool },
     /// To standard output.
     Output,
@@ -41,8 +41,8 @@ pub enum Stream {
     Errors,
 }
 
-/// Where the plan's recording comes from: standard input exactly where no file is named.
-pub fn recording_by(plan: &Plan) -> Recording<'_>
+/// Where the plan's recording comes from: standard input if and only if no file is named.
+pub fn choose_recording(plan: &Plan) -> Recording<'_>
     ensures { IsRecording plan.now result }
 {
     match &plan.recording {
@@ -51,19 +51,19 @@ pub fn recording_by(plan: &Plan) -> Recording<'_>
     }
 }
 
-/// How the plan's report is opened: a file that is named is gone on with exactly where the job is.
-pub fn opening_by(plan: &Plan) -> Opening<'_>
-    ensures { IsOpening plan.now result }
+/// How the plan's report is opened: a file that is named is appended to if and only if a job is resumed.
+pub fn choose_report(plan: &Plan) -> ReportTarget<'_>
+    ensures { IsReportTarget plan.now result }
 {
     match (&plan.report, &plan.resume) {
-        (Some(name), None) => Opening::New(name),
-        (Some(name), Some(_)) => Opening::Behind(name),
-        (None, _) => Opening::Errors,
+        (Some(name), None) => ReportTarget::New(name),
+        (Some(name), Some(_)) => ReportTarget::Append(name),
+        (None, _) => ReportTarget::Errors,
     }
 }
 
-/// Where the plan's packets go: files of a folder are gone on with exactly where the job is.
-pub fn destination_by(plan: &Plan) -> Destination<'_>
+/// Where the plan's packets go: files of a folder are appended to if and only if a job is resumed.
+pub fn choose_destination(plan: &Plan) -> Destination<'_>
     ensures { IsDestination plan.now result }
 {
     match plan.action {

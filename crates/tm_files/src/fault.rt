@@ -1,11 +1,11 @@
 //! Why the program ends before its end.
 
 use std::alloc::{AllocError, AllocFailed};
+use tm_arguments::UsageFault;
 use tm_faults::{CheckpointFault, RunFault};
 use tm_fields::DefinitionFault;
 use tm_octets::Octets;
 use tm_settings::SettingsFault;
-use tm_words::UsageFault;
 
 /// Memory ran out.
 #[derive(Clone, Copy, Debug, PartialEq, Eq)]
@@ -40,6 +40,6 @@ pub enum ToolFault {
     TooLong(Octets),
     /// Standard error is a file that is read, whatever the run writes there. So no line is printed.
     Errors,
-    /// The run ended before its end. Want of memory that no other fault holds is here, too.
+    /// The run ended before its end. So is running out of memory where no other fault says it.
     Run(RunFault),
 }

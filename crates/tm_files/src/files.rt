@@ -2,7 +2,7 @@
 
 ghost use Rattle.std.specs.Prelude.{◌≡◌, ◌<◌, ◌≤◌, length, vec_len, IfOk, IfErr, IfSome, MatchOption};
 ghost use Rattle.tm_files.specs.code.Files.{IsFaultOf, IsFileFault, most_octets};
-ghost use Rattle.tm_files.specs.code.Replacements.{replaced_name};
+ghost use Rattle.tm_files.specs.code.Replacements.{replaced_name, replaced_octets, replacement_name};
 
 use crate::fault::ToolFault;
 use std::alloc::Global;
@@ -33,7 +33,7 @@ fn read_short<R: Read + Drop>(alloc: Global, reader: R) -> io::Result<Option<Vec
 }
 
 // A copy of a file's name, unless memory runs out.
-fn copied(alloc: Global, name: &Octets) -> Option<Octets>
+fn copy_of(alloc: Global, name: &Octets) -> Option<Octets>
     ensures { IfSome result (λ copy. copy ≡ name.now) }
 {
     match Vec::from_slice(alloc, name.as_slice()) {
@@ -46,7 +46,7 @@ fn copied(alloc: Global, name: &Octets) -> Option<Octets>
 pub fn file_fault(alloc: Global, name: &Octets) -> ToolFault
     ensures { IsFileFault name.now result }
 {
-    match copied(alloc, name) {
+    match copy_of(alloc, name) {
         Some(name) => ToolFault::File(name),
         None => ToolFault::Run(RunFault::NoMemory),
     }
@@ -94,54 +94,98 @@ pub fn append<R: Files + AllocGlobal>(rt: &R, name: &Octets) -> Result<R::File, 
     }
 }
 
-// Writes octets to a file.
-fn write_new<R: Files>(rt: &R, path: &str, octets: &[u8]) -> io::Result<()> {
-    let mut file = File::create(rt, path)?;
+/// The file `NAME.new` beside a file, made and empty. It takes the other's name once it is written. Until then the other stays as it is.
+#[derive(Drop)]
+pub struct Replacement<'n, F> {
+    name: &'n Octets,
+    path: &'n str,
+    temporary: String,
+    file: F,
+}
+
+/// The octets of a file were replaced by these. Only `finish_replacement` says so, once it is done.
+#[derive(Drop)]
+pub struct Replaced<'n> {
+    name: &'n Octets,
+    octets: Vec<u8>,
+}
+
+// Whether a folder has this name: no file can take it.
+fn is_folder<R: Files>(rt: &R, path: &str) -> bool {
+    match fs::metadata(rt, path) {
+        Ok(metadata) => metadata.is_dir(),
+        Err(_) => false,
+    }
+}
+
+/// Makes the file beside a file, empty also where one was there. A folder in place of the file is refused. A fault names the file as it was given.
+pub fn begin_replacement<'n, R: Files + AllocGlobal>(
+    rt: &R,
+    name: &'n Octets,
+) -> Result<Replacement<'n, R::File>, ToolFault>
+    ensures name { IfOk result (λ replacement. replacement_name replacement ≡ name.now) }
+    ensures refused { IfErr result (IsFileFault name.now) }
+{
+    let alloc = rt.alloc();
+    let path = path_of(alloc, name)?;
+    let Ok(temporary) = format!(in alloc; "{path}.new") else {
+        return Err(ToolFault::Run(RunFault::NoMemory));
+    };
+    if is_folder(rt, path) {
+        return Err(file_fault(alloc, name));
+    }
+    match File::create(rt, temporary.as_str()) {
+        Ok(file) => Ok(Replacement {
+            name,
+            path,
+            temporary,
+            file,
+        }),
+        Err(_) => Err(file_fault(alloc, name)),
+    }
+}
+
+// Writes octets to a file, as far as to its device.
+fn write_through<F: OpenFile + Write>(file: &mut F, octets: &[u8]) -> io::Result<()> {
     file.write_all(octets)?;
     file.flush()?;
     file.sync_all()
 }
 
-// Writes octets to a file beside another, whose name it takes then. Where that fails the file beside is removed, and the other is as it was.
-fn write_beside<R: Files>(rt: &R, beside: &str, path: &str, octets: &[u8]) -> io::Result<()> {
-    let done = match write_new(rt, beside, octets) {
-        Ok(()) => fs::rename(rt, beside, path),
+/// Writes these octets, and gives the file the other's name. Where that fails it is taken away, and the other is as it was. A fault names the
+/// other file as it was given.
+pub fn finish_replacement<'n, R: Files + AllocGlobal>(
+    rt: &R,
+    replacement: Replacement<'n, R::File>,
+    octets: Vec<u8>,
+) -> Result<Replaced<'n>, ToolFault>
+    ensures name { IfOk result (λ replaced. replaced_name replaced ≡ replacement_name replacement.entry) }
+    ensures octets { IfOk result (λ replaced. replaced_octets replaced ≡ octets.items) }
+    ensures refused { IfErr result (IsFileFault (replacement_name replacement.entry)) }
+{
+    let Replacement {
+        name,
+        path,
+        temporary,
+        mut file,
+    } = replacement;
+    let done = match write_through(&mut file, octets.as_slice()) {
+        Ok(()) => fs::rename(rt, temporary.as_str(), path),
         Err(error) => Err(error),
     };
-    if done.is_err() {
-        let _ = fs::remove_file(rt, beside);
+    if done.is_ok() {
+        return Ok(Replaced { name, octets });
     }
-    done
+    let _ = fs::remove_file(rt, temporary.as_str());
+    Err(file_fault(rt.alloc(), name))
 }
 
-/// What the file of a name has was replaced. Only `replace` says so, once it is done.
-#[derive(Clone, Copy)]
-pub struct Replaced<'n> {
-    name: &'n Octets,
+/// Takes the file away again, where there is nothing to write to it.
+pub fn abandon_replacement<R: Files>(rt: &R, replacement: Replacement<'_, R::File>) {
+    let _ = fs::remove_file(rt, replacement.temporary.as_str());
 }
 
-/// Puts octets in place of all that a file has, by way of a file `NAME.new` beside it: where this fails, the file is
-/// as it was. A fault names the file as it was given.
-pub fn replace<'n, R: Files + AllocGlobal>(
-    rt: &R,
-    name: &'n Octets,
-    octets: &[u8],
-) -> Result<Replaced<'n>, ToolFault>
-    ensures name { IfOk result (λ replaced. replaced_name replaced ≡ name.now) }
-    ensures refused { IfErr result (IsFileFault name.now) }
-{
-    let alloc = rt.alloc();
-    let path = path_of(alloc, name)?;
-    let Ok(beside) = format!(in alloc; "{path}.new") else {
-        return Err(ToolFault::Run(RunFault::NoMemory));
-    };
-    match write_beside(rt, beside.as_str(), path, octets) {
-        Ok(()) => Ok(Replaced { name }),
-        Err(_) => Err(file_fault(alloc, name)),
-    }
-}
-
-/// The octets of a file, of which there may be 1,048,576. A fault names the file as it was given.
+/// The octets of a file, at most 1,048,576. A fault names the file as it was given.
 pub fn read_file<R: Files + AllocGlobal>(rt: &R, name: &Octets) -> Result<Vec<u8>, ToolFault>
     ensures named { IfErr result (IsFaultOf name.now) }
     ensures short { IfOk result (λ octets. vec_len octets ≤ most_octets) }
@@ -150,7 +194,7 @@ pub fn read_file<R: Files + AllocGlobal>(rt: &R, name: &Octets) -> Result<Vec<u8
     let file = open(rt, name)?;
     match read_short(alloc, file) {
         Ok(Some(octets)) => Ok(octets),
-        Ok(None) => match copied(alloc, name) {
+        Ok(None) => match copy_of(alloc, name) {
             Some(name) => Err(ToolFault::TooLong(name)),
             None => Err(ToolFault::Run(RunFault::NoMemory)),
         },

@@ -4,18 +4,21 @@
 mod decisions;
 mod fault;
 mod files;
+mod identities;
 mod lines;
 mod names;
-mod places;
 mod report;
 
 pub use decisions::{
-    Destination, Opening, Recording, Stream, destination_by, is_job, opening_by, recording_by,
-    stream_fault, writes_errors, writes_output,
+    Destination, Recording, ReportTarget, Stream, choose_destination, choose_recording,
+    choose_report, is_job, stream_fault, writes_errors, writes_output,
 };
 pub use fault::{NoMemory, ToolFault};
-pub use files::{Replaced, append, create, file_fault, open, read_file, replace};
+pub use files::{
+    Replaced, Replacement, abandon_replacement, append, begin_replacement, create, file_fault,
+    finish_replacement, open, read_file,
+};
+pub use identities::identify_files;
 pub use lines::{fault_line, status};
 pub use names::{Checked, check_errors, check_names};
-pub use places::places_by;
 pub use report::Report;

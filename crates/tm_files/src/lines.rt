@@ -5,13 +5,13 @@ ghost use Rattle.tm_files.specs.FaultLines.{checkpoint_text, column_line, defini
 
 use crate::fault::{NoMemory, ToolFault};
 use std::alloc::Global;
+use tm_arguments::UsageFault;
 use tm_faults::{CheckpointFault, RunFault};
 use tm_fields::{Column, DefinitionFault, push_escaped};
 use tm_settings::{Key, SettingsFault};
-use tm_words::UsageFault;
 
 // A copy of a text.
-fn copied(alloc: Global, text: &str) -> Result<Vec<u8>, NoMemory>
+fn copy_of(alloc: Global, text: &str) -> Result<Vec<u8>, NoMemory>
     ensures { IfOk result (λ v. v.items ≡ text.now) }
 {
     Ok(Vec::from_slice(alloc, text.as_bytes())?)
@@ -21,7 +21,7 @@ fn copied(alloc: Global, text: &str) -> Result<Vec<u8>, NoMemory>
 fn line_around(alloc: Global, before: &str, octets: &[u8], after: &str) -> Result<Vec<u8>, NoMemory>
     ensures { IfOk result (λ v. v.items ≡ escaped_line before.now octets.now after.now) }
 {
-    let mut line = copied(alloc, before)?;
+    let mut line = copy_of(alloc, before)?;
     push_escaped(&mut line, octets)?;
     line.extend_from_slice(after.as_bytes())?;
     Ok(line)
@@ -32,9 +32,9 @@ fn usage_line(alloc: Global, fault: &UsageFault) -> Result<Vec<u8>, NoMemory>
 {
     match fault {
         UsageFault::Usage(text) => Ok(Vec::from_slice(alloc, text.as_slice())?),
-        UsageFault::StopAfter => copied(alloc, "tmx: --stop-after needs --checkpoint\n"),
+        UsageFault::StopAfter => copy_of(alloc, "tmx: --stop-after needs --checkpoint\n"),
         UsageFault::Help(text) => Ok(Vec::from_slice(alloc, text.as_slice())?),
-        UsageFault::NoMemory => copied(alloc, "tmx: out of memory\n"),
+        UsageFault::NoMemory => copy_of(alloc, "tmx: out of memory\n"),
     }
 }
 
@@ -49,14 +49,14 @@ fn settings_line(alloc: Global, fault: &SettingsFault) -> Result<Vec<u8>, NoMemo
     ensures { IfOk result (λ v. v.items ≡ settings_text fault.now) }
 {
     match fault {
-        SettingsFault::Toml => copied(alloc, "tmx: settings: toml\n"),
+        SettingsFault::Toml => copy_of(alloc, "tmx: settings: toml\n"),
         SettingsFault::Unknown(key) => {
             line_around(alloc, "tmx: settings: unknown ", key.as_slice(), "\n")
         }
         SettingsFault::Missing(key) => line_with_key(alloc, "missing", *key),
         SettingsFault::Kind(key) => line_with_key(alloc, "kind", *key),
         SettingsFault::Range(key) => line_with_key(alloc, "range", *key),
-        SettingsFault::NoMemory => copied(alloc, "tmx: out of memory\n"),
+        SettingsFault::NoMemory => copy_of(alloc, "tmx: out of memory\n"),
     }
 }
 
@@ -77,15 +77,15 @@ fn definition_line(alloc: Global, fault: DefinitionFault) -> Result<Vec<u8>, NoM
     ensures { IfOk result (λ v. v.items ≡ definition_text fault) }
 {
     match fault {
-        DefinitionFault::Csv => copied(alloc, "tmx: definition: csv\n"),
+        DefinitionFault::Csv => copy_of(alloc, "tmx: definition: csv\n"),
         DefinitionFault::Column(column) => line_with_column(alloc, column),
         DefinitionFault::Kind { row } => line_with_row(alloc, "kind", row),
         DefinitionFault::Array { row } => line_with_row(alloc, "array", row),
         DefinitionFault::Bits { row } => line_with_row(alloc, "bits", row),
         DefinitionFault::Offset { row } => line_with_row(alloc, "offset", row),
         DefinitionFault::Name { row } => line_with_row(alloc, "name", row),
-        DefinitionFault::TooMany => copied(alloc, "tmx: definition: too many\n"),
-        DefinitionFault::NoMemory => copied(alloc, "tmx: out of memory\n"),
+        DefinitionFault::TooMany => copy_of(alloc, "tmx: definition: too many\n"),
+        DefinitionFault::NoMemory => copy_of(alloc, "tmx: out of memory\n"),
     }
 }
 
@@ -125,16 +125,16 @@ pub fn fault_line(alloc: Global, fault: &ToolFault) -> Result<Vec<u8>, NoMemory>
         ToolFault::Usage(fault) => usage_line(alloc, fault),
         ToolFault::Settings(fault) => settings_line(alloc, fault),
         ToolFault::Definition(fault) => definition_line(alloc, *fault),
-        ToolFault::Checkpoint(fault) => copied(alloc, checkpoint_line(*fault)),
+        ToolFault::Checkpoint(fault) => copy_of(alloc, checkpoint_line(*fault)),
         ToolFault::File(name) => line_around(alloc, "tmx: ", name.as_slice(), ": failed\n"),
         ToolFault::TooLong(name) => line_around(alloc, "tmx: ", name.as_slice(), ": too long\n"),
         ToolFault::Errors => Ok(Vec::new(alloc)),
-        ToolFault::Run(fault) => copied(alloc, run_line(*fault)),
+        ToolFault::Run(fault) => copy_of(alloc, run_line(*fault)),
     }
 }
 
-/// The status with which a fault ends the program: 0 for help, 1 where a device failed or there are
-/// too many records, 2 for wrong words and files and for a recording that is too short, 3 where memory ran out.
+/// The status with which a fault ends the program. It is 0 for help, and 1 where a device failed or there are too many records.
+/// It is 2 for wrong arguments and files and for a recording that is too short, and 3 where memory ran out.
 pub fn status(fault: &ToolFault) -> u8
     ensures { result ≡ status_of fault.now }
 {

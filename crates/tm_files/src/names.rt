@@ -1,19 +1,19 @@
 //! Which files of a plan are in each other's way, by their names and by what these stand for.
 
 ghost use Rattle.std.specs.Prelude.{◌≡◌, ◌⊎◌, None, Some, false, true, IfErr, IfOk, IfSome, OnOk};
-ghost use Rattle.tm_places.specs.Places.{faults_clash};
+ghost use Rattle.tm_file_identity.specs.FileIdentities.{faults_clash};
 ghost use Rattle.tm_files.specs.code.Clashes.{checkpoint_clash, clash_of, output_clash, report_clash};
-ghost use Rattle.tm_files.specs.Names.{AreClear, beside, has_name, is_checkpoint, is_in_the_way, is_read};
+ghost use Rattle.tm_files.specs.Names.{AreClear, temporary_checkpoint, has_name, is_checkpoint, is_in_the_way, is_read};
 ghost use Rattle.tm_files.specs.code.Files.{HasFault, IsNoMemory, IsRunFault};
 
 use crate::decisions::{Stream, stream_fault, writes_output};
 use crate::fault::ToolFault;
 use crate::files::file_fault;
 use std::alloc::Global;
+use tm_arguments::Plan;
 use tm_faults::RunFault;
+use tm_file_identity::FileIdentities;
 use tm_octets::Octets;
-use tm_places::Places;
-use tm_words::Plan;
 
 /// The names of a plan were checked. Only `check_names` says so, and the report is opened by this alone: so not before.
 #[derive(Clone, Copy)]
@@ -46,8 +46,8 @@ fn is_checkpoint(plan: &Plan, name: &Octets) -> bool
 }
 
 /// The name of the file in which a checkpoint is written before it takes its name.
-pub fn beside(alloc: Global, name: &Octets) -> Result<Octets, ToolFault>
-    ensures name { IfOk result (λ found. found ≡ beside name.now) }
+pub fn temporary_checkpoint(alloc: Global, name: &Octets) -> Result<Octets, ToolFault>
+    ensures name { IfOk result (λ found. found ≡ temporary_checkpoint name.now) }
     ensures refused { IfErr result IsNoMemory }
 {
     let Ok(mut octets) = Vec::from_slice(alloc, name.as_slice()) else {
@@ -61,7 +61,7 @@ pub fn beside(alloc: Global, name: &Octets) -> Result<Octets, ToolFault>
 
 // A file that the plan reads or writes has the name of the checkpoint or of the file beside it.
 fn is_in_the_way(plan: &Plan, name: &Octets, new_name: &Octets) -> bool
-    requires { new_name.now ≡ beside name.now }
+    requires { new_name.now ≡ temporary_checkpoint name.now }
     ensures { result ≡ is_in_the_way plan.now name.now }
 {
     is_read(plan, name)
@@ -70,78 +70,90 @@ fn is_in_the_way(plan: &Plan, name: &Octets, new_name: &Octets) -> bool
         || has_name(&plan.resume, new_name)
 }
 
-// The checkpoint must not take the place of a file that is read or of the report, nor the file beside it.
-#[tactic(auto, using(crate::proofs::FaultLemmas::starved_there, crate::proofs::FaultLemmas::fault_exactly))]
-fn check_checkpoint(alloc: Global, plan: &Plan, places: &Places) -> Result<(), ToolFault>
+// The checkpoint must not be the report or a file that is read, except the one to resume from. Nor must the file beside it be any of these.
+#[tactic(auto, using(crate::proofs::FaultLemmas::no_memory_there, crate::proofs::FaultLemmas::fault_exactly))]
+fn check_checkpoint(
+    alloc: Global,
+    plan: &Plan,
+    identities: &FileIdentities,
+) -> Result<(), ToolFault>
     ensures ok { OnOk result (IfSome plan.now.checkpoint (λ name. is_in_the_way plan.now name ≡ false)) }
     ensures refused { IfErr result (HasFault plan.now.checkpoint) }
-    ensures clear { OnOk result (checkpoint_clash plan.now places.now plan.now.checkpoint ≡ None) }
-    ensures clash { IfErr result (λ fault. IsNoMemory fault ⊎ (checkpoint_clash plan.now places.now plan.now.checkpoint ≡ Some fault)) }
+    ensures clear { OnOk result (checkpoint_clash plan.now identities.now plan.now.checkpoint ≡ None) }
+    ensures clash { IfErr result (λ fault. IsNoMemory fault
+        ⊎ (checkpoint_clash plan.now identities.now plan.now.checkpoint ≡ Some fault)) }
 {
     let Some(name) = &plan.checkpoint else {
         return Ok(());
     };
-    let new_name = beside(alloc, name)?;
+    let new_name = temporary_checkpoint(alloc, name)?;
     if is_in_the_way(plan, name, &new_name)
-        || places.checkpoint_clashes()
-        || places.beside_clashes()
+        || identities.checkpoint_clashes()
+        || identities.temporary_clashes()
     {
         return Err(file_fault(alloc, name));
     }
     Ok(())
 }
 
-// The report must not take the place of a file that is read or has a checkpoint.
+// The report must not be a file that is read or the checkpoint.
 #[tactic(auto, using(crate::proofs::FaultLemmas::fault_exactly))]
-fn check_report(alloc: Global, plan: &Plan, places: &Places) -> Result<(), ToolFault>
-    ensures ok { OnOk result (IfSome plan.now.report (λ name. (is_read plan.now name ≡ false) × (is_checkpoint plan.now name ≡ false))) }
+fn check_report(alloc: Global, plan: &Plan, identities: &FileIdentities) -> Result<(), ToolFault>
+    ensures ok { OnOk result (IfSome plan.now.report
+        (λ name. (is_read plan.now name ≡ false) × (is_checkpoint plan.now name ≡ false))) }
     ensures refused { IfErr result (HasFault plan.now.report) }
-    ensures clear { OnOk result (report_clash plan.now places.now plan.now.report ≡ None) }
-    ensures clash { IfErr result (λ fault. IsNoMemory fault ⊎ (report_clash plan.now places.now plan.now.report ≡ Some fault)) }
+    ensures clear { OnOk result (report_clash plan.now identities.now plan.now.report ≡ None) }
+    ensures clash { IfErr result (λ fault. IsNoMemory fault
+        ⊎ (report_clash plan.now identities.now plan.now.report ≡ Some fault)) }
 {
     let Some(name) = &plan.report else {
         return Ok(());
     };
-    if is_read(plan, name) || is_checkpoint(plan, name) || places.report_clashes() {
+    if is_read(plan, name) || is_checkpoint(plan, name) || identities.report_clashes() {
         return Err(file_fault(alloc, name));
     }
     Ok(())
 }
 
 // Standard output, where the plan writes to it, must not be a file that is read.
-fn check_output(plan: &Plan, places: &Places) -> Result<(), ToolFault>
+fn check_output(plan: &Plan, identities: &FileIdentities) -> Result<(), ToolFault>
     ensures refused { IfErr result IsRunFault }
-    ensures clear { OnOk result (output_clash plan.now places.now ≡ None) }
-    ensures clash { IfErr result (λ fault. output_clash plan.now places.now ≡ Some fault) }
+    ensures clear { OnOk result (output_clash plan.now identities.now ≡ None) }
+    ensures clash { IfErr result (λ fault. output_clash plan.now identities.now ≡ Some fault) }
 {
-    if writes_output(plan) && places.output_clashes() {
+    if writes_output(plan) && identities.output_clashes() {
         return Err(stream_fault(Stream::Output));
     }
     Ok(())
 }
 
 /// Standard error must not be a file that is read, whatever the plan writes there: the line of a fault would be written to that file.
-pub fn check_errors(places: &Places) -> Result<(), ToolFault>
-    ensures clear { OnOk result (faults_clash places.now ≡ false) }
-    ensures clash { IfErr result (λ fault. (fault ≡ ToolFault.Errors) × (faults_clash places.now ≡ true)) }
+pub fn check_errors(identities: &FileIdentities) -> Result<(), ToolFault>
+    ensures clear { OnOk result (faults_clash identities.now ≡ false) }
+    ensures clash { IfErr result (λ fault. (fault ≡ ToolFault.Errors) × (faults_clash identities.now ≡ true)) }
 {
-    if places.faults_clash() {
+    if identities.faults_clash() {
         return Err(ToolFault::Errors);
     }
     Ok(())
 }
 
 /// What the run writes must not take the place of what is read, nor of one another: first the checkpoint, then the report, then standard output.
-/// Two names are one file where they are the same, and where they stand for the same places.
+/// Two names are one file where they are the same, and where they have the same identity.
 #[tactic(auto, using(crate::proofs::FaultLemmas::first_none, crate::proofs::FaultLemmas::first_then, crate::proofs::FaultLemmas::first_here))]
-pub fn check_names(alloc: Global, plan: &Plan, places: &Places) -> Result<Checked, ToolFault>
+pub fn check_names(
+    alloc: Global,
+    plan: &Plan,
+    identities: &FileIdentities,
+) -> Result<Checked, ToolFault>
     ensures ok { OnOk result (AreClear plan.now) }
-    ensures refused { IfErr result (λ fault. HasFault plan.now.report fault ⊎ HasFault plan.now.checkpoint fault ⊎ IsRunFault fault) }
-    ensures clear { OnOk result (clash_of plan.now places.now ≡ None) }
-    ensures clash { IfErr result (λ fault. IsNoMemory fault ⊎ (clash_of plan.now places.now ≡ Some fault)) }
+    ensures refused { IfErr result (λ fault. HasFault plan.now.report fault ⊎ HasFault plan.now.checkpoint fault
+        ⊎ IsRunFault fault) }
+    ensures clear { OnOk result (clash_of plan.now identities.now ≡ None) }
+    ensures clash { IfErr result (λ fault. IsNoMemory fault ⊎ (clash_of plan.now identities.now ≡ Some fault)) }
 {
-    check_checkpoint(alloc, plan, places)?;
-    check_report(alloc, plan, places)?;
-    check_output(plan, places)?;
+    check_checkpoint(alloc, plan, identities)?;
+    check_report(alloc, plan, identities)?;
+    check_output(plan, identities)?;
     Ok(Checked(()))
 }

@@ -30,8 +30,8 @@ long_division (suc n) (x ∷ xs) = long_division n (drop 1 (cond x (subtract (x 
 abbrev pub invert_first : ℕ → List Bool → List Bool
 invert_first n xs = map not (take n xs) ++ drop n xs
 
--- the error control of octets: their bits and 16 zero bits, the first 16 bits of all this inverted (which is a register
--- preset to ones), divided until 16 bits are left
+-- the error control of octets: their bits and 16 zero bits, the first 16 bits of all this inverted (a register preset to ones),
+-- divided until 16 bits are left
 unfoldable pub error_control_of : List ℕ → ℕ
 error_control_of octets =
     number (long_division (8 * length octets) (invert_first 16 (bits_of octets ++ replicate 16 false)))

@@ -1,4 +1,4 @@
--- The faults of a frame, of which the first that applies is reported, and how a record reads.
+-- The faults of a frame, the first that applies being reported, and how a record reads.
 use Rattle.std.specs.Prelude.{ℕ, ◌-◌, ◌*◌, Bool, false, not, ◌&&◌, ◌==◌, nat_lt, List, [], ◌∷◌, length, take, Option, Some, None, Result, Ok, Err}
 use Rattle.std.specs.List.{find}
 use Rattle.tm_bits.specs.Bits.{part}
@@ -22,8 +22,8 @@ abbrev pub control_holds : List ℕ → Bool
 control_holds frame =
     part frame (8 * (length frame - 2)) (8 * length frame) == error_control_of (take (length frame - 2) frame)
 
--- packets are in the data field, and the pointer to the first is neither one with a meaning of its own nor a place in the
--- field (CCSDS 132.0-B-3, 4.1.2.7)
+-- Packets are in the data field, and the pointer to the first is no place in it. Nor is it one that has a meaning of its own
+-- (CCSDS 132.0-B-3, 4.1.2.7).
 abbrev pub is_misplaced : LayoutParts → List ℕ → Bool
 is_misplaced layout frame =
     not (synchronization_flag frame) && not (pointer_of frame == 2046) && not (pointer_of frame == 2047)

@@ -25,8 +25,8 @@ field_length layout frame = field_end layout frame - field_start frame
 abbrev pub data_field_of : LayoutParts → List ℕ → List ℕ
 data_field_of layout frame = slice_range frame (field_start frame) (field_end layout frame)
 
--- what the data field holds: with the synchronization flag a VCA_SDU, whatever the pointer; else by the first header
--- pointer, in which 2047 and 2046 have a meaning of their own (4.1.2.7)
+-- What the data field holds. With the synchronization flag it is a VCA_SDU, whatever the pointer. Else the first header pointer
+-- says it; 2047 and 2046 have a meaning of their own (4.1.2.7).
 abbrev pub kind_from : Bool → ℕ → Kind
 kind_from synchronization pointer =
     if synchronization then Vca

@@ -12,8 +12,8 @@ use byteorder::{BigEndian, ByteOrder};
 // Fewer octets than this go faster by the table: folding takes the time of a whole block, however few they are.
 const FEW: usize = 16;
 
-/// The error control of octets: the remainder of their bits and 16 zero bits by
-/// `x^16 + x^12 + x^5 + 1`, from a register preset to ones, the most significant bit first.
+/// The error control of octets: the remainder of their bits and 16 zero bits by `x^16 + x^12 + x^5 + 1`. The register is preset
+/// to ones, and the most significant bit comes first.
 pub fn error_control(octets: &[u8]) -> u16
     ensures { result ≡ error_control_of octets.now }
 {
@@ -25,7 +25,7 @@ pub fn error_control(octets: &[u8]) -> u16
     let mut rest = blocks;
     while rest.len() >= 128 {
         let (block, behind) = rest.split_at(128);
-        take_block(&mut held, block);
+        append_block(&mut held, block);
         rest = behind;
     }
     finish(held)
@@ -86,7 +86,7 @@ fn begin(first: &[u8]) -> [u64; 16]
 
 // Words with the remainder of those held and a block behind them.
 #[inline(always)]
-fn take_block(held: &mut [u64; 16], block: &[u8])
+fn append_block(held: &mut [u64; 16], block: &[u8])
     requires { length block.now ≡ 128 }
     ensures { words_remainder held.new ≡ remainder_from (words_remainder held.old) (bits_of block.now) }
 {
@@ -148,7 +148,7 @@ fn fold(words: &mut [u64], width: usize)
 {
     for i in 0..words.len() - width / 4 {
         let (front, behind) = words.split_at_mut(i + 1);
-        take_away(behind, width, front[i]);
+        fold_word(behind, width, front[i]);
     }
 }
 
@@ -156,7 +156,7 @@ fn fold(words: &mut [u64], width: usize)
 // bits further on.
 #[inline(always)]
 #[tactic(auto, using(crate::proofs::FoldWords::word_folds))]
-fn take_away(words: &mut [u64], width: usize, word: u64)
+fn fold_word(words: &mut [u64], width: usize, word: u64)
     requires folds { Folds width }
     requires wide { 16 ≤ width }
     requires narrow { width ≤ 64 }
@@ -174,7 +174,8 @@ fn take_away(words: &mut [u64], width: usize, word: u64)
 fn add_at(words: &mut [u64], place: usize, word: u64)
     requires { place + 64 ≤ 64 * length words.old }
     ensures len { length words.new ≡ length words.old }
-    ensures sum { words_remainder words.new ≡ bit_xor (words_remainder words.old) (shifted (64 * length words.old - (place + 64)) (low_bits 64 word)) }
+    ensures sum { words_remainder words.new ≡ bit_xor (words_remainder words.old)
+        (shifted (64 * length words.old - (place + 64)) (low_bits 64 word)) }
 {
     let at = place / 64;
     let within = place % 64;
@@ -196,8 +197,8 @@ fn shift_words(words: &[u64]) -> u16
     register
 }
 
-// The register after a word. The quotient by the generator is the word times the generator's powers 8, 4, 2
-// and 1: with the generator itself these make its power 16, which is a 1 and then 63 zeros or more.
+// The register after a word. The quotient by the generator is the word times the generator's powers 8, 4, 2 and 1. With the
+// generator itself these make its power 16: a 1 and then 63 zeros or more.
 #[inline(always)]
 #[tactic(auto, using(crate::proofs::Words::word_divided))]
 fn shift_word(register: u16, word: u64) -> u16

@@ -26,6 +26,18 @@ pub enum FrameFault {
 impl FrameFault {
     ghost use Rattle.tm_frame.specs.FaultWords.{fault_word, fault_number};
 
+    /// All faults, in the order in which they are looked for.
+    pub const ALL: [FrameFault; 8] = [
+        FrameFault::Crc,
+        FrameFault::Version,
+        FrameFault::Spacecraft,
+        FrameFault::SecondaryFlag,
+        FrameFault::OcfFlag,
+        FrameFault::SecondaryVersion,
+        FrameFault::Layout,
+        FrameFault::Pointer,
+    ];
+
     /// The fault's word, as it is printed.
     pub fn word(self) -> &'static str
         ensures { result.now ≡ fault_word self }
@@ -46,15 +58,6 @@ impl FrameFault {
     pub fn number(self) -> u8
         ensures { result ≡ fault_number self }
     {
-        match self {
-            FrameFault::Crc => 1,
-            FrameFault::Version => 2,
-            FrameFault::Spacecraft => 3,
-            FrameFault::SecondaryFlag => 4,
-            FrameFault::OcfFlag => 5,
-            FrameFault::SecondaryVersion => 6,
-            FrameFault::Layout => 7,
-            FrameFault::Pointer => 8,
-        }
+        self as u8 + 1
     }
 }

@@ -7,14 +7,14 @@ ghost use Rattle.tm_frame.specs.code.Headers.{frame_header_of};
 ghost use Rattle.tm_frame.specs.Layout.{IsInRange, record_length_of};
 
 use crate::checks::fault_in;
-use crate::header::{Header, IDLE, NO_START, field_end, field_start, secondary_length};
+use crate::header::{FrameHeader, IDLE, NO_START, field_end, field_start, secondary_length};
 use crate::{FrameFault, Layout, LayoutParts};
 use std::marker::Model;
 
 /// What the data field of a good frame holds (CCSDS 132.0-B-3, 4.1.2.7).
 #[derive(Clone, Copy, Debug, PartialEq, Eq)]
 pub enum Kind {
-    /// Packets, of which the first that starts in the field starts at this place, counted from 0.
+    /// Packets: the first that starts in the field starts at this place, counted from 0.
     Packets(u16),
     /// Octets of a packet that began in an earlier frame; none starts here.
     NoStart,
@@ -157,7 +157,7 @@ pub fn read<'r>(layout: &Layout, octets: &'r [u8]) -> Result<Frame<'r>, FrameFau
 {
     let parts = layout.parts();
     let frame = frame_in(&parts, octets);
-    let header = Header::read(frame);
+    let header = FrameHeader::read(frame);
     match fault_in(&parts, frame, &header) {
         Some(fault) => Err(fault),
         None => Ok(good_frame(&parts, frame, &header)),
@@ -172,11 +172,11 @@ pub fn read_good<'r>(layout: &Layout, octets: &'r [u8]) -> Frame<'r>
 {
     let parts = layout.parts();
     let frame = frame_in(&parts, octets);
-    good_frame(&parts, frame, &Header::read(frame))
+    good_frame(&parts, frame, &FrameHeader::read(frame))
 }
 
 // The frame, in which no fault was found.
-fn good_frame<'r>(parts: &LayoutParts, frame: &'r [u8], header: &Header) -> Frame<'r>
+fn good_frame<'r>(parts: &LayoutParts, frame: &'r [u8], header: &FrameHeader) -> Frame<'r>
     requires long { 9 ≤ length frame.now }
     requires header { header.now ≡ frame_header_of frame.now }
     requires most { length frame.now ≤ 2048 }

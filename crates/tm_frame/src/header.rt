@@ -17,7 +17,7 @@ pub const IDLE: u16 = 2046;
 
 /// The parts of a frame's primary header, the first header pointer included.
 #[derive(Clone, Copy)]
-pub struct Header {
+pub struct FrameHeader {
     pub version: u8,
     pub spacecraft: u16,
     pub channel: u8,
@@ -31,14 +31,14 @@ pub struct Header {
     pub pointer: u16,
 }
 
-impl Header {
+impl FrameHeader {
     /// The primary header of a frame.
-    pub fn read(frame: &[u8]) -> Header
+    pub fn read(frame: &[u8]) -> FrameHeader
         requires { 6 ≤ length frame.now }
         ensures { result ≡ frame_header_of frame.now }
     {
         let word = BigEndian::read_u48(frame);
-        Header {
+        FrameHeader {
             version: part(word, 0, 2) as u8,
             spacecraft: part(word, 2, 12),
             channel: part(word, 12, 15) as u8,
@@ -75,7 +75,7 @@ pub fn secondary_version(frame: &[u8]) -> u8
 }
 
 /// The octets of the secondary header, 0 without one.
-pub fn secondary_length(frame: &[u8], header: &Header) -> u8
+pub fn secondary_length(frame: &[u8], header: &FrameHeader) -> u8
     requires long { 9 ≤ length frame.now }
     requires header { header.now ≡ frame_header_of frame.now }
     ensures value { result ≡ secondary_length_of frame.now }
@@ -98,7 +98,7 @@ fn secondary_length_code(frame: &[u8]) -> u8
 }
 
 /// Where the data field begins, behind the headers.
-pub fn field_start(frame: &[u8], header: &Header) -> usize
+pub fn field_start(frame: &[u8], header: &FrameHeader) -> usize
     requires long { 9 ≤ length frame.now }
     requires header { header.now ≡ frame_header_of frame.now }
     ensures { result ≡ field_start frame.now }
@@ -107,7 +107,7 @@ pub fn field_start(frame: &[u8], header: &Header) -> usize
 }
 
 /// Where the data field ends, before the trailers.
-pub fn field_end(parts: &LayoutParts, frame: &[u8], header: &Header) -> usize
+pub fn field_end(parts: &LayoutParts, frame: &[u8], header: &FrameHeader) -> usize
     requires long { 9 ≤ length frame.now }
     requires header { header.now ≡ frame_header_of frame.now }
     ensures { result ≡ field_end parts.now frame.now }
@@ -118,7 +118,7 @@ pub fn field_end(parts: &LayoutParts, frame: &[u8], header: &Header) -> usize
 }
 
 /// The octets of the data field, 0 where none is left for it.
-pub fn field_length(parts: &LayoutParts, frame: &[u8], header: &Header) -> usize
+pub fn field_length(parts: &LayoutParts, frame: &[u8], header: &FrameHeader) -> usize
     requires long { 9 ≤ length frame.now }
     requires header { header.now ≡ frame_header_of frame.now }
     ensures { result ≡ field_length parts.now frame.now }

@@ -1,5 +1,5 @@
-//! TM transfer frames (CCSDS 132.0-B-3, section 4.1): how a record is laid out, the error control of
-//! octets, and a record read as a good frame or as the first fault that applies.
+//! TM transfer frames (CCSDS 132.0-B-3, section 4.1): how a record is laid out, and the error control of octets. A record reads
+//! as a good frame or as the first fault that applies.
 #![tactic(auto)]
 
 mod checks;

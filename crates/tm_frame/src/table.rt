@@ -29,8 +29,8 @@ static TABLE: [u16; 256] = [
     0x2E93, 0x3EB2, 0x0ED1, 0x1EF0,
 ];
 
-/// The entry of an octet in the table of 256: the remainder of its eight bits and 16 zero bits by
-/// `x^16 + x^12 + x^5 + 1` (CCSDS 132.0-B-3, 4.1.6), the most significant bit first. No bit is inverted.
+/// The entry of an octet in the table of 256: the remainder of its eight bits and 16 zero bits by `x^16 + x^12 + x^5 + 1`. The
+/// most significant bit comes first (CCSDS 132.0-B-3, 4.1.6). No bit is inverted.
 pub fn table_entry(octet: u8) -> u16
     ensures { result ≡ table_entry_of octet }
 {

@@ -6,8 +6,8 @@ use Rattle.tm_bits.specs.Bits.{part, bits_of, number}
 use Rattle.tm_bits.proofs.PartLemmas.{part-word}
 use Rattle.tm_packet.specs.declared.header.PacketFault.{PacketFault}
 use Rattle.tm_packet.specs.Header.{Fields, packet_version_of, packet_header_of, header_reading_of}
-use Rattle.tm_items.specs.OnePacket.{is_packet, reach}
-use Rattle.tm_items.proofs.Reaching.{reach-short, reach-long}
+use Rattle.tm_items.specs.OnePacket.{is_packet, packet_length}
+use Rattle.tm_items.proofs.Reaching.{packet_length-short, packet_length-long}
 
 pub version_first : (octets : List ℕ) → 0 < length octets → packet_version_of (take 1 octets) ≡ packet_version_of (get_or octets 0 0 ∷ [])
 version_first [] h = absurd (omega arith)
@@ -54,16 +54,16 @@ reading-err octets fault zero e =
     ok_err p = cc
 
 -- the length by the header that is read
-pub reach_read : (octets : List ℕ) (h : Fields) → header_reading_of octets ≡ Ok h → h.data_length + 7 ≡ reach octets
-reach_read octets h e =
+pub packet_length_read : (octets : List ℕ) (h : Fields) → header_reading_of octets ≡ Ok h → h.data_length + 7 ≡ packet_length octets
+packet_length_read octets h e =
     let r = reading-ok octets h e in
     ap (λ (g : Fields). g.data_length + 7) r.1
     ∙ ap (λ (n : ℕ). n + 7) (sym (part-front 6 octets 32 48 r.0 (omega arith) (omega arith)))
-    ∙ sym (reach-long octets r.0)
+    ∙ sym (packet_length-long octets r.0)
 
 -- and where none can be read
-pub reach_unread : (octets : List ℕ) (fault : PacketFault) → is_packet octets ≡ true → header_reading_of octets ≡ Err fault → 7 ≡ reach octets
-reach_unread octets fault p e = ⊎_elim (λ short. sym (reach-short octets short)) (λ long. absurd (no long)) (cases_lt (length octets) 6)
+pub packet_length_unread : (octets : List ℕ) (fault : PacketFault) → is_packet octets ≡ true → header_reading_of octets ≡ Err fault → 7 ≡ packet_length octets
+packet_length_unread octets fault p e = ⊎_elim (λ short. sym (packet_length-short octets short)) (λ long. absurd (no long)) (cases_lt (length octets) 6)
   where
     no : 6 ≤ length octets → ⊥
     no long =

@@ -1,5 +1,7 @@
 -- Items that a sink takes one after the other: what taking the rest of them leads to.
-use Rattle.std.proofs.Common.{◌≡◌, List, [], ◌∷◌, ◌++◌, sym, subst, inl, inr}
+use Rattle.std.proofs.Common.{◌≡◌, List, [], ◌∷◌, ◌++◌, sym, subst, inl, inr, Result, Ok, Err}
+use Rattle.tm_items.specs.declared.sink.Sink as sink
+use Rattle.tm_items.specs.Giving.{Gives}
 use Rattle.tm_items.specs.Item.{Item}
 use Rattle.tm_items.specs.Sinks.{TakesAll, RefusesOne}
 
@@ -21,16 +23,22 @@ RefusesOne-right {S} takes refuses old mid new [] ys fault h k = subst (λ (s : 
 RefusesOne-right takes refuses old mid new (x ∷ xs) ys fault h k =
     inr (h.0, h.1, RefusesOne-right takes refuses h.0 mid new xs ys fault h.2 k)
 
+-- a call that gives further items behind those that were taken, and one that is refused among some first ones
+module _ {S F T : Type 0} (s : sink.Ghosts S F) (old mid new : S) (xs ys : List Item) where
+  pub gives_behind : (r : Result T F) → TakesAll s.takes (s.known old) xs (s.known mid) → Gives s mid new ys r → Gives s old new (xs ++ ys) r
+  gives_behind (Ok value) before h = TakesAll-append s.takes _ _ _ xs ys before h
+  gives_behind (Err fault) before h = RefusesOne-right s.takes s.refuses _ _ _ xs ys fault before h
+
 -- what follows from taking the rest of the items, or from refusing one of them
 pub record Leads {S F : Type 0} (takes : S → Item → S → Type 0) (refuses : S → Item → F → S → Type 0) (start now : S) (all rest : List Item) : Type 0 where
-  pub taken : (new : S) → TakesAll takes now rest new → TakesAll takes start all new
+  pub accepted : (new : S) → TakesAll takes now rest new → TakesAll takes start all new
   pub refused : (fault : F) (new : S) → RefusesOne takes refuses now rest fault new → RefusesOne takes refuses start all fault new
 
 module _ {S F : Type 0} {takes : S → Item → S → Type 0} {refuses : S → Item → F → S → Type 0} {start now : S} {all rest : List Item} (l : Leads takes refuses start now all rest) where
   pub leads_take : (mid : S) (x : Item) (more : List Item) → rest ≡ x ∷ more → takes now x mid → Leads takes refuses start mid all more
   leads_take mid x more e t =
       record {
-        taken = λ new h. l.taken new (subst (λ (xs : List Item). TakesAll takes now xs new) (sym e) (mid, t, h));
+        accepted = λ new h. l.accepted new (subst (λ (xs : List Item). TakesAll takes now xs new) (sym e) (mid, t, h));
         refused = λ fault new h. l.refused fault new (subst (λ (xs : List Item). RefusesOne takes refuses now xs fault new) (sym e) (inr (mid, t, h)));
       }
 
@@ -40,7 +48,7 @@ pub leads_all : {S F : Type 0} {takes : S → Item → S → Type 0} {refuses : 
     → Leads takes refuses start mid all more
 leads_all {takes = takes} {refuses = refuses} {now = now} l mid xs more e t =
     record {
-      taken = λ new h. l.taken new (subst (λ (ys : List Item). TakesAll takes now ys new) (sym e) (TakesAll-append takes now mid new xs more t h));
+      accepted = λ new h. l.accepted new (subst (λ (ys : List Item). TakesAll takes now ys new) (sym e) (TakesAll-append takes now mid new xs more t h));
       refused = λ fault new h. l.refused fault new (subst (λ (ys : List Item). RefusesOne takes refuses now ys fault new) (sym e) (RefusesOne-right takes refuses now mid new xs more fault t h));
     }
 

@@ -6,9 +6,9 @@ use Rattle.std.proofs.Math.Seq.{drop-length, take-add}
 use Rattle.std.specs.List.{flat_map}
 use Rattle.tm_packet.specs.Header.{packet_version_of}
 use Rattle.tm_items.specs.Item.{Item, Packet}
-use Rattle.tm_items.specs.OnePacket.{IsOnePacket, is_packet, reach}
+use Rattle.tm_items.specs.OnePacket.{IsOnePacket, is_packet, packet_length}
 use Rattle.tm_items.specs.code.Spans.{packets_behind, packets_in, ArePackets, IsSpan, placed, span_items}
-use Rattle.tm_items.proofs.Reaching.{reach-least, reach-append, reach-settled}
+use Rattle.tm_items.proofs.Reaching.{packet_length-least, packet_length-append, packet_length-settled}
 
 -- packets put together again
 abbrev pub joined : List (List ℕ) → List ℕ
@@ -25,22 +25,22 @@ drop-pred zero x xs h = absurd (omega arith)
 drop-pred (suc n) x xs h = refl
 
 -- the first packet, and those behind it
-pub packets-first : (t : List ℕ) → 0 < length t → packets_in t ≡ take (reach t) t ∷ packets_in (drop (reach t) t)
+pub packets-first : (t : List ℕ) → 0 < length t → packets_in t ≡ take (packet_length t) t ∷ packets_in (drop (packet_length t) t)
 packets-first [] some = absurd (omega arith)
 packets-first (x ∷ xs) some =
-    let least : 0 < reach (x ∷ xs) = omega (arith, reach-least (x ∷ xs)) in
-    ap (λ (ps : List (List ℕ)). take (reach (x ∷ xs)) (x ∷ xs) ∷ ps)
-    (packets-skip (pred (reach (x ∷ xs))) xs ∙ ap packets_in (sym (drop-pred (reach (x ∷ xs)) x xs least)))
+    let least : 0 < packet_length (x ∷ xs) = omega (arith, packet_length-least (x ∷ xs)) in
+    ap (λ (ps : List (List ℕ)). take (packet_length (x ∷ xs)) (x ∷ xs) ∷ ps)
+    (packets-skip (pred (packet_length (x ∷ xs))) xs ∙ ap packets_in (sym (drop-pred (packet_length (x ∷ xs)) x xs least)))
 
 joined-behind : (skip : ℕ) (t : List ℕ) → joined (packets_behind skip t) ≡ drop skip t
 joined-behind zero [] = refl
 joined-behind (suc skip) [] = refl
 joined-behind (suc skip) (x ∷ xs) = joined-behind skip xs
 joined-behind zero (x ∷ xs) =
-    let least : 0 < reach (x ∷ xs) = omega (arith, reach-least (x ∷ xs)) in
-    ap (λ (l : List ℕ). take (reach (x ∷ xs)) (x ∷ xs) ++ l)
-    (joined-behind (pred (reach (x ∷ xs))) xs ∙ sym (drop-pred (reach (x ∷ xs)) x xs least))
-    ∙ take-append-drop (reach (x ∷ xs)) (x ∷ xs)
+    let least : 0 < packet_length (x ∷ xs) = omega (arith, packet_length-least (x ∷ xs)) in
+    ap (λ (l : List ℕ). take (packet_length (x ∷ xs)) (x ∷ xs) ++ l)
+    (joined-behind (pred (packet_length (x ∷ xs))) xs ∙ sym (drop-pred (packet_length (x ∷ xs)) x xs least))
+    ∙ take-append-drop (packet_length (x ∷ xs)) (x ∷ xs)
 
 -- no octet is lost between them
 pub joined-all : (t : List ℕ) → joined (packets_in t) ≡ t
@@ -57,46 +57,46 @@ version-front (suc n) [] h = refl
 version-front (suc n) (x ∷ xs) h = refl
 
 -- what a packet's header reaches over is one whole packet
-pub one-front : (t : List ℕ) (r : ℕ) → r ≡ reach t → r ≤ length t → is_packet t ≡ true → IsOnePacket (take r t)
+pub one-front : (t : List ℕ) (r : ℕ) → r ≡ packet_length t → r ≤ length t → is_packet t ≡ true → IsOnePacket (take r t)
 one-front t r far inside version =
-    let least : 7 ≤ r = omega (arith, reach-least t) in
+    let least : 7 ≤ r = omega (arith, packet_length-least t) in
     let len : length (take r t) ≡ r = length-take-le r t inside in
     record {
       version = ap (λ (o : List ℕ). packet_version_of o == 0) (version-front r t (omega arith)) ∙ version;
       whole =
           len ∙ far
-          ∙ ap reach (sym (take-append-drop r t))
-          ∙ reach-append (take r t) (drop r t) (omega arith);
+          ∙ ap packet_length (sym (take-append-drop r t))
+          ∙ packet_length-append (take r t) (drop r t) (omega arith);
     }
 
--- of packets that lie end to end the first is one whole packet, and so are the others
+-- the first of packets that lie end to end is one whole packet, and so are the others
 pub record IsFirst (t : List ℕ) : Type 0 where
-  pub inside : reach t ≤ length t
+  pub inside : packet_length t ≤ length t
   pub version : is_packet t ≡ true
-  pub one : IsOnePacket (take (reach t) t)
-  pub others : IsSpan (drop (reach t) t)
+  pub one : IsOnePacket (take (packet_length t) t)
+  pub others : IsSpan (drop (packet_length t) t)
 
 pub span-first : (t : List ℕ) → 0 < length t → IsSpan t → IsFirst t
 span-first t some span =
-    let all : ArePackets (take (reach t) t ∷ packets_in (drop (reach t) t)) = subst ArePackets (packets-first t some) span in
-    let fits : reach t ≤ length t = ⊎_elim (λ short. absurd (no short all.0)) (λ long. long) (cases_lt (length t) (reach t)) in
+    let all : ArePackets (take (packet_length t) t ∷ packets_in (drop (packet_length t) t)) = subst ArePackets (packets-first t some) span in
+    let fits : packet_length t ≤ length t = ⊎_elim (λ short. absurd (no short all.0)) (λ long. long) (cases_lt (length t) (packet_length t)) in
     record {
       inside = fits;
-      version = ap (λ (o : List ℕ). packet_version_of o == 0) (sym (version-front (reach t) t (omega (arith, reach-least t)))) ∙ all.0.version;
+      version = ap (λ (o : List ℕ). packet_version_of o == 0) (sym (version-front (packet_length t) t (omega (arith, packet_length-least t)))) ∙ all.0.version;
       one = all.0;
       others = all.1;
     }
   where
-    no : length t < reach t → IsOnePacket (take (reach t) t) → ⊥
+    no : length t < packet_length t → IsOnePacket (take (packet_length t) t) → ⊥
     no short one =
-        let all : take (reach t) t ≡ t = take_all (reach t) t (omega arith) in
-        let whole : length t ≡ reach t = sym (ap length all) ∙ one.whole ∙ ap reach all in
+        let all : take (packet_length t) t ≡ t = take_all (packet_length t) t (omega arith) in
+        let whole : length t ≡ packet_length t = sym (ap length all) ∙ one.whole ∙ ap packet_length all in
         omega arith
 
 -- one packet alone
 pub packets-one : (p : List ℕ) → IsOnePacket p → packets_in p ≡ p ∷ []
 packets-one p one =
-    let least = reach-least p in
+    let least = packet_length-least p in
     packets-first p (omega (arith, one.whole))
     ∙ rw (← one.whole, take_all (length p) p (omega arith), drop-length p) refl
 
@@ -104,7 +104,7 @@ are-joined : (ps qs : List (List ℕ)) → ArePackets ps → ArePackets qs → A
 are-joined [] qs a b = b
 are-joined (p ∷ ps) qs a b = (a.0, are-joined ps qs a.1 b)
 
--- the packets of two texts, the first of which is whole packets
+-- the packets of two texts, where the first is whole packets
 packets-both : (ps : List (List ℕ)) (t u : List ℕ) → packets_in t ≡ ps → ArePackets ps → packets_in (t ++ u) ≡ ps ++ packets_in u
 packets-both [] t u is all = ap (λ (l : List ℕ). packets_in (l ++ u)) (sym (joined-all t) ∙ ap joined is)
 packets-both (p ∷ ps) t u is all = ⊎_elim (λ none. absurd (empty t none is)) (more (λ others e. packets-both ps others u e all.1)) (cases_lt (length t) 1)
@@ -120,10 +120,10 @@ packets-both (p ∷ ps) t u is all = ⊎_elim (λ none. absurd (empty t none is)
     more behind some =
         let first = span-first t (omega arith) (subst ArePackets (sym is) all) in
         let same = cons (sym (packets-first t (omega arith)) ∙ is) in
-        let settled : reach (t ++ u) ≡ reach t = reach-settled t u first.inside in
+        let settled : packet_length (t ++ u) ≡ packet_length t = packet_length-settled t u first.inside in
         packets-first (t ++ u) (omega (arith, length-append t u))
-        ∙ rw (settled, take-append-le (reach t) t u first.inside, drop-append-le (reach t) t u first.inside, same.0)
-        (ap (λ (l : List (List ℕ)). p ∷ l) (behind (drop (reach t) t) same.1))
+        ∙ rw (settled, take-append-le (packet_length t) t u first.inside, drop-append-le (packet_length t) t u first.inside, same.0)
+        (ap (λ (l : List (List ℕ)). p ∷ l) (behind (drop (packet_length t) t) same.1))
 
 placed-both : (seen channel place : ℕ) (ps qs : List (List ℕ))
     → placed seen channel place (ps ++ qs) ≡ placed seen channel place ps ++ placed seen channel (place + length (joined ps)) qs
@@ -177,14 +177,14 @@ pub record IsNext (seen channel place at n : ℕ) (o left : List ℕ) : Type 0 w
   pub items : span_items seen channel (place + at) (drop at o)
       ≡ Packet seen channel seen (place + at) (take n left) ∷ span_items seen channel (place + (at + n)) (drop (at + n) o)
 
-next-here : (seen channel place at : ℕ) (o : List ℕ) → at < length o → IsSpan (drop at o) → IsNext seen channel place at (reach (drop at o)) o (drop at o)
+next-here : (seen channel place at : ℕ) (o : List ℕ) → at < length o → IsSpan (drop at o) → IsNext seen channel place at (packet_length (drop at o)) o (drop at o)
 next-here seen channel place at o inside span =
     let t = drop at o in
     let len : length t ≡ length o - at = length-drop at o in
     let some : 0 < length t = omega arith in
     let first = span-first t some span in
-    let further : drop (reach t) t ≡ drop (at + reach t) o = drop-drop (reach t) at o in
-    let next : (place + at) + reach t ≡ place + (at + reach t) = omega arith in
+    let further : drop (packet_length t) t ≡ drop (at + packet_length t) o = drop-drop (packet_length t) at o in
+    let next : (place + at) + packet_length t ≡ place + (at + packet_length t) = omega arith in
     record {
       inside = omega (arith, first.inside);
       version = first.version;
@@ -192,10 +192,10 @@ next-here seen channel place at o inside span =
       others = subst IsSpan further first.others;
       items =
           ap (placed seen channel (place + at)) (packets-first t some)
-          ∙ rw (length-take-le (reach t) t first.inside, further, next) refl;
+          ∙ rw (length-take-le (packet_length t) t first.inside, further, next) refl;
     }
 
-pub span-next : (seen channel place at n : ℕ) (o left : List ℕ) → left ≡ take (length o - at) (drop at o) → n ≡ reach left
+pub span-next : (seen channel place at n : ℕ) (o left : List ℕ) → left ≡ take (length o - at) (drop at o) → n ≡ packet_length left
     → at < length o → IsSpan (drop at o) → IsNext seen channel place at n o left
 span-next seen channel place at n o left is far inside span =
     let all : left ≡ drop at o = is ∙ take_all (length o - at) (drop at o) (omega (arith, length-drop at o)) in

@@ -6,11 +6,12 @@ use Rattle.tm_packet.specs.Header.{packet_version_of, packet_header_of}
 abbrev pub is_packet : List ℕ → Bool
 is_packet octets = packet_version_of (take 1 octets) == 0
 
--- how many octets the packet at the front of a text has, by its header (4.1.3.5.3); 7, the fewest, where the text has fewer than six octets
-abbrev pub reach : List ℕ → ℕ
-reach t = if nat_lt (length t) 6 then 7 else (packet_header_of (take 6 t)).data_length + 7
+-- how many octets the first packet of a text has, by its header (4.1.3.5.3); 7, the fewest, where the text has fewer than six
+-- octets
+abbrev pub packet_length : List ℕ → ℕ
+packet_length t = if nat_lt (length t) 6 then 7 else (packet_header_of (take 6 t)).data_length + 7
 
 -- octets are one whole packet of version 0
 pub record IsOnePacket (octets : List ℕ) : Type 0 where
   pub version : is_packet octets ≡ true
-  pub whole : length octets ≡ reach octets
+  pub whole : length octets ≡ packet_length octets

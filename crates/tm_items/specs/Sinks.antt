@@ -5,7 +5,7 @@ use Rattle.tm_items.specs.declared.items.Item.TheVariants as one
 use Rattle.tm_items.specs.Item.{Item, Bad, MasterGap, Gap, Vca, Dropped, Packet, Short}
 use Rattle.tm_items.specs.OnePacket.{IsOnePacket}
 
--- an item in values: a packet's octets, not where they are lent from
+-- an item in values: a packet's octets, not where they are borrowed from
 abbrev pub item_of : lent.Item → Item
 item_of (one.Bad seen fault) = Bad seen fault
 item_of (one.MasterGap seen expected found missing) = MasterGap seen expected found missing

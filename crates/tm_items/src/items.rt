@@ -25,6 +25,17 @@ pub enum Reason {
 }
 
 impl Reason {
+    /// All reasons, in the order of the losses in a summary.
+    pub const ALL: [Reason; 7] = [
+        Reason::Pointer,
+        Reason::Gap,
+        Reason::Vca,
+        Reason::Close,
+        Reason::NoStart,
+        Reason::Version,
+        Reason::Length,
+    ];
+
     /// The word that names the reason.
     pub fn word(self) -> &'static str
         ensures { result.now ≡ reason_word self }
@@ -41,9 +52,8 @@ impl Reason {
     }
 }
 
-/// What is reported of records. `seen` is the record at which the item is given, at a closed end the number of records; `first` and
-/// `place` are the record in which a packet or part begins and its place in that record's data field. Records and places are counted
-/// from 0.
+/// What is reported of records. `seen` is the record at which the item is given, at a closed end the number of records. A packet or
+/// part begins in the record `first`, at `place` in its data field. Records and places are counted from 0.
 #[derive(Clone, Copy, Debug, PartialEq, Eq)]
 pub enum Item<'a> {
     /// A record that is no good frame, and its fault.
@@ -51,16 +61,16 @@ pub enum Item<'a> {
         seen: u32,
         fault: FrameFault,
     },
-    /// The master channel frame counts of the good frames, of whatever channel, have a gap before this record: the count that was
-    /// expected and the one that was found, and how many are missing, modulo 256 (CCSDS 132.0-B-3, 4.1.2.5).
+    /// The master channel frame counts of the good frames, of whatever channel, have a gap before this record. It has the count
+    /// that was expected and the one that was found, and how many are missing, modulo 256 (CCSDS 132.0-B-3, 4.1.2.5).
     MasterGap {
         seen: u32,
         expected: u8,
         found: u8,
         missing: u8,
     },
-    /// The counts of the channel's frames have a gap before this record: the virtual channel frame count that was expected and the one that was
-    /// found, and how many are missing, modulo 256 (CCSDS 132.0-B-3, 4.1.2.6).
+    /// The counts of the channel's frames have a gap before this record. It has the virtual channel frame count that was expected
+    /// and the one that was found, and how many are missing, modulo 256 (CCSDS 132.0-B-3, 4.1.2.6).
     Gap {
         seen: u32,
         channel: u8,

@@ -6,10 +6,10 @@ ghost use Rattle.tm_items.specs.OnePacket as one_packet;
 use tm_packet::read_header;
 
 /// How many octets the packet at the front has, by its header; 7, the fewest, where the header is not there yet.
-#[tactic(auto, using(crate::proofs::Headers::reach_read, crate::proofs::Headers::reach_unread))]
-pub fn reach(octets: &[u8]) -> usize
+#[tactic(auto, using(crate::proofs::Headers::packet_length_read, crate::proofs::Headers::packet_length_unread))]
+pub fn packet_length(octets: &[u8]) -> usize
     requires { one_packet.is_packet octets.now ≡ true }
-    ensures value { result ≡ one_packet.reach octets.now }
+    ensures value { result ≡ one_packet.packet_length octets.now }
     ensures most { result ≤ 65542 }
 {
     match read_header(octets) {

@@ -6,7 +6,7 @@ ghost use Rattle.tm_items.specs.Sinks.{item_of, ItemFits, RefusesOne, TakesAll};
 ghost use Rattle.tm_items.specs.code.Spans.{IsSpan, span_items};
 
 use crate::items::Item;
-use crate::packets::reach;
+use crate::packets::packet_length;
 
 /// Takes items one by one.
 pub trait Sink {
@@ -27,7 +27,7 @@ pub trait Sink {
     /// Takes an item, or refuses it. Its channel is at most 7, and a packet's octets are one whole packet of version 0.
     fn take(&mut self, item: Item<'_>) -> Result<(), Self::Fault>
         requires fits { ItemFits (item_of item) }
-        ensures taken { OnOk result (takes (known self.old) (item_of item.entry) (known self.new)) }
+        ensures accepted { OnOk result (takes (known self.old) (item_of item.entry) (known self.new)) }
         ensures refused { IfErr result (λ fault. refuses (known self.old) (item_of item.entry) fault (known self.new)) };
 
     /// Takes, as if one by one, packets of a channel that lie end to end in the data field of the record `seen`, the first of them at `place`.
@@ -41,24 +41,26 @@ pub trait Sink {
         requires channel { channel < 8 }
         requires places { place + length octets.now < 2 ^ 16 }
         requires packets { IsSpan octets.now }
-        ensures taken { OnOk result (TakesAll takes (known self.old) (span_items seen channel place octets.now) (known self.new)) }
-        ensures refused { IfErr result (λ fault. RefusesOne takes refuses (known self.old) (span_items seen channel place octets.now) fault (known self.new)) }
+        ensures accepted { OnOk result (TakesAll takes (known self.old) (span_items seen channel place octets.now)
+            (known self.new)) }
+        ensures refused { IfErr result (λ fault.
+            RefusesOne takes refuses (known self.old) (span_items seen channel place octets.now) fault (known self.new)) }
     {
-        let mut at = 0;
-        while at < octets.len() {
-            let rest = &octets[at..];
-            let far = reach(rest);
+        let mut offset = 0;
+        while offset < octets.len() {
+            let rest = &octets[offset..];
+            let length = packet_length(rest);
             let packet = Item::Packet {
                 seen,
                 channel,
                 first: seen,
-                place: place + at as u16,
-                octets: &rest[..far],
+                place: place + offset as u16,
+                octets: &rest[..length],
             };
             if let Err(fault) = self.take(packet) {
                 return Err(fault);
             }
-            at += far;
+            offset += length;
         }
         Ok(())
     }

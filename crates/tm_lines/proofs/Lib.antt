@@ -1,1 +1,1 @@
-pub mod RoomLemmas
+pub mod BufferLemmas

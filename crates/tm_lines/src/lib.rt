@@ -1,13 +1,16 @@
-//! The printed lines: each is made in a room on the stack, and takes no memory.
+//! The printed lines: each is made in a buffer on the stack, and takes no memory.
 #![tactic(auto)]
 
+mod buffer;
 mod lines;
 mod packet;
-mod room;
 
-pub use lines::{
-    put_bad, put_drop, put_frame, put_gap, put_master_gap, put_note, put_packet, put_short,
-    put_short_packet, put_vca,
+pub use buffer::{
+    LINE_CAPACITY, LineBuffer, end_line, line_from, prepend_long_number, prepend_number,
+    prepend_text, prepend_word,
 };
-pub use packet::Packet;
-pub use room::{ROOM, end_line, line_in, put_long_number, put_number, put_text, put_word};
+pub use lines::{
+    format_bad, format_drop, format_frame, format_gap, format_master_gap, format_note,
+    format_packet, format_short, format_short_packet, format_vca,
+};
+pub use packet::{DroppedPart, Packet};

@@ -1,61 +1,62 @@
-//! The printed lines. Each is made in a room, from its end to its beginning.
+//! The printed lines. Each is made in a buffer, from its end to its beginning.
 
 ghost use Rattle.std.specs.Prelude.{◌≡◌, ◌+◌, ◌≤◌, ◌++◌, codes, drop, length};
 ghost use Rattle.std.specs.Fmt.{decimal};
 ghost use Rattle.tm_lines.specs.Lines.{bad_line, bit_text, drop_line, flags_word, frame_line, gap_line, kind_word, master_gap_line, note_line, packet_line, place_text, short_line, short_packet_line, type_word, vca_line, why_word, yes_or_no};
 
-use crate::Packet;
-use crate::room::{ROOM, end_line, put_long_number, put_number, put_text, put_word};
+use crate::buffer::{
+    LineBuffer, end_line, prepend_long_number, prepend_number, prepend_text, prepend_word,
+};
+use crate::{DroppedPart, Packet};
 use tm_frame::{Frame, FrameFault, Kind};
-use tm_items::Reason;
 use tm_packet::{Flags, Note, Why};
 
 // The word of what a data field holds.
 #[inline(always)]
-fn put_kind(room: &mut [u8; ROOM], end: usize, kind: Kind) -> usize
+fn format_kind(buffer: &mut LineBuffer, end: usize, kind: Kind) -> usize
     requires enough { 7 ≤ end }
     requires within { end ≤ 320 }
     ensures before { result ≤ end }
     ensures most { end ≤ result + 7 }
-    ensures text { drop result room.new ≡ kind_word kind ++ drop end room.old }
+    ensures text { drop result buffer.new ≡ kind_word kind ++ drop end buffer.old }
 {
     match kind {
-        Kind::Packets(_) => put_text(room, end, b"packets"),
-        Kind::NoStart => put_text(room, end, b"nostart"),
-        Kind::Idle => put_text(room, end, b"idle"),
-        Kind::Vca => put_text(room, end, b"vca"),
+        Kind::Packets(_) => prepend_text(buffer, end, b"packets"),
+        Kind::NoStart => prepend_text(buffer, end, b"nostart"),
+        Kind::Idle => prepend_text(buffer, end, b"idle"),
+        Kind::Vca => prepend_text(buffer, end, b"vca"),
     }
 }
 
 // The place of the first packet, or a dash.
 #[inline(always)]
-fn put_place(room: &mut [u8; ROOM], end: usize, kind: Kind) -> usize
+fn format_place(buffer: &mut LineBuffer, end: usize, kind: Kind) -> usize
     requires enough { 10 ≤ end }
     requires within { end ≤ 320 }
     ensures before { result ≤ end }
     ensures most { end ≤ result + 10 }
-    ensures text { drop result room.new ≡ place_text kind ++ drop end room.old }
+    ensures text { drop result buffer.new ≡ place_text kind ++ drop end buffer.old }
 {
     match kind {
-        Kind::Packets(place) => put_number(room, end, u32::from(place)),
-        Kind::NoStart => put_text(room, end, b"-"),
-        Kind::Idle => put_text(room, end, b"-"),
-        Kind::Vca => put_text(room, end, b"-"),
+        Kind::Packets(place) => prepend_number(buffer, end, u32::from(place)),
+        Kind::NoStart => prepend_text(buffer, end, b"-"),
+        Kind::Idle => prepend_text(buffer, end, b"-"),
+        Kind::Vca => prepend_text(buffer, end, b"-"),
     }
 }
 
 #[inline(always)]
-fn put_yes_or_no(room: &mut [u8; ROOM], end: usize, b: bool) -> usize
+fn format_yes_or_no(buffer: &mut LineBuffer, end: usize, b: bool) -> usize
     requires enough { 3 ≤ end }
     requires within { end ≤ 320 }
     ensures before { result ≤ end }
     ensures most { end ≤ result + 3 }
-    ensures text { drop result room.new ≡ yes_or_no b ++ drop end room.old }
+    ensures text { drop result buffer.new ≡ yes_or_no b ++ drop end buffer.old }
 {
     if b {
-        put_text(room, end, b"yes")
+        prepend_text(buffer, end, b"yes")
     } else {
-        put_text(room, end, b"no")
+        prepend_text(buffer, end, b"no")
     }
 }
 
@@ -66,58 +67,58 @@ fn bit_text(b: bool) -> &'static [u8; 1]
 }
 
 /// The line of a good frame.
-pub fn put_frame(room: &mut [u8; ROOM], seen: u32, frame: &Frame<'_>) -> usize
+pub fn format_frame(buffer: &mut LineBuffer, seen: u32, frame: &Frame<'_>) -> usize
     ensures within { result ≤ 320 }
-    ensures line { drop result room.new ≡ frame_line seen frame.now }
+    ensures line { drop result buffer.new ≡ frame_line seen frame.now }
 {
-    let at = end_line(room);
-    let at = put_long_number(room, at, frame.field().len() as u64);
-    let at = put_text(room, at, b" octets=");
-    let at = put_number(room, at, u32::from(frame.segment()));
-    let at = put_text(room, at, b" segment=");
-    let at = put_text(room, at, bit_text(frame.order_flag()));
-    let at = put_text(room, at, b" order=");
-    let at = put_yes_or_no(room, at, frame.has_ocf());
-    let at = put_text(room, at, b" ocf=");
-    let at = put_number(room, at, u32::from(frame.secondary_length()));
-    let at = put_text(room, at, b" secondary=");
-    let at = put_place(room, at, frame.kind());
-    let at = put_text(room, at, b" place=");
-    let at = put_kind(room, at, frame.kind());
-    let at = put_text(room, at, b" kind=");
-    let at = put_number(room, at, u32::from(frame.count()));
-    let at = put_text(room, at, b" count=");
-    let at = put_number(room, at, u32::from(frame.master_count()));
-    let at = put_text(room, at, b" master=");
-    let at = put_number(room, at, u32::from(frame.channel()));
-    let at = put_text(room, at, b" channel=");
-    let at = put_number(room, at, seen);
-    put_text(room, at, b"frame record=")
+    let at = end_line(buffer);
+    let at = prepend_long_number(buffer, at, frame.field().len() as u64);
+    let at = prepend_text(buffer, at, b" octets=");
+    let at = prepend_number(buffer, at, u32::from(frame.segment()));
+    let at = prepend_text(buffer, at, b" segment=");
+    let at = prepend_text(buffer, at, bit_text(frame.order_flag()));
+    let at = prepend_text(buffer, at, b" order=");
+    let at = format_yes_or_no(buffer, at, frame.has_ocf());
+    let at = prepend_text(buffer, at, b" ocf=");
+    let at = prepend_number(buffer, at, u32::from(frame.secondary_length()));
+    let at = prepend_text(buffer, at, b" secondary=");
+    let at = format_place(buffer, at, frame.kind());
+    let at = prepend_text(buffer, at, b" place=");
+    let at = format_kind(buffer, at, frame.kind());
+    let at = prepend_text(buffer, at, b" kind=");
+    let at = prepend_number(buffer, at, u32::from(frame.count()));
+    let at = prepend_text(buffer, at, b" count=");
+    let at = prepend_number(buffer, at, u32::from(frame.master_count()));
+    let at = prepend_text(buffer, at, b" master=");
+    let at = prepend_number(buffer, at, u32::from(frame.channel()));
+    let at = prepend_text(buffer, at, b" channel=");
+    let at = prepend_number(buffer, at, seen);
+    prepend_text(buffer, at, b"frame record=")
 }
 
 /// The line of a bad frame.
-#[tactic(auto, using(crate::proofs::RoomLemmas::short_fault_word))]
-pub fn put_bad(room: &mut [u8; ROOM], seen: u32, fault: FrameFault) -> usize
+#[tactic(auto, using(crate::proofs::BufferLemmas::short_fault_word))]
+pub fn format_bad(buffer: &mut LineBuffer, seen: u32, fault: FrameFault) -> usize
     ensures within { result ≤ 320 }
-    ensures line { drop result room.new ≡ bad_line seen fault }
+    ensures line { drop result buffer.new ≡ bad_line seen fault }
 {
-    let at = end_line(room);
-    let at = put_word(room, at, fault.word());
-    let at = put_text(room, at, b" fault=");
-    let at = put_number(room, at, seen);
-    put_text(room, at, b"bad record=")
+    let at = end_line(buffer);
+    let at = prepend_word(buffer, at, fault.word());
+    let at = prepend_text(buffer, at, b" fault=");
+    let at = prepend_number(buffer, at, seen);
+    prepend_text(buffer, at, b"bad record=")
 }
 
 /// The line of octets that are left after `seen` records.
-pub fn put_short(room: &mut [u8; ROOM], seen: u32, octets: usize) -> usize
+pub fn format_short(buffer: &mut LineBuffer, seen: u32, octets: usize) -> usize
     ensures within { result ≤ 320 }
-    ensures line { drop result room.new ≡ short_line seen octets }
+    ensures line { drop result buffer.new ≡ short_line seen octets }
 {
-    let at = end_line(room);
-    let at = put_long_number(room, at, octets as u64);
-    let at = put_text(room, at, b" octets=");
-    let at = put_number(room, at, seen);
-    put_text(room, at, b"short record=")
+    let at = end_line(buffer);
+    let at = prepend_long_number(buffer, at, octets as u64);
+    let at = prepend_text(buffer, at, b" octets=");
+    let at = prepend_number(buffer, at, seen);
+    prepend_text(buffer, at, b"short record=")
 }
 
 // ---- packets
@@ -129,56 +130,57 @@ fn type_word(telecommand: bool) -> &'static [u8; 2]
 }
 
 #[inline(always)]
-fn put_flags(room: &mut [u8; ROOM], end: usize, flags: Flags) -> usize
+fn format_flags(buffer: &mut LineBuffer, end: usize, flags: Flags) -> usize
     requires enough { 12 ≤ end }
     requires within { end ≤ 320 }
     ensures before { result ≤ end }
     ensures most { end ≤ result + 12 }
-    ensures text { drop result room.new ≡ flags_word flags ++ drop end room.old }
+    ensures text { drop result buffer.new ≡ flags_word flags ++ drop end buffer.old }
 {
     match flags {
-        Flags::Continuation => put_text(room, end, b"continuation"),
-        Flags::First => put_text(room, end, b"first"),
-        Flags::Last => put_text(room, end, b"last"),
-        Flags::Unsegmented => put_text(room, end, b"unsegmented"),
+        Flags::Continuation => prepend_text(buffer, end, b"continuation"),
+        Flags::First => prepend_text(buffer, end, b"first"),
+        Flags::Last => prepend_text(buffer, end, b"last"),
+        Flags::Unsegmented => prepend_text(buffer, end, b"unsegmented"),
     }
 }
 
 /// The line of a packet.
-pub fn put_packet(room: &mut [u8; ROOM], packet: &Packet<'_>) -> usize
+pub fn format_packet(buffer: &mut LineBuffer, packet: &Packet<'_>) -> usize
     ensures within { result ≤ 320 }
-    ensures line { drop result room.new
-        ≡ packet_line packet.now.seen packet.now.channel packet.now.first packet.now.place packet.now.header (length packet.now.octets.now) }
+    ensures line { drop result buffer.new
+        ≡ packet_line packet.now.seen packet.now.channel packet.now.first packet.now.place packet.now.header
+        (length packet.now.octets.now) }
 {
     let header = packet.header;
-    let at = end_line(room);
-    let at = put_long_number(room, at, packet.octets.len() as u64);
-    let at = put_text(room, at, b" octets=");
-    let at = put_number(room, at, u32::from(header.count()));
-    let at = put_text(room, at, b" count=");
-    let at = put_flags(room, at, header.flags());
-    let at = put_text(room, at, b" flags=");
-    let at = put_number(room, at, u32::from(header.application()));
-    let at = put_text(room, at, b" apid=");
-    let at = put_yes_or_no(room, at, header.secondary());
-    let at = put_text(room, at, b" secondary=");
-    let at = put_text(room, at, type_word(header.telecommand()));
-    let at = put_text(room, at, b" type=");
-    let at = put_number(room, at, u32::from(packet.place));
-    let at = put_text(room, at, b" at=");
-    let at = put_number(room, at, packet.first);
-    let at = put_text(room, at, b" from=");
-    let at = put_number(room, at, u32::from(packet.channel));
-    let at = put_text(room, at, b" channel=");
-    let at = put_number(room, at, packet.seen);
-    put_text(room, at, b"packet record=")
+    let at = end_line(buffer);
+    let at = prepend_long_number(buffer, at, packet.octets.len() as u64);
+    let at = prepend_text(buffer, at, b" octets=");
+    let at = prepend_number(buffer, at, u32::from(header.count()));
+    let at = prepend_text(buffer, at, b" count=");
+    let at = format_flags(buffer, at, header.flags());
+    let at = prepend_text(buffer, at, b" flags=");
+    let at = prepend_number(buffer, at, u32::from(header.application()));
+    let at = prepend_text(buffer, at, b" apid=");
+    let at = format_yes_or_no(buffer, at, header.secondary());
+    let at = prepend_text(buffer, at, b" secondary=");
+    let at = prepend_text(buffer, at, type_word(header.telecommand()));
+    let at = prepend_text(buffer, at, b" type=");
+    let at = prepend_number(buffer, at, u32::from(packet.place));
+    let at = prepend_text(buffer, at, b" at=");
+    let at = prepend_number(buffer, at, packet.first);
+    let at = prepend_text(buffer, at, b" from=");
+    let at = prepend_number(buffer, at, u32::from(packet.channel));
+    let at = prepend_text(buffer, at, b" channel=");
+    let at = prepend_number(buffer, at, packet.seen);
+    prepend_text(buffer, at, b"packet record=")
 }
 
 // ---- the report
 
 /// The line of a gap in the counts of a channel's frames.
-pub fn put_gap(
-    room: &mut [u8; ROOM],
+pub fn format_gap(
+    buffer: &mut LineBuffer,
     seen: u32,
     channel: u8,
     expected: u8,
@@ -186,93 +188,85 @@ pub fn put_gap(
     missing: u8,
 ) -> usize
     ensures within { result ≤ 320 }
-    ensures line { drop result room.new ≡ gap_line seen channel expected found missing }
+    ensures line { drop result buffer.new ≡ gap_line seen channel expected found missing }
 {
-    let at = end_line(room);
-    let at = put_number(room, at, u32::from(missing));
-    let at = put_text(room, at, b" missing=");
-    let at = put_number(room, at, u32::from(found));
-    let at = put_text(room, at, b" found=");
-    let at = put_number(room, at, u32::from(expected));
-    let at = put_text(room, at, b" expected=");
-    let at = put_number(room, at, u32::from(channel));
-    let at = put_text(room, at, b" channel=");
-    let at = put_number(room, at, seen);
-    put_text(room, at, b"gap record=")
+    let at = end_line(buffer);
+    let at = prepend_number(buffer, at, u32::from(missing));
+    let at = prepend_text(buffer, at, b" missing=");
+    let at = prepend_number(buffer, at, u32::from(found));
+    let at = prepend_text(buffer, at, b" found=");
+    let at = prepend_number(buffer, at, u32::from(expected));
+    let at = prepend_text(buffer, at, b" expected=");
+    let at = prepend_number(buffer, at, u32::from(channel));
+    let at = prepend_text(buffer, at, b" channel=");
+    let at = prepend_number(buffer, at, seen);
+    prepend_text(buffer, at, b"gap record=")
 }
 
 /// The line of a gap in the counts of the master channel, over the good frames of all channels.
-pub fn put_master_gap(
-    room: &mut [u8; ROOM],
+pub fn format_master_gap(
+    buffer: &mut LineBuffer,
     seen: u32,
     expected: u8,
     found: u8,
     missing: u8,
 ) -> usize
     ensures within { result ≤ 320 }
-    ensures line { drop result room.new ≡ master_gap_line seen expected found missing }
+    ensures line { drop result buffer.new ≡ master_gap_line seen expected found missing }
 {
-    let at = end_line(room);
-    let at = put_number(room, at, u32::from(missing));
-    let at = put_text(room, at, b" missing=");
-    let at = put_number(room, at, u32::from(found));
-    let at = put_text(room, at, b" found=");
-    let at = put_number(room, at, u32::from(expected));
-    let at = put_text(room, at, b" expected=");
-    let at = put_number(room, at, seen);
-    put_text(room, at, b"mastergap record=")
+    let at = end_line(buffer);
+    let at = prepend_number(buffer, at, u32::from(missing));
+    let at = prepend_text(buffer, at, b" missing=");
+    let at = prepend_number(buffer, at, u32::from(found));
+    let at = prepend_text(buffer, at, b" found=");
+    let at = prepend_number(buffer, at, u32::from(expected));
+    let at = prepend_text(buffer, at, b" expected=");
+    let at = prepend_number(buffer, at, seen);
+    prepend_text(buffer, at, b"mastergap record=")
 }
 
 /// The line of a VCA frame.
-pub fn put_vca(room: &mut [u8; ROOM], seen: u32, channel: u8) -> usize
+pub fn format_vca(buffer: &mut LineBuffer, seen: u32, channel: u8) -> usize
     ensures within { result ≤ 320 }
-    ensures line { drop result room.new ≡ vca_line seen channel }
+    ensures line { drop result buffer.new ≡ vca_line seen channel }
 {
-    let at = end_line(room);
-    let at = put_number(room, at, u32::from(channel));
-    let at = put_text(room, at, b" channel=");
-    let at = put_number(room, at, seen);
-    put_text(room, at, b"vca record=")
+    let at = end_line(buffer);
+    let at = prepend_number(buffer, at, u32::from(channel));
+    let at = prepend_text(buffer, at, b" channel=");
+    let at = prepend_number(buffer, at, seen);
+    prepend_text(buffer, at, b"vca record=")
 }
 
-/// The line of a dropped part of so many octets.
-#[tactic(auto, using(crate::proofs::RoomLemmas::short_reason_word))]
-pub fn put_drop(
-    room: &mut [u8; ROOM],
-    seen: u32,
-    channel: u8,
-    first: u32,
-    place: u16,
-    octets: u32,
-    reason: Reason,
-) -> usize
+/// The line of a dropped part.
+#[tactic(auto, using(crate::proofs::BufferLemmas::short_reason_word))]
+pub fn format_drop(buffer: &mut LineBuffer, part: DroppedPart) -> usize
     ensures within { result ≤ 320 }
-    ensures line { drop result room.new ≡ drop_line seen channel first place octets reason }
+    ensures line { drop result buffer.new ≡ drop_line part.seen part.channel part.first part.place part.octets part.reason }
 {
-    let at = end_line(room);
-    let at = put_word(room, at, reason.word());
-    let at = put_text(room, at, b" reason=");
-    let at = put_number(room, at, octets);
-    let at = put_text(room, at, b" octets=");
-    let at = put_number(room, at, u32::from(place));
-    let at = put_text(room, at, b" at=");
-    let at = put_number(room, at, first);
-    let at = put_text(room, at, b" from=");
-    let at = put_number(room, at, u32::from(channel));
-    let at = put_text(room, at, b" channel=");
-    let at = put_number(room, at, seen);
-    put_text(room, at, b"drop record=")
+    let at = end_line(buffer);
+    let at = prepend_word(buffer, at, part.reason.word());
+    let at = prepend_text(buffer, at, b" reason=");
+    let at = prepend_number(buffer, at, part.octets);
+    let at = prepend_text(buffer, at, b" octets=");
+    let at = prepend_number(buffer, at, u32::from(part.place));
+    let at = prepend_text(buffer, at, b" at=");
+    let at = prepend_number(buffer, at, part.first);
+    let at = prepend_text(buffer, at, b" from=");
+    let at = prepend_number(buffer, at, u32::from(part.channel));
+    let at = prepend_text(buffer, at, b" channel=");
+    let at = prepend_number(buffer, at, part.seen);
+    prepend_text(buffer, at, b"drop record=")
 }
 
 /// The line of a packet of too few bits for its fields.
-pub fn put_short_packet(
-    room: &mut [u8; ROOM],
+pub fn format_short_packet(
+    buffer: &mut LineBuffer,
     packet: &Packet<'_>,
     needed: u64,
     found: u64,
 ) -> usize
     ensures within { result ≤ 320 }
-    ensures line { drop result room.new ≡ short_packet_line packet.now.seen packet.now.channel packet.now.first packet.now.place needed found }
+    ensures line { drop result buffer.new ≡ short_packet_line packet.now.seen packet.now.channel packet.now.first packet.now.place needed found }
 {
     let Packet {
         seen,
@@ -281,100 +275,107 @@ pub fn put_short_packet(
         place,
         ..
     } = packet;
-    let at = end_line(room);
-    let at = put_long_number(room, at, found);
-    let at = put_text(room, at, b" found=");
-    let at = put_long_number(room, at, needed);
-    let at = put_text(room, at, b" needed=");
-    let at = put_number(room, at, u32::from(*place));
-    let at = put_text(room, at, b" at=");
-    let at = put_number(room, at, *first);
-    let at = put_text(room, at, b" from=");
-    let at = put_number(room, at, u32::from(*channel));
-    let at = put_text(room, at, b" channel=");
-    let at = put_number(room, at, *seen);
-    put_text(room, at, b"shortpacket record=")
+    let at = end_line(buffer);
+    let at = prepend_long_number(buffer, at, found);
+    let at = prepend_text(buffer, at, b" found=");
+    let at = prepend_long_number(buffer, at, needed);
+    let at = prepend_text(buffer, at, b" needed=");
+    let at = prepend_number(buffer, at, u32::from(*place));
+    let at = prepend_text(buffer, at, b" at=");
+    let at = prepend_number(buffer, at, *first);
+    let at = prepend_text(buffer, at, b" from=");
+    let at = prepend_number(buffer, at, u32::from(*channel));
+    let at = prepend_text(buffer, at, b" channel=");
+    let at = prepend_number(buffer, at, *seen);
+    prepend_text(buffer, at, b"shortpacket record=")
 }
 
 // ---- notes on sequence counts
 
 // Why a group is broken.
-fn put_why(room: &mut [u8; ROOM], end: usize, why: Why) -> usize
+fn format_why(buffer: &mut LineBuffer, end: usize, why: Why) -> usize
     requires enough { 11 ≤ end }
     requires within { end ≤ 320 }
     ensures before { result ≤ end }
     ensures most { end ≤ result + 11 }
-    ensures text { drop result room.new ≡ why_word why ++ drop end room.old }
+    ensures text { drop result buffer.new ≡ why_word why ++ drop end buffer.old }
 {
     match why {
-        Why::Gap => put_text(room, end, b"gap"),
-        Why::First => put_text(room, end, b"first"),
-        Why::Unsegmented => put_text(room, end, b"unsegmented"),
-        Why::Close => put_text(room, end, b"end"),
+        Why::Gap => prepend_text(buffer, end, b"gap"),
+        Why::First => prepend_text(buffer, end, b"first"),
+        Why::Unsegmented => prepend_text(buffer, end, b"unsegmented"),
+        Why::Close => prepend_text(buffer, end, b"end"),
     }
 }
 
 // The channel and application of a note, before what the note says of them, and the record.
-fn put_place_of_note(room: &mut [u8; ROOM], end: usize, seen: u32, channel: u8, apid: u16) -> usize
+fn format_place_of_note(
+    buffer: &mut LineBuffer,
+    end: usize,
+    seen: u32,
+    channel: u8,
+    apid: u16,
+) -> usize
     requires enough { 45 ≤ end }
     requires within { end ≤ 320 }
     ensures before { result ≤ end }
     ensures most { end ≤ result + 45 }
-    ensures text { drop result room.new ≡ decimal seen ++ (codes " channel=" ++ (decimal channel ++ (codes " apid=" ++ (decimal apid ++ drop end room.old)))) }
+    ensures text { drop result buffer.new
+        ≡ decimal seen ++ (codes " channel=" ++ (decimal channel ++ (codes " apid=" ++ (decimal apid ++ drop end buffer.old)))) }
 {
-    let at = put_number(room, end, u32::from(apid));
-    let at = put_text(room, at, b" apid=");
-    let at = put_number(room, at, u32::from(channel));
-    let at = put_text(room, at, b" channel=");
-    put_number(room, at, seen)
+    let at = prepend_number(buffer, end, u32::from(apid));
+    let at = prepend_text(buffer, at, b" apid=");
+    let at = prepend_number(buffer, at, u32::from(channel));
+    let at = prepend_text(buffer, at, b" channel=");
+    prepend_number(buffer, at, seen)
 }
 
 /// The line of a note on the sequence counts of a channel and application.
-pub fn put_note(room: &mut [u8; ROOM], seen: u32, channel: u8, apid: u16, note: Note) -> usize
+pub fn format_note(buffer: &mut LineBuffer, seen: u32, channel: u8, apid: u16, note: Note) -> usize
     ensures within { result ≤ 320 }
-    ensures line { drop result room.new ≡ note_line seen channel apid note }
+    ensures line { drop result buffer.new ≡ note_line seen channel apid note }
 {
-    let at = end_line(room);
+    let at = end_line(buffer);
     match note {
         Note::Gap {
             expected,
             found,
             missing,
         } => {
-            let at = put_number(room, at, u32::from(missing));
-            let at = put_text(room, at, b" missing=");
-            let at = put_number(room, at, u32::from(found));
-            let at = put_text(room, at, b" found=");
-            let at = put_number(room, at, u32::from(expected));
-            let at = put_text(room, at, b" expected=");
-            let at = put_place_of_note(room, at, seen, channel, apid);
-            put_text(room, at, b"seqgap record=")
+            let at = prepend_number(buffer, at, u32::from(missing));
+            let at = prepend_text(buffer, at, b" missing=");
+            let at = prepend_number(buffer, at, u32::from(found));
+            let at = prepend_text(buffer, at, b" found=");
+            let at = prepend_number(buffer, at, u32::from(expected));
+            let at = prepend_text(buffer, at, b" expected=");
+            let at = format_place_of_note(buffer, at, seen, channel, apid);
+            prepend_text(buffer, at, b"seqgap record=")
         }
         Note::Broken { first, last, why } => {
-            let at = put_why(room, at, why);
-            let at = put_text(room, at, b" reason=");
-            let at = put_number(room, at, u32::from(last));
-            let at = put_text(room, at, b" last=");
-            let at = put_number(room, at, u32::from(first));
-            let at = put_text(room, at, b" first=");
-            let at = put_place_of_note(room, at, seen, channel, apid);
-            put_text(room, at, b"broken record=")
+            let at = format_why(buffer, at, why);
+            let at = prepend_text(buffer, at, b" reason=");
+            let at = prepend_number(buffer, at, u32::from(last));
+            let at = prepend_text(buffer, at, b" last=");
+            let at = prepend_number(buffer, at, u32::from(first));
+            let at = prepend_text(buffer, at, b" first=");
+            let at = format_place_of_note(buffer, at, seen, channel, apid);
+            prepend_text(buffer, at, b"broken record=")
         }
         Note::Whole { first, last } => {
-            let at = put_number(room, at, u32::from(last));
-            let at = put_text(room, at, b" last=");
-            let at = put_number(room, at, u32::from(first));
-            let at = put_text(room, at, b" first=");
-            let at = put_place_of_note(room, at, seen, channel, apid);
-            put_text(room, at, b"group record=")
+            let at = prepend_number(buffer, at, u32::from(last));
+            let at = prepend_text(buffer, at, b" last=");
+            let at = prepend_number(buffer, at, u32::from(first));
+            let at = prepend_text(buffer, at, b" first=");
+            let at = format_place_of_note(buffer, at, seen, channel, apid);
+            prepend_text(buffer, at, b"group record=")
         }
         Note::Stray { count, flags } => {
-            let at = put_flags(room, at, flags);
-            let at = put_text(room, at, b" flag=");
-            let at = put_number(room, at, u32::from(count));
-            let at = put_text(room, at, b" count=");
-            let at = put_place_of_note(room, at, seen, channel, apid);
-            put_text(room, at, b"stray record=")
+            let at = format_flags(buffer, at, flags);
+            let at = prepend_text(buffer, at, b" flag=");
+            let at = prepend_number(buffer, at, u32::from(count));
+            let at = prepend_text(buffer, at, b" count=");
+            let at = format_place_of_note(buffer, at, seen, channel, apid);
+            prepend_text(buffer, at, b"stray record=")
         }
     }
 }

@@ -1,6 +1,19 @@
 //! A whole packet, as an outlet takes it.
 
+use tm_items::Reason;
 use tm_packet::Header;
+
+/// A dropped part of a channel, of so many octets. `seen` is the record that shows the loss, `first` and `place` are the record in which the part
+/// begins and its place in that record's data field.
+#[derive(Clone, Copy)]
+pub struct DroppedPart {
+    pub seen: u32,
+    pub channel: u8,
+    pub first: u32,
+    pub place: u16,
+    pub octets: u32,
+    pub reason: Reason,
+}
 
 /// A whole packet of a channel. `seen` is the record that completes it, `first` and `place` are the record in which it begins and its place in that
 /// record's data field.

@@ -40,9 +40,9 @@ impl Model for Held {
 }
 
 impl Held {
-    /// Holds all memory that there is, in at most 262,592 blocks. They are reserved, and none is written. Nothing is held where memory isn't
-    /// given back at once: in a process whose address space is reserved in large parts, as the address sanitizer's, and where that
-    /// can't be told.
+    /// Holds all memory that there is, in at most 262,592 blocks. They are reserved, and none is written. Nothing is held where
+    /// memory isn't given back at once, or where that can't be told. One such process has its address space reserved in large
+    /// parts, as under the address sanitizer.
     pub fn new<R: Files + AllocGlobal>(rt: &R) -> Held
         ensures { result ≤ 262592 }
     {

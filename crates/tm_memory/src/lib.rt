@@ -7,4 +7,4 @@ mod tests;
 mod turns;
 
 pub use held::Held;
-pub use turns::{Answer, Turns, made};
+pub use turns::{Answer, Turns, try_twice};

@@ -1,6 +1,6 @@
 //! Calls that are made in turn.
 
-use crate::{Answer, Turns, made};
+use crate::{Answer, Turns, try_twice};
 
 // How often a call is made that gives these octets, until all is right.
 #[test]
@@ -16,7 +16,7 @@ fn one_request(rt: HostRuntime) {
             break;
         }
     }
-    assert!(rt; turns.passed());
+    assert!(rt; turns.has_passed());
 }
 
 #[test]
@@ -28,8 +28,8 @@ fn calls_that_are_never_right(rt: HostRuntime) {
                 break;
             }
         }
-        assert!(rt; !turns.passed());
+        assert!(rt; !turns.has_passed());
     }
-    let nothing: Option<u8> = made(|| None);
+    let nothing: Option<u8> = try_twice(|| None);
     assert_eq!(rt; nothing, None);
 }

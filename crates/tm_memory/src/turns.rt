@@ -13,7 +13,7 @@ use std::rt::Files;
 pub enum Answer {
     /// All that it gives where there is ample memory.
     Right,
-    /// It says that memory is wanting, and all is as it is to be then.
+    /// It says that memory ran out, and all is as it is to be then.
     Refused,
     /// The call couldn't be made: what it needs found no memory.
     NotMade,
@@ -42,7 +42,7 @@ impl Answer {
 }
 
 /// What is made by a call that is tried twice, for what a test needs beforehand: one request that is refused spoils no test.
-pub fn made<T, F: Fn() -> Option<T>>(make: F) -> Option<T>
+pub fn try_twice<T, F: Fn() -> Option<T>>(make: F) -> Option<T>
     requires { F.IsAlwaysCallable make }
     ensures { MatchOption result (F.post make None) (λ value. F.post make (Some value)) }
 {
@@ -104,7 +104,7 @@ impl Turns {
     }
 
     /// The last turn was right, and one before it was refused, if memory could be held at all.
-    pub fn passed(&self) -> bool
+    pub fn has_passed(&self) -> bool
         ensures { result ≡ has_passed self.now }
     {
         self.refused && self.last == Some(Answer::Right)

@@ -6,7 +6,7 @@ use Rattle.std.proofs.KnownBytes.{Consumes-trans}
 use Rattle.tm_frame.specs.declared.layout.LayoutParts.{LayoutParts}
 use Rattle.tm_frame.specs.Layout.{record_length_of}
 use Rattle.tm_faults.specs.declared.fault.RunFault.TheVariants.{Write}
-use Rattle.tm_output.specs.Outputs.{Stopped, Took, View, line_piece, line_pieces, octets_way, outs}
+use Rattle.tm_output.specs.Outputs.{Stopped, Took, View, line_piece, line_pieces, octets_buffering, outs}
 use Rattle.tm_output.specs.Records.{AreRecords, HasRead}
 use Rattle.tm_output.specs.Listing.{IsListed, StopsAtOneMore, StopsInRecordLine, StopsInRestLine, lines_of, listing, record_line, record_lines, rest_lines}
 use Rattle.tm_output.proofs.LinePieces.{lines_lines, lines_out}
@@ -63,7 +63,7 @@ module _ (layout : LayoutParts) where
       }
 
       -- writing stopped in it
-      pub stands_record : {new : View (Option (List ℕ))} → Stopped Appends octets_way now new (line_piece (record_line layout seen octets) ∷ []) Write
+      pub stands_record : {new : View (Option (List ℕ))} → Stopped Appends octets_buffering now new (line_piece (record_line layout seen octets) ∷ []) Write
           → StopsInRecordLine layout first next old new
       stands_record stopped = record {
         read = stands.read;
@@ -92,7 +92,7 @@ module _ (layout : LayoutParts) where
           }
 
       -- writing stopped in that line, or a flush failed
-      pub stands_end_stopped : {new : View (Option (List ℕ))} → Stopped Appends octets_way now new (line_pieces (rest_lines seen rest)) Write
+      pub stands_end_stopped : {new : View (Option (List ℕ))} → Stopped Appends octets_buffering now new (line_pieces (rest_lines seen rest)) Write
           → StopsInRestLine layout first next old new
       stands_end_stopped stopped = record {
         read = stands.read;

@@ -6,7 +6,7 @@ use Rattle.tm_packet.specs.declared.tracker.PairEntry.{PairEntry}
 use Rattle.tm_packet.specs.declared.tracker.Unclosed.{Unclosed}
 use Rattle.tm_packet.specs.Merge.{Entries, unclosed, unclosed_at, unclosed_with}
 use Rattle.tm_faults.specs.declared.fault.RunFault.{RunFault}
-use Rattle.tm_output.specs.Outputs.{Piece, View, Took, Stopped, Way}
+use Rattle.tm_output.specs.Outputs.{Piece, View, Took, Stopped, Buffering}
 use Rattle.tm_output.specs.Pieces.{unclosed_piece, unclosed_pieces}
 use Rattle.tm_output.proofs.PieceLemmas.{took_took, took_stopped, stopped_more}
 
@@ -104,15 +104,15 @@ module _ {A K : Type 0} (grows : K → K → List A → Type 0) (grows-nil : (k 
       (took_took grows grows-nil grows-trans old now new (unclosed_pieces seen done) (unclosed_piece seen u ∷ []) took more)
 
   -- writing stopped in its line
-  pub unclosed_stopped : (entries : Entries) (at : ℕ) (way : Way) (fault : RunFault) → Parted entries done at
-      → slice_get (unclosed at (drop at entries)) 0 ≡ Some u → Stopped grows way now new (unclosed_piece seen u ∷ []) fault
-      → Stopped grows way old new (unclosed_pieces seen (unclosed 0 entries)) fault
-  unclosed_stopped entries at way fault parted is stopped =
+  pub unclosed_stopped : (entries : Entries) (at : ℕ) (buffering : Buffering) (fault : RunFault) → Parted entries done at
+      → slice_get (unclosed at (drop at entries)) 0 ≡ Some u → Stopped grows buffering now new (unclosed_piece seen u ∷ []) fault
+      → Stopped grows buffering old new (unclosed_pieces seen (unclosed 0 entries)) fault
+  unclosed_stopped entries at buffering fault parted is stopped =
       let more = parted_more entries done at u parted is in
       let rest = unclosed (u.key + 1) (drop (u.key + 1) entries) in
       let all : unclosed_pieces {A = A} seen (unclosed 0 entries) ≡ (unclosed_pieces seen done ++ unclosed_piece seen u ∷ []) ++ unclosed_pieces seen rest =
       ap (unclosed_pieces seen) more.parts ∙ pieces-append seen (done ++ u ∷ []) rest
       ∙ ap (λ (l : List (Piece A)). l ++ unclosed_pieces seen rest) (pieces-append seen done (u ∷ [])) in
-      subst (λ (ps : List (Piece A)). Stopped grows way old new ps fault) (sym all)
-      (stopped_more grows grows-nil grows-trans way old new (unclosed_pieces seen done ++ unclosed_piece seen u ∷ []) (unclosed_pieces seen rest) fault
-      (took_stopped grows grows-nil grows-trans way old now new (unclosed_pieces seen done) (unclosed_piece seen u ∷ []) took fault stopped))
+      subst (λ (ps : List (Piece A)). Stopped grows buffering old new ps fault) (sym all)
+      (stopped_more grows grows-nil grows-trans buffering old new (unclosed_pieces seen done ++ unclosed_piece seen u ∷ []) (unclosed_pieces seen rest) fault
+      (took_stopped grows grows-nil grows-trans buffering old now new (unclosed_pieces seen done) (unclosed_piece seen u ∷ []) took fault stopped))

@@ -12,7 +12,7 @@ use Rattle.tm_packet.specs.Merge.{Entries, Sent}
 use Rattle.tm_packet.proofs.HeaderLemmas.{reading_ok}
 use Rattle.tm_items.specs.Item.{Item, Bad, MasterGap, Gap, Vca, Dropped, Packet, Short}
 use Rattle.tm_items.specs.OnePacket.{IsOnePacket}
-use Rattle.tm_items.proofs.Reaching.{reach-least}
+use Rattle.tm_items.proofs.Reaching.{packet_length-least}
 use Rattle.tm_lines.specs.Lines.{note_lines}
 use Rattle.tm_output.specs.Pieces.{HasLine, item_line, notes_of, report_of, sent}
 use Rattle.tm_output.proofs.LineLemmas.{some_note}
@@ -25,7 +25,7 @@ version_front (x ∷ xs) some =
 -- a whole packet has a header
 pub packet_read : (octets : List ℕ) → IsOnePacket octets → header_reading_of octets ≡ Ok (packet_header_of octets)
 packet_read octets one =
-    let least = reach-least octets in
+    let least = packet_length-least octets in
     let long : 7 ≤ length octets = omega (arith, one.whole) in
     reading_ok octets (omega arith) (sym (version_front octets (omega arith)) ∙ eqb-true (packet_version_of (take 1 octets)) 0 one.version)
 
@@ -40,7 +40,7 @@ pub notes_one : (entries : Entries) (p : Sent) (notes : List Note) → sequence.
 unfolding notes_of
 notes_one entries p notes is = sym (ap (flat_map (λ (ns : List Note). ns)) is ∙ append-nil notes)
 
--- of a packet that has no notes the report says nothing more than a remark
+-- for a packet without notes the report says nothing more than a remark
 pub no_report : (entries : Entries) (seen channel first place : ℕ) (header : Fields) (octets more : List ℕ) → header ≡ packet_header_of octets
     → sequence.notes entries (record { channel = channel; header = header } ∷ []) ≡ [] ∷ [] → more ≡ []
     → report_of entries (Packet seen channel first place octets) ++ more ≡ []

@@ -2,11 +2,11 @@
 use Rattle.std.proofs.Common.{◌≡◌, ℕ, true, false, List, [], ◌∷◌, ◌++◌, refl, sym, ap, subst, ◌∙◌, append_assoc, append-nil, inl, inr, Option}
 use Rattle.std.specs.Io.KnownBytes.{Appends, Keeps}
 use Rattle.std.proofs.KnownBytes.{Appends-nil, Appends-kept, Appends-trans}
-use Rattle.tm_devices.specs.Devices.{raised, AppendsFront}
+use Rattle.tm_devices.specs.Devices.{raised, AppendsPrefix}
 use Rattle.tm_faults.specs.declared.fault.RunFault.{RunFault}
 use Rattle.tm_faults.specs.declared.fault.RunFault.TheVariants.{Read, Write, Report, ShortRecording, TooMany, NoMemory}
 use Rattle.tm_output.specs.code.Outlets.{PutStopped}
-use Rattle.tm_output.specs.Outputs.{Piece, View, outs, reports, Cut, SameCounts, CausedByOutput, TakesMemory, AppendsPieces, Took, StopsAtPiece, Stopped, Way}
+use Rattle.tm_output.specs.Outputs.{Piece, View, outs, reports, Cut, SameCounts, CausedByOutput, TakesMemory, AppendsPieces, Took, StopsAtPiece, Stopped, Buffering}
 
 module _ {A : Type 0} where
   pub outs-append : (ps qs : List (Piece A)) → outs (ps ++ qs) ≡ outs ps ++ outs qs
@@ -113,9 +113,9 @@ module _ {A K : Type 0} (grows : K → K → List A → Type 0) (grows-nil : (k 
     stopped = h.stopped;
   }
 
-  pub took_stopped : (way : Way) (old mid new : View K) (ps qs : List (Piece A)) → Took grows old mid ps → (fault : RunFault)
-      → Stopped grows way mid new qs fault → Stopped grows way old new (ps ++ qs) fault
-  took_stopped way old mid new ps qs a fault b =
+  pub took_stopped : (buffering : Buffering) (old mid new : View K) (ps qs : List (Piece A)) → Took grows old mid ps → (fault : RunFault)
+      → Stopped grows buffering mid new qs fault → Stopped grows buffering old new (ps ++ qs) fault
+  took_stopped buffering old mid new ps qs a fault b =
       let (out, report, cut, outs_new, reports_new) = b.cut in record {
         cut = (
           outs ps ++ out,
@@ -129,9 +129,9 @@ module _ {A K : Type 0} (grows : K → K → List A → Type 0) (grows-nil : (k 
         refused = λ e f. stops_after old mid ps qs a (b.refused e f);
       }
 
-  pub stopped_more : (way : Way) (old new : View K) (ps qs : List (Piece A)) (fault : RunFault) → Stopped grows way old new ps fault
-      → Stopped grows way old new (ps ++ qs) fault
-  stopped_more way old new ps qs fault b =
+  pub stopped_more : (buffering : Buffering) (old new : View K) (ps qs : List (Piece A)) (fault : RunFault) → Stopped grows buffering old new ps fault
+      → Stopped grows buffering old new (ps ++ qs) fault
+  stopped_more buffering old new ps qs fault b =
       let (out, report, cut, outs_new, reports_new) = b.cut in record {
         cut = (out, report, cut_more ps qs out report cut, outs_new, reports_new);
         cause = b.cause;
@@ -153,8 +153,8 @@ module _ {A K : Type 0} (grows : K → K → List A → Type 0) (grows-nil : (k 
   }
 
   -- there was no memory for a piece
-  pub no_room : (way : Way) (v : View K) (p : Piece A) → TakesMemory way p → Stopped grows way v v (p ∷ []) NoMemory
-  no_room way v p wanted = record {
+  pub no_room : (buffering : Buffering) (v : View K) (p : Piece A) → TakesMemory buffering p → Stopped grows buffering v v (p ∷ []) NoMemory
+  no_room buffering v p wanted = record {
     cut = ([], [], inl (p.out, refl, refl), grows-nil v.out, Appends-nil v.report);
     cause = (refl, refl);
     memory = λ e. stops_here v v p (pieces_none v) (refl, wanted);
@@ -162,27 +162,27 @@ module _ {A K : Type 0} (grows : K → K → List A → Type 0) (grows-nil : (k 
   }
 
   -- all pieces were written, and then a call failed without any
-  pub took_failed : (way : Way) (old mid new : View K) (ps : List (Piece A)) (fault : RunFault) → Took grows old mid ps → Stopped grows way mid new [] fault
-      → Stopped grows way old new ps fault
-  took_failed way old mid new ps fault a b =
-      subst (λ (l : List (Piece A)). Stopped grows way old new l fault) (append-nil ps) (took_stopped way old mid new ps [] a fault b)
+  pub took_failed : (buffering : Buffering) (old mid new : View K) (ps : List (Piece A)) (fault : RunFault) → Took grows old mid ps → Stopped grows buffering mid new [] fault
+      → Stopped grows buffering old new ps fault
+  took_failed buffering old mid new ps fault a b =
+      subst (λ (l : List (Piece A)). Stopped grows buffering old new l fault) (append-nil ps) (took_stopped buffering old mid new ps [] a fault b)
 
   -- writing stopped in what belongs to `out`
-  pub stopped_put : (way : Way) (old new : View K) (p : Piece A) (fault : RunFault)
-      → PutStopped grows way old.out new.out old.out_failures new.out_failures p.out fault → Appends old.report new.report [] → new.report_failures ≡ old.report_failures
-      → Stopped grows way old new (p ∷ []) fault
-  stopped_put way old new p Read h kept report = absurd h
-  stopped_put way old new p Write h kept report =
+  pub stopped_put : (buffering : Buffering) (old new : View K) (p : Piece A) (fault : RunFault)
+      → PutStopped grows buffering old.out new.out old.out_failures new.out_failures p.out fault → Appends old.report new.report [] → new.report_failures ≡ old.report_failures
+      → Stopped grows buffering old new (p ∷ []) fault
+  stopped_put buffering old new p Read h kept report = absurd h
+  stopped_put buffering old new p Write h kept report =
       let (some, rest, parts, proper, grown) = h.1 in record {
         cut = (some, [], inl (rest, parts, refl), grown, kept);
         cause = (h.0, report);
         memory = λ e. absurd (write_memory e);
         refused = λ e f. stops_here old old p (pieces_none old) (h.1, kept);
       }
-  stopped_put way old new p Report h kept report = absurd h
-  stopped_put way old new p ShortRecording h kept report = absurd h
-  stopped_put way old new p TooMany h kept report = absurd h
-  stopped_put way old new p NoMemory h kept report =
+  stopped_put buffering old new p Report h kept report = absurd h
+  stopped_put buffering old new p ShortRecording h kept report = absurd h
+  stopped_put buffering old new p TooMany h kept report = absurd h
+  stopped_put buffering old new p NoMemory h kept report =
       let (made, some, counts, grown) = h in record {
         cut = ([], [], inl (p.out, refl, refl), grown, kept);
         cause = (counts, report);
@@ -204,10 +204,10 @@ module _ {A K : Type 0} (grows : K → K → List A → Type 0) (old new : View 
   }
 
   -- writing stopped in the text for the report
-  pub stopped_lines : (way : Way) → grows old.out new.out p.out → AppendsFront old.report new.report p.report
-      → new.out_failures ≡ old.out_failures → new.report_failures ≡ raised old.report_failures → Stopped grows way old new (p ∷ []) Report
-  stopped_lines way whole front out report =
-      let (some, rest, parts, proper, grown) = front in record {
+  pub stopped_lines : (buffering : Buffering) → grows old.out new.out p.out → AppendsPrefix old.report new.report p.report
+      → new.out_failures ≡ old.out_failures → new.report_failures ≡ raised old.report_failures → Stopped grows buffering old new (p ∷ []) Report
+  stopped_lines buffering whole prefix out report =
+      let (some, rest, parts, proper, grown) = prefix in record {
         cut = (p.out, some, inr (inl (rest, refl, parts)), whole, grown);
         cause = (out, report);
         memory = λ e. absurd (report_memory e);
@@ -218,9 +218,9 @@ module _ {A K : Type 0} (grows : K → K → List A → Type 0) (old new : View 
 
 module _ {A K : Type 0} (grows : K → K → List A → Type 0) (old new : View K) (a : grows old.out new.out []) (b : Appends old.report new.report []) where
   -- only what may wait for a flush can be refused by one
-  pub flush_out : (way : Way) → way.flush ≡ true → new.out_failures ≡ raised old.out_failures → new.report_failures ≡ old.report_failures
-      → Stopped grows way old new [] Write
-  flush_out way waits out report = record {
+  pub flush_out : (buffering : Buffering) → buffering.flush ≡ true → new.out_failures ≡ raised old.out_failures → new.report_failures ≡ old.report_failures
+      → Stopped grows buffering old new [] Write
+  flush_out buffering waits out report = record {
     cut = ([], [], (refl, refl), a, b);
     cause = (out, report);
     memory = λ e. absurd (write_memory e);

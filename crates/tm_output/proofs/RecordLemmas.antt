@@ -36,8 +36,8 @@ module _ (size : ℕ) (some : 0 < size) where
     records_one : records size (r ++ more) ≡ r ∷ records size more
     unfolding records
     records_one =
-        let front : take size (r ++ more) ≡ r = ap (λ (n : ℕ). take n (r ++ more)) (sym exact) ∙ take-append_seam r more in
-        rw (count_one, front, back) refl
+        let prefix : take size (r ++ more) ≡ r = ap (λ (n : ℕ). take n (r ++ more)) (sym exact) ∙ take-append_seam r more in
+        rw (count_one, prefix, back) refl
 
     rest_one : rest_of size (r ++ more) ≡ rest_of size more
     unfolding rest_of
@@ -135,7 +135,7 @@ module _ (size : ℕ) (some : 0 < size) (octets : List ℕ) where
 
 -- ---- a recording that tells its octets
 
--- what is said of one of which these octets were read: nothing is left at its end
+-- what is said of a recording, once these octets of it were read: nothing is left at its end
 pub told : (P : List ℕ → Type 0) (octets : List ℕ) (old new : Option (List ℕ)) → Consumes old new octets
     → ((left : List ℕ) → (IsAtEnd new → left ≡ []) → P (octets ++ left)) → IfSome old P
 told P octets None new c h = tt

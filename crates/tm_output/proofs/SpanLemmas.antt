@@ -1,4 +1,4 @@
--- Packets that lie end to end: the first of them, those of which the report says nothing, and their octets.
+-- Packets that lie end to end: the first of them, those that add nothing to the report, and their octets.
 use Rattle.std.proofs.Common.{◌≡◌, ◌≢◌, ℕ, ◌+◌, ◌-◌, ◌<◌, ◌≤◌, Ok, Err, Result, List, [], ◌∷◌, ◌++◌, length, take, drop, refl, sym, ap, subst, ◌∙◌, append-nil, arith, inl, inr, ⊎_elim}
 use Rattle.std.proofs.KnownBytes.{Appends-nil}
 use Rattle.std.proofs.lemmas.Bool.{cases_lt, eqb-true}
@@ -6,22 +6,22 @@ use Rattle.std.proofs.lemmas.List.{take_all, length-drop, length-take-le, drop-d
 use Rattle.tm_packet.specs.declared.header.PacketFault.{PacketFault}
 use Rattle.tm_packet.specs.Header.{Fields, packet_header_of, header_reading_of, packet_version_of}
 use Rattle.tm_items.specs.Item.{Item, Packet}
-use Rattle.tm_items.specs.OnePacket.{IsOnePacket, reach}
+use Rattle.tm_items.specs.OnePacket.{IsOnePacket, packet_length}
 use Rattle.tm_items.specs.Sinks.{RefusesOne, TakesAll}
 use Rattle.tm_items.specs.code.Spans.{ArePackets, IsSpan, placed, packets_in, span_items}
-use Rattle.tm_items.proofs.Headers.{header-front, reach_read, reading-ok, reading-err}
-use Rattle.tm_items.proofs.Reaching.{reach-least}
+use Rattle.tm_items.proofs.Headers.{header-front, packet_length_read, reading-ok, reading-err}
+use Rattle.tm_items.proofs.Reaching.{packet_length-least}
 use Rattle.tm_items.proofs.Leads.{RefusesOne-left}
 use Rattle.tm_items.proofs.Spans.{joined, joined-all, packets-first, packets-one, span-both, span-first, span-longer}
 use Rattle.tm_devices.specs.Devices.{raised}
 use Rattle.tm_faults.specs.declared.fault.RunFault.TheVariants.{Write}
-use Rattle.tm_output.specs.Outputs.{PutsPart, SameCounts, Way, view}
+use Rattle.tm_output.specs.Outputs.{PutsPart, SameCounts, Buffering, view}
 use Rattle.tm_packet.specs.Merge.{Entries}
 use Rattle.tm_output.specs.Pieces.{Texts, noted, noted_all, packet_octets, piece_of, text_of}
 use Rattle.tm_output.specs.Seen.{OutputState}
 use Rattle.tm_output.specs.declared.command.Command.TheVariants.{Extract}
 use Rattle.tm_output.specs.code.Packets.{item_with}
-use Rattle.tm_output.specs.code.Quiet.{AreQuiet, HasNoted, IsFirstPacket, IsQuiet, IsTaken, outs_of}
+use Rattle.tm_output.specs.code.Quiet.{AreQuiet, HasNoted, IsFirstPacket, IsQuiet, IsAccepted, outs_of}
 use Rattle.tm_lines.specs.declared.packet.Packet as lent
 use Rattle.tm_output.specs.code.Sinking.{Refuses, Takes}
 use Rattle.tm_output.proofs.PacketLemmas.{version_front}
@@ -30,20 +30,20 @@ use Rattle.tm_output.proofs.PieceLemmas.{stopped_put, took_piece}
 -- ---- the first
 
 pub record IsFirstReach (far : ℕ) (octets : List ℕ) (header : Fields) : Type 0 where
-  pub reached : far ≡ reach octets
+  pub reached : far ≡ packet_length octets
   pub inside : far ≤ length octets
   pub own : header ≡ packet_header_of (take far octets)
-  pub length_is : length (take far octets) ≡ reach octets
+  pub length_is : length (take far octets) ≡ packet_length octets
 
 pub first_is : (far : ℕ) (octets : List ℕ) (h : Fields) → 0 < length octets → IsSpan octets → header_reading_of octets ≡ Ok h → far ≡ h.data_length + 7
     → IsFirstReach far octets h
 first_is far octets h some span read far_is =
     let first = span-first octets some span in
-    let reached : far ≡ reach octets = far_is ∙ reach_read octets h read in
+    let reached : far ≡ packet_length octets = far_is ∙ packet_length_read octets h read in
     record {
       reached = reached;
       inside = omega (arith, first.inside);
-      own = (reading-ok octets h read).1 ∙ sym (header-front far octets (omega (arith, first.inside)) (omega (arith, reach-least octets)));
+      own = (reading-ok octets h read).1 ∙ sym (header-front far octets (omega (arith, first.inside)) (omega (arith, packet_length-least octets)));
       length_is = length-take-le far octets (omega (arith, first.inside)) ∙ reached;
     }
 
@@ -53,7 +53,7 @@ first_not octets r fault some span is refused =
     let first = span-first octets some span in
     let zero : packet_version_of octets ≡ 0 = sym (version_front octets some) ∙ eqb-true (packet_version_of (take 1 octets)) 0 first.version in
     let short = reading-err octets fault zero (sym is ∙ refused) in
-    omega (arith, reach-least octets, first.inside)
+    omega (arith, packet_length-least octets, first.inside)
 
 -- ---- octets
 
@@ -66,7 +66,7 @@ octets_placed seen channel place (p ∷ ps) = ap (λ (l : List ℕ). p ++ l) (oc
 pub span_octets : (seen channel place : ℕ) (octets : List ℕ) → outs_of (text_of Extract) (span_items seen channel place octets) ≡ octets
 span_octets seen channel place octets = octets_placed seen channel place (packets_in octets) ∙ joined-all octets
 
--- ---- of which the report says nothing
+-- ---- that add nothing to the report
 
 noted_more : (entries : Entries) (xs : List Item) (x : Item) → noted_all entries (xs ++ x ∷ []) ≡ noted (noted_all entries xs) x
 noted_more entries [] x = refl
@@ -81,7 +81,7 @@ module _ {A : Type 0} (text : Texts A) (old : Entries) (seen channel place : ℕ
   pub noted_none : IsSpan octets → HasNoted text old old seen channel place octets 0
   noted_none span = record {
     inside = omega arith;
-    front = tt;
+    prefix = tt;
     rest = span;
     noted_is = refl;
     quiet = tt;
@@ -98,17 +98,17 @@ module _ {A : Type 0} (text : Texts A) (old : Entries) (seen channel place : ℕ
       let all : left ≡ drop at octets = is ∙ take_all (length octets - at) (drop at octets) (omega arith) in
       let there : 0 < length left = omega (arith, ap length all) in
       let first = span-first left there (subst IsSpan (sym all) done.rest) in
-      let reached : reach left ≡ far = sym head.length_is in
+      let reached : packet_length left ≡ far = sym head.length_is in
       let x = Packet seen channel seen (place + at) (take far left) in
       let own : item_with packet ≡ x = head.item ∙ ap (λ (n : ℕ). Packet seen channel seen (place + at) (take n left)) reached in
       let one : IsOnePacket (take far (drop at octets)) = rw (← all, ← reached) first.one in
-      let longer = span-longer seen channel place at far octets (omega arith) done.front one in
+      let longer = span-longer seen channel place at far octets (omega arith) done.prefix one in
       let before = span_items seen channel place (take at octets) in
       let items : span_items seen channel place (take (at + far) octets) ≡ before ++ x ∷ [] =
       longer.items ∙ ap (λ (o : List ℕ). before ++ Packet seen channel seen (place + at) (take far o) ∷ []) (sym all) in
       record {
         inside = omega (arith, first.inside, reached, ap length all);
-        front = longer.span;
+        prefix = longer.span;
         rest = subst IsSpan (rw (reached, all) (drop-drop far at octets)) first.others;
         noted_is =
             after
@@ -129,26 +129,26 @@ nothing_noted text old new seen channel place octets many done none =
 -- ---- taken
 
 -- the list is a front and what is behind it, by where the front ends
-front_by : {A : Type 0} (xs ys front rest : List A) → xs ++ ys ≡ front ++ rest → length xs ≤ length front
-    → (more : List A) × (front ≡ xs ++ more) × (ys ≡ more ++ rest)
-front_by [] ys front rest e h = (front, refl, e)
+front_by : {A : Type 0} (xs ys prefix rest : List A) → xs ++ ys ≡ prefix ++ rest → length xs ≤ length prefix
+    → (more : List A) × (prefix ≡ xs ++ more) × (ys ≡ more ++ rest)
+front_by [] ys prefix rest e h = (prefix, refl, e)
 front_by (x ∷ xs) ys [] rest e h = absurd (omega arith)
-front_by {A = A} (x ∷ xs) ys (z ∷ front) rest e h =
-    let r = front_by xs ys front rest (behind e) (omega arith) in
+front_by {A = A} (x ∷ xs) ys (z ∷ prefix) rest e h =
+    let r = front_by xs ys prefix rest (behind e) (omega arith) in
     (r.0, joined_at r.0 (first e) r.1, r.2)
   where
-    first : x ∷ xs ++ ys ≡ z ∷ front ++ rest → x ≡ z
+    first : x ∷ xs ++ ys ≡ z ∷ prefix ++ rest → x ≡ z
     first p = cc
 
-    behind : x ∷ xs ++ ys ≡ z ∷ front ++ rest → xs ++ ys ≡ front ++ rest
+    behind : x ∷ xs ++ ys ≡ z ∷ prefix ++ rest → xs ++ ys ≡ prefix ++ rest
     behind p = cc
 
-    joined_at : (more : List A) → x ≡ z → front ≡ xs ++ more → z ∷ front ≡ x ∷ xs ++ more
+    joined_at : (more : List A) → x ≡ z → prefix ≡ xs ++ more → z ∷ prefix ≡ x ∷ xs ++ more
     joined_at more p q = cc
 
-longer_some : {A : Type 0} (xs front more : List A) → xs ≡ front ++ more → length front < length xs → more ≢ []
-longer_some xs front more e short none =
-    let same : length xs ≡ length front = ap length e ∙ ap (λ l. length (front ++ l)) none ∙ ap length (append-nil front) in
+longer_some : {A : Type 0} (xs prefix more : List A) → xs ≡ prefix ++ more → length prefix < length xs → more ≢ []
+longer_some xs prefix more e short none =
+    let same : length xs ≡ length prefix = ap length e ∙ ap (λ l. length (prefix ++ l)) none ∙ ap length (append-nil prefix) in
     omega arith
 
 none_behind : {A : Type 0} (xs ys : List A) → xs ++ ys ≡ [] → ys ≡ []
@@ -158,28 +158,28 @@ none_behind (x ∷ xs) ys e = cc
 module _ {A K M : Type 0} (grows : K → K → List A → Type 0) (grows-nil : (k : K) → grows k k [])
     (grows-trans : (j k l : K) (xs ys : List A) → grows j k xs → grows k l ys → grows j l (xs ++ ys))
     (grows-split : (j l : K) (xs ys : List A) → grows j l (xs ++ ys) → (k : K) × grows j k xs × grows k l ys)
-    (text : M → Texts A) (way : Way) where
+    (text : M → Texts A) (buffering : Buffering) where
   module _ (s t : OutputState K M) (seen channel place : ℕ) (octets : List ℕ) (packet : lent.Packet) (some : 0 < length octets)
       (head : IsFirstPacket seen channel place octets packet) where
     -- the first packet, alone
-    pub one_taken : IsSpan octets → Takes grows text way s (item_with packet) t → IsTaken (Takes grows text way) s t seen channel place octets (length packet.octets.now)
-    one_taken span taken =
+    pub one_taken : IsSpan octets → Takes grows text buffering s (item_with packet) t → IsAccepted (Takes grows text buffering) s t seen channel place octets (length packet.octets.now)
+    one_taken span accepted =
         let first = span-first octets some span in
         let far = length packet.octets.now in
         let one : IsOnePacket (take far octets) = rw head.length_is first.one in
         let alone = packets-one (take far octets) one in
         let own : item_with packet ≡ Packet seen channel seen place (take far octets) = head.item ∙ ap (λ (n : ℕ). Packet seen channel seen place (take n octets)) (sym head.length_is) in
         record {
-          front = subst ArePackets (sym alone) (one, tt);
+          prefix = subst ArePackets (sym alone) (one, tt);
           rest = rw head.length_is first.others;
-          taken = subst (λ (ps : List (List ℕ)). TakesAll (Takes grows text way) s (placed seen channel place ps) t) (sym alone)
-              (t, subst (λ (x : Item). Takes grows text way s x t) own taken, refl);
+          accepted = subst (λ (ps : List (List ℕ)). TakesAll (Takes grows text buffering) s (placed seen channel place ps) t) (sym alone)
+              (t, subst (λ (x : Item). Takes grows text buffering s x t) own accepted, refl);
         }
 
   module _ (s : OutputState K M) (x : Item) (quiet : IsQuiet (text s.fixture.texts) s.entries x) where
     -- it is taken where what belongs to `out` was added, and nothing else
     quiet_taken : (t : OutputState K M) → t.fixture ≡ s.fixture → t.entries ≡ noted s.entries x → t.view.report ≡ s.view.report → SameCounts s.view t.view
-        → grows s.view.out t.view.out ((text s.fixture.texts).out x) → Takes grows text way s x t
+        → grows s.view.out t.view.out ((text s.fixture.texts).out x) → Takes grows text buffering s x t
     quiet_taken t same noted_is report counts grown = record {
       same = same;
       noted_is = noted_is;
@@ -191,10 +191,10 @@ module _ {A K M : Type 0} (grows : K → K → List A → Type 0) (grows-nil : (
     abbrev between : K → OutputState K M
     between k = record { fixture = s.fixture; entries = noted s.entries x; view = view k s.view.report s.view.out_failures s.view.report_failures }
 
-  -- packets of which the report says nothing, by one write
+  -- packets that add nothing to the report, by one write
   pub all_taken : (s t : OutputState K M) (x : Item) (xs : List Item) → AreQuiet (text s.fixture.texts) s.entries (x ∷ xs)
       → t.fixture ≡ s.fixture → t.entries ≡ noted_all s.entries (x ∷ xs) → t.view.report ≡ s.view.report → SameCounts s.view t.view
-      → grows s.view.out t.view.out (outs_of (text s.fixture.texts) (x ∷ xs)) → TakesAll (Takes grows text way) s (x ∷ xs) t
+      → grows s.view.out t.view.out (outs_of (text s.fixture.texts) (x ∷ xs)) → TakesAll (Takes grows text buffering) s (x ∷ xs) t
   all_taken s t x [] quiet same noted_is report counts grown =
       (t, quiet_taken s x quiet.0 t same noted_is report counts (subst (grows s.view.out t.view.out) (append-nil ((text s.fixture.texts).out x)) grown), refl)
   all_taken s t x (y ∷ ys) quiet same noted_is report counts grown =
@@ -204,10 +204,10 @@ module _ {A K M : Type 0} (grows : K → K → List A → Type 0) (grows-nil : (
 
   -- it is refused where a write stopped in what belongs to `out`
   stopped_here : (s t : OutputState K M) (x : Item) → t.fixture ≡ s.fixture → t.view.report ≡ s.view.report → t.view.out_failures ≡ raised s.view.out_failures
-      → t.view.report_failures ≡ s.view.report_failures → PutsPart grows s.view.out t.view.out ((text s.fixture.texts).out x) → Refuses grows text way s x Write t
+      → t.view.report_failures ≡ s.view.report_failures → PutsPart grows s.view.out t.view.out ((text s.fixture.texts).out x) → Refuses grows text buffering s x Write t
   stopped_here s t x same report out_failed report_failed part = record {
     same = same;
-    stopped = stopped_put grows grows-nil grows-trans way s.view t.view (piece_of (text s.fixture.texts) s.entries x) Write (out_failed, part)
+    stopped = stopped_put grows grows-nil grows-trans buffering s.view t.view (piece_of (text s.fixture.texts) s.entries x) Write (out_failed, part)
         (rw report (Appends-nil s.view.report)) report_failed;
   }
 
@@ -215,19 +215,19 @@ module _ {A K M : Type 0} (grows : K → K → List A → Type 0) (grows-nil : (
   pub one_stopped : (s t : OutputState K M) (x : Item) (xs : List Item) → AreQuiet (text s.fixture.texts) s.entries (x ∷ xs)
       → t.fixture ≡ s.fixture → t.view.report ≡ s.view.report → t.view.out_failures ≡ raised s.view.out_failures → t.view.report_failures ≡ s.view.report_failures
       → PutsPart grows s.view.out t.view.out (outs_of (text s.fixture.texts) (x ∷ xs))
-      → RefusesOne (Takes grows text way) (Refuses grows text way) s (x ∷ xs) Write t
+      → RefusesOne (Takes grows text buffering) (Refuses grows text buffering) s (x ∷ xs) Write t
   one_stopped s t x [] quiet same report out_failed report_failed part =
       inl (stopped_here s t x same report out_failed report_failed (subst (PutsPart grows s.view.out t.view.out) (append-nil ((text s.fixture.texts).out x)) part))
   one_stopped s t x (y ∷ ys) quiet same report out_failed report_failed part =
       let own = (text s.fixture.texts).out x in
       let others = outs_of (text s.fixture.texts) (y ∷ ys) in
-      let (front, rest, split, proper, grown) = part in
+      let (prefix, rest, split, proper, grown) = part in
       ⊎_elim
       (λ short.
-      let (more, fits, left) = front_by front rest own others (sym split) (omega arith) in
-      inl (stopped_here s t x same report out_failed report_failed (front, more, fits, (λ some. longer_some own front more fits short), grown)))
+      let (more, fits, left) = front_by prefix rest own others (sym split) (omega arith) in
+      inl (stopped_here s t x same report out_failed report_failed (prefix, more, fits, (λ some. longer_some own prefix more fits short), grown)))
       (λ long.
-      let (more, fits, left) = front_by own others front rest split long in
+      let (more, fits, left) = front_by own others prefix rest split long in
       let (k, before, behind) = grows-split s.view.out t.view.out own more (subst (grows s.view.out t.view.out) fits grown) in
       let mid = between s x quiet.0 k in
       inr (
@@ -236,13 +236,13 @@ module _ {A K M : Type 0} (grows : K → K → List A → Type 0) (grows-nil : (
         one_stopped mid t y ys quiet.1 same report out_failed report_failed
             (more, rest, left, (λ some. proper (λ none. some (none_behind own others none))), behind),
       ))
-      (cases_lt (length front) (length own))
+      (cases_lt (length prefix) (length own))
 
   module _ (s t : OutputState K M) (seen channel place many : ℕ) (octets : List ℕ) (some : many ≡ 0 → ⊥)
       (done : HasNoted (text s.fixture.texts) s.entries t.entries seen channel place octets many)
       (same : t.fixture ≡ s.fixture) (report : t.view.report ≡ s.view.report) where
     abbrev items : List Item
-    items = placed seen channel place (take (reach (take many octets)) (take many octets) ∷ packets_in (drop (reach (take many octets)) (take many octets)))
+    items = placed seen channel place (take (packet_length (take many octets)) (take many octets) ∷ packets_in (drop (packet_length (take many octets)) (take many octets)))
 
     there : 0 < length (take many octets)
     there = omega (arith, length-take-le many octets done.inside)
@@ -253,11 +253,11 @@ module _ {A K M : Type 0} (grows : K → K → List A → Type 0) (grows-nil : (
     -- the packets in front that are noted
     pub span_taken : SameCounts s.view t.view
         → grows s.view.out t.view.out (outs_of (text s.fixture.texts) (span_items seen channel place (take many octets)))
-        → IsTaken (Takes grows text way) s t seen channel place octets many
+        → IsAccepted (Takes grows text buffering) s t seen channel place octets many
     span_taken counts grown = record {
-      front = done.front;
+      prefix = done.prefix;
       rest = done.rest;
-      taken = subst (λ (xs : List Item). TakesAll (Takes grows text way) s xs t) (sym first)
+      accepted = subst (λ (xs : List Item). TakesAll (Takes grows text buffering) s xs t) (sym first)
           (all_taken s t _ _ (subst (AreQuiet (text s.fixture.texts) s.entries) first done.quiet) same
           (done.noted_is ∙ ap (noted_all s.entries) first) report counts
           (subst (λ (xs : List Item). grows s.view.out t.view.out (outs_of (text s.fixture.texts) xs)) first grown));
@@ -265,13 +265,13 @@ module _ {A K M : Type 0} (grows : K → K → List A → Type 0) (grows-nil : (
 
     pub span_stopped : t.view.out_failures ≡ raised s.view.out_failures → t.view.report_failures ≡ s.view.report_failures
         → PutsPart grows s.view.out t.view.out (outs_of (text s.fixture.texts) (span_items seen channel place (take many octets)))
-        → RefusesOne (Takes grows text way) (Refuses grows text way) s (span_items seen channel place octets) Write t
+        → RefusesOne (Takes grows text buffering) (Refuses grows text buffering) s (span_items seen channel place octets) Write t
     span_stopped out_failed report_failed part =
-        subst (λ (xs : List Item). RefusesOne (Takes grows text way) (Refuses grows text way) s xs Write t)
-        (sym (span-both seen channel place many octets done.inside done.front))
-        (RefusesOne-left (Takes grows text way) (Refuses grows text way) s t (span_items seen channel place (take many octets))
+        subst (λ (xs : List Item). RefusesOne (Takes grows text buffering) (Refuses grows text buffering) s xs Write t)
+        (sym (span-both seen channel place many octets done.inside done.prefix))
+        (RefusesOne-left (Takes grows text buffering) (Refuses grows text buffering) s t (span_items seen channel place (take many octets))
         (span_items seen channel (place + many) (drop many octets)) Write
-        (subst (λ (xs : List Item). RefusesOne (Takes grows text way) (Refuses grows text way) s xs Write t) (sym first)
+        (subst (λ (xs : List Item). RefusesOne (Takes grows text buffering) (Refuses grows text buffering) s xs Write t) (sym first)
         (one_stopped s t _ _ (subst (AreQuiet (text s.fixture.texts) s.entries) first done.quiet) same report out_failed report_failed
         (subst (λ (xs : List Item). PutsPart grows s.view.out t.view.out (outs_of (text s.fixture.texts) xs)) first part))))
 
@@ -284,7 +284,7 @@ pub record IsLeft (seen channel place at many : ℕ) (octets left : List ℕ) : 
 
 pub span_left : (seen channel place at many : ℕ) (octets left : List ℕ) → left ≡ take (length octets - at) (drop at octets) → at ≤ length octets
     → many ≤ length left → IsSpan (take many left) → IsSpan (drop many left) → IsLeft seen channel place at many octets left
-span_left seen channel place at many octets left is inside fits front rest =
+span_left seen channel place at many octets left is inside fits prefix rest =
     let len : length (drop at octets) ≡ length octets - at = length-drop at octets in
     let all : left ≡ drop at octets = is ∙ take_all (length octets - at) (drop at octets) (omega arith) in
     let behind : drop many left ≡ drop (at + many) octets = ap (drop many) all ∙ drop-drop many at octets in
@@ -292,7 +292,7 @@ span_left seen channel place at many octets left is inside fits front rest =
     record {
       items =
           ap (span_items seen channel (place + at)) (sym all)
-          ∙ span-both seen channel (place + at) many left fits front
+          ∙ span-both seen channel (place + at) many left fits prefix
           ∙ rw (behind, next) refl;
       rest = subst IsSpan behind rest;
       inside = omega (arith, fits, ap length all);

@@ -10,7 +10,7 @@ use Rattle.tm_frame.specs.Layout.{most_records, record_length_of}
 use Rattle.tm_faults.specs.declared.fault.RunFault.{RunFault}
 use Rattle.tm_faults.specs.declared.fault.RunFault.TheVariants.{Read, Write, Report, ShortRecording, TooMany, NoMemory}
 use Rattle.tm_lines.specs.Lines.{bad_line, frame_line, short_line}
-use Rattle.tm_output.specs.Outputs.{AppendsCut, Stopped, Took, View, line_piece, line_pieces, octets_way}
+use Rattle.tm_output.specs.Outputs.{AppendsCut, Stopped, Took, View, line_piece, line_pieces, octets_buffering}
 use Rattle.tm_output.specs.Records.{HasRead, HasReadAll, record_count, records, rest_of}
 
 -- the line of a record, by what it reads as
@@ -21,7 +21,7 @@ reading_line seen (Err fault) = bad_line seen fault
 unfoldable pub record_line : LayoutParts → ℕ → List ℕ → List ℕ
 record_line layout seen octets = reading_line seen (frame_reading_of layout octets)
 
--- the lines of records, of which the first is record `seen`
+-- the lines of records, the first being record `seen`
 abbrev pub record_lines : LayoutParts → ℕ → List (List ℕ) → List (List ℕ)
 record_lines layout seen [] = []
 record_lines layout seen (octets ∷ more) = record_line layout seen octets ∷ record_lines layout (seen + 1) more
@@ -75,7 +75,7 @@ module _ (layout : LayoutParts) (left_old left_new : Option (List ℕ)) where
     pub exact : length one ≡ record_length_of layout
     pub mid : View (Option (List ℕ))
     pub took : Took Appends old mid (line_pieces (record_lines layout 0 read))
-    pub stopped : Stopped Appends octets_way mid new (line_piece (record_line layout (length read) one) ∷ []) Write
+    pub stopped : Stopped Appends octets_buffering mid new (line_piece (record_line layout (length read) one) ∷ []) Write
 
   -- all was read, and writing stopped in the line of the rest, or no line was left and a flush failed
   pub record StopsInRestLine (old new : View (Option (List ℕ))) : Type 0 where
@@ -84,7 +84,7 @@ module _ (layout : LayoutParts) (left_old left_new : Option (List ℕ)) where
     pub all : HasReadAll (record_length_of layout) left_old left_new read rest
     pub mid : View (Option (List ℕ))
     pub took : Took Appends old mid (line_pieces (record_lines layout 0 read))
-    pub stopped : Stopped Appends octets_way mid new (line_pieces (rest_lines (length read) (length rest))) Write
+    pub stopped : Stopped Appends octets_buffering mid new (line_pieces (rest_lines (length read) (length rest))) Write
 
   -- where a fault leaves the devices: without memory for the first record nothing is read, and no line takes memory
   abbrev pub IsListingStop : View (Option (List ℕ)) → View (Option (List ℕ)) → RunFault → Type 0
@@ -95,8 +95,8 @@ module _ (layout : LayoutParts) (left_old left_new : Option (List ℕ)) where
   IsListingStop old new TooMany = StopsAtOneMore old new
   IsListingStop old new NoMemory = (left_new ≡ left_old) × (new ≡ old)
 
--- What a fault says of a recording that tells its octets: there is one place up to which its lines were written; without memory nothing was; and it has
--- more records than can be counted.
+-- What a fault says of a recording that tells its octets. There is one place up to which its lines were written; without memory
+-- nothing was; and it has more records than can be counted.
 pub record ListingStopped (layout : LayoutParts) (old new : View (Option (List ℕ))) (fault : RunFault) (octets : List ℕ) : Type 0 where
   pub cut : AppendsCut Appends old new (line_pieces (listing layout octets))
   pub memory : fault ≡ NoMemory → new ≡ old

@@ -26,8 +26,8 @@ line_piece line = record { out = line; report = [] }
 abbrev pub line_pieces : List (List ℕ) → List (Piece ℕ)
 line_pieces lines = map line_piece lines
 
--- The pieces up to one place: nothing of no pieces. Else a front of what belongs to `out` of the first, and nothing for the report;
--- or all of that and a front of its report; or both whole, and then a cut of the others.
+-- The pieces up to one place: nothing of no pieces. Else a prefix of what belongs to `out` of the first, and nothing for the
+-- report. Or all of that and a prefix of its report. Or both whole, and then a cut of the others.
 abbrev pub Cut : {A : Type 0} → List (Piece A) → List A → List ℕ → Type 0
 Cut [] out report = (out ≡ []) × (report ≡ [])
 Cut {A} (p ∷ ps) out report =
@@ -50,7 +50,7 @@ view out report out_failures report_failures =
 abbrev pub SameCounts : {K : Type 0} → View K → View K → Type 0
 SameCounts old new = (new.out_failures ≡ old.out_failures) × (new.report_failures ≡ old.report_failures)
 
--- what writing may answer: `Write` where a call of `out` failed, `Report` where one of the report did, or want of memory
+-- what writing may answer: `Write` where a call of `out` failed, `Report` where one of the report did, or out of memory
 abbrev pub CausedByOutput : {K : Type 0} → View K → View K → RunFault → Type 0
 CausedByOutput old new Read = ⊥
 CausedByOutput old new Write = (new.out_failures ≡ raised old.out_failures) × (new.report_failures ≡ old.report_failures)
@@ -60,20 +60,20 @@ CausedByOutput old new TooMany = ⊥
 CausedByOutput old new NoMemory = SameCounts old new
 
 -- How an outlet is written: what belongs there is made in memory; and it may wait there for a flush.
-pub record Way : Type 0 where
+pub record Buffering : Type 0 where
   pub memory : Bool
   pub flush : Bool
 
 -- octets go as they are, and a packet's line is made in a room of its own; rows and other lines are made in memory; all may wait
-abbrev pub octets_way : Way
-octets_way = record { memory = false; flush = true }
+abbrev pub octets_buffering : Buffering
+octets_buffering = record { memory = false; flush = true }
 
-abbrev pub lines_way : Way
-lines_way = record { memory = true; flush = true }
+abbrev pub lines_buffering : Buffering
+lines_buffering = record { memory = true; flush = true }
 
 -- something of this piece is made in memory: its text for the report, or what belongs to `out`, where that is made there
-abbrev pub TakesMemory : {A : Type 0} → Way → Piece A → Type 0
-TakesMemory way piece = ((way.memory ≡ true) × (piece.out ≢ [])) ⊎ (piece.report ≢ [])
+abbrev pub TakesMemory : {A : Type 0} → Buffering → Piece A → Type 0
+TakesMemory buffering piece = ((buffering.memory ≡ true) × (piece.out ≢ [])) ⊎ (piece.report ≢ [])
 
 module _ {A K : Type 0} (grows : K → K → List A → Type 0) where
   -- the pieces were written, whole
@@ -82,7 +82,7 @@ module _ {A K : Type 0} (grows : K → K → List A → Type 0) where
 
   -- a part of what belongs to `out` was written: a front, a proper one if there is any
   abbrev pub PutsPart : K → K → List A → Type 0
-  PutsPart old new all = (front rest : List A) × (all ≡ front ++ rest) × (all ≢ [] → rest ≢ []) × grows old new front
+  PutsPart old new all = (prefix rest : List A) × (all ≡ prefix ++ rest) × (all ≢ [] → rest ≢ []) × grows old new prefix
 
   -- they were written up to one place
   abbrev pub AppendsCut : View K → View K → List (Piece A) → Type 0
@@ -106,22 +106,22 @@ pub record StopsAtPiece {A K : Type 0} (grows : K → K → List A → Type 0) (
   pub stopped : stop mid next
 
 module _ {A K : Type 0} (grows : K → K → List A → Type 0) where
-  -- nothing was written of a piece of which something is made in memory
-  abbrev pub WantsMemory : Way → View K → View K → List (Piece A) → Type 0
-  WantsMemory way old new pieces = StopsAtPiece grows (λ mid next. (new ≡ mid) × TakesMemory way next) old pieces
+  -- nothing was written of a piece for which memory is needed
+  abbrev pub WantsMemory : Buffering → View K → View K → List (Piece A) → Type 0
+  WantsMemory buffering old new pieces = StopsAtPiece grows (λ mid next. (new ≡ mid) × TakesMemory buffering next) old pieces
 
   -- a part of what belongs to `out` was written of a piece, and nothing of it for the report
   abbrev pub RefusesPut : View K → View K → List (Piece A) → Type 0
   RefusesPut old new pieces = StopsAtPiece grows (λ mid next. PutsPart grows mid.out new.out next.out × Appends mid.report new.report []) old pieces
 
 -- writing stopped at one place of the pieces, with this fault
-pub record Stopped {A K : Type 0} (grows : K → K → List A → Type 0) (way : Way) (old new : View K) (pieces : List (Piece A)) (fault : RunFault)
+pub record Stopped {A K : Type 0} (grows : K → K → List A → Type 0) (buffering : Buffering) (old new : View K) (pieces : List (Piece A)) (fault : RunFault)
     : Type 0 where
   pub cut : AppendsCut grows old new pieces
   pub cause : CausedByOutput old new fault
-  pub memory : fault ≡ NoMemory → WantsMemory grows way old new pieces
-  pub refused : fault ≡ Write → way.flush ≡ false → RefusesPut grows old new pieces
+  pub memory : fault ≡ NoMemory → WantsMemory grows buffering old new pieces
+  pub refused : fault ≡ Write → buffering.flush ≡ false → RefusesPut grows old new pieces
 
 -- writing all pieces, or up to one place
-abbrev pub Written : {A K T : Type 0} → (K → K → List A → Type 0) → Way → View K → View K → List (Piece A) → Result T RunFault → Type 0
-Written grows way old new pieces r = MatchResult r (λ _. Took grows old new pieces) (Stopped grows way old new pieces)
+abbrev pub Written : {A K T : Type 0} → (K → K → List A → Type 0) → Buffering → View K → View K → List (Piece A) → Result T RunFault → Type 0
+Written grows buffering old new pieces r = MatchResult r (λ _. Took grows old new pieces) (Stopped grows buffering old new pieces)

@@ -12,7 +12,7 @@ use Rattle.tm_output.specs.declared.command.Command.{Command}
 use Rattle.tm_output.specs.declared.command.Command.TheVariants.{Extract, Packets, Fields}
 use Rattle.tm_output.specs.FieldRows.{tabled, too_short}
 use Rattle.tm_lines.specs.Lines.{bad_line, drop_line, gap_line, master_gap_line, note_line, note_lines, packet_line, short_line, vca_line}
-use Rattle.tm_output.specs.Outputs.{Piece, Way, lines_way, octets_way}
+use Rattle.tm_output.specs.Outputs.{Piece, Buffering, lines_buffering, octets_buffering}
 
 -- the packet of a channel as its sequence counts see it
 abbrev pub sent : ℕ → List ℕ → Sent
@@ -72,7 +72,7 @@ listed _ = []
 abbrev pub no_remark : Item → List ℕ
 no_remark _ = []
 
--- the row of a packet, and the line of one that is too short
+-- the row of a packet, and the line for one that is too short
 abbrev pub rows_text : List Field → ℕ → Texts ℕ
 rows_text fields application = record { out = tabled fields application; remark = too_short fields application }
 
@@ -83,10 +83,10 @@ text_of Packets = record { out = listed; remark = no_remark }
 text_of (Fields definition application) = rows_text definition.now application
 
 -- how it is written
-abbrev pub way_of : Command → Way
-way_of Extract = octets_way
-way_of Packets = octets_way
-way_of (Fields definition application) = lines_way
+abbrev pub buffering_of : Command → Buffering
+buffering_of Extract = octets_buffering
+buffering_of Packets = octets_buffering
+buffering_of (Fields definition application) = lines_buffering
 
 -- ---- of items, by what is given of each
 
@@ -102,7 +102,7 @@ abbrev pub noted_all : Entries → List Item → Entries
 noted_all entries [] = entries
 noted_all entries (x ∷ xs) = noted_all (noted entries x) xs
 
--- a group that is open at a closed end, of which so many records are done
+-- a group that is open at a closed end, after so many records
 unfoldable pub unclosed_piece : {A : Type 0} → ℕ → Unclosed → Piece A
 unclosed_piece seen u = record { out = []; report = note_line seen (u.key / 2048) (u.key % 2048) u.note }
 

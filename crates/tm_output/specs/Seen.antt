@@ -11,19 +11,19 @@ use Rattle.tm_packet.specs.Merge.{Entries}
 abbrev pub both : {W V : Type 0} → drain.Ghosts W → drain.Ghosts V → W → V → View (Option (List ℕ))
 both w v out report = view (w.written out) (v.written report) (w.failures out) (v.failures report)
 
--- of a drain, where there is no report
+-- for a drain, where there is no report
 abbrev pub out_alone : {W : Type 0} → drain.Ghosts W → W → View (Option (List ℕ))
 out_alone w out = view (w.written out) None (w.failures out) 0
 
--- of a shelf and a drain
+-- for a shelf and a drain
 abbrev pub shelf_both : {H F V : Type 0} → shelf.Ghosts H F → drain.Ghosts V → H → V → View (Option (ℕ → List ℕ))
 shelf_both h v shelf report = view (h.kept shelf) (v.written report) (h.refusals shelf) (v.failures report)
 
--- of an outlet and a drain
+-- for an outlet and a drain
 abbrev pub outlet_both : {O V : Type 0} (o : outlet.Ghosts O) → drain.Ghosts V → O → V → View o.Held
 outlet_both o v outlet report = view (o.held outlet) (v.written report) (o.failures outlet) (v.failures report)
 
--- of an output's two
+-- for an output's two
 abbrev pub output_both : {O V : Type 0} (o : outlet.Ghosts O) → drain.Ghosts V → Output O V → View o.Held
 output_both o v output = outlet_both o v output.outlet.now output.report.now
 

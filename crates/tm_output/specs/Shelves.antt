@@ -2,7 +2,7 @@
 use Rattle.std.specs.Prelude.{◌≡◌, ⊤, ℕ, false, ◌==◌, List, [], ◌∷◌, ◌++◌, map, Option, None, Some, if◌then◌else◌}
 use Rattle.tm_packet.specs.Header.{packet_header_of}
 use Rattle.tm_items.specs.Item.{Item, Packet}
-use Rattle.tm_output.specs.Outputs.{Way}
+use Rattle.tm_output.specs.Outputs.{Buffering}
 use Rattle.tm_output.specs.Pieces.{Texts, no_remark}
 
 -- an octet of an application
@@ -30,8 +30,8 @@ shelved_of (Packet seen channel first place octets) = shelved (packet_header_of 
 shelved_of _ = []
 
 -- octets go as they are, and none of them waits
-abbrev pub shelf_way : Way
-shelf_way = record { memory = false; flush = false }
+abbrev pub shelf_buffering : Buffering
+shelf_buffering = record { memory = false; flush = false }
 
 -- what is given of an item
 abbrev pub shelf_text : Texts Shelved

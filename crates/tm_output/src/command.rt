@@ -18,7 +18,7 @@ pub enum Command<'a> {
 pub enum Ending {
     /// At the end of the recording, which is closed there: what is held and what is open then is reported.
     Close,
-    /// At the end of the recording, of which more may come: a rest of less than a record is left to the job's next run.
+    /// At the end of a recording that may grow: a rest of less than a record is left to the job's next run.
     Keep,
     /// After so many further records, or at the end as `Keep` where there are fewer.
     StopAfter(u32),

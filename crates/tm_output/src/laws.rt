@@ -13,9 +13,12 @@ ghost use Rattle.tm_output.specs.Records.{record_count};
 /// Recordings that tell their octets: what `list_frames` says of the octets that were read holds of the whole recording. With `Ok` just its lines were
 /// written, and the answer is the number of its whole records. After a fault there is one place up to which its lines were written.
 pub fn whole_recordings()
-    ensures listed { (layout : LayoutParts) (left_old left_new out_old out_new : Option (List ℕ)) (count : ℕ) → 0 < record_length_of layout →
+    ensures listed { (layout : LayoutParts) (left_old left_new out_old out_new : Option (List ℕ)) (count : ℕ)
+        → 0 < record_length_of layout →
         IsListed layout left_old left_new out_old out_new count →
-        IfSome left_old (λ octets. Appends out_old out_new (concat (listing layout octets)) × (count ≡ record_count (record_length_of layout) octets)) }
-    ensures stopped { (layout : LayoutParts) (left_old left_new : Option (List ℕ)) (old new : View (Option (List ℕ))) (fault : RunFault) → 0 < record_length_of layout →
+        IfSome left_old (λ octets. Appends out_old out_new (concat (listing layout octets))
+        × (count ≡ record_count (record_length_of layout) octets)) }
+    ensures stopped { (layout : LayoutParts) (left_old left_new : Option (List ℕ)) (old new : View (Option (List ℕ)))
+        (fault : RunFault) → 0 < record_length_of layout →
         IsListingStop layout left_old left_new old new fault → IfSome left_old (ListingStopped layout old new fault) }
 {}

@@ -9,17 +9,17 @@ ghost use Rattle.tm_devices.specs.Devices.{Counts, raised};
 ghost use Rattle.tm_output.specs.code.Packets.{HasHeader, item_with};
 ghost use Rattle.tm_output.specs.code.Outlets.{GivesNone, PutStopped, appends_split, no_text};
 ghost use Rattle.tm_output.specs.code.Quiet.{outs_of};
-ghost use Rattle.tm_output.specs.Outputs.{PutsPart, Way, lines_way, octets_way};
+ghost use Rattle.tm_output.specs.Outputs.{PutsPart, Buffering, lines_buffering, octets_buffering};
 ghost use Rattle.tm_output.specs.Pieces.{HasLine, Texts, text_of};
 ghost use Rattle.tm_output.specs.code.ShelfLaws.{no_shelf, shelves_nil, shelves_split, shelves_trans};
-ghost use Rattle.tm_output.specs.Shelves.{Shelved, Shelves, shelf_text, shelf_way};
+ghost use Rattle.tm_output.specs.Shelves.{Shelved, Shelves, shelf_text, shelf_buffering};
 
 use crate::Packet;
 use std::alloc::AllocError;
-use tm_devices::{DeviceFailed, Drain, Shelf, put_all};
+use tm_devices::{DeviceFailed, Drain, Shelf, write_all};
 use tm_faults::RunFault;
 use tm_fields::{Lead, RowFault, Rows};
-use tm_lines::{ROOM, line_in, put_packet, put_short_packet};
+use tm_lines::{LINE_CAPACITY, format_packet, format_short_packet, line_from};
 use tm_packet::Header;
 
 /// Where packets go.
@@ -47,39 +47,42 @@ pub trait Outlet {
     ghost text: { Self.Fixed → Texts Self.Part };
 
     /// Whether what belongs here is made in memory, and whether it may wait for a flush.
-    ghost way: { Way };
+    ghost buffering: { Buffering };
 
     /// All that is held was passed on.
     ghost passed: { Self → Type 0 };
 
     /// The report says nothing of a packet behind the lines of its notes. Where it may, this is false.
-    fn is_silent(&self, packet: &Packet<'_>) -> bool
+    fn adds_nothing_to_report(&self, packet: &Packet<'_>) -> bool
         requires { HasHeader packet.now }
         ensures { result ≡ true → (Self.text (Self.fixed self.now)).remark (item_with packet.now) ≡ [] };
 
     /// Writes what the report says of a packet, behind the lines of its notes.
     fn remark(&self, lines: &mut Vec<u8>, packet: &Packet<'_>) -> Result<(), AllocError>
         requires { HasHeader packet.now }
-        ensures line { OnOk result (lines.new.items ≡ lines.old.items ++ (Self.text (Self.fixed self.now)).remark (item_with packet.now)) }
+        ensures line { OnOk result (lines.new.items
+            ≡ lines.old.items ++ (Self.text (Self.fixed self.now)).remark (item_with packet.now)) }
         ensures memory { OnErr result ((Self.text (Self.fixed self.now)).remark (item_with packet.now) ≢ []) };
 
     /// Writes what of a packet belongs here.
-    fn put(&mut self, packet: &Packet<'_>) -> Result<(), RunFault>
+    fn write(&mut self, packet: &Packet<'_>) -> Result<(), RunFault>
         requires { HasHeader packet.now }
         ensures same { Self.fixed self.new ≡ Self.fixed self.old }
-        ensures whole { OnOk result (Self.grows (Self.held self.old) (Self.held self.new) ((Self.text (Self.fixed self.old)).out (item_with packet.now))
+        ensures whole { OnOk result (Self.grows (Self.held self.old) (Self.held self.new)
+            ((Self.text (Self.fixed self.old)).out (item_with packet.now))
             × (Self.failures self.new ≡ Self.failures self.old)) }
-        ensures stopped { IfErr result (PutStopped Self.grows Self.way (Self.held self.old) (Self.held self.new) (Self.failures self.old) (Self.failures self.new)
+        ensures stopped { IfErr result (PutStopped Self.grows Self.buffering (Self.held self.old) (Self.held self.new)
+            (Self.failures self.old) (Self.failures self.new)
             ((Self.text (Self.fixed self.old)).out (item_with packet.now))) };
 
     /// Packets that lie end to end may be put at once.
-    ghost joins: { Bool };
+    ghost can_join: { Bool };
 
-    fn joins(&self) -> bool
-        ensures { result ≡ joins };
+    fn can_join(&self) -> bool
+        ensures { result ≡ can_join };
 
     /// Writes at once what of packets that lie end to end belongs here, if these are joined, and answers whether it did. If not, nothing changes.
-    fn put_span(
+    fn write_span(
         &mut self,
         seen: u32,
         channel: u8,
@@ -87,11 +90,13 @@ pub trait Outlet {
         octets: &[u8],
     ) -> Result<bool, DeviceFailed>
         ensures same { Self.fixed self.new ≡ Self.fixed self.old }
-        ensures joined { IfOk result (λ put. put ≡ Self.joins) }
+        ensures joined { IfOk result (λ put. put ≡ Self.can_join) }
         ensures whole { IfOk result (λ put. put ≡ true → Self.grows (Self.held self.old) (Self.held self.new)
-            (outs_of (Self.text (Self.fixed self.old)) (span_items seen channel place octets.now)) × (Self.failures self.new ≡ Self.failures self.old)) }
+            (outs_of (Self.text (Self.fixed self.old)) (span_items seen channel place octets.now))
+            × (Self.failures self.new ≡ Self.failures self.old)) }
         ensures apart { IfOk result (λ put. put ≡ false → self.new ≡ self.old) }
-        ensures stopped { OnErr result ((Self.failures self.new ≡ raised (Self.failures self.old)) × PutsPart Self.grows (Self.held self.old) (Self.held self.new)
+        ensures stopped { OnErr result ((Self.failures self.new ≡ raised (Self.failures self.old))
+            × PutsPart Self.grows (Self.held self.old) (Self.held self.new)
             (outs_of (Self.text (Self.fixed self.old)) (span_items seen channel place octets.now))) };
 
     /// Passes on all that was written.
@@ -99,10 +104,10 @@ pub trait Outlet {
         ensures same { Self.fixed self.new ≡ Self.fixed self.old }
         ensures kept { Self.grows (Self.held self.old) (Self.held self.new) [] }
         ensures passed { OnOk result (Self.passed self.new) }
-        ensures failed { OnErr result (Self.way.flush ≡ true) }
+        ensures failed { OnErr result (Self.buffering.flush ≡ true) }
         ensures counts { Counts (Self.failures self.old) (Self.failures self.new) result };
 
-    /// Of an item that has a line nothing belongs here, and nothing more is reported.
+    /// An item that has a line gives nothing to the outlet, and nothing more to the report.
     ghost text_none: { (f : Fixed) (x : Item) → HasLine x → GivesNone (text f) x };
 
     /// Nothing is added by nothing.
@@ -140,7 +145,7 @@ impl<W: Drain> Outlet for PacketOctets<'_, W> {
 
     ghost text = { λ _. text_of Extract };
 
-    ghost way = { octets_way };
+    ghost buffering = { octets_buffering };
 
     ghost passed = { λ o. Keeps (W.flushed o.out.now) (W.written o.out.now) };
 
@@ -152,7 +157,7 @@ impl<W: Drain> Outlet for PacketOctets<'_, W> {
 
     ghost grows_split = { appends_split };
 
-    fn is_silent(&self, _packet: &Packet<'_>) -> bool {
+    fn adds_nothing_to_report(&self, _packet: &Packet<'_>) -> bool {
         true
     }
 
@@ -161,28 +166,28 @@ impl<W: Drain> Outlet for PacketOctets<'_, W> {
     }
 
     #[tactic(auto, unfolding(crate::specs::Pieces::packet_octets))]
-    fn put(&mut self, packet: &Packet<'_>) -> Result<(), RunFault> {
-        match put_all(self.out, packet.octets) {
+    fn write(&mut self, packet: &Packet<'_>) -> Result<(), RunFault> {
+        match write_all(self.out, packet.octets) {
             Ok(()) => Ok(()),
             Err(_) => Err(RunFault::Write),
         }
     }
 
-    ghost joins = { true };
+    ghost can_join = { true };
 
-    fn joins(&self) -> bool {
+    fn can_join(&self) -> bool {
         true
     }
 
     #[tactic(auto, using(crate::proofs::SpanLemmas::span_octets))]
-    fn put_span(
+    fn write_span(
         &mut self,
         _seen: u32,
         _channel: u8,
         _place: u16,
         octets: &[u8],
     ) -> Result<bool, DeviceFailed> {
-        match put_all(self.out, octets) {
+        match write_all(self.out, octets) {
             Ok(()) => Ok(true),
             Err(fault) => Err(fault),
         }
@@ -218,7 +223,7 @@ impl<W: Drain> Outlet for PacketLines<'_, W> {
 
     ghost text = { λ _. text_of Packets };
 
-    ghost way = { octets_way };
+    ghost buffering = { octets_buffering };
 
     ghost passed = { λ o. Keeps (W.flushed o.out.now) (W.written o.out.now) };
 
@@ -230,7 +235,7 @@ impl<W: Drain> Outlet for PacketLines<'_, W> {
 
     ghost grows_split = { appends_split };
 
-    fn is_silent(&self, _packet: &Packet<'_>) -> bool {
+    fn adds_nothing_to_report(&self, _packet: &Packet<'_>) -> bool {
         true
     }
 
@@ -239,22 +244,22 @@ impl<W: Drain> Outlet for PacketLines<'_, W> {
     }
 
     #[tactic(auto, unfolding(crate::specs::Pieces::listed))]
-    fn put(&mut self, packet: &Packet<'_>) -> Result<(), RunFault> {
-        let mut room = [0; ROOM];
-        let begin = put_packet(&mut room, packet);
-        match put_all(self.out, line_in(&room, begin)) {
+    fn write(&mut self, packet: &Packet<'_>) -> Result<(), RunFault> {
+        let mut line_buffer = [0; LINE_CAPACITY];
+        let begin = format_packet(&mut line_buffer, packet);
+        match write_all(self.out, line_from(&line_buffer, begin)) {
             Ok(()) => Ok(()),
             Err(_) => Err(RunFault::Write),
         }
     }
 
-    ghost joins = { false };
+    ghost can_join = { false };
 
-    fn joins(&self) -> bool {
+    fn can_join(&self) -> bool {
         false
     }
 
-    fn put_span(
+    fn write_span(
         &mut self,
         _seen: u32,
         _channel: u8,
@@ -294,7 +299,7 @@ impl<H: Shelf> Outlet for PacketShelf<'_, H> {
 
     ghost text = { λ _. shelf_text };
 
-    ghost way = { shelf_way };
+    ghost buffering = { shelf_buffering };
 
     ghost passed = { λ _. ⊤ };
 
@@ -306,7 +311,7 @@ impl<H: Shelf> Outlet for PacketShelf<'_, H> {
 
     ghost grows_split = { shelves_split };
 
-    fn is_silent(&self, _packet: &Packet<'_>) -> bool {
+    fn adds_nothing_to_report(&self, _packet: &Packet<'_>) -> bool {
         true
     }
 
@@ -315,20 +320,20 @@ impl<H: Shelf> Outlet for PacketShelf<'_, H> {
     }
 
     #[tactic(auto, using(crate::proofs::ShelfLemmas::shelf_stopped, crate::specs::code::ShelfLaws::shelves_put), unfolding(crate::specs::Shelves::shelved_of))]
-    fn put(&mut self, packet: &Packet<'_>) -> Result<(), RunFault> {
+    fn write(&mut self, packet: &Packet<'_>) -> Result<(), RunFault> {
         if let Err(_) = self.shelf.put(packet.header.application(), packet.octets) {
             return Err(RunFault::Write);
         }
         Ok(())
     }
 
-    ghost joins = { false };
+    ghost can_join = { false };
 
-    fn joins(&self) -> bool {
+    fn can_join(&self) -> bool {
         false
     }
 
-    fn put_span(
+    fn write_span(
         &mut self,
         _seen: u32,
         _channel: u8,
@@ -339,6 +344,7 @@ impl<H: Shelf> Outlet for PacketShelf<'_, H> {
     }
 
     fn flush(&mut self) -> Result<(), DeviceFailed> {
+        self.shelf.write_out();
         Ok(())
     }
 }
@@ -353,7 +359,7 @@ pub struct PacketRows<'r, 'd, 'o, W> {
 
 impl<W> PacketRows<'_, '_, '_, W> {
     // The packet of this header is of the application.
-    fn is_wanted(&self, header: &Header) -> bool
+    fn is_of_application(&self, header: &Header) -> bool
         ensures { result ≡ (header.now.application == self.now.application) }
     {
         header.application() == self.application
@@ -381,7 +387,7 @@ impl<W: Drain> Outlet for PacketRows<'_, '_, '_, W> {
 
     ghost text = { λ f. rows_text f.fields f.application };
 
-    ghost way = { lines_way };
+    ghost buffering = { lines_buffering };
 
     ghost passed = { λ o. Keeps (W.flushed o.out.now) (W.written o.out.now) };
 
@@ -394,26 +400,26 @@ impl<W: Drain> Outlet for PacketRows<'_, '_, '_, W> {
     ghost grows_split = { appends_split };
 
     #[tactic(auto, unfolding(crate::specs::FieldRows::too_short))]
-    fn is_silent(&self, packet: &Packet<'_>) -> bool {
-        !self.is_wanted(&packet.header)
+    fn adds_nothing_to_report(&self, packet: &Packet<'_>) -> bool {
+        !self.is_of_application(&packet.header)
     }
 
     #[tactic(auto, using(crate::proofs::LineLemmas::some_short_packet), unfolding(crate::specs::FieldRows::too_short))]
     fn remark(&self, lines: &mut Vec<u8>, packet: &Packet<'_>) -> Result<(), AllocError> {
         let needed = self.rows.bits_needed();
         let octets = packet.octets.len();
-        if !self.is_wanted(&packet.header) || octets >= needed.div_ceil(8) as usize {
+        if !self.is_of_application(&packet.header) || octets >= needed.div_ceil(8) as usize {
             return Ok(());
         }
         let found = 8 * octets as u64;
-        let mut room = [0; ROOM];
-        let begin = put_short_packet(&mut room, packet, u64::from(needed), found);
-        lines.extend_from_slice(line_in(&room, begin))
+        let mut line_buffer = [0; LINE_CAPACITY];
+        let begin = format_short_packet(&mut line_buffer, packet, u64::from(needed), found);
+        lines.extend_from_slice(line_from(&line_buffer, begin))
     }
 
     #[tactic(auto, unfolding(crate::specs::FieldRows::tabled))]
-    fn put(&mut self, packet: &Packet<'_>) -> Result<(), RunFault> {
-        if !self.is_wanted(&packet.header) {
+    fn write(&mut self, packet: &Packet<'_>) -> Result<(), RunFault> {
+        if !self.is_of_application(&packet.header) {
             return Ok(());
         }
         let lead = Lead {
@@ -423,7 +429,7 @@ impl<W: Drain> Outlet for PacketRows<'_, '_, '_, W> {
             count: packet.header.count(),
         };
         match self.rows.write(lead, packet.octets) {
-            Ok(()) => match put_all(self.out, self.rows.row()) {
+            Ok(()) => match write_all(self.out, self.rows.row()) {
                 Ok(()) => Ok(()),
                 Err(_) => Err(RunFault::Write),
             },
@@ -432,13 +438,13 @@ impl<W: Drain> Outlet for PacketRows<'_, '_, '_, W> {
         }
     }
 
-    ghost joins = { false };
+    ghost can_join = { false };
 
-    fn joins(&self) -> bool {
+    fn can_join(&self) -> bool {
         false
     }
 
-    fn put_span(
+    fn write_span(
         &mut self,
         _seen: u32,
         _channel: u8,

@@ -11,20 +11,21 @@ ghost use Rattle.tm_lines.specs.Lines.{note_line, note_lines};
 ghost use Rattle.tm_output.specs.Outputs.{Written};
 ghost use Rattle.tm_output.specs.Pieces.{HasLine, item_line, noted, notes_of, unclosed_piece, unclosed_pieces};
 ghost use Rattle.tm_output.specs.code.Packets.{HasHeader, item_with};
-ghost use Rattle.tm_output.specs.code.Quiet.{HasNoted, IsFirstPacket, IsQuiet, IsTaken};
+ghost use Rattle.tm_output.specs.code.Quiet.{HasNoted, IsFirstPacket, IsQuiet, IsAccepted};
 ghost use Rattle.tm_output.specs.code.Sinking.{Refuses, Takes, WritesItem};
 ghost use Rattle.tm_output.specs.Seen.{OutputState, fixture, output_both, output_state};
 
 use crate::Packet;
 use crate::outlet::Outlet;
 use std::alloc::AllocError;
-use tm_devices::{Drain, put_all};
+use tm_devices::{Drain, write_all};
 use tm_faults::RunFault;
 use tm_items::{Item, Sink};
 use tm_lines::{
-    ROOM, line_in, put_bad, put_drop, put_gap, put_master_gap, put_note, put_short, put_vca,
+    DroppedPart, LINE_CAPACITY, LineBuffer, format_bad, format_drop, format_gap, format_master_gap,
+    format_note, format_short, format_vca, line_from,
 };
-use tm_packet::{Header, Note, Notes, Tracker, Unclosed, read_header};
+use tm_packet::{Header, Note, Notes, Pair, Tracker, Unclosed, read_header};
 
 /// Writes the texts of the items that it takes. Lines are made in memory that is kept from item to item.
 #[derive(Drop)]
@@ -45,9 +46,9 @@ fn push_note(
 ) -> Result<(), AllocError>
     ensures { OnOk result (lines.new.items ≡ lines.old.items ++ note_line seen channel apid note) }
 {
-    let mut room = [0; ROOM];
-    let begin = put_note(&mut room, seen, channel, apid, note);
-    lines.extend_from_slice(line_in(&room, begin))
+    let mut line_buffer = [0; LINE_CAPACITY];
+    let begin = format_note(&mut line_buffer, seen, channel, apid, note);
+    lines.extend_from_slice(line_from(&line_buffer, begin))
 }
 
 // Makes the lines of notes, one after the other.
@@ -72,28 +73,28 @@ fn push_notes(
     Ok(())
 }
 
-// Makes the line of an item at the end of the room, none of a packet, and answers where it begins.
+// Makes the line of an item at the end of the buffer, none of a packet, and answers where it begins.
 #[tactic(auto, unfolding(crate::specs::Pieces::item_line))]
-fn make_line(room: &mut [u8; ROOM], item: Item<'_>) -> usize
+fn make_line(line_buffer: &mut LineBuffer, item: Item<'_>) -> usize
     ensures within { result ≤ 320 }
-    ensures line { drop result room.new ≡ item_line (item_of item.entry) }
+    ensures line { drop result line_buffer.new ≡ item_line (item_of item.entry) }
 {
     match item {
-        Item::Bad { seen, fault } => put_bad(room, seen, fault),
+        Item::Bad { seen, fault } => format_bad(line_buffer, seen, fault),
         Item::MasterGap {
             seen,
             expected,
             found,
             missing,
-        } => put_master_gap(room, seen, expected, found, missing),
+        } => format_master_gap(line_buffer, seen, expected, found, missing),
         Item::Gap {
             seen,
             channel,
             expected,
             found,
             missing,
-        } => put_gap(room, seen, channel, expected, found, missing),
-        Item::Vca { seen, channel } => put_vca(room, seen, channel),
+        } => format_gap(line_buffer, seen, channel, expected, found, missing),
+        Item::Vca { seen, channel } => format_vca(line_buffer, seen, channel),
         Item::Dropped {
             seen,
             channel,
@@ -101,9 +102,19 @@ fn make_line(room: &mut [u8; ROOM], item: Item<'_>) -> usize
             place,
             octets,
             reason,
-        } => put_drop(room, seen, channel, first, place, octets, reason),
-        Item::Packet { .. } => ROOM,
-        Item::Short { seen, octets } => put_short(room, seen, octets as usize),
+        } => format_drop(
+            line_buffer,
+            DroppedPart {
+                seen,
+                channel,
+                first,
+                place,
+                octets,
+                reason,
+            },
+        ),
+        Item::Packet { .. } => LINE_CAPACITY,
+        Item::Short { seen, octets } => format_short(line_buffer, seen, octets as usize),
     }
 }
 
@@ -132,7 +143,8 @@ fn note_packet(
     ensures noted { tracker.new ≡ sequence.entries_after tracker.old (record { channel = channel; header = header } ∷ []) }
     ensures lines { OnOk result (lines.new.items
         ≡ note_lines seen channel header.application (notes_of tracker.old (record { channel = channel; header = header }))) }
-    ensures memory { OnErr result (note_lines seen channel header.application (notes_of tracker.old (record { channel = channel; header = header })) ≢ []) }
+    ensures memory { OnErr result (note_lines seen channel header.application
+        (notes_of tracker.old (record { channel = channel; header = header })) ≢ []) }
 {
     lines.clear();
     let notes = tracker.take(channel, header);
@@ -171,13 +183,13 @@ fn note_if_quiet<O: Outlet>(tracker: &mut Tracker, outlet: &O, packet: &Packet<'
     ensures noted { result ≡ true → tracker.new ≡ noted tracker.old (item_with packet.now) }
     ensures left { result ≡ false → tracker.new ≡ tracker.old }
 {
-    if !outlet.is_silent(packet) {
+    if !outlet.adds_nothing_to_report(packet) {
         return false;
     }
-    tracker.take_without_notes(packet.channel, packet.header)
+    tracker.add_without_notes(packet.channel, packet.header)
 }
 
-// Takes note of the packets in front of which the report says nothing, and answers how many octets they have.
+// Takes note of the first packets that add nothing to the report, and answers how many octets they have.
 #[inline(always)]
 fn note_quiet<O: Outlet>(
     tracker: &mut Tracker,
@@ -204,15 +216,16 @@ fn note_quiet<O: Outlet>(
 }
 
 impl<O: Outlet, V: Drain> Output<'_, O, V> {
-    // Takes a packet of which the report may say something. It stands apart, since of most packets the report says nothing.
+    // Takes a packet that may add something to the report. It stands apart, since of most packets the report says nothing.
     #[inline(never)]
     #[tactic(auto, unfolding(crate::specs::Pieces::report_of, crate::specs::Pieces::noted))]
-    fn put_reported(&mut self, packet: &Packet<'_>) -> Result<(), RunFault>
+    fn write_reported(&mut self, packet: &Packet<'_>) -> Result<(), RunFault>
         requires channel { packet.now.channel < 8 }
         requires header { HasHeader packet.now }
         ensures same { fixture O.Outlet self.new ≡ fixture O.Outlet self.old }
         ensures noted { self.new.tracker.now ≡ noted self.old.tracker.now (item_with packet.now) }
-        ensures written { WritesItem O.grows O.text O.way (output_state O.Outlet V.Drain self.old) (output_state O.Outlet V.Drain self.new)
+        ensures written { WritesItem O.grows O.text O.buffering (output_state O.Outlet V.Drain self.old)
+            (output_state O.Outlet V.Drain self.new)
             (item_with packet.now) result }
     {
         if let Err(_) = note_packet(
@@ -227,10 +240,10 @@ impl<O: Outlet, V: Drain> Output<'_, O, V> {
         if let Err(_) = self.outlet.remark(self.notes, packet) {
             return Err(RunFault::NoMemory);
         }
-        if let Err(fault) = self.outlet.put(packet) {
+        if let Err(fault) = self.outlet.write(packet) {
             return Err(fault);
         }
-        if let Err(_) = put_all(self.report, self.notes.as_slice()) {
+        if let Err(_) = write_all(self.report, self.notes.as_slice()) {
             return Err(RunFault::Report);
         }
         Ok(())
@@ -239,18 +252,19 @@ impl<O: Outlet, V: Drain> Output<'_, O, V> {
     // Takes a packet.
     #[inline(always)]
     #[tactic(auto, unfolding(crate::specs::Pieces::noted))]
-    fn put_packet(&mut self, packet: &Packet<'_>) -> Result<(), RunFault>
+    fn write_packet(&mut self, packet: &Packet<'_>) -> Result<(), RunFault>
         requires channel { packet.now.channel < 8 }
         requires header { HasHeader packet.now }
         ensures same { fixture O.Outlet self.new ≡ fixture O.Outlet self.old }
         ensures noted { self.new.tracker.now ≡ noted self.old.tracker.now (item_with packet.now) }
-        ensures written { WritesItem O.grows O.text O.way (output_state O.Outlet V.Drain self.old) (output_state O.Outlet V.Drain self.new)
+        ensures written { WritesItem O.grows O.text O.buffering (output_state O.Outlet V.Drain self.old)
+            (output_state O.Outlet V.Drain self.new)
             (item_with packet.now) result }
     {
         if !note_if_quiet(self.tracker, self.outlet, packet) {
-            return self.put_reported(packet);
+            return self.write_reported(packet);
         }
-        if let Err(fault) = self.outlet.put(packet) {
+        if let Err(fault) = self.outlet.write(packet) {
             return Err(fault);
         }
         Ok(())
@@ -258,7 +272,7 @@ impl<O: Outlet, V: Drain> Output<'_, O, V> {
 
     // Takes one or some of the packets in front, and answers how many octets they have.
     #[inline(always)]
-    fn put_first(
+    fn write_first(
         &mut self,
         seen: u32,
         channel: u8,
@@ -270,15 +284,21 @@ impl<O: Outlet, V: Drain> Output<'_, O, V> {
         requires places { place + length octets.now < 2 ^ 16 }
         requires packets { IsSpan octets.now }
         ensures many { IfOk result (λ many. (0 < many) × (many ≤ length octets.now)) }
-        ensures taken { IfOk result (λ many. IsTaken (Takes O.grows O.text O.way) (output_state O.Outlet V.Drain self.old) (output_state O.Outlet V.Drain self.new)
+        ensures accepted { IfOk result (λ many. IsAccepted (Takes O.grows O.text O.buffering)
+            (output_state O.Outlet V.Drain self.old) (output_state O.Outlet V.Drain self.new)
             seen channel place octets.now many) }
-        ensures refused { IfErr result (λ fault. RefusesOne (Takes O.grows O.text O.way) (Refuses O.grows O.text O.way)
-            (output_state O.Outlet V.Drain self.old) (span_items seen channel place octets.now) fault (output_state O.Outlet V.Drain self.new)) }
+        ensures refused { IfErr result (λ fault. RefusesOne (Takes O.grows O.text O.buffering)
+            (Refuses O.grows O.text O.buffering)
+            (output_state O.Outlet V.Drain self.old) (span_items seen channel place octets.now) fault
+            (output_state O.Outlet V.Drain self.new)) }
     {
-        if self.outlet.joins() {
+        if self.outlet.can_join() {
             let quiet = note_quiet(self.tracker, self.outlet, seen, channel, place, octets);
             if quiet > 0 {
-                return match self.outlet.put_span(seen, channel, place, &octets[..quiet]) {
+                return match self
+                    .outlet
+                    .write_span(seen, channel, place, &octets[..quiet])
+                {
                     Ok(true) => Ok(quiet),
                     Ok(false) => unreachable!(),
                     Err(_) => Err(RunFault::Write),
@@ -286,7 +306,7 @@ impl<O: Outlet, V: Drain> Output<'_, O, V> {
             }
         }
         let packet = first_packet(seen, channel, place, octets);
-        match self.put_packet(&packet) {
+        match self.write_packet(&packet) {
             Ok(()) => Ok(packet.octets.len()),
             Err(fault) => Err(fault),
         }
@@ -294,16 +314,17 @@ impl<O: Outlet, V: Drain> Output<'_, O, V> {
 
     // Writes the line of an item that is no packet.
     #[tactic(auto, unfolding(crate::specs::Pieces::report_of, crate::specs::Pieces::noted))]
-    fn put_line(&mut self, item: Item<'_>) -> Result<(), RunFault>
+    fn write_item_line(&mut self, item: Item<'_>) -> Result<(), RunFault>
         requires { HasLine (item_of item) }
         ensures same { fixture O.Outlet self.new ≡ fixture O.Outlet self.old }
         ensures noted { self.new.tracker.now ≡ noted self.old.tracker.now (item_of item.entry) }
-        ensures written { WritesItem O.grows O.text O.way (output_state O.Outlet V.Drain self.old) (output_state O.Outlet V.Drain self.new)
+        ensures written { WritesItem O.grows O.text O.buffering (output_state O.Outlet V.Drain self.old)
+            (output_state O.Outlet V.Drain self.new)
             (item_of item.entry) result }
     {
-        let mut room = [0; ROOM];
-        let begin = make_line(&mut room, item);
-        if let Err(_) = put_all(self.report, line_in(&room, begin)) {
+        let mut line_buffer = [0; LINE_CAPACITY];
+        let begin = make_line(&mut line_buffer, item);
+        if let Err(_) = write_all(self.report, line_from(&line_buffer, begin)) {
             return Err(RunFault::Report);
         }
         Ok(())
@@ -311,32 +332,39 @@ impl<O: Outlet, V: Drain> Output<'_, O, V> {
 
     // Writes the line of a group that is open at a closed end.
     #[tactic(auto, unfolding(crate::specs::Pieces::unclosed_piece))]
-    fn put_unclosed(&mut self, seen: u32, unclosed: Unclosed) -> Result<(), RunFault>
+    fn write_unclosed(&mut self, seen: u32, unclosed: Unclosed) -> Result<(), RunFault>
         requires { unclosed.key < 16384 }
         ensures same { fixture O.Outlet self.new ≡ fixture O.Outlet self.old }
         ensures tracker { self.new.tracker.now ≡ self.old.tracker.now }
-        ensures written { Written O.grows O.way (output_both O.Outlet V.Drain self.old) (output_both O.Outlet V.Drain self.new)
+        ensures written { Written O.grows O.buffering (output_both O.Outlet V.Drain self.old)
+            (output_both O.Outlet V.Drain self.new)
             (unclosed_piece seen unclosed ∷ []) result }
     {
-        let channel = (unclosed.key / 2048) as u8;
-        let apid = unclosed.key % 2048;
-        let mut room = [0; ROOM];
-        let begin = put_note(&mut room, seen, channel, apid, unclosed.note);
-        if let Err(_) = put_all(self.report, line_in(&room, begin)) {
+        let pair = Pair::of_key(unclosed.key);
+        let mut line_buffer = [0; LINE_CAPACITY];
+        let begin = format_note(
+            &mut line_buffer,
+            seen,
+            pair.channel,
+            pair.application,
+            unclosed.note,
+        );
+        if let Err(_) = write_all(self.report, line_from(&line_buffer, begin)) {
             return Err(RunFault::Report);
         }
         Ok(())
     }
 
     /// Writes the lines of the groups that are open at a closed end of so many records, by rising key.
-    pub fn put_all_unclosed(&mut self, seen: u32) -> Result<(), RunFault>
+    pub fn write_all_unclosed(&mut self, seen: u32) -> Result<(), RunFault>
         ensures same { fixture O.Outlet self.new ≡ fixture O.Outlet self.old }
-        ensures written { Written O.grows O.way (output_both O.Outlet V.Drain self.old) (output_both O.Outlet V.Drain self.new)
+        ensures written { Written O.grows O.buffering (output_both O.Outlet V.Drain self.old)
+            (output_both O.Outlet V.Drain self.new)
             (unclosed_pieces seen (sequence.unclosed 0 self.old.tracker.now)) result }
     {
         let mut at = 0;
         while let Some(unclosed) = self.tracker.next_unclosed(at) {
-            if let Err(fault) = self.put_unclosed(seen, unclosed) {
+            if let Err(fault) = self.write_unclosed(seen, unclosed) {
                 return Err(fault);
             }
             at = unclosed.key + 1;
@@ -350,7 +378,8 @@ impl<O: Outlet, V: Drain> Output<'_, O, V> {
         ensures tracker { self.new.tracker.now ≡ self.old.tracker.now }
         ensures flushed_out { OnOk result (O.passed self.new.outlet.now) }
         ensures flushed_report { OnOk result (Keeps (V.flushed self.new.report.now) (V.written self.new.report.now)) }
-        ensures written { Written O.grows O.way (output_both O.Outlet V.Drain self.old) (output_both O.Outlet V.Drain self.new)
+        ensures written { Written O.grows O.buffering (output_both O.Outlet V.Drain self.old)
+            (output_both O.Outlet V.Drain self.new)
             [] result }
     {
         if let Err(_) = self.outlet.flush() {
@@ -370,11 +399,11 @@ impl<O: Outlet, V: Drain> Sink for Output<'_, O, V> {
 
     ghost known = { output_state O.Outlet V.Drain };
 
-    ghost takes = { Takes O.grows O.text O.way };
+    ghost takes = { Takes O.grows O.text O.buffering };
 
-    ghost refuses = { Refuses O.grows O.text O.way };
+    ghost refuses = { Refuses O.grows O.text O.buffering };
 
-    // Of each call the compiler knows what kind of item is given, so what of this is not of that kind falls away there.
+    // At each call the compiler knows what kind of item is given, so it drops the other arms there.
     #[inline(always)]
     fn take(&mut self, item: Item<'_>) -> Result<(), RunFault> {
         match item {
@@ -394,14 +423,14 @@ impl<O: Outlet, V: Drain> Sink for Output<'_, O, V> {
                     header,
                     octets,
                 };
-                self.put_packet(&packet)
+                self.write_packet(&packet)
             }
             Item::Bad { .. }
             | Item::MasterGap { .. }
             | Item::Gap { .. }
             | Item::Vca { .. }
             | Item::Dropped { .. }
-            | Item::Short { .. } => self.put_line(item),
+            | Item::Short { .. } => self.write_item_line(item),
         }
     }
 
@@ -414,7 +443,7 @@ impl<O: Outlet, V: Drain> Sink for Output<'_, O, V> {
     ) -> Result<(), RunFault> {
         let mut at = 0;
         while at < octets.len() {
-            match self.put_first(seen, channel, place + at as u16, &octets[at..]) {
+            match self.write_first(seen, channel, place + at as u16, &octets[at..]) {
                 Ok(many) => at += many,
                 Err(fault) => return Err(fault),
             }

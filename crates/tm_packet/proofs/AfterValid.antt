@@ -11,7 +11,7 @@ use Rattle.tm_packet.specs.declared.header.Flags.{Flags}
 use Rattle.tm_packet.specs.declared.header.Flags.TheVariants as flag
 use Rattle.tm_packet.specs.declared.tracker.PairEntry.{PairEntry}
 use Rattle.tm_packet.specs.Header.{Fields, AreInRange, packet_header_of}
-use Rattle.tm_packet.specs.Sequence.{opened_by, opened, first_in, goes_on}
+use Rattle.tm_packet.specs.Sequence.{begun_group, opened, first_in, goes_on}
 use Rattle.tm_packet.specs.code.Single.{member_after, single_after}
 use Rattle.tm_packet.specs.Merge.{Entries, entries_after, entry_at, is_idle, key_of, Sent}
 use Rattle.tm_packet.specs.Valid.{Fits, FirstFits, IsEntry, EntryFits, AreValidEntries}
@@ -42,7 +42,7 @@ header-fits channel octets h = record { channel = h; application = (header-range
 
 -- ---- the entry of a key
 
-begun-fits : (flags : Flags) (count : ℕ) → count < 16384 → FirstFits (opened_by flags count)
+begun-fits : (flags : Flags) (count : ℕ) → count < 16384 → FirstFits (begun_group flags count)
 begun-fits flag.First count h = h
 begun-fits _ count h = tt
 

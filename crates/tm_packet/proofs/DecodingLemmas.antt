@@ -4,7 +4,7 @@ use Rattle.std.specs.Prelude.{nat_lt, replicate, if◌then◌else◌}
 use Rattle.std.proofs.lemmas.Bool.{ne_eqb, not-true, and_parts, eq-eqb, ltb-true, ltb-false}
 use Rattle.std.proofs.lemmas.List.{drop-drop}
 use Rattle.tm_packet.specs.declared.tracker.PairEntry.{PairEntry}
-use Rattle.tm_packet.specs.declared.tracker.Numbers.{Numbers}
+use Rattle.tm_packet.specs.declared.tracker.RawEntry.{RawEntry}
 use Rattle.tm_packet.specs.declared.tracker.TrackerFault.{TrackerFault}
 use Rattle.tm_packet.specs.declared.tracker.TrackerFault.TheVariants.{Order, Value}
 use Rattle.tm_packet.specs.Merge.{Entries, no_entries}
@@ -20,27 +20,27 @@ raws-step n at xs h =
     rw (one, drop-drop 6 (2 + 6 * at) xs, next) refl
 
 -- the fault of the entries from one on: of its values, of its order, or of those after it
-fault_here : (before : Option ℕ) (n at : ℕ) (xs : List ℕ) (r : Numbers) → at < n → r ≡ raw_of (drop (2 + 6 * at) xs)
+fault_here : (before : Option ℕ) (n at : ℕ) (xs : List ℕ) (r : RawEntry) → at < n → r ≡ raw_of (drop (2 + 6 * at) xs)
     → fault_after before (raws (n - at) (drop (2 + 6 * at) xs))
     ≡ (if has_values r then (if rises before r.key then fault_after (Some r.key) (raws (n - (at + 1)) (drop (2 + 6 * (at + 1)) xs)) else Some Order) else Some Value)
 fault_here before n at xs r h e =
     rw (raws-step n at xs h, e) refl
 
-pub fault_of_values : (before : Option ℕ) (n at : ℕ) (xs : List ℕ) (r : Numbers) → at < n → r ≡ raw_of (drop (2 + 6 * at) xs)
+pub fault_of_values : (before : Option ℕ) (n at : ℕ) (xs : List ℕ) (r : RawEntry) → at < n → r ≡ raw_of (drop (2 + 6 * at) xs)
     → has_values r ≡ false → fault_after before (raws (n - at) (drop (2 + 6 * at) xs)) ≡ Some Value
 fault_of_values before n at xs r h e values = fault_here before n at xs r h e ∙ rw values refl
 
-pub fault_of_order : (before : Option ℕ) (n at : ℕ) (xs : List ℕ) (r : Numbers) → at < n → r ≡ raw_of (drop (2 + 6 * at) xs)
+pub fault_of_order : (before : Option ℕ) (n at : ℕ) (xs : List ℕ) (r : RawEntry) → at < n → r ≡ raw_of (drop (2 + 6 * at) xs)
     → has_values r ≡ true → rises before r.key ≡ false → fault_after before (raws (n - at) (drop (2 + 6 * at) xs)) ≡ Some Order
 fault_of_order before n at xs r h e values order = fault_here before n at xs r h e ∙ rw values (rw order refl)
 
-pub fault_of_rest : (before : Option ℕ) (n at : ℕ) (xs : List ℕ) (r : Numbers) → at < n → r ≡ raw_of (drop (2 + 6 * at) xs)
+pub fault_of_rest : (before : Option ℕ) (n at : ℕ) (xs : List ℕ) (r : RawEntry) → at < n → r ≡ raw_of (drop (2 + 6 * at) xs)
     → has_values r ≡ true → rises before r.key ≡ true
     → fault_after before (raws (n - at) (drop (2 + 6 * at) xs)) ≡ fault_after (Some r.key) (raws (n - (at + 1)) (drop (2 + 6 * (at + 1)) xs))
 fault_of_rest before n at xs r h e values order = fault_here before n at xs r h e ∙ rw values (rw order refl)
 
 -- where there is no fault the first entry has its values and its order, and there is none after it
-pub all_right : (before : Option ℕ) (r : Numbers) (rs : List Numbers) → fault_after before (r ∷ rs) ≡ None
+pub all_right : (before : Option ℕ) (r : RawEntry) (rs : List RawEntry) → fault_after before (r ∷ rs) ≡ None
     → (has_values r ≡ true) × (rises before r.key ≡ true) × (fault_after (Some r.key) rs ≡ None)
 all_right before r rs h = by_tests (has_values r) (rises before r.key) (fault_after (Some r.key) rs) h
   where
@@ -77,13 +77,13 @@ read_faultless P xs d e holds =
     by_tests false false is None none e = let read = rw none at e in subst P (cc read) (holds (ltb-false (length xs) (2 + 6 * two_at xs 0) is) none)
 
 -- the numbers are those of an entry
-pub record AreValues (r : Numbers) : Type 0 where
+pub record AreValues (r : RawEntry) : Type 0 where
   pub key : r.key < 16384
   pub packets : (r.key % 2048 == 2047) ≡ false
   pub count : r.count < 16384
   pub first : (nat_lt r.first 16384 || (r.first == 65535)) ≡ true
 
-pub values_of : (r : Numbers) → has_values r ≡ true → AreValues r
+pub values_of : (r : RawEntry) → has_values r ≡ true → AreValues r
 values_of r h =
     let one = and_parts _ _ h in
     let two = and_parts _ _ one.0 in
@@ -95,16 +95,16 @@ values_of r h =
       first = one.1;
     }
 
-abbrev pub last_in : Numbers → PairEntry
+abbrev pub last_in : RawEntry → PairEntry
 last_in r = record { count = r.count; first = first_count_of r.first }
 
 -- an entry says nothing of greater keys
-pub places-above : (n k : ℕ) (r : Numbers) (rs : List Numbers) → r.key < k → entries_at_keys n k (r ∷ rs) ≡ entries_at_keys n k rs
+pub places-above : (n k : ℕ) (r : RawEntry) (rs : List RawEntry) → r.key < k → entries_at_keys n k (r ∷ rs) ≡ entries_at_keys n k rs
 places-above zero k r rs h = refl
 places-above (suc n) k r rs h =
     rw (ne_eqb r.key k (λ (e : r.key ≡ k). omega arith), places-above n (k + 1) r rs (omega arith)) refl
 
-places-set : (n k i : ℕ) (r : Numbers) (rs : List Numbers) → r.key ≡ k + i → i < n
+places-set : (n k i : ℕ) (r : RawEntry) (rs : List RawEntry) → r.key ≡ k + i → i < n
     → set (entries_at_keys n k rs) i (Some (last_in r)) ≡ entries_at_keys n k (r ∷ rs)
 places-set zero k i r rs e h = absurd (omega arith)
 places-set (suc n) k zero r rs e h = rw (eq-eqb r.key k (omega arith), places-above n (k + 1) r rs (omega arith)) refl
@@ -112,7 +112,7 @@ places-set (suc n) k (suc i) r rs e h =
     rw (ne_eqb r.key k (λ (same : r.key ≡ k). omega arith), places-set n (k + 1) i r rs (omega arith) (omega arith)) refl
 
 -- one more entry in front is put in its place
-pub state-set : (r : Numbers) (rs : List Numbers) → r.key < 16384
+pub state-set : (r : RawEntry) (rs : List RawEntry) → r.key < 16384
     → set (state_of rs) r.key (Some (last_in r)) ≡ state_of (r ∷ rs)
 unfolding state_of
 state-set r rs h = places-set 16384 0 r.key r rs (omega arith) h
@@ -131,10 +131,10 @@ state-begin s n xs h =
     let none : n - n ≡ 0 = omega arith in rw (h, none) state-none
 
 -- the entries from one on are put where those after it are
-pub state-step : (old new : Entries) (n at : ℕ) (xs : List ℕ) (r : Numbers) → 1 ≤ at → at ≤ n
+pub state-step : (old new : Entries) (n at : ℕ) (xs : List ℕ) (r : RawEntry) → 1 ≤ at → at ≤ n
     → old ≡ state_of (raws (n - at) (drop (2 + 6 * at) xs)) → r ≡ raw_of (drop (2 + 6 * (at - 1)) xs) → r.key < 16384
     → new ≡ set old r.key (Some (last_in r))
     → new ≡ state_of (raws (n - (at - 1)) (drop (2 + 6 * (at - 1)) xs))
-state-step old new n at xs r some inside before e key put =
+state-step old new n at xs r some inside before e key set_entry =
     let back : at - 1 + 1 ≡ at = omega arith in
-    rw (put, before, state-set r (raws (n - at) (drop (2 + 6 * at) xs)) key, e, raws-step n (at - 1) xs (omega arith), back) refl
+    rw (set_entry, before, state-set r (raws (n - at) (drop (2 + 6 * at) xs)) key, e, raws-step n (at - 1) xs (omega arith), back) refl

@@ -6,7 +6,7 @@ use Rattle.std.proofs.lemmas.List.{length-map}
 use Rattle.tm_bits.specs.Bits.{AreOctets}
 use Rattle.tm_bits.proofs.PartLemmas.{octets_behind}
 use Rattle.tm_packet.specs.declared.tracker.PairEntry.{PairEntry}
-use Rattle.tm_packet.specs.declared.tracker.Numbers.{Numbers}
+use Rattle.tm_packet.specs.declared.tracker.RawEntry.{RawEntry}
 use Rattle.tm_packet.specs.Spelling.{KeyedEntry, DecodedEntries, first_number, first_count_of, entries_from, spelled, entries_spelling, raws, rises, fault_after, entry_at_key, entries_at_keys, state_of, entries_decoding_of}
 use Rattle.tm_bits.specs.Bits.{two_octets, two_at}
 use Rattle.tm_packet.proofs.DecodingLemmas.{read_faultless, AreValues, values_of, all_right, last_in, places-above}
@@ -16,11 +16,11 @@ use Rattle.tm_packet.proofs.DecodingLemmas.{read_faultless, AreValues, values_of
 abbrev on : ℕ → PairEntry → KeyedEntry
 on key last = record { key = key; last = last }
 
-abbrev entry : Numbers → KeyedEntry
+abbrev entry : RawEntry → KeyedEntry
 entry r = on r.key (last_in r)
 
 -- each has the values of an entry, and their keys rise from one on
-abbrev Rising : ℕ → List Numbers → Type 0
+abbrev Rising : ℕ → List RawEntry → Type 0
 Rising k [] = Unit {0}
 Rising k (r ∷ rs) = (k ≤ r.key) × (r.key < 16384) × Rising (r.key + 1) rs
 
@@ -33,7 +33,7 @@ rises_from : (before : Option ℕ) (key : ℕ) → rises before key ≡ true →
 rises_from None key e = omega arith
 rises_from (Some before) key e = let h = ltb-true before key e in omega arith
 
-rising : (before : Option ℕ) (rs : List Numbers) → fault_after before rs ≡ None → Rising (next before) rs
+rising : (before : Option ℕ) (rs : List RawEntry) → fault_after before rs ≡ None → Rising (next before) rs
 rising before [] h = tt
 rising before (r ∷ rs) h =
     let right = all_right before r rs h in
@@ -41,24 +41,24 @@ rising before (r ∷ rs) h =
     (rises_from before r.key right.1, values.key, rising (Some r.key) rs right.2)
 
 -- a key below them has no entry
-absent : (key k : ℕ) (rs : List Numbers) → Rising k rs → key < k → entry_at_key key rs ≡ None
+absent : (key k : ℕ) (rs : List RawEntry) → Rising k rs → key < k → entry_at_key key rs ≡ None
 absent key k [] h low = refl
 absent key k (r ∷ rs) h low =
     let above = h.0 in
     rw (ne_eqb r.key key (λ (e : r.key ≡ key). omega arith)) (absent key (r.key + 1) rs h.2 (omega arith))
 
 -- what the entries say of all keys from one on has just these entries: where the first has a greater key, and where it has this key
-greater : (n k : ℕ) (r : Numbers) (rs : List Numbers) → Rising k (r ∷ rs) → k < r.key
+greater : (n k : ℕ) (r : RawEntry) (rs : List RawEntry) → Rising k (r ∷ rs) → k < r.key
     → entries_from (k + 1) (entries_at_keys n (k + 1) (r ∷ rs)) ≡ map entry (r ∷ rs) → entries_from k (entries_at_keys (suc n) k (r ∷ rs)) ≡ map entry (r ∷ rs)
 greater n k r rs h above rest =
     rw (ne_eqb r.key k (λ (e : r.key ≡ k). omega arith), absent k (r.key + 1) rs h.2 (omega arith)) rest
 
-same : (n k : ℕ) (r : Numbers) (rs : List Numbers) → r.key ≡ k → entries_from (k + 1) (entries_at_keys n (k + 1) rs) ≡ map entry rs
+same : (n k : ℕ) (r : RawEntry) (rs : List RawEntry) → r.key ≡ k → entries_from (k + 1) (entries_at_keys n (k + 1) rs) ≡ map entry rs
     → entries_from k (entries_at_keys (suc n) k (r ∷ rs)) ≡ map entry (r ∷ rs)
 same n k r rs e rest =
     rw (eq-eqb r.key k e, places-above n (k + 1) r rs (omega arith), rest, e) refl
 
-entries_back : (n k : ℕ) (rs : List Numbers) → Rising k rs → k + n ≡ 16384 → entries_from k (entries_at_keys n k rs) ≡ map entry rs
+entries_back : (n k : ℕ) (rs : List RawEntry) → Rising k rs → k + n ≡ 16384 → entries_from k (entries_at_keys n k rs) ≡ map entry rs
 entries_back zero k [] h all = refl
 entries_back zero k (r ∷ rs) h all = let a = h.0 in let b = h.1 in absurd (omega arith)
 entries_back (suc n) k [] h all = entries_back n (k + 1) [] tt (omega arith)
@@ -106,7 +106,7 @@ unfolding state_of
 faultless (a ∷ b ∷ more) n h e long none =
     let m : 2 + 6 * n ≡ suc (suc (6 * n)) = omega arith in
     let xs : List ℕ = a ∷ b ∷ more in
-    let rs : List Numbers = raws n more in
+    let rs : List RawEntry = raws n more in
     let back : entries_from 0 (entries_at_keys 16384 0 rs) ≡ map entry rs = entries_back 16384 0 rs (rising None rs none) (omega arith) in
     let many : length (map entry rs) ≡ n = length-map rs entry ∙ length-raws n more in
     let whole : n ≡ 256 * a + b = e in

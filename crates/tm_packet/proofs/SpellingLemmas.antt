@@ -6,12 +6,12 @@ use Rattle.std.proofs.lemmas.List.{append-nil, nil_from_length}
 use Rattle.tm_packet.specs.declared.tracker.TrackerFault.{TrackerFault}
 use Rattle.tm_packet.specs.declared.tracker.PairEntry.{PairEntry}
 use Rattle.tm_packet.specs.Merge.{Entries}
-use Rattle.tm_packet.specs.declared.tracker.Numbers.{Numbers}
+use Rattle.tm_packet.specs.declared.tracker.RawEntry.{RawEntry}
 use Rattle.tm_packet.specs.Valid.{AreValidEntries, IsEntry, EntryFits, FirstFits}
 use Rattle.tm_packet.specs.Spelling.{KeyedEntry, DecodedEntries, first_number, entries_from, spelled, entries_spelling, raws, has_values, rises, fault_after, first_count_of, entry_at_key, entries_at_keys, state_of, entries_decoding_of}
 use Rattle.tm_bits.specs.Bits.{two_at}
 
-abbrev raw : KeyedEntry → Numbers
+abbrev raw : KeyedEntry → RawEntry
 raw e = record { key = e.key; count = e.last.count; first = first_number e.last.first }
 
 joined : (n : ℕ) → 256 * (n / 256) + n % 256 ≡ n
@@ -33,7 +33,7 @@ first_valued : (f : Option ℕ) → FirstFits f → (nat_lt (first_number f) 163
 first_valued None h = refl
 first_valued (Some n) h = rw (lt-ltb n 16384 h) refl
 
--- of the places from a key on: their entries fit, there is none at an idle packet's key, and the keys are keys
+-- the places from a key on: their entries fit, there is none at an idle packet's key, and the keys are keys
 record Fit (k : ℕ) (s : Entries) : Type 0 where
   entries : (i : ℕ) → EntryFits (get_or s i None)
   idle : (i : ℕ) → (k + i) % 2048 ≡ 2047 → get_or s i None ≡ None
@@ -84,7 +84,7 @@ found k (suc i) (Some l ∷ s) h inside =
     let z : k + suc i ≡ k + 1 + i = omega arith in
     rw (ne_eqb k (k + suc i) (λ (e : k ≡ k + suc i). omega arith)) (ap (λ n. entry_at_key n (map raw (entries_from (k + 1) s))) z ∙ found (k + 1) i s (fit_rest k (Some l) s h) (omega arith))
 
-filled : (n k : ℕ) (s : Entries) (rs : List Numbers) → length s ≡ n → ((i : ℕ) → i < length s → entry_at_key (k + i) rs ≡ get_or s i None) → entries_at_keys n k rs ≡ s
+filled : (n k : ℕ) (s : Entries) (rs : List RawEntry) → length s ≡ n → ((i : ℕ) → i < length s → entry_at_key (k + i) rs ≡ get_or s i None) → entries_at_keys n k rs ≡ s
 filled zero k [] rs l h = refl
 filled zero k (x ∷ s) rs l h = absurd (omega arith)
 filled (suc n) k [] rs l h = absurd (omega arith)
@@ -107,7 +107,7 @@ state_back s valid = filled 16384 0 s (map raw (entries_from 0 s)) valid.places 
 abbrev decoded : Entries → ℕ → DecodedEntries
 decoded entries octets = record { entries = entries; octets = octets }
 
-decode_with : (xs : List ℕ) (n : ℕ) (rs : List Numbers) (s : Entries) → two_at xs 0 ≡ n → 2 + 6 * n ≤ length xs
+decode_with : (xs : List ℕ) (n : ℕ) (rs : List RawEntry) (s : Entries) → two_at xs 0 ≡ n → 2 + 6 * n ≤ length xs
     → raws n (drop 2 xs) ≡ rs → fault_after None rs ≡ None → state_of rs ≡ s → entries_decoding_of xs ≡ Ok (decoded s (2 + 6 * n))
 decode_with xs n rs s e room read ok back =
     rw (le-ltb (length xs) 2 (omega arith), e, le-ltb (length xs) (2 + 6 * n) room, read, ok, back) refl

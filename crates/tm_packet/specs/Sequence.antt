@@ -1,9 +1,10 @@
 -- The sequence notes of one pair of channel and application, by sequence flags and counts (CCSDS 133.0-B-2, section 4.1.3.4).
 --
--- A member has a gap where its count is not the one before it plus 1. A group is a member with flags first, and the longest stretch of
--- continuations without a gap behind it (`group_of`). The member behind the stretch decides what becomes of the group (`decided`): a last
--- without a gap makes it whole; any other breaks it, by its gap if it has one, else by its flags. A group that no member follows is open
--- (`open_at_end`). A continuation or last in no group is a stray. Each note is given at the member that decides it.
+-- A member has a gap where its count is not the one before it plus 1. A group is a member with flags first, and the longest
+-- stretch of continuations without a gap behind it (`group_of`). The member behind the stretch decides what becomes of the group
+-- (`decided`). A last without a gap makes it whole; any other breaks it, by its gap if it has one, else by its flags. A group
+-- that no member follows is open (`open_at_end`). A continuation or last in no group is a stray. Each note is given at the member
+-- that decides it.
 use Rattle.std.specs.Prelude.{ℕ, ◌+◌, ◌-◌, ◌%◌, Bool, true, false, not, ◌==◌, ◌&&◌, Option, Some, None, List, [], ◌∷◌, ◌++◌, map, if◌then◌else◌}
 use Rattle.tm_packet.specs.declared.header.Flags.{Flags}
 use Rattle.tm_packet.specs.declared.header.Flags.TheVariants as flag
@@ -76,15 +77,15 @@ pub record Group : Type 0 where
   pub last : ℕ
 
 -- the first count of the group that a member with these flags begins
-abbrev pub opened_by : Flags → ℕ → Option ℕ
-opened_by flag.Continuation count = None
-opened_by flag.First count = Some count
-opened_by flag.Last count = None
-opened_by flag.Unsegmented count = None
+abbrev pub begun_group : Flags → ℕ → Option ℕ
+begun_group flag.Continuation count = None
+begun_group flag.First count = Some count
+begun_group flag.Last count = None
+begun_group flag.Unsegmented count = None
 
 -- the first count of the group that a member begins
 abbrev pub opened : PairMember → Option ℕ
-opened m = opened_by m.flags m.count
+opened m = begun_group m.flags m.count
 
 -- the group of a first count, if there is one, with its last count
 abbrev pub group_with : Option ℕ → ℕ → Option Group
@@ -102,11 +103,11 @@ gap_notes (Some expected) found =
     if found == expected then [] else Gap expected found ((found + 16384 - expected) % 16384) ∷ []
 
 -- what ends a group: a member of these flags and count, without a gap
-abbrev pub ended_by : Group → Flags → ℕ → List Note
-ended_by g flag.Continuation count = []
-ended_by g flag.First count = Broken g.first g.last why.First ∷ []
-ended_by g flag.Last count = Whole g.first count ∷ []
-ended_by g flag.Unsegmented count = Broken g.first g.last why.Unsegmented ∷ []
+abbrev pub end_notes : Group → Flags → ℕ → List Note
+end_notes g flag.Continuation count = []
+end_notes g flag.First count = Broken g.first g.last why.First ∷ []
+end_notes g flag.Last count = Whole g.first count ∷ []
+end_notes g flag.Unsegmented count = Broken g.first g.last why.Unsegmented ∷ []
 
 -- a member of these flags is in no group
 abbrev pub stray : Flags → ℕ → List Note
@@ -119,7 +120,7 @@ stray flag.Unsegmented count = []
 -- behind a gap.
 abbrev pub decided : Option Group → PairMember → List Note
 decided None m = stray m.flags m.count
-decided (Some g) m = if has_packet_gap m then Broken g.first g.last why.Gap ∷ stray m.flags m.count else ended_by g m.flags m.count
+decided (Some g) m = if has_packet_gap m then Broken g.first g.last why.Gap ∷ stray m.flags m.count else end_notes g m.flags m.count
 
 -- the notes of a stretch's head, behind a stretch that is this group or none
 abbrev pub head_notes : Option Group → PairMember → List Note

@@ -3,7 +3,7 @@ use Rattle.std.specs.Prelude.{ℕ, zero, suc, ◌+◌, ◌*◌, ◌%◌, Bool, t
 use Rattle.tm_bits.specs.Bits.{two_octets, two_at}
 use Rattle.tm_packet.specs.declared.tracker.PairEntry.{PairEntry}
 use Rattle.tm_packet.specs.Merge.{Entries}
-use Rattle.tm_packet.specs.declared.tracker.Numbers.{Numbers}
+use Rattle.tm_packet.specs.declared.tracker.RawEntry.{RawEntry}
 use Rattle.tm_packet.specs.declared.tracker.TrackerFault.{TrackerFault}
 use Rattle.tm_packet.specs.declared.tracker.TrackerFault.TheVariants.{Short, Order, Value}
 
@@ -41,16 +41,16 @@ abbrev pub entries_spelling : Entries → List ℕ
 entries_spelling entries = two_octets (length (entries_from 0 entries)) ++ spelled (entries_from 0 entries)
 
 -- the three numbers of six octets
-abbrev pub raw_of : List ℕ → Numbers
+abbrev pub raw_of : List ℕ → RawEntry
 raw_of xs = record { key = two_at xs 0; count = two_at xs 2; first = two_at xs 4 }
 
 -- the numbers of entries that stand one after the other
-abbrev pub raws : ℕ → List ℕ → List Numbers
+abbrev pub raws : ℕ → List ℕ → List RawEntry
 raws zero xs = []
 raws (suc n) xs = raw_of xs ∷ raws n (drop 6 xs)
 
 -- the numbers can be those of an entry
-abbrev pub has_values : Numbers → Bool
+abbrev pub has_values : RawEntry → Bool
 has_values r =
     nat_lt r.key 16384 && not (r.key % 2048 == 2047) && nat_lt r.count 16384 && (nat_lt r.first 16384 || (r.first == 65535))
 
@@ -60,7 +60,7 @@ rises None key = true
 rises (Some before) key = nat_lt before key
 
 -- what is wrong first, after an entry with this key or none: for each entry the values, then the order
-abbrev pub fault_after : Option ℕ → List Numbers → Option TrackerFault
+abbrev pub fault_after : Option ℕ → List RawEntry → Option TrackerFault
 fault_after before [] = None
 fault_after before (r ∷ rs) =
     if has_values r then (if rises before r.key then fault_after (Some r.key) rs else Some Order) else Some Value
@@ -70,17 +70,17 @@ abbrev pub first_count_of : ℕ → Option ℕ
 first_count_of n = if n == 65535 then None else Some n
 
 -- what the entries say of a key
-abbrev pub entry_at_key : ℕ → List Numbers → Option PairEntry
+abbrev pub entry_at_key : ℕ → List RawEntry → Option PairEntry
 entry_at_key key [] = None
 entry_at_key key (r ∷ rs) = if r.key == key then Some (record { count = r.count; first = first_count_of r.first }) else entry_at_key key rs
 
 -- what the entries say of each key from one on
-abbrev pub entries_at_keys : ℕ → ℕ → List Numbers → Entries
+abbrev pub entries_at_keys : ℕ → ℕ → List RawEntry → Entries
 entries_at_keys zero key rs = []
 entries_at_keys (suc n) key rs = entry_at_key key rs ∷ entries_at_keys n (key + 1) rs
 
 -- what the entries say of all keys
-unfoldable pub state_of : List Numbers → Entries
+unfoldable pub state_of : List RawEntry → Entries
 state_of rs = entries_at_keys 16384 0 rs
 
 -- the entries of all keys, and the number of octets that were read

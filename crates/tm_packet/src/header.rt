@@ -106,7 +106,7 @@ impl Header {
     ghost use Rattle.tm_packet.specs.Header.{Fields, made_of};
     ghost use Rattle.tm_packet.specs.Merge as sequence;
 
-    /// The header of these parts: `None` exactly where the application is over 2047 or the count over 16383.
+    /// The header of these parts: `None` if and only if the application is over 2047 or the count over 16383.
     pub fn new(
         telecommand: bool,
         secondary: bool,

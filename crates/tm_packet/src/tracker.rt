@@ -3,9 +3,10 @@
 ghost use Rattle.std.specs.Prelude.{◌≡◌, ◌+◌, ◌*◌, ◌<◌, ◌≤◌, ◌⊎◌, IfOk, IfErr, IfSome, OnOk, OnErr, IsOk, Ok, Err, Some, None, Decides, true, false, [], ◌∷◌, ◌++◌, length, drop, slice_set, vec_len, vec_capacity};
 
 use crate::step::{gives_none, kept_after, notes_after};
-use crate::{Header, Note, Notes, Why};
+use crate::{Header, Note, Notes, Pair, Why};
 use std::alloc::{AllocError, Global};
 use std::marker::Model;
+use tm_bits::{push_two, two_at};
 
 /// Memory was wanted and not found.
 #[derive(Clone, Copy, Debug, PartialEq, Eq)]
@@ -18,7 +19,7 @@ pub struct PairEntry {
     pub first: Option<u16>,
 }
 
-/// A group that is open: its key, `2048 * channel + application`, and the note that it is broken by the end.
+/// A group that is open: the key of its pair, `2048 * channel + application`, and the note that it is broken by the end.
 #[derive(Clone, Copy, Debug, PartialEq, Eq)]
 pub struct Unclosed {
     pub key: u16,
@@ -40,7 +41,7 @@ pub enum TrackerFault {
 
 /// The three numbers of an entry, as they are spelled: contracts speak of them, and no call takes or gives them.
 #[derive(Clone, Copy, Debug)]
-pub struct Numbers {
+pub struct RawEntry {
     /// The number of the channel and application.
     pub key: u16,
     /// The last count.
@@ -50,9 +51,9 @@ pub struct Numbers {
 }
 
 // One place for each key.
-const PLACES: usize = 16384;
+const PAIRS: usize = 16384;
 
-/// What is kept of each channel and application, at `2048 * channel + application`.
+/// What is kept of each channel and application, at the key of the pair.
 #[derive(Drop)]
 pub struct Tracker {
     entries: Vec<Option<PairEntry>>,
@@ -85,7 +86,7 @@ impl Tracker {
     pub fn new(alloc: Global) -> Result<Tracker, NoMemory>
         ensures { IfOk result (λ tracker. tracker ≡ no_entries) }
     {
-        match Tracker::reserved(alloc) {
+        match Tracker::reserve(alloc) {
             Ok(tracker) => Ok(tracker),
             Err(_) => Err(NoMemory),
         }
@@ -93,11 +94,11 @@ impl Tracker {
 
     // A tracker with an empty place for each key.
     #[tactic(auto, using(crate::proofs::States::filled))]
-    fn reserved(alloc: Global) -> Result<Tracker, AllocError>
+    fn reserve(alloc: Global) -> Result<Tracker, AllocError>
         ensures { IfOk result (λ tracker. tracker ≡ no_entries) }
     {
-        let mut entries = Vec::with_capacity(alloc, PLACES)?;
-        entries.resize(PLACES, None)?;
+        let mut entries = Vec::with_capacity(alloc, PAIRS)?;
+        entries.resize(PAIRS, None)?;
         Ok(Tracker { entries })
     }
 
@@ -111,24 +112,24 @@ impl Tracker {
         if header.is_idle() {
             return Notes::none();
         }
-        let key = 2048 * usize::from(channel) + usize::from(header.application());
+        let key = key_of(channel, &header);
         let entry = self.entries[key];
         self.entries[key] = Some(kept_after(entry, &header));
         notes_after(entry, &header)
     }
 
-    /// Takes the next header of a channel if it has no notes, as most have none, and answers whether it has none. A header that has notes is
-    /// left to `take`.
-    pub fn take_without_notes(&mut self, channel: u8, header: Header) -> bool
+    /// Takes the next header of a channel if it has no notes, and answers whether it has none. A header that has notes is left to `take`.
+    pub fn add_without_notes(&mut self, channel: u8, header: Header) -> bool
         requires { channel < 8 }
         ensures none { Decides result (sequence.notes self.old (record { channel = channel; header = header } ∷ []) ≡ [] ∷ []) }
-        ensures taken { result ≡ true → self.new ≡ sequence.entries_after self.old (record { channel = channel; header = header } ∷ []) }
+        ensures recorded { result ≡ true → self.new
+            ≡ sequence.entries_after self.old (record { channel = channel; header = header } ∷ []) }
         ensures left { result ≡ false → self.new ≡ self.old }
     {
         if header.is_idle() {
             return true;
         }
-        let key = 2048 * usize::from(channel) + usize::from(header.application());
+        let key = key_of(channel, &header);
         let entry = self.entries[key];
         if !gives_none(entry, &header) {
             return false;
@@ -142,7 +143,7 @@ impl Tracker {
         ensures value { result ≡ sequence.next_unclosed_of self.now at }
         ensures below { IfSome result (λ unclosed. unclosed.key < 16384) }
     {
-        for key in usize::from(at)..PLACES {
+        for key in usize::from(at)..PAIRS {
             if let Some(
                 PairEntry {
                     count,
@@ -164,8 +165,8 @@ impl Tracker {
         None
     }
 
-    /// Appends the spelling: the number of entries in two octets, and for each entry, by rising key, key, last count, and first count
-    /// of the open group or FFFF, in two octets each, the most significant first.
+    /// Appends the spelling. First comes the number of entries in two octets. Then comes each entry, by rising key: key, last
+    /// count, and first count of the open group or FFFF. Each has two octets, the most significant first.
     ///
     /// # Errors
     ///
@@ -181,7 +182,7 @@ impl Tracker {
             Ok(()) => {}
             Err(_) => return Err(NoMemory),
         }
-        push_number(out, count as u16);
+        push_two(out, count as u16);
         self.push_entries(out);
         Ok(())
     }
@@ -190,11 +191,12 @@ impl Tracker {
     ///
     /// # Errors
     ///
-    /// `Short` where octets are wanting; else, at the first entry that is wrong, `Value` or `Order`; else `NoMemory` where all 16,384
-    /// places can't be had.
+    /// `Short` where octets are missing; else, at the first entry that is wrong, `Value` or `Order`; else `NoMemory` where memory
+    /// for all 16,384 pairs can't be had.
     pub fn decode(alloc: Global, octets: &[u8]) -> Result<(Tracker, usize), TrackerFault>
         ensures ok { IfOk result (λ read. entries_decoding_of octets.now ≡ Ok (record { entries = read.0; octets = read.1 })) }
-        ensures refused { IfErr result (λ found. (entries_decoding_of octets.now ≡ Err found) ⊎ ((found ≡ fault.NoMemory) × IsOk (entries_decoding_of octets.now))) }
+        ensures refused { IfErr result (λ found. (entries_decoding_of octets.now ≡ Err found)
+            ⊎ ((found ≡ fault.NoMemory) × IsOk (entries_decoding_of octets.now))) }
     {
         let Some(count) = entry_count(octets) else {
             return Err(TrackerFault::Short);
@@ -205,36 +207,36 @@ impl Tracker {
         let Ok(mut tracker) = Tracker::new(alloc) else {
             return Err(TrackerFault::NoMemory);
         };
-        tracker.put_entries(octets, count);
+        tracker.set_entries(octets, count);
         Ok((tracker, 2 + 6 * count))
     }
 
     // Puts the entries in their places. The first entry of a key counts: hence from the last to the first.
-    fn put_entries(&mut self, octets: &[u8], count: usize)
+    fn set_entries(&mut self, octets: &[u8], count: usize)
         requires room { 2 + 6 * count ≤ length octets.now }
         requires faultless { fault_after None (raws count (drop 2 octets.now)) ≡ None }
         requires empty { self.old ≡ no_entries }
         ensures { self.new ≡ state_of (raws count (drop 2 octets.now)) }
     {
         for at in (0..count).rev() {
-            self.put(&numbers_at(octets, 2 + 6 * at));
+            self.set_entry(&raw_entry_at(octets, 2 + 6 * at));
         }
     }
 
     // Puts an entry in its place.
-    fn put(&mut self, numbers: &Numbers)
-        requires { has_values numbers.now ≡ true }
-        ensures { self.new ≡ slice_set self.old numbers.now.key (Some (record {
-          count = numbers.now.count;
-          first = first_count_of numbers.now.first;
+    fn set_entry(&mut self, raw: &RawEntry)
+        requires { has_values raw.now ≡ true }
+        ensures { self.new ≡ slice_set self.old raw.now.key (Some (record {
+          count = raw.now.count;
+          first = first_count_of raw.now.first;
         })) }
     {
-        let first = match numbers.first {
+        let first = match raw.first {
             0xFFFF => None,
             first => Some(first),
         };
-        self.entries[usize::from(numbers.key)] = Some(PairEntry {
-            count: numbers.count,
+        self.entries[usize::from(raw.key)] = Some(PairEntry {
+            count: raw.count,
             first,
         });
     }
@@ -246,7 +248,7 @@ impl Tracker {
         ensures valid { AreValidEntries self.now }
     {
         let mut count = 0;
-        for key in 0..PLACES {
+        for key in 0..PAIRS {
             if self.entries[key].is_some() {
                 count += 1;
             }
@@ -259,7 +261,7 @@ impl Tracker {
         requires { vec_len out.old + 6 * length (entries_from 0 self.now) ≤ vec_capacity out.old }
         ensures { out.new.items ≡ out.old.items ++ spelled (entries_from 0 self.now) }
     {
-        for key in 0..PLACES {
+        for key in 0..PAIRS {
             if let Some(last) = self.entries[key] {
                 push_entry(out, key as u16, &last);
             }
@@ -267,8 +269,8 @@ impl Tracker {
     }
 }
 
+ghost use Rattle.tm_packet.specs.Merge.{key_of};
 ghost use Rattle.tm_packet.specs.Spelling.{entry_octets, entry_count_of, fault_after, raws, raw_of, has_values, rises};
-ghost use Rattle.tm_bits.specs.Bits.{two_octets, two_at};
 
 // Appends an entry, for which there is room.
 fn push_entry(out: &mut Vec<u8>, key: u16, last: &PairEntry)
@@ -277,25 +279,25 @@ fn push_entry(out: &mut Vec<u8>, key: u16, last: &PairEntry)
     ensures len { vec_len out.new ≡ vec_len out.old + 6 }
     ensures room { vec_capacity out.old ≤ vec_capacity out.new }
 {
-    push_number(out, key);
-    push_number(out, last.count);
+    push_two(out, key);
+    push_two(out, last.count);
     match last.first {
-        Some(first) => push_number(out, first),
-        None => push_number(out, 0xFFFF),
+        Some(first) => push_two(out, first),
+        None => push_two(out, 0xFFFF),
     }
 }
 
-// Appends a number in two octets, for which there is room.
-fn push_number(out: &mut Vec<u8>, number: u16)
-    requires { vec_len out.old + 2 ≤ vec_capacity out.old }
-    ensures items { out.new.items ≡ out.old.items ++ two_octets number }
-    ensures len { vec_len out.new ≡ vec_len out.old + 2 }
-    ensures room { vec_capacity out.old ≤ vec_capacity out.new }
+// The key of a header's pair.
+fn key_of(channel: u8, header: &Header) -> usize
+    requires { channel < 8 }
+    ensures value { result ≡ key_of (record { channel = channel; header = header.now }) }
+    ensures below { result < 16384 }
 {
-    match out.extend_from_slice(&number.to_be_bytes()) {
-        Ok(()) => {}
-        Err(_) => unreachable!(),
-    }
+    let pair = Pair {
+        channel,
+        application: header.application(),
+    };
+    usize::from(pair.key())
 }
 
 // The number of entries that the octets begin with, where they are all there.
@@ -319,26 +321,26 @@ fn entry_fault(octets: &[u8], count: usize) -> Option<TrackerFault>
 {
     let mut before = None;
     for at in 0..count {
-        let numbers = numbers_at(octets, 2 + 6 * at);
-        if !has_values(&numbers) {
+        let raw = raw_entry_at(octets, 2 + 6 * at);
+        if !has_values(&raw) {
             return Some(TrackerFault::Value);
         }
-        if !rises(before, numbers.key) {
+        if !rises(before, raw.key) {
             return Some(TrackerFault::Order);
         }
-        before = Some(numbers.key);
+        before = Some(raw.key);
     }
     None
 }
 
 // The numbers can be those of an entry.
-fn has_values(numbers: &Numbers) -> bool
-    ensures { result ≡ has_values numbers.now }
+fn has_values(raw: &RawEntry) -> bool
+    ensures { result ≡ has_values raw.now }
 {
-    numbers.key < 16384
-        && numbers.key % 2048 != 2047
-        && numbers.count < 16384
-        && (numbers.first < 16384 || numbers.first == 0xFFFF)
+    raw.key < 16384
+        && raw.key % 2048 != 2047
+        && raw.count < 16384
+        && (raw.first < 16384 || raw.first == 0xFFFF)
 }
 
 // The key is greater than the one before, if there is one.
@@ -352,21 +354,13 @@ fn rises(before: Option<u16>, key: u16) -> bool
 }
 
 // The three numbers of the entry at a place.
-fn numbers_at(octets: &[u8], at: usize) -> Numbers
+fn raw_entry_at(octets: &[u8], at: usize) -> RawEntry
     requires { at + 6 ≤ length octets.now }
     ensures { result ≡ raw_of (drop at octets.now) }
 {
-    Numbers {
+    RawEntry {
         key: two_at(octets, at),
         count: two_at(octets, at + 2),
         first: two_at(octets, at + 4),
     }
-}
-
-// The number in the two octets at a place.
-fn two_at(octets: &[u8], at: usize) -> u16
-    requires { at + 2 ≤ length octets.now }
-    ensures { result ≡ two_at octets.now at }
-{
-    u16::from_be_bytes([octets[at], octets[at + 1]])
 }

@@ -9,8 +9,8 @@ use Rattle.tm_files.specs.declared.fault.ToolFault.TheVariants as tool
 use Rattle.tm_output.specs.Faults.{RunCaused, RunCounted}
 use Rattle.tm_output.specs.Outputs.{View}
 use Rattle.tm_program.specs.code.Blames.{IsBlamedBeside, split_end_of}
-use Rattle.tm_shelf.specs.declared.files.ShelfFault.{ShelfFault}
-use Rattle.tm_shelf.specs.declared.files.ShelfFault.TheVariants as shelf
+use Rattle.tm_split_files.specs.declared.files.ShelfFault.{ShelfFault}
+use Rattle.tm_split_files.specs.declared.files.ShelfFault.TheVariants as shelf
 
 -- a run's fault
 pub run_blames : {K : Type 0} (s t : ℕ) (old new : View K) (fault : RunFault) → RunCaused s t old new fault
@@ -23,34 +23,34 @@ run_blames s t old new run.TooMany h = tt
 run_blames s t old new run.NoMemory h = tt
 
 -- what splitting ends with
-pub split_blames : {D K : Type 0} (s t : ℕ) (old new : View K) (done : Result D RunFault) (written : Result ⊤ ShelfFault) (starved : Bool)
-    (taken : Option (List ℕ)) → RunCounted s t old new done
-    → IfErr (split_end_of done written starved taken) (IsBlamedBeside s t old.report_failures new.report_failures)
-split_blames s t old new (Ok done) (Ok nothing) starved taken h = tt
-split_blames s t old new (Ok done) (Err shelf.NoMemory) starved taken h = tt
-split_blames s t old new (Ok done) (Err shelf.NotWritten) starved taken h = tt
-split_blames s t old new (Ok done) (Err shelf.Taken) starved taken h = tt
-split_blames s t old new (Err run.Read) written starved taken h = h.0
-split_blames s t old new (Err run.Write) written true taken h = tt
+pub split_blames : {D K : Type 0} (s t : ℕ) (old new : View K) (done : Result D RunFault) (written : Result ⊤ ShelfFault) (out_of_memory : Bool)
+    (clashing : Option (List ℕ)) → RunCounted s t old new done
+    → IfErr (split_end_of done written out_of_memory clashing) (IsBlamedBeside s t old.report_failures new.report_failures)
+split_blames s t old new (Ok done) (Ok nothing) out_of_memory clashing h = tt
+split_blames s t old new (Ok done) (Err shelf.NoMemory) out_of_memory clashing h = tt
+split_blames s t old new (Ok done) (Err shelf.NotWritten) out_of_memory clashing h = tt
+split_blames s t old new (Ok done) (Err shelf.Clashes) out_of_memory clashing h = tt
+split_blames s t old new (Err run.Read) written out_of_memory clashing h = h.0
+split_blames s t old new (Err run.Write) written true clashing h = tt
 split_blames s t old new (Err run.Write) written false (Some name) h = tt
 split_blames s t old new (Err run.Write) written false None h = tt
-split_blames s t old new (Err run.Report) written starved taken h = h.1.1
-split_blames s t old new (Err run.ShortRecording) written starved taken h = tt
-split_blames s t old new (Err run.TooMany) written starved taken h = tt
-split_blames s t old new (Err run.NoMemory) written starved taken h = tt
+split_blames s t old new (Err run.Report) written out_of_memory clashing h = h.1.1
+split_blames s t old new (Err run.ShortRecording) written out_of_memory clashing h = tt
+split_blames s t old new (Err run.TooMany) written out_of_memory clashing h = tt
+split_blames s t old new (Err run.NoMemory) written out_of_memory clashing h = tt
 
--- want of memory blames no device
-pub starved_blames : (s t r q : ℕ) (fault : ToolFault) → IsNoMemory fault → IsBlamedBeside s t r q fault
-starved_blames s t r q (tool.Usage f) h = absurd h
-starved_blames s t r q (tool.Settings f) h = absurd h
-starved_blames s t r q (tool.Definition f) h = absurd h
-starved_blames s t r q (tool.Checkpoint f) h = absurd h
-starved_blames s t r q (tool.File name) h = absurd h
-starved_blames s t r q (tool.TooLong name) h = absurd h
-starved_blames s t r q tool.Errors h = absurd h
-starved_blames s t r q (tool.Run run.Read) h = absurd h
-starved_blames s t r q (tool.Run run.Write) h = absurd h
-starved_blames s t r q (tool.Run run.Report) h = absurd h
-starved_blames s t r q (tool.Run run.ShortRecording) h = absurd h
-starved_blames s t r q (tool.Run run.TooMany) h = absurd h
-starved_blames s t r q (tool.Run run.NoMemory) h = tt
+-- out of memory blames no device
+pub no_memory_blames : (s t r q : ℕ) (fault : ToolFault) → IsNoMemory fault → IsBlamedBeside s t r q fault
+no_memory_blames s t r q (tool.Usage f) h = absurd h
+no_memory_blames s t r q (tool.Settings f) h = absurd h
+no_memory_blames s t r q (tool.Definition f) h = absurd h
+no_memory_blames s t r q (tool.Checkpoint f) h = absurd h
+no_memory_blames s t r q (tool.File name) h = absurd h
+no_memory_blames s t r q (tool.TooLong name) h = absurd h
+no_memory_blames s t r q tool.Errors h = absurd h
+no_memory_blames s t r q (tool.Run run.Read) h = absurd h
+no_memory_blames s t r q (tool.Run run.Write) h = absurd h
+no_memory_blames s t r q (tool.Run run.Report) h = absurd h
+no_memory_blames s t r q (tool.Run run.ShortRecording) h = absurd h
+no_memory_blames s t r q (tool.Run run.TooMany) h = absurd h
+no_memory_blames s t r q (tool.Run run.NoMemory) h = tt

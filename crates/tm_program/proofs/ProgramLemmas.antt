@@ -1,14 +1,14 @@
 -- Faults of files and of runs, as faults that may come of a plan.
 use Rattle.std.proofs.Common.{ℕ, ◌≡◌, ◌⊎◌, ◌∙◌, List, Option, None, Some, inl, inr, option_map, refl, subst, sym}
 use Rattle.std.proofs.lemmas.Option.{same_Some}
-use Rattle.tm_shelf.specs.Names.{file_in}
+use Rattle.tm_split_files.specs.Names.{file_in}
 use Rattle.tm_files.specs.code.Files.{HasFault, IsFaultOf, IsFileFault, IsRunFault}
 use Rattle.tm_program.specs.Program.{IsAsked, IsInFolder, IsNamed, IsOfFolder, IsReadWhole, MayCome, MayEnd}
 use Rattle.tm_program.specs.code.Faults.{HasFolderFault, HasReadFault, IsFolderFault, IsOfDefinition, IsOfOutputs, IsOfPut, IsOfResumed, IsOfSettings, IsOfStreams}
 use Rattle.tm_faults.specs.declared.fault.RunFault.TheVariants.{NoMemory, Read, Report, ShortRecording, TooMany, Write}
 use Rattle.tm_files.specs.declared.fault.ToolFault.{ToolFault}
 use Rattle.tm_files.specs.declared.fault.ToolFault.TheVariants as tool
-use Rattle.tm_words.specs.declared.request.Plan.{Plan}
+use Rattle.tm_arguments.specs.declared.request.Plan.{Plan}
 
 -- a file that the plan names can't be opened, made or written
 pub file_comes : (p : Plan) (name : List ℕ) (fault : ToolFault) → IsNamed p name → IsFileFault name fault → MayCome p fault
@@ -155,27 +155,27 @@ split_there o dir fault is (inl h) = inl h
 split_there o dir fault is (inr h) = inr (subst (λ (found : Option (List ℕ)). HasFolderFault found fault) (sym is) h)
 
 -- the file of a put that was refused is one of the folder
-in_folder : (dir : List ℕ) (taken : Option ℕ) (name : List ℕ) → option_map (file_in dir) taken ≡ Some name → IsInFolder dir name
+in_folder : (dir : List ℕ) (clashing : Option ℕ) (name : List ℕ) → option_map (file_in dir) clashing ≡ Some name → IsInFolder dir name
 in_folder dir None name is = cc
 in_folder dir (Some application) name is = (application, sym (same_Some _ _ is))
 
-pub put_there : (dir : List ℕ) (taken : Option ℕ) (found : Option (List ℕ)) (fault : ToolFault) → found ≡ option_map (file_in dir) taken → IsOfPut found fault → IsRunFault fault ⊎ IsFolderFault dir fault
-put_there dir taken found (tool.Usage f) is h = absurd h
-put_there dir taken found (tool.Settings f) is h = absurd h
-put_there dir taken found (tool.Definition f) is h = absurd h
-put_there dir taken found (tool.Checkpoint f) is h = absurd h
-put_there dir taken found (tool.File given) is h = inr (inr (in_folder dir taken given (sym is ∙ h)))
-put_there dir taken found (tool.TooLong given) is h = absurd h
-put_there dir taken found tool.Errors is h = absurd h
-put_there dir taken found (tool.Run f) is h = inl tt
+pub put_there : (dir : List ℕ) (clashing : Option ℕ) (found : Option (List ℕ)) (fault : ToolFault) → found ≡ option_map (file_in dir) clashing → IsOfPut found fault → IsRunFault fault ⊎ IsFolderFault dir fault
+put_there dir clashing found (tool.Usage f) is h = absurd h
+put_there dir clashing found (tool.Settings f) is h = absurd h
+put_there dir clashing found (tool.Definition f) is h = absurd h
+put_there dir clashing found (tool.Checkpoint f) is h = absurd h
+put_there dir clashing found (tool.File given) is h = inr (inr (in_folder dir clashing given (sym is ∙ h)))
+put_there dir clashing found (tool.TooLong given) is h = absurd h
+put_there dir clashing found tool.Errors is h = absurd h
+put_there dir clashing found (tool.Run f) is h = inl tt
 
--- what may come of the plan of words may be their end
-pub plan_ends : (words : List (List ℕ)) (p : Plan) (fault : ToolFault) → IsAsked words p → MayCome p fault → MayEnd words fault
-plan_ends words p (tool.Usage f) asked h = absurd h
-plan_ends words p (tool.Settings f) asked h = (p, asked, h)
-plan_ends words p (tool.Definition f) asked h = (p, asked, h)
-plan_ends words p (tool.Checkpoint f) asked h = (p, asked, h)
-plan_ends words p (tool.File given) asked h = (p, asked, h)
-plan_ends words p (tool.TooLong given) asked h = (p, asked, h)
-plan_ends words p tool.Errors asked h = (p, asked, h)
-plan_ends words p (tool.Run f) asked h = (p, asked, h)
+-- what may come of the plan of arguments may be their end
+pub plan_ends : (arguments : List (List ℕ)) (p : Plan) (fault : ToolFault) → IsAsked arguments p → MayCome p fault → MayEnd arguments fault
+plan_ends arguments p (tool.Usage f) asked h = absurd h
+plan_ends arguments p (tool.Settings f) asked h = (p, asked, h)
+plan_ends arguments p (tool.Definition f) asked h = (p, asked, h)
+plan_ends arguments p (tool.Checkpoint f) asked h = (p, asked, h)
+plan_ends arguments p (tool.File given) asked h = (p, asked, h)
+plan_ends arguments p (tool.TooLong given) asked h = (p, asked, h)
+plan_ends arguments p tool.Errors asked h = (p, asked, h)
+plan_ends arguments p (tool.Run f) asked h = (p, asked, h)

@@ -1,12 +1,12 @@
--- What comes of the words of the command line, so far as a contract can say it: what files hold and streams take has no place in one.
+-- What comes of the arguments of the command line, so far as a contract can say it: what files hold and streams take has no place in one.
 use Rattle.std.specs.Prelude.{◌≡◌, ◌⊎◌, ⊤, ℕ, true, false, List, [], Option, Some, None, IsSome}
-use Rattle.tm_words.specs.CommandLine.{HasRequired, faults_of, is_taken, lacks_checkpoint, plan_of}
-use Rattle.tm_shelf.specs.Names.{file_in}
+use Rattle.tm_arguments.specs.CommandLine.{HasRequired, faults_of, is_accepted, lacks_checkpoint, plan_of}
+use Rattle.tm_split_files.specs.Names.{file_in}
 use Rattle.tm_files.specs.declared.fault.ToolFault.{ToolFault}
 use Rattle.tm_files.specs.declared.fault.ToolFault.TheVariants as tool
-use Rattle.tm_words.specs.declared.request.Plan.{Plan}
-use Rattle.tm_words.specs.declared.request.UsageFault.{UsageFault}
-use Rattle.tm_words.specs.declared.request.UsageFault.TheVariants as usage
+use Rattle.tm_arguments.specs.declared.request.Plan.{Plan}
+use Rattle.tm_arguments.specs.declared.request.UsageFault.{UsageFault}
+use Rattle.tm_arguments.specs.declared.request.UsageFault.TheVariants as usage
 
 -- ---- the files of a plan
 
@@ -40,20 +40,20 @@ MayCome p (tool.TooLong name) = IsReadWhole p name
 MayCome p tool.Errors = ⊤
 MayCome p (tool.Run fault) = ⊤
 
--- ---- what comes of the words
+-- ---- what comes of the arguments
 
--- the words ask for a plan that can be done
+-- the arguments ask for a plan that can be done
 abbrev pub IsAsked : List (List ℕ) → Plan → Type 0
-IsAsked words p = (plan_of words ≡ Some p) × (faults_of words ≡ []) × HasRequired p × (lacks_checkpoint p ≡ false)
+IsAsked arguments p = (plan_of arguments ≡ Some p) × (faults_of arguments ≡ []) × HasRequired p × (lacks_checkpoint p ≡ false)
 
--- the words may be refused so
+-- the arguments may be refused so
 abbrev pub MayRefuse : List (List ℕ) → UsageFault → Type 0
-MayRefuse words (usage.Usage text) = ¬ (is_taken words ≡ true)
-MayRefuse words usage.StopAfter = (faults_of words ≡ []) × ((p : Plan) × (plan_of words ≡ Some p) × (lacks_checkpoint p ≡ true))
-MayRefuse words (usage.Help text) = ¬ (is_taken words ≡ true)
-MayRefuse words usage.NoMemory = ⊤
+MayRefuse arguments (usage.Usage text) = ¬ (is_accepted arguments ≡ true)
+MayRefuse arguments usage.StopAfter = (faults_of arguments ≡ []) × ((p : Plan) × (plan_of arguments ≡ Some p) × (lacks_checkpoint p ≡ true))
+MayRefuse arguments (usage.Help text) = ¬ (is_accepted arguments ≡ true)
+MayRefuse arguments usage.NoMemory = ⊤
 
--- the words may end in this fault
+-- the arguments may end in this fault
 abbrev pub MayEnd : List (List ℕ) → ToolFault → Type 0
-MayEnd words (tool.Usage fault) = MayRefuse words fault
-MayEnd words fault = (p : Plan) × IsAsked words p × MayCome p fault
+MayEnd arguments (tool.Usage fault) = MayRefuse arguments fault
+MayEnd arguments fault = (p : Plan) × IsAsked arguments p × MayCome p fault

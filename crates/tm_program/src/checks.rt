@@ -11,12 +11,12 @@ use crate::opening::no_memory;
 use std::fs;
 use std::io::{self, ErrorKind, Write};
 use std::rt::Files;
+use tm_arguments::Plan;
 use tm_files::{
-    Checked, Stream, ToolFault, check_errors, check_names, places_by, stream_fault, writes_errors,
-    writes_output,
+    Checked, Stream, ToolFault, check_errors, check_names, identify_files, stream_fault,
+    writes_errors, writes_output,
 };
 use tm_tool::RunFault;
-use tm_words::Plan;
 
 // The system's number of the error that a file isn't open: EBADF.
 const CLOSED: i32 = 9;
@@ -61,19 +61,22 @@ pub(crate) fn check_standard<R: Files + Print + AllocGlobal, E: Write>(
 ) -> Result<(), ToolFault>
     ensures { IfErr result (MayCome plan.now) }
 {
-    let places = places_by(rt, plan)?;
-    check_errors(&places)?;
+    let identities = identify_files(rt, plan)?;
+    check_errors(&identities)?;
     check_streams(rt, plan, errors)
 }
 
 // The names of the plan's files, as the folders are now, are checked.
-#[tactic(auto, using(tm_files::proofs::FaultLemmas::starved_run, crate::proofs::ProgramLemmas::names_come))]
-pub(crate) fn checked_by<R: Files + AllocGlobal>(rt: &R, plan: &Plan) -> Result<Checked, ToolFault>
+#[tactic(auto, using(tm_files::proofs::FaultLemmas::no_memory_run, crate::proofs::ProgramLemmas::names_come))]
+pub(crate) fn check_file_names<R: Files + AllocGlobal>(
+    rt: &R,
+    plan: &Plan,
+) -> Result<Checked, ToolFault>
     ensures ok { OnOk result (AreClear plan.now) }
     ensures refused { IfErr result (IsOfOutputs plan.now) }
 {
-    let places = places_by(rt, plan)?;
-    check_names(rt.alloc(), plan, &places)
+    let identities = identify_files(rt, plan)?;
+    check_names(rt.alloc(), plan, &identities)
 }
 
 // The folder that the packets go to is there, where the plan has one. A name that is empty or no text is refused where it is used.

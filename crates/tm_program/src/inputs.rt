@@ -4,13 +4,13 @@ ghost use Rattle.std.specs.Prelude.{◌≡◌, ◌⊎◌, IfErr, IfOk, IfSome, I
 ghost use Rattle.tm_program.specs.code.Faults.{IsOfDefinition, IsOfResumed, IsOfSettings, IsResumed};
 
 use std::rt::Files;
+use tm_arguments::Plan;
 use tm_fields::Definition;
 use tm_files::{ToolFault, read_file};
 use tm_tool::{Job, Settings};
-use tm_words::Plan;
 
 // The settings in the plan's file.
-fn settings_by<R: Files + AllocGlobal>(rt: &R, plan: &Plan) -> Result<Settings, ToolFault>
+fn read_settings<R: Files + AllocGlobal>(rt: &R, plan: &Plan) -> Result<Settings, ToolFault>
     requires { IsSome plan.now.settings }
     ensures { IfErr result (IsOfSettings plan.now) }
 {
@@ -25,7 +25,7 @@ fn settings_by<R: Files + AllocGlobal>(rt: &R, plan: &Plan) -> Result<Settings, 
 }
 
 // The definition in the plan's file, where it has one.
-fn definition_by<R: Files + AllocGlobal>(
+fn read_definition<R: Files + AllocGlobal>(
     rt: &R,
     plan: &Plan,
 ) -> Result<Option<Definition>, ToolFault>
@@ -43,7 +43,7 @@ fn definition_by<R: Files + AllocGlobal>(
 }
 
 /// The job of the checkpoint that the plan goes on from, where it has one.
-pub fn resumed_by<R: Files + AllocGlobal>(
+pub fn read_resumed_job<R: Files + AllocGlobal>(
     rt: &R,
     plan: &Plan,
     settings: &Settings,
@@ -71,15 +71,16 @@ pub(crate) struct Inputs {
 }
 
 // Reads the files of the plan but for the recording.
-pub(crate) fn inputs_by<R: Files + AllocGlobal>(rt: &R, plan: &Plan) -> Result<Inputs, ToolFault>
+pub(crate) fn read_inputs<R: Files + AllocGlobal>(rt: &R, plan: &Plan) -> Result<Inputs, ToolFault>
     requires { IsSome plan.now.settings }
-    ensures found { IfOk result (λ i. (is_some i.definition ≡ is_some plan.now.definition) × (is_some i.resumed ≡ is_some plan.now.resume)) }
+    ensures found { IfOk result (λ i. (is_some i.definition ≡ is_some plan.now.definition)
+        × (is_some i.resumed ≡ is_some plan.now.resume)) }
     ensures job { IfOk result (λ i. IfSome i.resumed (IsResumed i.settings)) }
     ensures refused { IfErr result (λ f. IsOfSettings plan.now f ⊎ IsOfDefinition plan.now f ⊎ IsOfResumed plan.now f) }
 {
-    let settings = settings_by(rt, plan)?;
-    let definition = definition_by(rt, plan)?;
-    let resumed = resumed_by(rt, plan, &settings)?;
+    let settings = read_settings(rt, plan)?;
+    let definition = read_definition(rt, plan)?;
+    let resumed = read_resumed_job(rt, plan, &settings)?;
     Ok(Inputs {
         settings,
         definition,

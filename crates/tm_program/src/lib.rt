@@ -1,14 +1,16 @@
-//! What the program does: the order of its steps, from the words of the command line to the checkpoint of the run.
+//! What the program does: the order of its steps, from the arguments of the command line to the checkpoint of the run.
 #![tactic(auto)]
 
+mod checkpoint_file;
 mod checks;
 mod folder;
 mod inputs;
-mod kept;
 mod opening;
+mod outcome;
 mod steps;
 
+pub use outcome::Outcome;
 pub use steps::run;
+pub use tm_arguments::UsageFault;
 pub use tm_files::{NoMemory, ToolFault, fault_line, status};
 pub use tm_tool::{Octets, RunFault};
-pub use tm_words::UsageFault;

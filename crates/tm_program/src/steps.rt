@@ -1,4 +1,4 @@
-//! The order of steps: the words, the checks, what is read and opened, the run, and the checkpoint that it leaves.
+//! The order of steps: the arguments, the checks, what is read and opened, the run, and the checkpoint that it leaves.
 
 ghost use Rattle.std.specs.Prelude.{◌≡◌, ◌⊎◌, false, IfErr, IfOk, IfSome, IsSome, MatchOption, OnOk, map, option_map, string_bytes};
 ghost use Rattle.tm_files.specs.code.Decisions.{is_job};
@@ -6,46 +6,54 @@ ghost use Rattle.tm_files.specs.code.Files.{IsRunFault};
 ghost use Rattle.tm_files.specs.code.Replacements.{replaced_name};
 ghost use Rattle.tm_files.specs.Names.{AreClear};
 ghost use Rattle.tm_program.specs.code.Blames.{IsBlamed, IsBlamedBeside};
-ghost use Rattle.tm_program.specs.code.Endings.{HasDone, HasShown, IsDone};
+ghost use Rattle.tm_program.specs.code.Endings.{HasCheckpoint, HasDone, HasShown, IsDone};
 ghost use Rattle.tm_program.specs.Program.{IsAsked, MayCome, MayEnd};
 ghost use Rattle.tm_program.specs.code.Faults.{HasFolderFault, IsOfOutputs};
 
-use crate::checks::{check_folder, check_standard, checked_by};
+use crate::checkpoint_file::{
+    abandon_checkpoint, begin_checkpoint, choose_ending, make_job, store_checkpoint,
+};
+use crate::checks::{check_file_names, check_folder, check_standard};
 use crate::folder::split_packets;
-use crate::inputs::{Inputs, inputs_by};
-use crate::kept::{ending_by, job_by, keep};
-use crate::opening::{drain, report_by, shelf_by, source_in, source_of_input};
+use crate::inputs::{Inputs, read_inputs};
+use crate::opening::{make_drain, make_shelf, open_recording, open_report, source_of_input};
+use crate::outcome::{Counted, Outcome};
 use std::alloc::Global;
 use std::io::{self, Write};
 use std::rt::Files;
+use tm_arguments::{Action, Plan, plan};
 use tm_fields::Definition;
-use tm_files::{Checked, Recording, Replaced, ToolFault, is_job, places_by, recording_by};
+use tm_files::{
+    Checked, Recording, Replaced, ToolFault, choose_recording, identify_files, is_job,
+    writes_errors,
+};
 use tm_tool::{
     BufferedSource, Command, Done, Drain, Ending, Job, Settings, list_frames, summarize,
 };
-use tm_words::{Action, Plan, plan};
 
-// The plan of the words.
-fn plan_by(alloc: Global, words: Vec<String>) -> Result<Plan, ToolFault>
-    ensures ok { IfOk result (IsAsked (map string_bytes words.items)) }
-    ensures refused { IfErr result (MayEnd (map string_bytes words.items)) }
+// The plan of the arguments.
+fn read_arguments(alloc: Global, arguments: Vec<String>) -> Result<Plan, ToolFault>
+    ensures ok { IfOk result (IsAsked (map string_bytes arguments.items)) }
+    ensures refused { IfErr result (MayEnd (map string_bytes arguments.items)) }
 {
-    match plan(alloc, words) {
+    match plan(alloc, arguments) {
         Ok(plan) => Ok(plan),
         Err(fault) => Err(ToolFault::Usage(fault)),
     }
 }
 
-// Lists the frames of a recording, or sums it up.
+// Lists the frames of a recording, or sums it up, and answers the number of records.
 fn list_to<S: BufferedSource, W: Drain>(
     alloc: Global,
     action: Action,
     settings: &Settings,
     source: &mut S,
     out: &mut W,
-) -> Result<(), ToolFault>
-    ensures listed { OnOk result (HasShown action settings.now (S.left source.old) (S.left source.new) (W.written out.old) (W.written out.new)) }
-    ensures blamed { IfErr result (IsBlamed (S.failures source.old) (S.failures source.new) (W.failures out.old) (W.failures out.new)) }
+) -> Result<u32, ToolFault>
+    ensures listed { OnOk result (HasShown action settings.now (S.left source.old) (S.left source.new) (W.written out.old)
+        (W.written out.new)) }
+    ensures blamed { IfErr result (IsBlamed (S.failures source.old) (S.failures source.new) (W.failures out.old)
+        (W.failures out.new)) }
     ensures refused { IfErr result IsRunFault }
 {
     let listed = match action {
@@ -53,28 +61,33 @@ fn list_to<S: BufferedSource, W: Drain>(
         _ => list_frames(alloc, settings, source, out),
     };
     match listed {
-        Ok(_) => Ok(()),
+        Ok(records) => Ok(records),
         Err(fault) => Err(ToolFault::Run(fault)),
     }
 }
 
 // Lists the frames of a recording, or sums it up, on standard output.
-#[tactic(auto, using(tm_files::proofs::FaultLemmas::starved_run))]
+#[tactic(auto, using(tm_files::proofs::FaultLemmas::no_memory_run))]
 fn list<R: Print + AllocGlobal, S: BufferedSource>(
     rt: &R,
     action: Action,
     settings: &Settings,
     source: &mut S,
-) -> Result<(), ToolFault>
+) -> Result<Outcome, ToolFault>
     ensures { IfErr result IsRunFault }
 {
     let alloc = rt.alloc();
-    let mut out = drain(alloc, io::writer(rt))?;
-    list_to(alloc, action, settings, source, &mut out)
+    let mut out = Counted::new(make_drain(alloc, io::writer(rt))?);
+    let records = list_to(alloc, action, settings, source, &mut out)?;
+    Ok(Outcome {
+        records,
+        bad: out.bad(),
+        reports_to_errors: false,
+    })
 }
 
 // What the plan wants of the packets on standard output.
-fn command_by<'a>(plan: &Plan, definition: Option<&'a Definition>) -> Command<'a>
+fn choose_command<'a>(plan: &Plan, definition: Option<&'a Definition>) -> Command<'a>
     ensures extract { plan.now.action ≡ Action.Extract → result ≡ Command.Extract }
     ensures packets { plan.now.action ≡ Action.Packets → result ≡ Command.Packets }
     ensures fields { plan.now.action ≡ Action.Fields
@@ -88,7 +101,7 @@ fn command_by<'a>(plan: &Plan, definition: Option<&'a Definition>) -> Command<'a
 }
 
 // Gives the packets of a recording on standard output.
-#[tactic(auto, using(tm_files::proofs::FaultLemmas::starved_run, crate::proofs::BlameLemmas::run_blames, crate::proofs::BlameLemmas::starved_blames, crate::proofs::EndingLemmas::ran_done))]
+#[tactic(auto, using(tm_files::proofs::FaultLemmas::no_memory_run, crate::proofs::BlameLemmas::run_blames, crate::proofs::BlameLemmas::no_memory_blames, crate::proofs::EndingLemmas::ran_done))]
 fn give_packets<R: Print + AllocGlobal, S: BufferedSource, V: Drain>(
     rt: &R,
     job: Job,
@@ -98,11 +111,12 @@ fn give_packets<R: Print + AllocGlobal, S: BufferedSource, V: Drain>(
     ending: Ending,
 ) -> Result<Done, ToolFault>
     ensures done { IfOk result (IsDone ending job.work) }
-    ensures blamed { IfErr result (IsBlamedBeside (S.failures source.old) (S.failures source.new) (V.failures report.old) (V.failures report.new)) }
+    ensures blamed { IfErr result (IsBlamedBeside (S.failures source.old) (S.failures source.new) (V.failures report.old)
+        (V.failures report.new)) }
     ensures refused { IfErr result IsRunFault }
 {
     let alloc = rt.alloc();
-    let mut out = drain(alloc, io::writer(rt))?;
+    let mut out = make_drain(alloc, io::writer(rt))?;
     match tm_tool::run(alloc, job, command, source, &mut out, report, ending) {
         Ok(done) => Ok(done),
         Err(fault) => Err(ToolFault::Run(fault)),
@@ -111,7 +125,7 @@ fn give_packets<R: Print + AllocGlobal, S: BufferedSource, V: Drain>(
 
 // Goes on with the job of the checkpoint, or else with a new one, to where the plan wants the packets. Names are looked up anew, now that the
 // report is made: before, it may have been none.
-#[tactic(auto, using(tm_files::proofs::FaultLemmas::starved_run, crate::proofs::ProgramLemmas::folder_there, crate::proofs::ProgramLemmas::split_there))]
+#[tactic(auto, using(tm_files::proofs::FaultLemmas::no_memory_run, crate::proofs::ProgramLemmas::folder_there, crate::proofs::ProgramLemmas::split_there))]
 fn run_to_destination<R: Files + Print + AllocGlobal, S: BufferedSource, V: Drain>(
     rt: &R,
     plan: &Plan,
@@ -122,28 +136,44 @@ fn run_to_destination<R: Files + Print + AllocGlobal, S: BufferedSource, V: Drai
     ensures done { IfOk result (HasDone plan.now inputs.old.settings inputs.old.resumed) }
     ensures refused { IfErr result (λ fault. IsRunFault fault ⊎ HasFolderFault plan.now.dir fault) }
 {
-    let places = places_by(rt, plan)?;
-    let shelf = shelf_by(rt, plan, &places)?;
-    let job = job_by(rt, inputs.resumed.take(), &inputs.settings)?;
-    let ending = ending_by(plan);
+    let identities = identify_files(rt, plan)?;
+    let shelf = make_shelf(rt, plan, &identities)?;
+    let job = make_job(rt, inputs.resumed.take(), &inputs.settings)?;
+    let ending = choose_ending(plan);
     match shelf {
         Some(mut shelf) => split_packets(rt, job, &mut shelf, source, report, ending),
         None => {
-            let command = command_by(plan, inputs.definition.as_ref());
+            let command = choose_command(plan, inputs.definition.as_ref());
             give_packets(rt, job, command, source, report, ending)
         }
     }
 }
 
-// What the run of a job did, and the file that took its checkpoint, where the plan has one.
+// What the run of a job did, the file that took its checkpoint, where the plan has one, and what the run has seen.
 #[derive(Drop)]
 struct Finished<'p> {
     done: Done,
     replaced: Option<Replaced<'p>>,
+    outcome: Outcome,
 }
 
-// Does what the plan wants of the job over the recording, once the names of its files were checked, and answers what is done. The plan's checkpoint
-// is written in any case, also where no record is done.
+// What the run of a plan did: that of its job, if it has one.
+#[derive(Drop)]
+struct Ended<'p> {
+    job: Option<Finished<'p>>,
+    outcome: Outcome,
+}
+
+// The number of records that are done before the run.
+fn records_before(resumed: &Option<Job>) -> u32 {
+    match resumed {
+        Some(job) => job.records(),
+        None => 0,
+    }
+}
+
+// Does what the plan wants of the job over the recording, once the names of its files were checked, and answers what is done. The file of the
+// plan's checkpoint is made ready before the run, and replaced behind it in any case, also where no record is done.
 #[tactic(auto, using(crate::proofs::ProgramLemmas::run_ends, crate::proofs::EndingLemmas::file_of_done))]
 fn run_job<'p, R: Files + Print + AllocGlobal, S: BufferedSource, E: Write + Drop>(
     rt: &R,
@@ -155,13 +185,31 @@ fn run_job<'p, R: Files + Print + AllocGlobal, S: BufferedSource, E: Write + Dro
 ) -> Result<Finished<'p>, ToolFault>
     ensures done { IfOk result (λ finished. HasDone plan.now inputs.old.settings inputs.old.resumed finished.done) }
     ensures checkpoint { IfOk result (λ finished. option_map replaced_name finished.replaced ≡ plan.now.checkpoint) }
+    ensures octets { IfOk result (λ finished. IfSome finished.replaced (HasCheckpoint finished.done)) }
     ensures refused { IfErr result (IsOfOutputs plan.now) }
 {
     check_folder(rt, plan)?;
-    let mut report = drain(rt.alloc(), report_by(rt, plan, checked, errors)?)?;
-    let done = run_to_destination(rt, plan, inputs, source, &mut report)?;
-    let replaced = keep(rt, plan, &done)?;
-    Ok(Finished { done, replaced })
+    let before = records_before(&inputs.resumed);
+    let mut report = Counted::new(make_drain(rt.alloc(), open_report(rt, plan, checked, errors)?)?);
+    let replacement = begin_checkpoint(rt, plan)?;
+    let done = match run_to_destination(rt, plan, inputs, source, &mut report) {
+        Ok(done) => done,
+        Err(fault) => {
+            abandon_checkpoint(rt, replacement);
+            return Err(fault);
+        }
+    };
+    let replaced = store_checkpoint(rt, replacement, &done)?;
+    let outcome = Outcome {
+        records: done.records.saturating_sub(before),
+        bad: report.bad(),
+        reports_to_errors: writes_errors(plan),
+    };
+    Ok(Finished {
+        done,
+        replaced,
+        outcome,
+    })
 }
 
 // Checks the names of the plan's files, does what the plan asks for with the recording, and answers what its job has done, if it has one.
@@ -171,61 +219,70 @@ fn run_on_recording<'p, R: Files + Print + AllocGlobal, S: BufferedSource, E: Wr
     inputs: &mut Inputs,
     source: &mut S,
     errors: E,
-) -> Result<Option<Finished<'p>>, ToolFault>
+) -> Result<Ended<'p>, ToolFault>
     ensures ok { OnOk result (AreClear plan.now) }
-    ensures done { IfOk result (λ found. MatchOption found (is_job plan.now.action ≡ false)
+    ensures done { IfOk result (λ ended. MatchOption ended.job (is_job plan.now.action ≡ false)
         (λ finished. HasDone plan.now inputs.old.settings inputs.old.resumed finished.done)) }
-    ensures checkpoint { IfOk result (λ found. IfSome found (λ finished. option_map replaced_name finished.replaced ≡ plan.now.checkpoint)) }
+    ensures checkpoint { IfOk result (λ ended. IfSome ended.job
+        (λ finished. option_map replaced_name finished.replaced ≡ plan.now.checkpoint)) }
+    ensures octets { IfOk result (λ ended. IfSome ended.job
+        (λ finished. IfSome finished.replaced (HasCheckpoint finished.done))) }
     ensures refused { IfErr result (IsOfOutputs plan.now) }
 {
-    let checked = checked_by(rt, plan)?;
+    let checked = check_file_names(rt, plan)?;
     if is_job(plan.action) {
-        return Ok(Some(run_job(rt, plan, inputs, source, errors, checked)?));
+        let finished = run_job(rt, plan, inputs, source, errors, checked)?;
+        let outcome = finished.outcome;
+        return Ok(Ended {
+            job: Some(finished),
+            outcome,
+        });
     }
-    list(rt, plan.action, &inputs.settings, source)?;
-    Ok(None)
+    let outcome = list(rt, plan.action, &inputs.settings, source)?;
+    Ok(Ended { job: None, outcome })
 }
 
-// Does what the plan asks for.
-#[tactic(auto, using(tm_files::proofs::FaultLemmas::starved_run, crate::proofs::ProgramLemmas::definition_comes, crate::proofs::ProgramLemmas::file_comes, crate::proofs::ProgramLemmas::outputs_come, crate::proofs::ProgramLemmas::resumed_comes, crate::proofs::ProgramLemmas::run_comes, crate::proofs::ProgramLemmas::settings_come))]
+// Does what the plan asks for, and answers what the run has seen.
+#[tactic(auto, using(tm_files::proofs::FaultLemmas::no_memory_run, crate::proofs::ProgramLemmas::definition_comes, crate::proofs::ProgramLemmas::file_comes, crate::proofs::ProgramLemmas::outputs_come, crate::proofs::ProgramLemmas::resumed_comes, crate::proofs::ProgramLemmas::run_comes, crate::proofs::ProgramLemmas::settings_come))]
 fn run_plan<R: Files + Input + Print + AllocGlobal, E: Write + Drop>(
     rt: &R,
     plan: &Plan,
     mut errors: E,
-) -> Result<(), ToolFault>
+) -> Result<Outcome, ToolFault>
     requires { IsSome plan.now.settings }
     ensures ok { OnOk result (AreClear plan.now) }
     ensures refused { IfErr result (MayCome plan.now) }
 {
     check_standard(rt, plan, &mut errors)?;
-    let mut inputs = inputs_by(rt, plan)?;
-    match recording_by(plan) {
+    let mut inputs = read_inputs(rt, plan)?;
+    let ended = match choose_recording(plan) {
         Recording::File(name) => {
-            let mut source = source_in(rt, name)?;
-            run_on_recording(rt, plan, &mut inputs, &mut source, errors)?;
+            let mut source = open_recording(rt, name)?;
+            run_on_recording(rt, plan, &mut inputs, &mut source, errors)?
         }
         Recording::Input => {
             let mut source = source_of_input(rt)?;
-            run_on_recording(rt, plan, &mut inputs, &mut source, errors)?;
+            run_on_recording(rt, plan, &mut inputs, &mut source, errors)?
         }
-    }
-    Ok(())
+    };
+    Ok(ended.outcome)
 }
 
-/// Does what these words of the command line ask for. A report that has no file goes to `errors`, all of it before this returns.
+/// Does what these arguments of the command line ask for, and answers what the run has seen. A report that has no file goes to `errors`, all of it
+/// before this returns.
 ///
 /// # Errors
 ///
-/// `Usage` where the words are no plan; else a fault of a file that the plan names, of what the file says, or of the run.
+/// `Usage` where the arguments are no plan; else a fault of a file that the plan names, of what the file says, or of the run.
 #[tactic(auto, using(crate::proofs::ProgramLemmas::plan_ends))]
 pub fn run<R: Files + Input + Print + AllocGlobal, E: Write + Drop>(
     rt: &R,
-    words: Vec<String>,
+    arguments: Vec<String>,
     errors: E,
-) -> Result<(), ToolFault>
-    ensures ok { OnOk result ((p : Plan) × IsAsked (map string_bytes words.items) p × AreClear p) }
-    ensures refused { IfErr result (MayEnd (map string_bytes words.items)) }
+) -> Result<Outcome, ToolFault>
+    ensures ok { OnOk result ((p : Plan) × IsAsked (map string_bytes arguments.items) p × AreClear p) }
+    ensures refused { IfErr result (MayEnd (map string_bytes arguments.items)) }
 {
-    let plan = plan_by(rt.alloc(), words)?;
+    let plan = read_arguments(rt.alloc(), arguments)?;
     run_plan(rt, &plan, errors)
 }

@@ -1,17 +1,17 @@
 //! Files that are not read, and files that can't be made.
 
-use crate::words::owned;
+use crate::arguments::owned_strings;
 use std::fs::{self, File};
 use std::io::{self, Write};
 use std::test::Fail;
-use tm_program::{RunFault, ToolFault, fault_line, run};
+use tm_program::{Outcome, RunFault, ToolFault, fault_line, run};
 use tm_settings::{Key, SettingsFault};
 
-// Does what these words ask for, and forgets the report.
-fn ran(rt: &HostRuntime, words: &[&str]) -> Result<Result<(), ToolFault>, Fail> {
+// Does what these arguments ask for, and forgets the report.
+fn run_with(rt: &HostRuntime, arguments: &[&str]) -> Result<Result<Outcome, ToolFault>, Fail> {
     let alloc = rt.alloc();
-    let words = owned(alloc, words).ok_or("words")?;
-    Ok(run(rt, words, Vec::new(alloc)))
+    let arguments = owned_strings(alloc, arguments).ok_or("words")?;
+    Ok(run(rt, arguments, Vec::new(alloc)))
 }
 
 #[test]
@@ -23,7 +23,7 @@ fn files_that_are_not_read(rt: HostRuntime) -> Result<(), Fail> {
         ("/dev/null", "tmx: settings: missing spacecraft\n"),
     ];
     for (name, line) in table {
-        let Err(fault) = ran(&rt, &["frames", "--settings", name])? else {
+        let Err(fault) = run_with(&rt, &["frames", "--settings", name])? else {
             return Err(Fail::from("it was read"));
         };
         let Ok(found) = fault_line(rt.alloc(), &fault) else {
@@ -50,13 +50,13 @@ fn make(rt: &HostRuntime, name: &str, octets: &[u8]) -> io::Result<()> {
 fn split_without_folder(rt: HostRuntime) -> Result<(), Fail> {
     let made = make(&rt, "split.toml", SETTINGS.as_bytes()).is_ok()
         && make(&rt, "split.frames", RECORDING).is_ok();
-    let words = [
+    let arguments = [
         "split",
         "--settings=split.toml",
         "--dir=no such folder",
         "split.frames",
     ];
-    let found = ran(&rt, &words);
+    let found = run_with(&rt, &arguments);
     let removed = fs::remove_file(&rt, "split.toml").is_ok()
         && fs::remove_file(&rt, "split.frames").is_ok();
     assert!(rt; made && removed);

@@ -1,13 +1,13 @@
-//! The tests of the words and of the program, with memory refused to them too.
+//! The tests of the arguments and of the program, with memory refused to them too.
 #![tactic(auto)]
 
+#[cfg(test)]
+mod arguments;
 #[cfg(test)]
 mod files;
 #[cfg(test)]
 mod lines;
 #[cfg(test)]
+mod refused_arguments;
+#[cfg(test)]
 mod refused_lines;
-#[cfg(test)]
-mod refused_words;
-#[cfg(test)]
-mod words;

@@ -8,7 +8,7 @@ use tm_settings::{Key, SettingsFault};
 use tm_tool::CheckpointFault;
 
 // The octets of a text.
-fn named(alloc: Global, text: &str) -> Result<Octets, AllocError> {
+fn octets_of(alloc: Global, text: &str) -> Result<Octets, AllocError> {
     Ok(Octets::new(Vec::from_slice(alloc, text.as_bytes())?))
 }
 
@@ -17,12 +17,12 @@ fn lines_and_statuses(rt: HostRuntime) -> Result<(), Fail> {
     let alloc = rt.alloc();
     let table = [
         (
-            ToolFault::Usage(UsageFault::Help(named(alloc, "help\n")?)),
+            ToolFault::Usage(UsageFault::Help(octets_of(alloc, "help\n")?)),
             "help\n",
             0,
         ),
         (
-            ToolFault::Usage(UsageFault::Usage(named(alloc, "usage\n")?)),
+            ToolFault::Usage(UsageFault::Usage(octets_of(alloc, "usage\n")?)),
             "usage\n",
             2,
         ),
@@ -32,7 +32,7 @@ fn lines_and_statuses(rt: HostRuntime) -> Result<(), Fail> {
             2,
         ),
         (
-            ToolFault::Settings(SettingsFault::Unknown(named(alloc, "colour")?)),
+            ToolFault::Settings(SettingsFault::Unknown(octets_of(alloc, "colour")?)),
             "tmx: settings: unknown colour\n",
             2,
         ),
@@ -52,13 +52,13 @@ fn lines_and_statuses(rt: HostRuntime) -> Result<(), Fail> {
             2,
         ),
         (
-            ToolFault::File(named(alloc, "a\\b \u{e9}\n")?),
+            ToolFault::File(octets_of(alloc, "a\\b \u{e9}\n")?),
             "tmx: a\\x5cb \\xc3\\xa9\\x0a: failed\n",
             1,
         ),
         (ToolFault::Errors, "", 1),
         (
-            ToolFault::TooLong(named(alloc, "s.toml")?),
+            ToolFault::TooLong(octets_of(alloc, "s.toml")?),
             "tmx: s.toml: too long\n",
             2,
         ),

@@ -2,7 +2,7 @@
 
 use std::alloc::Global;
 use std::test::Fail;
-use tm_memory::{Answer, Turns, made};
+use tm_memory::{Answer, Turns, try_twice};
 use tm_program::{Octets, RunFault, ToolFault, fault_line};
 use tm_settings::{Key, SettingsFault};
 
@@ -26,13 +26,13 @@ fn lines_in_turn(rt: &HostRuntime, fault: &ToolFault, wanted: &str) -> bool {
             break;
         }
     }
-    turns.passed()
+    turns.has_passed()
 }
 
 #[test]
 fn refused_lines(rt: HostRuntime) -> Result<(), Fail> {
     let alloc = rt.alloc();
-    let name = made(|| foreign(alloc)).ok_or("a name")?;
+    let name = try_twice(|| foreign(alloc)).ok_or("a name")?;
     let table = [
         (
             ToolFault::File(name),

@@ -10,10 +10,13 @@ use Rattle.tm_bits.proofs.PartLemmas.{octets_behind}
 use Rattle.tm_frame.specs.declared.layout.LayoutParts.{LayoutParts}
 use Rattle.tm_reassembly.specs.declared.fault.StateFault.{StateFault}
 use Rattle.tm_reassembly.specs.declared.fault.StateFault.TheVariants as fault
-use Rattle.tm_reassembly.specs.Checkpoint.{ReadBlock, ReadBlocks, four_at, is_unfinished, tail_read, flagged, block_read, blocks_read, in_front, and_then_blocks, master_read, with_channels, with_master, state_decoding_of, old_decoding_of}
+use Rattle.tm_reassembly.specs.Checkpoint.{ReadBlock, ReadBlocks, four_at, is_unfinished, tail_read, flagged, block_read, blocks_read, in_front, and_then_blocks, with_channels, with_master, state_decoding_of, old_decoding_of}
 use Rattle.tm_bits.specs.Bits.{two_at}
+use Rattle.tm_reassembly.specs.code.Blocks.{decoding_in, master_read_in}
+use Rattle.tm_reassembly.specs.declared.checkpoint.Form.{Form}
+use Rattle.tm_reassembly.specs.declared.checkpoint.Form.TheVariants as form
 use Rattle.tm_reassembly.specs.Parts.{begins_packet}
-use Rattle.tm_items.specs.OnePacket.{reach}
+use Rattle.tm_items.specs.OnePacket.{packet_length}
 use Rattle.tm_rules.specs.Rules.{Rules, IsLimit, chooses}
 use Rattle.tm_reassembly.specs.State.{Last}
 use Rattle.tm_reassembly.specs.Valid.{IsCount, IsValidState}
@@ -23,52 +26,37 @@ use Rattle.tm_reassembly.proofs.States.{Keeps, state-from}
 
 -- ---- what is answered
 
-pub decoding_short : (rules : Rules) (xs : List ℕ) → length xs < 4 → state_decoding_of rules xs ≡ Err fault.Short
-unfolding state_decoding_of
-decoding_short rules xs h = cond-true (ltb (length xs) 4) _ _ (lt-ltb (length xs) 4 h)
+pub decoding_short : (form : Form) (rules : Rules) (xs : List ℕ) → length xs < 4 → decoding_in form rules xs ≡ Err fault.Short
+unfolding state_decoding_of old_decoding_of
+decoding_short form.WithMaster rules xs h = cond-true (ltb (length xs) 4) _ _ (lt-ltb (length xs) 4 h)
+decoding_short form.WithoutMaster rules xs h = cond-true (ltb (length xs) 4) _ _ (lt-ltb (length xs) 4 h)
 
-long : (rules : Rules) (xs : List ℕ) → 4 ≤ length xs → state_decoding_of rules xs ≡ with_master rules (four_at xs 0) (drop 4 xs) (master_read (drop 4 xs))
-unfolding state_decoding_of
-long rules xs h = cond-false (ltb (length xs) 4) _ _ (le-ltb (length xs) 4 h)
+long : (form : Form) (rules : Rules) (xs : List ℕ) → 4 ≤ length xs
+    → decoding_in form rules xs ≡ with_master rules (four_at xs 0) (drop 4 xs) (master_read_in form (drop 4 xs))
+unfolding state_decoding_of old_decoding_of
+long form.WithMaster rules xs h = cond-false (ltb (length xs) 4) _ _ (le-ltb (length xs) 4 h)
+long form.WithoutMaster rules xs h = cond-false (ltb (length xs) 4) _ _ (le-ltb (length xs) 4 h)
 
-pub old_decoding_short : (rules : Rules) (xs : List ℕ) → length xs < 4 → old_decoding_of rules xs ≡ Err fault.Short
-unfolding old_decoding_of
-old_decoding_short rules xs h = cond-true (ltb (length xs) 4) _ _ (lt-ltb (length xs) 4 h)
+module _ (form : Form) (rules : Rules) (xs : List ℕ) (there : 4 ≤ length xs) where
+  -- the octets behind the number of records, as the code takes them
+  behind : (n : ℕ) → n ≤ length xs → take (length xs - n) (drop n xs) ≡ drop n xs
+  behind n h = take_all (length xs - n) (drop n xs) (omega (arith, length-drop n xs))
 
--- the octets behind the number of records, as the code takes them
-behind : (n : ℕ) (xs : List ℕ) → n ≤ length xs → take (length xs - n) (drop n xs) ≡ drop n xs
-behind n xs h = take_all (length xs - n) (drop n xs) (omega (arith, length-drop n xs))
+  pub decoding_master : (found : StateFault) → master_read_in form (take (length xs - 4) (drop 4 xs)) ≡ Err found → decoding_in form rules xs ≡ Err found
+  decoding_master found e =
+      long form rules xs there ∙ ap (with_master rules (four_at xs 0) (drop 4 xs)) (ap (master_read_in form) (sym (behind 4 there)) ∙ e)
 
-pub decoding_master : (rules : Rules) (xs : List ℕ) (found : StateFault) → 4 ≤ length xs
-    → master_read (take (length xs - 4) (drop 4 xs)) ≡ Err found → state_decoding_of rules xs ≡ Err found
-decoding_master rules xs found h e =
-    long rules xs h ∙ ap (with_master rules (four_at xs 0) (drop 4 xs)) (ap master_read (sym (behind 4 xs h)) ∙ e)
-
-pub decoding_blocks : (rules : Rules) (xs : List ℕ) (records used : ℕ) (master : Option ℕ) → 4 ≤ length xs → records ≡ four_at xs 0
-    → master_read (take (length xs - 4) (drop 4 xs)) ≡ Ok (record { count = master; octets = used })
-    → state_decoding_of rules xs ≡ with_channels records master (4 + used) (blocks_read rules records 8 0 (drop (4 + used) xs))
-decoding_blocks rules xs records used master h same e =
-    let n : used + 4 ≡ 4 + used = omega arith in
-    long rules xs h
-    ∙ ap (λ (r : ℕ). with_master rules r (drop 4 xs) (master_read (drop 4 xs))) (sym same)
-    ∙ ap (with_master rules records (drop 4 xs)) (ap master_read (sym (behind 4 xs h)) ∙ e)
-    ∙ ap (λ (l : List ℕ). with_channels records master (4 + used) (blocks_read rules records 8 0 l)) (drop-drop used 4 xs)
-
-pub old_decoding_blocks : (rules : Rules) (xs : List ℕ) (records : ℕ) → 4 ≤ length xs → records ≡ four_at xs 0
-    → with_channels records None 4 (blocks_read rules records 8 0 (take (length xs - 4) (drop 4 xs))) ≡ old_decoding_of rules xs
-unfolding old_decoding_of
-old_decoding_blocks rules xs records h same =
-    ap (λ (l : List ℕ). with_channels records None 4 (blocks_read rules records 8 0 l)) (behind 4 xs h)
-    ∙ ap (λ (r : ℕ). with_channels r None 4 (blocks_read rules r 8 0 (drop 4 xs))) same
-    ∙ sym (cond-false (ltb (length xs) 4) _ _ (le-ltb (length xs) 4 h))
-
--- the same of the octets behind the master channel count, as the code takes them
-pub decoding_behind : (rules : Rules) (xs : List ℕ) (records used : ℕ) (master : Option ℕ) → 4 ≤ length xs → records ≡ four_at xs 0
-    → master_read (take (length xs - 4) (drop 4 xs)) ≡ Ok (record { count = master; octets = used }) → 4 + used ≤ length xs
-    → with_channels records master (4 + used) (blocks_read rules records 8 0 (take (length xs - (4 + used)) (drop (4 + used) xs))) ≡ state_decoding_of rules xs
-decoding_behind rules xs records used master h same e inside =
-    ap (λ (l : List ℕ). with_channels records master (4 + used) (blocks_read rules records 8 0 l)) (behind (4 + used) xs inside)
-    ∙ sym (decoding_blocks rules xs records used master h same e)
+  -- and those behind the master channel count
+  pub decoding_behind : (records used : ℕ) (master : Option ℕ) → records ≡ four_at xs 0
+      → master_read_in form (take (length xs - 4) (drop 4 xs)) ≡ Ok (record { count = master; octets = used }) → 4 + used ≤ length xs
+      → with_channels records master (4 + used) (blocks_read rules records 8 0 (take (length xs - (4 + used)) (drop (4 + used) xs))) ≡ decoding_in form rules xs
+  decoding_behind records used master same e inside =
+      let n : used + 4 ≡ 4 + used = omega arith in
+      sym (
+      long form rules xs there
+      ∙ ap (λ (r : ℕ). with_master rules r (drop 4 xs) (master_read_in form (drop 4 xs))) (sym same)
+      ∙ ap (with_master rules records (drop 4 xs)) (ap (master_read_in form) (sym (behind 4 there)) ∙ e)
+      ∙ ap (λ (l : List ℕ). with_channels records master (4 + used) (blocks_read rules records 8 0 l)) (drop-drop used 4 xs ∙ sym (behind (4 + used) inside)))
 
 -- ---- what is read is valid
 
@@ -83,8 +71,8 @@ Sound limit layout records chosen (Err found) = Unit {0}
 open-of : (limit : ℕ) (o : List ℕ) → 0 < length o → is_unfinished limit o ≡ true → IsTail limit o
 open-of limit [] some h = absurd (omega arith)
 open-of limit (x ∷ xs) some h =
-    let both = and_parts (begins_packet limit (x ∷ xs)) (ltb (suc (length xs)) (reach (x ∷ xs))) h in
-    (both.0, ltb-true (suc (length xs)) (reach (x ∷ xs)) both.1)
+    let both = and_parts (begins_packet limit (x ∷ xs)) (ltb (suc (length xs)) (packet_length (x ∷ xs))) h in
+    (both.0, ltb-true (suc (length xs)) (packet_length (x ∷ xs)) both.1)
 
 module _ (limit : ℕ) (layout : LayoutParts) (records : ℕ) (chosen : Bool) (is_chosen : chosen ≡ true) (xs : List ℕ) (octets : AreOctets xs) (enough : 12 ≤ length xs) where
   tail-sound : (first place size : ℕ) → Sound limit layout records chosen (tail_read limit layout records xs first place size)

@@ -1,15 +1,20 @@
--- What holds of each element of a list, and of those that pass a test.
-use Rattle.std.proofs.Common.{◌≡◌, Bool, true, false, if◌then◌else◌, List, [], ◌∷◌, ◌++◌, refl, ap, ◌∙◌}
-use Rattle.std.specs.List.{flat_map, filter}
+-- What holds of each element of a list, and of those that pass a test: lemmas of std's `AllByRecursion`.
+pub use Rattle.std.specs.List.{AllByRecursion as Each}
+use Rattle.std.proofs.Common.{◌≡◌, ℕ, zero, suc, Bool, true, false, if◌then◌else◌, Some, List, [], ◌∷◌, ◌++◌, refl, ap, subst, ◌∙◌}
+use Rattle.std.specs.List.{flat_map, filter, slice_get}
 use Rattle.std.proofs.lemmas.Bool.{cond_both, cond-true, cond-false}
-
-abbrev pub Each : {X : Type 0} → (X → Type 0) → List X → Type 0
-Each P [] = Unit {0}
-Each P (x ∷ xs) = P x × Each P xs
 
 pub Each-append : {X : Type 0} (P : X → Type 0) (xs ys : List X) → Each P xs → Each P ys → Each P (xs ++ ys)
 Each-append P [] ys h k = k
 Each-append P (x ∷ xs) ys h k = (h.0, Each-append P xs ys h.1 k)
+
+pub Each-every : {X : Type 0} (P : X → Type 0) (xs : List X) → ((x : X) → P x) → Each P xs
+Each-every P [] h = tt
+Each-every P (x ∷ xs) h = (h x, Each-every P xs h)
+
+pub Each-split : {X : Type 0} (P : X → Type 0) (xs ys : List X) → Each P (xs ++ ys) → Each P xs × Each P ys
+Each-split P [] ys h = (tt, h)
+Each-split P (x ∷ xs) ys h = let rest = Each-split P xs ys h.1 in ((h.0, rest.0), rest.1)
 
 pub Each-weaken : {X : Type 0} (P Q : X → Type 0) (xs : List X) → ((x : X) → P x → Q x) → Each P xs → Each Q xs
 Each-weaken P Q [] f h = tt
@@ -21,6 +26,11 @@ Each-flat_map P Q f (x ∷ xs) g h = Each-append Q (f x) (flat_map f xs) (g x h.
 
 pub Each-cond : {X : Type 0} (P : X → Type 0) (b : Bool) (xs : List X) → (b ≡ true → Each P xs) → Each P (if b then xs else [])
 Each-cond P b xs h = cond_both b xs [] (Each P) h (λ e. tt)
+
+pub Each-at : {X : Type 0} (P : X → Type 0) (xs : List X) (i : ℕ) (x : X) → Each P xs → slice_get xs i ≡ Some x → P x
+Each-at P [] i x h e = absurd (cc)
+Each-at P (y ∷ ys) zero x h e = let same : y ≡ x = cc in subst P same h.0
+Each-at P (y ∷ ys) (suc i) x h e = Each-at P ys i x h.1 e
 
 pub Each-filter : {X : Type 0} (P : X → Type 0) (test : X → Bool) (xs : List X) → Each P xs → Each P (filter test xs)
 Each-filter P test [] h = tt

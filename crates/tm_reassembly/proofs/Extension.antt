@@ -6,11 +6,12 @@ use Rattle.std.proofs.lemmas.Bool.{cases_lt, lt-leb, le-leb, and_right}
 use Rattle.tm_reassembly.specs.State.{State, Last, Tail}
 use Rattle.tm_reassembly.specs.Readings.{Reading}
 use Rattle.tm_reassembly.specs.Chain.{ChainMember, Run, Runs, stem_of, stem_with, chain, frames, member_of, has_frame_gap, runs, runs_after, with_member, cut_before}
-use Rattle.tm_reassembly.specs.code.Fits.{AllReadingsFit, PlaceFits, PlacesFit}
+use Rattle.tm_reassembly.specs.code.Fits.{AllReadingsFit, PlaceFits, PlacesFit, IsPlaced}
+use Rattle.tm_reassembly.proofs.Each.{Each, Each-append, Each-split, Each-at, Each-weaken}
 use Rattle.tm_reassembly.specs.Verdict.{Verdict, verdict, completed_at_once, Grow, GrowFrom, is_whole}
 use Rattle.tm_reassembly.specs.Parts.{text, far_end, begins_packet}
-use Rattle.tm_items.specs.OnePacket.{reach}
-use Rattle.tm_items.proofs.Reaching.{reach-settled, reach-unsettled}
+use Rattle.tm_items.specs.OnePacket.{packet_length}
+use Rattle.tm_items.proofs.Reaching.{packet_length-settled, packet_length-unsettled}
 use Rattle.tm_reassembly.proofs.Settled.{open-settled, agreement-settled, long-settled, whole-settled}
 use Rattle.tm_reassembly.proofs.Split.{breaker-settled}
 use Rattle.tm_reassembly.proofs.Joining.{FitFrom}
@@ -68,17 +69,8 @@ grown-at first (next ∷ rs) (q ∷ qs) zero r h e = (q, [], refl, (let same : q
 grown-at first (next ∷ rs) (q ∷ qs) (suc i) r h e = grown-at next rs qs i r h.1 e
 
 -- the places of a run's frames lie in their fields
-PlacesFit-append : (a b : List ChainMember) → PlacesFit a → PlacesFit b → PlacesFit (a ++ b)
-PlacesFit-append [] b h k = k
-PlacesFit-append (m ∷ a) b h k = (h.0, PlacesFit-append a b h.1 k)
-
-pub PlacesFit-split : (a b : List ChainMember) → PlacesFit (a ++ b) → PlacesFit a × PlacesFit b
-PlacesFit-split [] b h = (tt, h)
-PlacesFit-split (m ∷ a) b h = let rest = PlacesFit-split a b h.1 in ((h.0, rest.0), rest.1)
-
 fit-frames : (k : ℕ) (ms : List ChainMember) → FitFrom k ms → PlacesFit ms
-fit-frames k [] h = tt
-fit-frames k (m ∷ ms) h = (h.0.1, fit-frames k ms h.1)
+fit-frames k ms h = Each-weaken (λ m. (k ≤ m.number) × IsPlaced m) IsPlaced ms (λ m p. p.1) h
 
 fit-stem : (x : Option (Option Last)) → PlacesFit (stem_of x)
 fit-stem None = tt
@@ -91,12 +83,11 @@ fit-stem (Some (Some last)) = with_tail last.tail
 
 pub chain-fit : (s : State) (c : ℕ) (rs : List Reading) → AllReadingsFit rs → PlacesFit (chain s c rs)
 chain-fit s c rs fits =
-    PlacesFit-append (stem_of (slice_get s.channels c)) (frames c s.records rs) (fit-stem (slice_get s.channels c))
+    Each-append IsPlaced (stem_of (slice_get s.channels c)) (frames c s.records rs) (fit-stem (slice_get s.channels c))
     (fit-frames s.records (frames c s.records rs) (frames-fit c s.records rs fits))
 
 abbrev RunsFit : List Run → Type 0
-RunsFit [] = Unit {0}
-RunsFit (r ∷ rs) = PlacesFit r.members × RunsFit rs
+RunsFit rs = Each (λ r. PlacesFit r.members) rs
 
 abbrev Fit : Runs → Type 0
 Fit rs = PlacesFit rs.current.members × RunsFit rs.others
@@ -114,15 +105,10 @@ runs-fit before [] h = (tt, tt)
 runs-fit before (m ∷ ms) h =
     fit-before (has_frame_gap before m) m _ (fit-with m.is_vca m _ h.0 (runs-fit (Some m.count) ms h.1))
 
-fit-at : (rs : List Run) (i : ℕ) (r : Run) → RunsFit rs → slice_get rs i ≡ Some r → PlacesFit r.members
-fit-at [] i r h e = absurd (cc)
-fit-at (x ∷ rs) zero r h e = let same : x ≡ r = cc in subst (λ (z : Run). PlacesFit z.members) same h.0
-fit-at (x ∷ rs) (suc i) r h e = fit-at rs i r h.1 e
-
 pub run-places : (s : State) (c : ℕ) (rs : List Reading) → AllReadingsFit rs → (i : ℕ) (r : Run) → slice_get (runs (chain s c rs)) i ≡ Some r
     → PlacesFit r.members
 run-places s c rs fits i r at =
-    let all = runs-fit None (chain s c rs) (chain-fit s c rs fits) in fit-at (runs (chain s c rs)) i r (all.0, all.1) at
+    let all = runs-fit None (chain s c rs) (chain-fit s c rs fits) in Each-at (λ r. PlacesFit r.members) (runs (chain s c rs)) i r (all.0, all.1) at
 
 verdict_by : {a b c d e f l m : Bool} → a ≡ d → b ≡ e → l ≡ m → c ≡ f
     → ◌≡◌ {A = Verdict} (record { opened = a; agreed = b; long = l; completed = c }) (record { opened = d; agreed = e; long = m; completed = f })
@@ -151,27 +137,27 @@ module _ (limit : ℕ) where
 
   -- a packet that ends in its own frame
   pub at-once-settled : (start : List ℕ) (later : List ChainMember)
-      → completed_at_once limit start later ≡ (begins_packet limit start && leb (reach start) (length start))
+      → completed_at_once limit start later ≡ (begins_packet limit start && leb (packet_length start) (length start))
   at-once-settled start later =
       ⊎_elim
       (λ less.
-      let far : leb (far_end start later) (length start) ≡ false = lt-leb (far_end start later) (length start) (reach-unsettled start (text later) less) in
+      let far : leb (far_end start later) (length start) ≡ false = lt-leb (far_end start later) (length start) (packet_length-unsettled start (text later) less) in
       and_right (is_whole limit start later) _ far
-      ∙ sym (and_right (begins_packet limit start) _ (lt-leb (reach start) (length start) less)))
-      (λ whole. settled whole (reach-settled start (text later) whole))
-      (cases_lt (length start) (reach start))
+      ∙ sym (and_right (begins_packet limit start) _ (lt-leb (packet_length start) (length start) less)))
+      (λ whole. settled whole (packet_length-settled start (text later) whole))
+      (cases_lt (length start) (packet_length start))
     where
       both : (b : Bool) → ((b && true) && true) ≡ (b && true)
       both true = refl
       both false = refl
 
-      settled : reach start ≤ length start → far_end start later ≡ reach start
-          → completed_at_once limit start later ≡ (begins_packet limit start && leb (reach start) (length start))
+      settled : packet_length start ≤ length start → far_end start later ≡ packet_length start
+          → completed_at_once limit start later ≡ (begins_packet limit start && leb (packet_length start) (length start))
       settled whole e =
           let len : length (start ++ text later) ≡ length start + length (text later) = length-append start (text later) in
-          let enough : leb (reach start) (length (start ++ text later)) ≡ true = le-leb _ _ (omega arith) in
-          let here : leb (reach start) (length start) ≡ true = le-leb _ _ whole in
-          rw (e, breaker-settled limit (reach start) (length start) later whole, enough, here) (both (begins_packet limit start))
+          let enough : leb (packet_length start) (length (start ++ text later)) ≡ true = le-leb _ _ (omega arith) in
+          let here : leb (packet_length start) (length start) ≡ true = le-leb _ _ whole in
+          rw (e, breaker-settled limit (packet_length start) (length start) later whole, enough, here) (both (begins_packet limit start))
 
 -- over records
 pub verdicts-stay : (s : State) (c : ℕ) (rs qs : List Reading) → AllReadingsFit rs
@@ -185,8 +171,8 @@ verdicts-stay s c rs qs fits i r at before between later f m split =
     grown-at (runs_after None (chain s c rs)).current (runs_after None (chain s c rs)).others (runs (chain s c (rs ++ qs))) i r (runs-grow s c rs qs) at in
     let all : PlacesFit (before ++ f ∷ (between ++ m ∷ later)) =
     subst PlacesFit split (run-places s c rs fits i r at) in
-    let ahead : PlacesFit (between ++ m ∷ later) = (PlacesFit-split before (f ∷ (between ++ m ∷ later)) all).1.1 in
-    let apart = PlacesFit-split between (m ∷ later) ahead in (
+    let ahead : PlacesFit (between ++ m ∷ later) = (Each-split IsPlaced before (f ∷ (between ++ m ∷ later)) all).1.1 in
+    let apart = Each-split IsPlaced between (m ∷ later) ahead in (
       grown.0,
       grown.1,
       grown.2,

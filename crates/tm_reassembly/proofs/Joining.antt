@@ -9,6 +9,7 @@ use Rattle.std.proofs.lemmas.List.Elements.{filter-append}
 use Rattle.tm_reassembly.specs.State.{Last, Tail}
 use Rattle.tm_items.specs.Item.{Item, seen_of, Vca, Dropped, Packet}
 pub use Rattle.tm_reassembly.specs.Tiles.{tail_of}
+pub use Rattle.tm_reassembly.specs.Steps.{count_of_last as before_of}
 use Rattle.tm_reassembly.specs.Chain.{ChainMember, has_frame_gap, stem_of, stem_with, Unended}
 use Rattle.tm_reassembly.specs.Parts.{Part, Fate, Given, Lost, Held}
 use Rattle.tm_reassembly.specs.code.Field.{chain_parts_at, chain_tail_at, part_items}
@@ -16,12 +17,6 @@ use Rattle.tm_reassembly.specs.Items.{part_item, seen_at, gap_item, gaps, gap_at
 use Rattle.tm_reassembly.proofs.Step.{PlaceFits}
 use Rattle.tm_reassembly.proofs.Chained.{IsOpenTail, chained, chained_step, chained_end, chain_parts-stem, chain_parts-fresh, left_parts}
 use Rattle.tm_reassembly.proofs.Seen.{AllSeen, seen_at-all, seen_at-none, chain_parts_at-at, chain_tail_at-open, AllAt, IsAt}
-
--- what a state says of a channel
-abbrev pub before_of : Option (Option Last) → Option ℕ
-before_of None = None
-before_of (Some None) = None
-before_of (Some (Some last)) = Some last.count
 
 -- what holds of each gap and of each VCA frame, by what holds of their members
 pub gap-each : (Q : Item → Type 0) (gap : ℕ → ChainMember → Item) (before : Option ℕ) (m : ChainMember) → ((expected : ℕ) → Q (gap expected m)) → Each Q (gap_at gap before m)
@@ -65,38 +60,12 @@ left_items channel (Some t) = refl
 six-here : (n : ℕ) (a a' b b' c c' : List Item) → seen_at n a ≡ a → seen_at n a' ≡ [] → seen_at n b ≡ b → seen_at n b' ≡ [] → seen_at n c ≡ c → seen_at n c' ≡ []
     → seen_at n (((a ++ a') ++ (b ++ b')) ++ (c ++ c')) ≡ (a ++ b) ++ c
 six-here n a a' b b' c c' e1 e2 e3 e4 e5 e6 =
-    rw (
-      filter-append (λ x. eqb (seen_of x) n) ((a ++ a') ++ (b ++ b')) (c ++ c'),
-      filter-append (λ x. eqb (seen_of x) n) (a ++ a') (b ++ b'),
-      filter-append (λ x. eqb (seen_of x) n) a a',
-      filter-append (λ x. eqb (seen_of x) n) b b',
-      filter-append (λ x. eqb (seen_of x) n) c c',
-      e1,
-      e2,
-      e3,
-      e4,
-      e5,
-      e6,
-      append-nil a,
-      append-nil b,
-      append-nil c,
-    )
+    simp (filter-append (λ x. eqb (seen_of x) n), e1, e2, e3, e4, e5, e6, append-nil {A = Item})
 
 six-there : (n : ℕ) (a a' b b' c c' : List Item) → seen_at n a ≡ [] → seen_at n b ≡ [] → seen_at n c ≡ []
     → seen_at n (((a ++ a') ++ (b ++ b')) ++ (c ++ c')) ≡ seen_at n ((a' ++ b') ++ c')
 six-there n a a' b b' c c' e1 e3 e5 =
-    rw (
-      filter-append (λ x. eqb (seen_of x) n) ((a ++ a') ++ (b ++ b')) (c ++ c'),
-      filter-append (λ x. eqb (seen_of x) n) (a ++ a') (b ++ b'),
-      filter-append (λ x. eqb (seen_of x) n) a a',
-      filter-append (λ x. eqb (seen_of x) n) b b',
-      filter-append (λ x. eqb (seen_of x) n) c c',
-      e1,
-      e3,
-      e5,
-      filter-append (λ x. eqb (seen_of x) n) (a' ++ b') c',
-      filter-append (λ x. eqb (seen_of x) n) a' b',
-    )
+    simp (filter-append (λ x. eqb (seen_of x) n), e1, e3, e5)
 
 -- a list that is seen from k on has nothing seen before
 pub none_before : (k n : ℕ) (xs : List Item) → n < k → AllSeen (λ s. k ≤ s) xs → seen_at n xs ≡ []

@@ -9,10 +9,10 @@ use Rattle.tm_reassembly.specs.State.{Tail}
 use Rattle.tm_reassembly.specs.Chain.{ChainMember}
 use Rattle.tm_reassembly.proofs.Long.{agrees-place}
 use Rattle.tm_reassembly.specs.Parts.{Part, agrees, agrees_at, begins_packet, reason_at, lead_part, front_of}
-use Rattle.tm_items.specs.OnePacket.{reach}
+use Rattle.tm_items.specs.OnePacket.{packet_length}
 use Rattle.tm_reassembly.specs.code.Field.{end_place_of, field_parts, unfinished, parts_in, left_in, tail_at, frame_parts, frame_tail, tail_parts, tail_left, step_parts, step_tail, ended_parts, chain_parts_at, chain_tail_at}
 use Rattle.tm_reassembly.specs.Tiles.{Spot, field_spots, spot_octets, BeginsAt, IsHeld}
-use Rattle.tm_items.proofs.Reaching.{reach-least}
+use Rattle.tm_items.proofs.Reaching.{packet_length-least}
 use Rattle.tm_reassembly.proofs.Split.{whole_part, unread_part, field_parts-whole, field_parts-version, field_parts-unfinished, unfinished-whole, unfinished-version, unfinished-last}
 use Rattle.tm_reassembly.proofs.Chained.{IsOpenTail}
 
@@ -102,8 +102,8 @@ module _ (limit : ℕ) where
   field_lays number place stop zero (x ∷ xs) h =
       let back : place ≡ stop - suc (length xs) = omega arith in
       let spots : List Spot = field_spots number place (x ∷ xs) in
-      let r : ℕ = reach (x ∷ xs) in
-      let some : 0 < reach (x ∷ xs) = omega (arith, reach-least (x ∷ xs)) in
+      let r : ℕ = packet_length (x ∷ xs) in
+      let some : 0 < packet_length (x ∷ xs) = omega (arith, packet_length-least (x ∷ xs)) in
       ⊎_elim
       (λ p.
       ⊎_elim
@@ -112,24 +112,24 @@ module _ (limit : ℕ) where
       (field_parts-unfinished limit number stop x xs p less) (ap (tail_at number stop) (unfinished-last limit x xs p less))
       (field_spots number place (x ∷ xs), refl, (octets-field number place (x ∷ xs), (refl, back))))
       (λ whole.
-      let rest = field_lays number (place + 1) stop (pred (reach (x ∷ xs))) xs (omega arith) in
-      laid_by (field_spots number place (x ∷ xs)) _ (whole_part limit number (stop - suc (length xs)) (x ∷ xs) ∷ field_parts limit number stop (pred (reach (x ∷ xs))) xs)
-      _ (tail_at number stop (unfinished limit (pred (reach (x ∷ xs))) xs))
+      let rest = field_lays number (place + 1) stop (pred (packet_length (x ∷ xs))) xs (omega arith) in
+      laid_by (field_spots number place (x ∷ xs)) _ (whole_part limit number (stop - suc (length xs)) (x ∷ xs) ∷ field_parts limit number stop (pred (packet_length (x ∷ xs))) xs)
+      _ (tail_at number stop (unfinished limit (pred (packet_length (x ∷ xs))) xs))
       (field_parts-whole limit number stop x xs p whole) (ap (tail_at number stop) (unfinished-whole limit x xs p whole)) (
         rest.0,
         (
-          drop (pred (reach (x ∷ xs))) (field_spots number (place + 1) xs),
+          drop (pred (packet_length (x ∷ xs))) (field_spots number (place + 1) xs),
           (
-            take (reach (x ∷ xs)) (field_spots number place (x ∷ xs)),
-            sym (take_next (reach (x ∷ xs)) _ (field_spots number (place + 1) xs) some),
-            ap spot_octets (take-field (reach (x ∷ xs)) number place (x ∷ xs)) ∙ octets-field number place (take (reach (x ∷ xs)) (x ∷ xs)),
-            begins-take (reach (x ∷ xs)) number (stop - suc (length xs)) _ (field_spots number (place + 1) xs) some (refl, back),
+            take (packet_length (x ∷ xs)) (field_spots number place (x ∷ xs)),
+            sym (take_next (packet_length (x ∷ xs)) _ (field_spots number (place + 1) xs) some),
+            ap spot_octets (take-field (packet_length (x ∷ xs)) number place (x ∷ xs)) ∙ octets-field number place (take (packet_length (x ∷ xs)) (x ∷ xs)),
+            begins-take (packet_length (x ∷ xs)) number (stop - suc (length xs)) _ (field_spots number (place + 1) xs) some (refl, back),
           ),
           rest.1,
         ),
         rest.2,
       ))
-      (cases_lt (suc (length xs)) (reach (x ∷ xs))))
+      (cases_lt (suc (length xs)) (packet_length (x ∷ xs))))
       (λ p.
       laid_by (field_spots number place (x ∷ xs)) _ (unread_part limit number (stop - suc (length xs)) (x ∷ xs) ∷ []) _ None
       (field_parts-version limit number stop x xs p) (ap (tail_at number stop) (unfinished-version limit x xs p)) (
@@ -170,9 +170,9 @@ module _ (limit : ℕ) where
 
   -- a tail and a frame
   tail_lays : (t : Tail) (m : ChainMember) (h : List Spot) → IsHeld (Some t) h
-      → Laid (h ++ spots_of m) (tail_parts limit t m (reach (t.octets ++ m.field))) (tail_left limit t m (reach (t.octets ++ m.field)))
+      → Laid (h ++ spots_of m) (tail_parts limit t m (packet_length (t.octets ++ m.field))) (tail_left limit t m (packet_length (t.octets ++ m.field)))
   tail_lays t m h held =
-      let d : ℕ = reach (t.octets ++ m.field) in
+      let d : ℕ = packet_length (t.octets ++ m.field) in
       let a : ℕ = length t.octets in
       let whole : ℕ = length (t.octets ++ m.field) in
       let len : length (t.octets ++ m.field) ≡ length t.octets + length m.field = length-append t.octets m.field in

@@ -5,7 +5,7 @@ use Rattle.std.proofs.lemmas.Bool.{cases_Bool, cond-true, cond-false}
 use Rattle.tm_items.specs.declared.items.Reason.TheVariants as why
 use Rattle.tm_reassembly.specs.Chain.{ChainMember}
 use Rattle.tm_reassembly.specs.Parts.{Start, Claim, text, far_end, begins_packet, agrees, agrees_at, reason_at, open_after, starts_of, claim, claims, lead, lead_part, front_of}
-use Rattle.tm_reassembly.specs.Absolute.{reach_at, IsLong, AgreesAt, Agrees, IsOpen, IsOpenAt, Iff, IsStart, IsIn, LiesAfter}
+use Rattle.tm_reassembly.specs.Absolute.{packet_length_at, IsLong, AgreesAt, Agrees, IsOpen, IsOpenAt, Iff, IsStart, IsIn, LiesAfter}
 use Rattle.tm_reassembly.proofs.OneOpen.{one-open}
 use Rattle.tm_reassembly.proofs.Places.{place-at, agreement-at, open-at}
 use Rattle.tm_items.specs.declared.items.Reason.{Reason}
@@ -96,12 +96,12 @@ module _ (limit : ℕ) where
           (λ o. cond-false (begins_packet limit s.octets && open_after limit (far_end s.octets (between ++ m ∷ later)) (length s.octets) between) _ _ o)
           (cases_Bool (begins_packet limit s.octets && open_after limit (far_end s.octets (between ++ m ∷ later)) (length s.octets) between))
 
-  -- the claims are one, and the frame agrees with it, or does so by its place, just if it agrees so with the packet that starts at q,
-  -- where the frame begins at n
+  -- The claims are one. The frame agrees with it, or does so by its place, if and only if it agrees so with the packet that
+  -- starts at q. The frame begins at n.
   abbrev IsOne : List Claim → ChainMember → List ℕ → ℕ → ℕ → Type 0
   IsOne cs m t q n =
       (c : Claim) × (cs ≡ c ∷ []) × Iff (agrees limit c.far c.at m ≡ true) (Agrees limit t q n m)
-      × Iff (agrees_at c.far c.at (length m.field) m.place ≡ true) (AgreesAt (reach_at t q) n (length m.field) m.place)
+      × Iff (agrees_at c.far c.at (length m.field) m.place ≡ true) (AgreesAt (packet_length_at t q) n (length m.field) m.place)
 
   one-start : (earlier between later : List ChainMember) (f m : ChainMember) (s : Start) (skipped : List ℕ) → IsIn s (starts_of limit f) → LiesAfter f s skipped
       → IsOpen limit (text (earlier ++ f ∷ (between ++ m ∷ later))) (length (text earlier) + length skipped) (earlier ++ f ∷ []) between
@@ -154,7 +154,7 @@ module _ (limit : ℕ) where
       ∙ ap (λ (z : Reason). lead_part m z (front_of m.place m.field)) why_not
 
   pub lead-pointer : (before later : List ChainMember) (m : ChainMember) (q : ℕ) → IsOpenAt limit (text (before ++ m ∷ later)) before q
-      → (AgreesAt (reach_at (text (before ++ m ∷ later)) q) (length (text before)) (length m.field) m.place → ⊥)
+      → (AgreesAt (packet_length_at (text (before ++ m ∷ later)) q) (length (text before)) (length m.field) m.place → ⊥)
       → lead limit (claims limit before (m ∷ later)) m ≡ lead_part m why.Pointer (front_of m.place m.field)
   lead-pointer before later m q o differs =
       let one = one-at before later m q o in
@@ -163,7 +163,7 @@ module _ (limit : ℕ) where
       (cases_Bool (agrees_at one.0.far one.0.at (length m.field) m.place)))
 
   pub lead-long : (before later : List ChainMember) (m : ChainMember) (q : ℕ) → IsOpenAt limit (text (before ++ m ∷ later)) before q
-      → AgreesAt (reach_at (text (before ++ m ∷ later)) q) (length (text before)) (length m.field) m.place
+      → AgreesAt (packet_length_at (text (before ++ m ∷ later)) q) (length (text before)) (length m.field) m.place
       → IsLong limit (text (before ++ m ∷ later)) q (length (text before) + length m.field)
       → lead limit (claims limit before (m ∷ later)) m ≡ lead_part m why.Length (front_of m.place m.field)
   lead-long before later m q o place long =

@@ -3,7 +3,7 @@ use Rattle.tm_reassembly.proofs.Records.{HasOpenTails, items-cons, valid-after}
 use Rattle.tm_reassembly.proofs.Masters.{masters-is, masters-now, master-moved}
 use Rattle.tm_reassembly.specs.Items as read
 use Rattle.std.proofs.lemmas.Option.{slice_get_within, none-some}
-use Rattle.tm_reassembly.proofs.Each.{Each, Each-append, Each-weaken, Each-cond, Each-filter, filter-passes, filter-all, filter-none, none-filter}
+use Rattle.tm_reassembly.proofs.Each.{Each, Each-every, Each-append, Each-weaken, Each-cond, Each-filter, filter-passes, filter-all, filter-none, none-filter}
 use Rattle.std.proofs.Common.{◌≡◌, ℕ, suc, zero, ◌+◌, ◌<◌, ◌≤◌, ◌⊎◌, Bool, true, false, if◌then◌else◌, Ok, Err, Option, Some, None, List, [], ◌∷◌, ◌++◌, length, refl, sym, ap, subst, ◌∙◌, ⊎_elim, inl, inr, arith, eqb}
 use Rattle.std.specs.List.{flat_map, filter, slice_get}
 use Rattle.std.proofs.lemmas.Bool.{cases_Bool, cases_eq, cond_both, cond-true, cond-false, eq-eqb, eqb-true, both_ways, true≢false, false_from_ne_true}
@@ -64,7 +64,7 @@ among-either x [] ys a = inr a
 among-either x (y ∷ xs) ys (inl e) = inl (inl e)
 among-either x (y ∷ xs) ys (inr a) = ⊎_elim (λ b. inl (inr b)) (λ b. inr b) (among-either x xs ys a)
 
--- among items of which P holds
+-- among items for which P holds
 pub among-each : (P : Item → Type 0) (x : Item) (xs : List Item) → Each P xs → Among x xs → P x
 among-each P x [] h a = absurd a
 among-each P x (y ∷ ys) h (inl e) = subst P (sym e) h.0
@@ -88,11 +88,6 @@ among-all test x xs a = among-each (λ y. Among y xs) x (filter test xs) (Each-f
 abbrev pub AllOf : ℕ → List Item → Type 0
 AllOf c xs = Each (λ x. is_of c x ≡ true) xs
 
--- of whatever members
-any-member : (ms : List ChainMember) → Each (λ m. Unit {0}) ms
-any-member [] = tt
-any-member (m ∷ ms) = (tt, any-member ms)
-
 parts-of : (c : ℕ) (ps : List Part) → AllOf c (part_items c ps)
 parts-of c [] = tt
 parts-of c (p ∷ ps) = Each-append (λ x. is_of c x ≡ true) (part_item c p p.fate) (part_items c ps) (one p.fate) (parts-of c ps)
@@ -103,7 +98,7 @@ parts-of c (p ∷ ps) = Each-append (λ x. is_of c x ≡ true) (part_item c p p.
 
 -- master gaps are of no channel
 masters-of : (c : ℕ) (ms : List ChainMember) → Each (λ x. is_of c x ≡ false) (master_items ms)
-masters-of c ms = gaps-each (λ m. Unit {0}) (λ x. is_of c x ≡ false) master_gap_item (λ m expected h. refl) None ms (any-member ms)
+masters-of c ms = gaps-each (λ m. Unit {0}) (λ x. is_of c x ≡ false) master_gap_item (λ m expected h. refl) None ms (Each-every (λ m. Unit {0}) ms (λ m. tt))
 
 -- and of no other
 one_channel : (b c : ℕ) (x : Item) → is_of b x ≡ true → is_of c x ≡ true → b ≡ c
@@ -150,8 +145,8 @@ module _ (limit : ℕ) where
   channel-of c ms =
       Each-append (λ x. is_of c x ≡ true) (gaps (gap_item c) None ms ++ flat_map (vca_at c) ms) (part_items c (chain_parts limit ms))
       (Each-append (λ x. is_of c x ≡ true) (gaps (gap_item c) None ms) (flat_map (vca_at c) ms)
-      (gaps-each (λ m. Unit {0}) (λ x. is_of c x ≡ true) (gap_item c) (λ m expected h. eq-eqb c c refl) None ms (any-member ms))
-      (vcas-each (λ m. Unit {0}) (λ x. is_of c x ≡ true) c (λ m h. eq-eqb c c refl) ms (any-member ms)))
+      (gaps-each (λ m. Unit {0}) (λ x. is_of c x ≡ true) (gap_item c) (λ m expected h. eq-eqb c c refl) None ms (Each-every (λ m. Unit {0}) ms (λ m. tt)))
+      (vcas-each (λ m. Unit {0}) (λ x. is_of c x ≡ true) c (λ m h. eq-eqb c c refl) ms (Each-every (λ m. Unit {0}) ms (λ m. tt))))
       (parts-of c (chain_parts limit ms))
 
   module _ (chosen : ℕ → Bool) (s : State) (all : List Reading) where
@@ -218,7 +213,7 @@ told-channel rules s records c x own a = from-merged rules.max_packet (chooses r
 
 module _ (limit : ℕ) where
   module _ (chosen : ℕ → Bool) (s : State) (all : List Reading) (c : ℕ) (is_chosen : chosen c ≡ true) (n : ℕ) where
-    -- of a channel's items those that are seen at n, among some items, and among all of its own
+    -- the items of a channel that are seen at n, among some items, and among all of its own
     abbrev Here : List Item → List Item
     Here xs = seen_at n (of_channel c xs)
 

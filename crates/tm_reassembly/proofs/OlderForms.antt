@@ -1,6 +1,6 @@
 -- The older form of a spelling, and what is lost with the last master channel count.
-use Rattle.std.proofs.Common.{◌≡◌, ◌⊎◌, Ok, Err, Result, ℕ, ◌+◌, ◌<◌, ◌≤◌, Bool, true, false, if◌then◌else◌, None, List, [], ◌∷◌, ◌++◌, length, refl, sym, ap, subst, ◌∙◌, inl, inr, ⊎_elim, arith, append_assoc, length-append, eqb, ltb}
-use Rattle.std.proofs.lemmas.List.{append-nil, nil_from_length}
+use Rattle.std.proofs.Common.{◌≡◌, ◌⊎◌, Ok, Err, Result, ℕ, ◌+◌, ◌<◌, ◌≤◌, Bool, true, false, if◌then◌else◌, None, List, [], ◌∷◌, ◌++◌, length, refl, sym, ap, subst, ◌∙◌, inl, inr, ⊎_elim, arith, append_assoc, eqb, ltb}
+use Rattle.std.proofs.lemmas.List.{append-nil}
 use Rattle.std.proofs.lemmas.Bool.{cases_Bool, cond-false, eq-eqb, le-ltb}
 use Rattle.std.specs.Prelude.{◌||◌, not}
 use Rattle.tm_frame.specs.Frame.{GoodFrame}
@@ -8,7 +8,7 @@ use Rattle.tm_reassembly.specs.declared.fault.StateFault.{StateFault}
 use Rattle.tm_reassembly.specs.Readings.{Reading}
 use Rattle.tm_reassembly.specs.State.{State}
 use Rattle.tm_reassembly.specs.Chain.{chain, master_chain, master_frames, master_member}
-use Rattle.tm_reassembly.specs.Checkpoint.{ReadBlocks, DecodedState, four_at, blocks_read, master_read, with_channels, state_decoding_of, old_decoding_of, old_spelling}
+use Rattle.tm_reassembly.specs.Checkpoint.{ReadBlocks, four_at, blocks_read, master_read, with_channels, state_decoding_of, old_decoding_of}
 use Rattle.tm_items.specs.Among.{is_master_gap, is_of}
 use Rattle.tm_items.specs.Item.{Item, Bad, seen_of}
 use Rattle.tm_reassembly.specs.Items.{master_gap_item, gap_at, channel_items, items_of_readings, master_items, merged, record_items, seen_at, state_after_readings}
@@ -26,7 +26,6 @@ use Rattle.tm_reassembly.proofs.Merged.{channel-of, masters-told, not_master, se
 use Rattle.tm_reassembly.proofs.Seen.{AllSeen}
 use Rattle.tm_reassembly.proofs.OneStep.{valid-from, after-nil, after-one, after-bad, after-other}
 use Rattle.tm_reassembly.proofs.Records.{items-cons, after-cons}
-use Rattle.tm_reassembly.proofs.Spelling.{old-read-again, state_in, octets_in, decoded}
 
 -- ---- reading
 
@@ -51,17 +50,6 @@ pub one-form : (rules : Rules) (a b : List ℕ) → length a ≡ 4 → state_dec
 one-form rules (w ∷ x ∷ y ∷ z ∷ []) b h =
     new-form rules w x y z b ∙ one-more (four_at (w ∷ x ∷ y ∷ z ∷ b) 0) _ ∙ sym (ap one_octet_more (old-form rules w x y z b))
 one-form rules a b h = absurd (omega arith)
-
--- no spelling in the older form begins another
-pub old-no-prefix : (rules : Rules) (s t : State) (rest : List ℕ) → IsValidState rules s → IsValidState rules t → old_spelling s ++ rest ≡ old_spelling t
-    → (without_master s ≡ without_master t) × (rest ≡ [])
-unfolding state_in octets_in
-old-no-prefix rules s t rest v w e =
-    let same : decoded (without_master s) (length (old_spelling s)) ≡ decoded (without_master t) (length (old_spelling t)) =
-    sym (old-read-again rules s rest v) ∙ ap (old_decoding_of rules) (e ∙ sym (append-nil (old_spelling t))) ∙ old-read-again rules t [] w in
-    let long : length (old_spelling s) ≡ length (old_spelling t) = ap (octets_in rules) same in
-    let sum : length (old_spelling s) + length rest ≡ length (old_spelling t) = sym (length-append (old_spelling s) rest) ∙ ap length e in
-    (ap (λ (x : Result DecodedState StateFault). state_in rules x s) same, nil_from_length rest (omega arith))
 
 -- ---- items
 

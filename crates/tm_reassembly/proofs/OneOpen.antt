@@ -28,7 +28,7 @@ module _ (limit : ℕ) where
       (sym (ap (flat_map (claim limit [] later)) (starts-unfinished limit (stop - suc (length xs)) x xs h.0 h.1) ∙ append-nil (claim limit [] later (start_at limit (stop - suc (length xs)) (x ∷ xs)))))
       (claim-one [] later (start_at limit (stop - suc (length xs)) (x ∷ xs)))
 
-  -- of its own starts a frame leaves at most one open
+  -- a frame leaves at most one of its own starts open
   own-one : (m : ChainMember) (later : List ChainMember) → length (own_claims limit m later) ≤ 1
   own-one m later =
       elim m.place as (λ v. length (flat_map (claim limit [] later) (starts_from limit m.base v m.field)) ≤ 1) [

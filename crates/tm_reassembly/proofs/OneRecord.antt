@@ -1,7 +1,7 @@
 -- One raw record: its items, and the state after it, by what is kept of its channel.
 use Rattle.tm_reassembly.proofs.Records.{state_same}
 use Rattle.std.proofs.lemmas.Option.{slice_get-get_or, same_Some}
-use Rattle.std.proofs.Common.{◌≡◌, ℕ, ◌+◌, ◌<◌, ◌≤◌, Ok, Err, true, false, Option, Some, None, List, [], ◌∷◌, ◌++◌, length, set, refl, sym, ap, subst, ◌∙◌, inl, ⊎_elim, arith, Bool}
+use Rattle.std.proofs.Common.{◌≡◌, ℕ, ◌+◌, ◌<◌, ◌≤◌, Ok, Err, true, false, Option, Some, None, List, [], ◌∷◌, ◌++◌, length, set, refl, sym, ap, subst, ◌∙◌, inl, ⊎_elim, arith, Bool, append_assoc}
 use Rattle.std.specs.Prelude.{slice_index_or, slice_set}
 use Rattle.std.specs.List.{slice_get}
 use Rattle.std.proofs.lemmas.Bool.{cases_Bool}
@@ -17,7 +17,7 @@ use Rattle.tm_items.specs.Item.{Item, Bad}
 use Rattle.tm_reassembly.specs.Chain.{member, has_frame_gap, master_member}
 use Rattle.tm_reassembly.specs.code.Field.{chain_tail_at}
 use Rattle.tm_reassembly.specs.Items as read
-use Rattle.tm_reassembly.specs.code.Kept.{Slot, HaveLimit, lasts, unused, frame_count_in, tail_in, counted, kept_items, last_after}
+use Rattle.tm_reassembly.specs.code.Slots.{Slot, HaveLimit, lasts, unused, frame_count_in, tail_in, counted, kept_items, last_after}
 use Rattle.tm_reassembly.proofs.Slots.{last_at, lasts_set, lasts_length, limit_at, limit_set}
 use Rattle.tm_reassembly.specs.Recording.{items, after}
 use Rattle.tm_items.specs.Sinks.{RefusesOne}
@@ -105,7 +105,7 @@ module _ (rules : Rules) (seen : ℕ) (master : Option ℕ) (channels : List (Op
         ∙ ap (λ (k : ℕ). kept_items rules.max_packet k (slice_index_or channels k d) (member seen g)) (sym same)))
       where
         by_entry : (x : Option Last) → member_items rules.max_packet g.channel (before_of (Some x)) (tail_of (Some x)) (member seen g) ≡ kept_items rules.max_packet g.channel x (member seen g)
-        by_entry x = rw (before_some x, tail_some x) refl
+        by_entry x = rw (before_some x, tail_some x, append_assoc)
 
     pub after_one_record : (c : ℕ) (d : Option Last) → c ≡ g.channel → chooses rules c ≡ true
         → ◌≡◌ {A = State} (record { records = seen + 1; master = Some g.master_count; channels = slice_set channels c (last_after rules.max_packet (slice_index_or channels c d) (member seen g)) })
@@ -143,7 +143,7 @@ held_other rules seen master channels v c d small other =
     ap (λ (x : Option Last). octets_in (tail_in x))
     (same_Some _ _ (sym (slice_get-get_or channels c d (rw v.shape.eight_channels small)) ∙ v.shape.only_chosen c other small))
 
--- the gap of a frame of which only the master channel count matters
+-- the gap of a frame if only its master channel count matters
 counted_master : (before : Option ℕ) (seen count : ℕ) (g : GoodFrame) → count ≡ g.master_count
     → gap_at master_gap_item before (counted seen count) ≡ gap_at master_gap_item before (master_member seen g)
 counted_master None seen count g e = refl
@@ -181,7 +181,7 @@ module _ (rules : Rules) (seen : ℕ) (master : Option ℕ) (slots : List Slot) 
     after_unchosen h =
         state_same refl (ap (λ (n : ℕ). Some n) counts) refl ∙ after_other_record rules seen master (lasts slots) v octets g e h
 
-    -- of one that is
+    -- for one that is
     module _ (c : ℕ) (d : Slot) (same : c ≡ g.channel) (is_chosen : chooses rules c ≡ true) where
       inside : c < length slots
       inside = let fit : IsFit (Ok g) = subst IsFit e (reading-fit rules.layout octets) in let small = fit.0 in omega (arith, eight_slots)

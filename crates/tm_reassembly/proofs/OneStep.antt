@@ -121,7 +121,7 @@ module _ (limit : ℕ) where
       ++ member_items limit g.channel (before_of (slice_get s.channels g.channel)) (tail_of (slice_get s.channels g.channel)) (member s.records g)
   items-one chosen s g v fit is_chosen = items-one-valid chosen s g (valid-from chosen s v) fit is_chosen
 
-  -- a channel of which a record has no frame stays as it is, and so does one that isn't chosen
+  -- a channel stays as it is where a record has no frame for it, and so does one that isn't chosen
   kept-at : (chosen : ℕ → Bool) (s : State) (r : Reading) → HasShape limit chosen s → IsFit r → (c : ℕ) → c < 8 → (chosen c ≡ true → member_of c s.records r ≡ [])
       → slice_get (map (channel_after limit chosen s (r ∷ [])) eight) c ≡ slice_get s.channels c
   kept-at chosen s r v fit c small none =

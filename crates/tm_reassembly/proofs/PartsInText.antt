@@ -10,8 +10,8 @@ use Rattle.std.proofs.lemmas.Bool.{cases_Bool, cond-true, cond-false, lt-ltb, an
 use Rattle.tm_items.specs.declared.items.Reason.TheVariants as why
 use Rattle.tm_reassembly.specs.Chain.{ChainMember, End}
 use Rattle.tm_reassembly.specs.Parts.{Part, Fate, Given, Lost, Start, text, far_end, is_long, begins_packet, reason_at, unread_reason, agrees_at, broken_part, start_part, packet_part, fate_at, agrees, open_after, joined, breaker, holder}
-use Rattle.tm_items.specs.OnePacket.{reach, is_packet}
-use Rattle.tm_reassembly.specs.Absolute.{reach_at, IsVersionZero, IsLong, BeginsPacket, AgreesAt, Agrees, IsOpen, IsWhole, LiesAfter, part_at}
+use Rattle.tm_items.specs.OnePacket.{packet_length, is_packet}
+use Rattle.tm_reassembly.specs.Absolute.{packet_length_at, IsVersionZero, IsLong, BeginsPacket, AgreesAt, Agrees, IsOpen, IsWhole, LiesAfter, part_at}
 use Rattle.tm_reassembly.proofs.Long.{begins-zero, begins-short}
 use Rattle.tm_items.specs.declared.items.Reason.{Reason}
 use Rattle.tm_reassembly.proofs.Places.{drop-place, none-from, open-to, unbroken-from, text_split, text-length, begins-at, ends-at, place-at, agreement-at, own-long-at, zero-to, zero-from, begins-from, open-at, whole-at}
@@ -135,7 +135,7 @@ module _ (limit : ℕ) where
     pub unread_long-at : (end : End) → IsVersionZero all here → IsLong limit all here (length (text (before ++ f ∷ [])))
         → start_part limit f later end s ≡ part_at f s all here (length (text before) + length f.field) (Lost why.Length f.number)
     unread_long-at end zero long =
-        let is : is_long limit (reach s.octets) (length s.octets) ≡ true = (own-long-at limit before f skipped s.octets lies.0 later).1 long in
+        let is : is_long limit (packet_length s.octets) (length s.octets) ≡ true = (own-long-at limit before f skipped s.octets lies.0 later).1 long in
         unread-by end why.Length (λ packet. both_ways _ (begins-short limit s.octets packet) is)
         (cond-true (is_packet s.octets) _ _ (zero-from limit before f skipped s.octets lies.0 lies.2 later zero))
 
@@ -153,7 +153,7 @@ module _ (limit : ℕ) where
     -- a whole packet: the octets up to where it ends
     pub packet-at : (end : End) → IsWhole limit all here (before ++ f ∷ []) later
         → start_part limit f later end s
-        ≡ part_at f s all here (reach_at all here) (Given (holder (far_end s.octets later) (length s.octets) f.number later))
+        ≡ part_at f s all here (packet_length_at all here) (Given (holder (far_end s.octets later) (length s.octets) f.number later))
     packet-at end whole =
         let far : ℕ = far_end s.octets later in
         let fits : Bool = leb (far_end s.octets later) (length (s.octets ++ text later)) in
@@ -161,7 +161,7 @@ module _ (limit : ℕ) where
         let two = and_parts (is_none (breaker limit far (length s.octets) later)) fits one.1 in
         unbroken-place end one.0 (none-from _ two.0)
         ∙ cond-true (leb (far_end s.octets later) (length (s.octets ++ text later))) _ _ two.1
-        ∙ part-place (reach_at all here) far (take far (s.octets ++ text later)) (Given (holder far (length s.octets) f.number later))
+        ∙ part-place (packet_length_at all here) far (take far (s.octets ++ text later)) (Given (holder far (length s.octets) f.number later))
         (ends-at limit before f skipped s.octets lies.0 later) refl
 
     -- a start that a frame breaks off: the octets up to that frame
@@ -193,7 +193,7 @@ module _ (limit : ℕ) where
     -- by its place
     pub broken-at : (end : End) (between more : List ChainMember) (m : ChainMember) → later ≡ between ++ m ∷ more
         → IsOpen limit all here (before ++ f ∷ []) between
-        → (AgreesAt (reach_at all here) (length (text ((before ++ f ∷ []) ++ between))) (length m.field) m.place → ⊥)
+        → (AgreesAt (packet_length_at all here) (length (text ((before ++ f ∷ []) ++ between))) (length m.field) m.place → ⊥)
         → start_part limit f later end s
         ≡ part_at f s all here (length (text ((before ++ f ∷ []) ++ between))) (Lost why.Pointer m.number)
     broken-at end between more m split opened differs =
@@ -206,7 +206,7 @@ module _ (limit : ℕ) where
     -- only because the packet is over the limit
     pub broken_long-at : (end : End) (between more : List ChainMember) (m : ChainMember) → later ≡ between ++ m ∷ more
         → IsOpen limit all here (before ++ f ∷ []) between
-        → AgreesAt (reach_at all here) (length (text ((before ++ f ∷ []) ++ between))) (length m.field) m.place
+        → AgreesAt (packet_length_at all here) (length (text ((before ++ f ∷ []) ++ between))) (length m.field) m.place
         → IsLong limit all here (length (text ((before ++ f ∷ []) ++ between)) + length m.field)
         → start_part limit f later end s
         ≡ part_at f s all here (length (text ((before ++ f ∷ []) ++ between))) (Lost why.Length m.number)

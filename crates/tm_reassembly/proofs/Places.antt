@@ -9,10 +9,10 @@ use Rattle.std.proofs.Math.Seq.{drop-append_seam}
 use Rattle.tm_packet.specs.Header.{packet_version_of, packet_header_of}
 use Rattle.tm_reassembly.specs.Chain.{ChainMember}
 use Rattle.tm_reassembly.specs.Parts.{text, far_end, is_long, begins_packet, agrees, agrees_at, open_after, breaker}
-use Rattle.tm_items.specs.OnePacket.{reach, is_packet}
+use Rattle.tm_items.specs.OnePacket.{packet_length, is_packet}
 use Rattle.tm_reassembly.specs.Verdict.{is_whole}
-use Rattle.tm_reassembly.specs.Absolute.{reach_at, IsVersionZero, IsLong, BeginsPacket, AgreesAt, Agrees, IsOpen, IsWhole, Iff}
-use Rattle.tm_items.proofs.Reaching.{reach-short, reach-long}
+use Rattle.tm_reassembly.specs.Absolute.{packet_length_at, IsVersionZero, IsLong, BeginsPacket, AgreesAt, Agrees, IsOpen, IsWhole, Iff}
+use Rattle.tm_items.proofs.Reaching.{packet_length-short, packet_length-long}
 use Rattle.tm_reassembly.proofs.Long.{and_not, agrees-place, agrees-short, begins-zero, begins-short}
 use Rattle.tm_reassembly.proofs.Settled.{own-long-settled}
 
@@ -21,18 +21,18 @@ pub drop-place : (before t : List ℕ) → drop (length before) (before ++ t) �
 drop-place before t = drop-append_seam before t
 
 -- a packet's end, from the start on
-pub reach-place : (before t : List ℕ) → reach_at (before ++ t) (length before) ≡ length before + reach t
-reach-place before t =
+pub packet_length-place : (before t : List ℕ) → packet_length_at (before ++ t) (length before) ≡ length before + packet_length t
+packet_length-place before t =
     let n : ℕ = length before in
     let len : length (before ++ t) ≡ length before + length t = length-append before t in
     ⊎_elim
     (λ short.
     cond-false (leb (n + 6) (length (before ++ t))) _ _ (lt-leb (n + 6) (length (before ++ t)) (omega arith))
-    ∙ ap (λ (k : ℕ). length before + k) (sym (reach-short t short)))
+    ∙ ap (λ (k : ℕ). length before + k) (sym (packet_length-short t short)))
     (λ long.
     cond-true (leb (n + 6) (length (before ++ t))) _ _ (le-leb (n + 6) (length (before ++ t)) (omega arith))
     ∙ ap (λ (o : List ℕ). length before + ((packet_header_of (take 6 o)).data_length + 7)) (drop-place before t)
-    ∙ ap (λ (k : ℕ). length before + k) (sym (reach-long t long)))
+    ∙ ap (λ (k : ℕ). length before + k) (sym (packet_length-long t long)))
     (cases_lt (length t) 6)
 
 pub version-place : (before start t : List ℕ) → 0 < length start
@@ -80,11 +80,11 @@ module _ (limit : ℕ) where
       ⊎_elim (λ l. absurd (h (long-from q r b far at e g l))) (λ s. s) (cases_Bool (is_long limit far at))
 
   -- each frame between agrees
-  abbrev pub Each : ℕ → ℕ → List ChainMember → Type 0
-  Each far at between =
+  abbrev pub AllAgree : ℕ → ℕ → List ChainMember → Type 0
+  AllAgree far at between =
       (earlier later : List ChainMember) (g : ChainMember) → between ≡ earlier ++ g ∷ later → agrees limit far (at + length (text earlier)) g ≡ true
 
-  each-cons : (far at : ℕ) (m : ChainMember) (between : List ChainMember) → agrees limit far at m ≡ true → Each far (at + length m.field) between → Each far at (m ∷ between)
+  each-cons : (far at : ℕ) (m : ChainMember) (between : List ChainMember) → agrees limit far at m ≡ true → AllAgree far (at + length m.field) between → AllAgree far at (m ∷ between)
   each-cons far at m between a h [] later g e =
       let same : m ≡ g = cc in
       let z : at + 0 ≡ at = omega arith in
@@ -96,15 +96,15 @@ module _ (limit : ℕ) where
       let size : length m.field ≡ length x.field = ap (λ (z : ChainMember). length z.field) same in
       ap (λ (k : ℕ). agrees limit far k g) (omega arith) ∙ h earlier later g rest
 
-  each-first : (far at : ℕ) (m : ChainMember) (between : List ChainMember) → Each far at (m ∷ between) → agrees limit far at m ≡ true
+  each-first : (far at : ℕ) (m : ChainMember) (between : List ChainMember) → AllAgree far at (m ∷ between) → agrees limit far at m ≡ true
   each-first far at m between h = let z : at ≡ at + 0 = omega arith in ap (λ (k : ℕ). agrees limit far k m) z ∙ h [] between m refl
 
-  each-rest : (far at : ℕ) (m : ChainMember) (between : List ChainMember) → Each far at (m ∷ between) → Each far (at + length m.field) between
+  each-rest : (far at : ℕ) (m : ChainMember) (between : List ChainMember) → AllAgree far at (m ∷ between) → AllAgree far (at + length m.field) between
   each-rest far at m between h earlier later g e =
       let len : length (m.field ++ text earlier) ≡ length m.field + length (text earlier) = length-append m.field (text earlier) in
       ap (λ (k : ℕ). agrees limit far k g) (omega arith) ∙ h (m ∷ earlier) later g (ap (λ (ms : List ChainMember). m ∷ ms) e)
 
-  pub open-to : (far at : ℕ) (between : List ChainMember) → open_after limit far at between ≡ true → (at + length (text between) < far) × Each far at between
+  pub open-to : (far at : ℕ) (between : List ChainMember) → open_after limit far at between ≡ true → (at + length (text between) < far) × AllAgree far at between
   open-to far at [] h = (let e = ltb-true at far h in omega arith, λ earlier later g e. absurd (not_split earlier later g e))
   open-to far at (m ∷ between) h =
       let both = and_parts (agrees limit far at m) (open_after limit far (at + length m.field) between) h in
@@ -112,7 +112,7 @@ module _ (limit : ℕ) where
       let len : length (m.field ++ text between) ≡ length m.field + length (text between) = length-append m.field (text between) in
       (let r = rest.0 in omega arith, each-cons far at m between both.0 rest.1)
 
-  open-from : (far at : ℕ) (between : List ChainMember) → at + length (text between) < far → Each far at between → open_after limit far at between ≡ true
+  open-from : (far at : ℕ) (between : List ChainMember) → at + length (text between) < far → AllAgree far at between → open_after limit far at between ≡ true
   open-from far at [] h each = lt-ltb at far (omega arith)
   open-from far at (m ∷ between) h each =
       let len : length (m.field ++ text between) ≡ length m.field + length (text between) = length-append m.field (text between) in
@@ -177,12 +177,12 @@ module _ (limit : ℕ) where
         regroup a b c d = simp append_assoc
 
     pub ends-at : (later : List ChainMember)
-        → reach_at (text (before ++ f ∷ later)) (length (text before) + length skipped) ≡ (length (text before) + length skipped) + far_end start later
+        → packet_length_at (text (before ++ f ∷ later)) (length (text before) + length skipped) ≡ (length (text before) + length skipped) + far_end start later
     ends-at later =
         let len : length (text before ++ skipped) ≡ length (text before) + length skipped = length-append (text before) skipped in
-        ap (λ (t : List ℕ). reach_at t (length (text before) + length skipped)) (text_split later)
-        ∙ ap (reach_at ((text before ++ skipped) ++ (start ++ text later))) (sym len)
-        ∙ reach-place (text before ++ skipped) (start ++ text later)
+        ap (λ (t : List ℕ). packet_length_at t (length (text before) + length skipped)) (text_split later)
+        ∙ ap (packet_length_at ((text before ++ skipped) ++ (start ++ text later))) (sym len)
+        ∙ packet_length-place (text before ++ skipped) (start ++ text later)
         ∙ ap (λ (k : ℕ). k + far_end start later) len
 
     -- where a later frame begins
@@ -207,7 +207,7 @@ module _ (limit : ℕ) where
 
     pub place-at : (between later : List ChainMember) (m : ChainMember)
         → Iff (agrees_at (far_end start later) (length start + length (text between)) (length m.field) m.place ≡ true)
-        (AgreesAt (reach_at (text (before ++ f ∷ later)) (length (text before) + length skipped)) (length (text ((before ++ f ∷ []) ++ between))) (length m.field) m.place)
+        (AgreesAt (packet_length_at (text (before ++ f ∷ later)) (length (text before) + length skipped)) (length (text ((before ++ f ∷ []) ++ between))) (length m.field) m.place)
     place-at between later m =
         let q : ℕ = length (text before) + length skipped in
         let far : ℕ = far_end start later in
@@ -241,7 +241,7 @@ module _ (limit : ℕ) where
 
     -- in its own frame
     pub own-long-at : (later : List ChainMember)
-        → Iff (is_long limit (reach start) (length start) ≡ true)
+        → Iff (is_long limit (packet_length start) (length start) ≡ true)
         (IsLong limit (text (before ++ f ∷ later)) (length (text before) + length skipped) (length (text (before ++ f ∷ []))))
     own-long-at later = (
       λ h. long-from _ _ _ (far_end start later) (length start) (ends-at later) own-end (own-long-settled limit start later ∙ h),
@@ -273,7 +273,7 @@ module _ (limit : ℕ) where
           → BeginsPacket limit (text (before ++ f ∷ later)) (length (text before) + length skipped) (length (text (before ++ f ∷ [])))
           → begins_packet limit start ≡ true
       begins-from later h =
-          and_not (is_packet start) (is_long limit (reach start) (length start)) (zero-from later h.0)
+          and_not (is_packet start) (is_long limit (packet_length start) (length start)) (zero-from later h.0)
           (sym (own-long-settled limit start later) ∙ short-from _ _ _ (far_end start later) (length start) (ends-at later) own-end h.1)
 
       begins-before : (r q b far at : ℕ) → r ≡ q + far → b ≡ q + at → at < far → b < r

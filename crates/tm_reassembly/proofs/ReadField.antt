@@ -1,18 +1,14 @@
 -- The loop that reads a field: what lies before `at` is whole packets, end to end.
-use Rattle.std.proofs.Common.{◌++◌, ◌≡◌, ℕ, suc, zero, pred, ◌+◌, ◌-◌, ◌<◌, ◌≤◌, true, List, [], ◌∷◌, length, take, drop, refl, sym, ap, subst, ◌∙◌, append_assoc, arith}
+use Rattle.std.proofs.Common.{◌++◌, ◌≡◌, ℕ, suc, pred, ◌+◌, ◌-◌, ◌<◌, ◌≤◌, true, List, [], ◌∷◌, length, take, drop, refl, sym, ap, subst, ◌∙◌, append_assoc, arith}
 use Rattle.std.proofs.lemmas.List.{length-drop, length-take-le, drop-drop, take_all}
-use Rattle.tm_items.proofs.Reaching.{reach-least}
-use Rattle.tm_reassembly.proofs.Split.{whole_part, field_parts-whole, unfinished-whole}
+use Rattle.tm_items.proofs.Reaching.{packet_length-least}
+use Rattle.tm_reassembly.proofs.Split.{drop-pred, whole_part, field_parts-whole, unfinished-whole}
 use Rattle.tm_items.specs.Item.{Item, Packet}
 use Rattle.tm_reassembly.specs.Parts.{Part, begins_packet}
-use Rattle.tm_items.specs.OnePacket.{IsOnePacket, reach}
+use Rattle.tm_items.specs.OnePacket.{IsOnePacket, packet_length}
 use Rattle.tm_items.specs.code.Spans.{IsSpan, span_items}
 use Rattle.tm_items.proofs.Spans.{one-front, span-longer}
-use Rattle.tm_reassembly.specs.code.Field.{IsWholeFront, field_parts, unfinished, items_from, part_items}
-
-drop-pred : (n x : ℕ) (xs : List ℕ) → 0 < n → drop n (x ∷ xs) ≡ drop (pred n) xs
-drop-pred zero x xs h = absurd (omega arith)
-drop-pred (suc n) x xs h = refl
+use Rattle.tm_reassembly.specs.code.Field.{IsWholePacketOf, field_parts, unfinished, items_from, part_items}
 
 module _ (limit : ℕ) where
   -- octets that hold no start may be dropped
@@ -25,48 +21,48 @@ module _ (limit : ℕ) where
   unfinished-skip skip octets = refl
 
   -- one packet, and the rest of the field
-  field_parts-packet : (number stop : ℕ) (o : List ℕ) → 0 < length o → begins_packet limit o ≡ true → reach o ≤ length o
-      → field_parts limit number stop 0 o ≡ whole_part limit number (stop - length o) o ∷ field_parts limit number stop 0 (drop (reach o) o)
+  field_parts-packet : (number stop : ℕ) (o : List ℕ) → 0 < length o → begins_packet limit o ≡ true → packet_length o ≤ length o
+      → field_parts limit number stop 0 o ≡ whole_part limit number (stop - length o) o ∷ field_parts limit number stop 0 (drop (packet_length o) o)
   field_parts-packet number stop [] h p fits = absurd (omega arith)
   field_parts-packet number stop (x ∷ xs) h p fits =
-      let least : 0 < reach (x ∷ xs) = omega (arith, reach-least (x ∷ xs)) in
+      let least : 0 < packet_length (x ∷ xs) = omega (arith, packet_length-least (x ∷ xs)) in
       field_parts-whole limit number stop x xs p fits
       ∙ ap (λ (ps : List Part). whole_part limit number (stop - suc (length xs)) (x ∷ xs) ∷ ps)
-      (field_parts-skip number stop (pred (reach (x ∷ xs))) xs
-      ∙ ap (field_parts limit number stop 0) (sym (drop-pred (reach (x ∷ xs)) x xs least)))
+      (field_parts-skip number stop (pred (packet_length (x ∷ xs))) xs
+      ∙ ap (field_parts limit number stop 0) (sym (drop-pred (packet_length (x ∷ xs)) x xs least)))
 
-  unfinished-packet : (o : List ℕ) → 0 < length o → begins_packet limit o ≡ true → reach o ≤ length o → unfinished limit 0 o ≡ unfinished limit 0 (drop (reach o) o)
+  unfinished-packet : (o : List ℕ) → 0 < length o → begins_packet limit o ≡ true → packet_length o ≤ length o → unfinished limit 0 o ≡ unfinished limit 0 (drop (packet_length o) o)
   unfinished-packet [] h p fits = absurd (omega arith)
   unfinished-packet (x ∷ xs) h p fits =
-      let least : 0 < reach (x ∷ xs) = omega (arith, reach-least (x ∷ xs)) in
+      let least : 0 < packet_length (x ∷ xs) = omega (arith, packet_length-least (x ∷ xs)) in
       unfinished-whole limit x xs p fits
-      ∙ unfinished-skip (pred (reach (x ∷ xs))) xs
-      ∙ ap (unfinished limit 0) (sym (drop-pred (reach (x ∷ xs)) x xs least))
+      ∙ unfinished-skip (pred (packet_length (x ∷ xs))) xs
+      ∙ ap (unfinished limit 0) (sym (drop-pred (packet_length (x ∷ xs)) x xs least))
 
   -- one packet in a field
   pub items_from-packet : (seen channel : ℕ) (field : List ℕ) (at r : ℕ) → at < length field → begins_packet limit (drop at field) ≡ true
-      → r ≡ reach (drop at field) → r ≤ length field - at
+      → r ≡ packet_length (drop at field) → r ≤ length field - at
       → items_from limit seen channel field at ≡ Packet seen channel seen at (take r (drop at field)) ∷ items_from limit seen channel field (at + r)
   items_from-packet seen channel field at r h p e fits =
       let o = drop at field in
       let len : length (drop at field) ≡ length field - at = length-drop at field in
       let some : 0 < length (drop at field) = omega arith in
-      let inside : reach (drop at field) ≤ length (drop at field) = omega arith in
+      let inside : packet_length (drop at field) ≤ length (drop at field) = omega arith in
       let place : length field - length (drop at field) ≡ at = omega arith in
       ap (part_items channel) (field_parts-packet seen (length field) o some p inside)
       ∙ rw (place, ← e, drop-drop r at field) refl
 
   pub unfinished_from-packet : (field : List ℕ) (at r : ℕ) → at < length field → begins_packet limit (drop at field) ≡ true
-      → r ≡ reach (drop at field) → r ≤ length field - at → unfinished limit 0 (drop at field) ≡ unfinished limit 0 (drop (at + r) field)
+      → r ≡ packet_length (drop at field) → r ≤ length field - at → unfinished limit 0 (drop at field) ≡ unfinished limit 0 (drop (at + r) field)
   unfinished_from-packet field at r h p e fits =
       let len : length (drop at field) ≡ length field - at = length-drop at field in
       let some : 0 < length (drop at field) = omega arith in
-      let inside : reach (drop at field) ≤ length (drop at field) = omega arith in
+      let inside : packet_length (drop at field) ≤ length (drop at field) = omega arith in
       unfinished-packet (drop at field) some p inside ∙ rw (← e, drop-drop r at field) refl
 
   -- what the code tests, and what follows
   pub read_packet : (seen channel : ℕ) (field : List ℕ) (at n : ℕ) (t : List ℕ) → t ≡ take (length field - at) (drop at field)
-      → at < length field → begins_packet limit t ≡ true → n ≡ reach t → n ≤ length t
+      → at < length field → begins_packet limit t ≡ true → n ≡ packet_length t → n ≤ length t
       → (items_from limit seen channel field at ≡ Packet seen channel seen at (take n t) ∷ items_from limit seen channel field (at + n))
       × (unfinished limit 0 (drop at field) ≡ unfinished limit 0 (drop (at + n) field))
   read_packet seen channel field at n t e h p r fits =
@@ -75,7 +71,7 @@ module _ (limit : ℕ) where
       let here : drop at field ≡ t = sym e' in
       let same : length t ≡ length (drop at field) = ap length e' in
       let p' : begins_packet limit (drop at field) ≡ true = ap (begins_packet limit) here ∙ p in
-      let r' : n ≡ reach (drop at field) = r ∙ ap reach e' in
+      let r' : n ≡ packet_length (drop at field) = r ∙ ap packet_length e' in
       let short : n ≤ length field - at = omega arith in (
         items_from-packet seen channel field at n h p' r' short
             ∙ ap (λ (o : List ℕ). Packet seen channel seen at (take n o) ∷ items_from limit seen channel field (at + n)) here,
@@ -103,7 +99,7 @@ module _ (limit : ℕ) where
       }
 
   pub read_more : (seen channel : ℕ) (field : List ℕ) (place at n : ℕ) (t : List ℕ) → t ≡ take (length field - at) (drop at field)
-      → IsReadTo seen channel field place at → IsWholeFront limit t n → IsReadTo seen channel field place (at + n)
+      → IsReadTo seen channel field place at → IsWholePacketOf limit t n → IsReadTo seen channel field place (at + n)
   read_more seen channel field place at n t is read whole =
       let len : length t ≡ length field - at =
       ap length is ∙ length-take-le (length field - at) (drop at field) (omega (arith, length-drop at field)) in

@@ -93,10 +93,6 @@ state_same e f g = rw (e, f, g)
 append_same : {a b c d : List Item} → a ≡ c → b ≡ d → a ++ b ≡ c ++ d
 append_same e f = rw (e, f)
 
-AllFit-append : (rs qs : List Reading) → AllReadingsFit rs → AllReadingsFit qs → AllReadingsFit (rs ++ qs)
-AllFit-append [] qs h k = k
-AllFit-append (r ∷ rs) qs h k = (h.0, AllFit-append rs qs h.1 k)
-
 module _ (limit : ℕ) where
   -- the tail that a chain leaves
   chain_parts-is : (x : Option (Option Last)) (fs : List ChainMember) → chain_parts limit (stem_of x ++ fs) ≡ chained limit (before_of x) (tail_of x) fs
@@ -341,7 +337,7 @@ module _ (limit : ℕ) where
   items-append chosen s [] qs valid still fits more = ap (λ (z : State). items_of_readings limit chosen z qs) (sym still)
   items-append chosen s (r ∷ rs) qs valid still fits more =
       let next : HasOpenTails chosen (state_after_readings limit chosen s (r ∷ [])) = valid-after chosen s r valid fits.0 in
-      items-cons chosen s r valid fits.0 (rs ++ qs) (AllFit-append rs qs fits.1 more)
+      items-cons chosen s r valid fits.0 (rs ++ qs) (Each-append IsFit rs qs fits.1 more)
       ∙ ap (λ (xs : List Item). items_of_readings limit chosen s (r ∷ []) ++ xs)
       (items-append chosen (state_after_readings limit chosen s (r ∷ [])) rs qs next (sym (after-cons chosen s r valid fits.0 [])) fits.1 more)
       ∙ regroup (items_of_readings limit chosen s (r ∷ [])) (items_of_readings limit chosen (state_after_readings limit chosen s (r ∷ [])) rs) _ _ _

@@ -1,6 +1,6 @@
 -- At which record items are seen: what a member gives is seen at it, and no step leaves a tail that is not open.
 use Rattle.std.proofs.lemmas.List.{length-take-le}
-use Rattle.tm_items.proofs.Reaching.{reach-least}
+use Rattle.tm_items.proofs.Reaching.{packet_length-least}
 use Rattle.tm_reassembly.proofs.Each.{Each, Each-append, Each-weaken, filter-all, filter-none}
 use Rattle.std.proofs.Common.{◌≡◌, ℕ, suc, zero, pred, ◌<◌, Bool, true, false, Option, Some, None, List, [], ◌∷◌, ◌++◌, length, refl, ap, ◌∙◌, leb, eqb, take, ◌≤◌, ◌+◌, arith, length-append}
 use Rattle.std.specs.List.{flat_map}
@@ -10,7 +10,7 @@ use Rattle.tm_reassembly.specs.State.{Tail}
 use Rattle.tm_items.specs.Item.{Item, seen_of}
 use Rattle.tm_reassembly.specs.Chain.{ChainMember}
 use Rattle.tm_reassembly.specs.Parts.{Part, Fate, Given, Lost, Held, agrees, begins_packet, lead, lead_part, front_of, is_long}
-use Rattle.tm_items.specs.OnePacket.{reach}
+use Rattle.tm_items.specs.OnePacket.{packet_length}
 use Rattle.tm_reassembly.specs.code.Field.{end_place_of, field_parts, unfinished, parts_in, left_in, tail_at, frame_parts, frame_tail, step_parts, step_tail, ended_parts, chain_parts_at, chain_tail_at}
 use Rattle.tm_reassembly.specs.Items.{seen_at, held_part}
 use Rattle.tm_reassembly.proofs.Long.{begins-longer, begins-short, agrees-short, within-limit}
@@ -56,11 +56,11 @@ module _ (limit : ℕ) where
   ended_parts-at (Some t) reason number = (refl, tt)
 
   -- a packet that isn't long where it ends has no more octets than the limit
-  whole-most : (o : List ℕ) (stop : ℕ) → is_long limit (reach o) stop ≡ false → reach o ≤ length o → length o ≤ stop → length (take (reach o) o) ≤ limit
+  whole-most : (o : List ℕ) (stop : ℕ) → is_long limit (packet_length o) stop ≡ false → packet_length o ≤ length o → length o ≤ stop → length (take (packet_length o) o) ≤ limit
   whole-most o stop short fits inside =
-      let least = reach-least o in
-      let most = within-limit limit (reach o) stop (omega arith) short in
-      let l = length-take-le (reach o) o fits in
+      let least = packet_length-least o in
+      let most = within-limit limit (packet_length o) stop (omega arith) short in
+      let l = length-take-le (packet_length o) o fits in
       omega arith
 
   field_parts-at : (number stop skip : ℕ) (o : List ℕ) → AllAt number (field_parts limit number stop skip o)
@@ -68,10 +68,10 @@ module _ (limit : ℕ) where
   field_parts-at number stop (suc skip) (x ∷ xs) = field_parts-at number stop skip xs
   field_parts-at number stop zero (x ∷ xs) =
       cond_both (begins_packet limit (x ∷ xs)) _ _ (AllAt number)
-      (λ p. cond_both (leb (reach (x ∷ xs)) (length (x ∷ xs))) _ _ (AllAt number)
+      (λ p. cond_both (leb (packet_length (x ∷ xs)) (length (x ∷ xs))) _ _ (AllAt number)
       (λ q. (
-        (refl, whole-most (x ∷ xs) (length (x ∷ xs)) (begins-short limit (x ∷ xs) p) (leb-true (reach (x ∷ xs)) (length (x ∷ xs)) q) (omega arith)),
-        field_parts-at number stop (pred (reach (x ∷ xs))) xs,
+        (refl, whole-most (x ∷ xs) (length (x ∷ xs)) (begins-short limit (x ∷ xs) p) (leb-true (packet_length (x ∷ xs)) (length (x ∷ xs)) q) (omega arith)),
+        field_parts-at number stop (pred (packet_length (x ∷ xs))) xs,
       )) (λ q. tt))
       (λ p. (refl, tt))
 
@@ -81,7 +81,7 @@ module _ (limit : ℕ) where
   step_parts-at : (tail : Option Tail) (m : ChainMember) → AllAt m.number (step_parts limit tail m)
   step_parts-at None m = Each-append (λ p. IsAt m.number p p.fate) (lead limit [] m) (frame_parts limit m) (lead_part-at m _ (front_of m.place m.field)) (frame_parts-at m)
   step_parts-at (Some t) m =
-      let far : ℕ = reach (t.octets ++ m.field) in
+      let far : ℕ = packet_length (t.octets ++ m.field) in
       cond_both (agrees limit far (length t.octets) m) _ _ (AllAt m.number)
       (λ p. cond_both (leb far (length (t.octets ++ m.field))) _ _ (AllAt m.number)
       (λ q. (
@@ -113,14 +113,14 @@ module _ (limit : ℕ) where
   step_tail-open : (tail : Option Tail) (m : ChainMember) → IsOpenTail limit tail → IsOpenTail limit (step_tail limit tail m)
   step_tail-open None m h = frame_tail-open m
   step_tail-open (Some t) m h =
-      cond_both (agrees limit (reach (t.octets ++ m.field)) (length t.octets) m) _ _ (IsOpenTail limit)
+      cond_both (agrees limit (packet_length (t.octets ++ m.field)) (length t.octets) m) _ _ (IsOpenTail limit)
       (λ p.
-      cond_both (leb (reach (t.octets ++ m.field)) (length (t.octets ++ m.field))) _ _ (IsOpenTail limit)
+      cond_both (leb (packet_length (t.octets ++ m.field)) (length (t.octets ++ m.field))) _ _ (IsOpenTail limit)
       (λ q. frame_tail-open m)
-      (λ q. longer t.octets h p (leb-false (reach (t.octets ++ m.field)) (length (t.octets ++ m.field)) q)))
+      (λ q. longer t.octets h p (leb-false (packet_length (t.octets ++ m.field)) (length (t.octets ++ m.field)) q)))
       (λ p. frame_tail-open m)
     where
-      longer : (o : List ℕ) → IsTail limit o → agrees limit (reach (o ++ m.field)) (length o) m ≡ true → length (o ++ m.field) < reach (o ++ m.field) → IsTail limit (o ++ m.field)
+      longer : (o : List ℕ) → IsTail limit o → agrees limit (packet_length (o ++ m.field)) (length o) m ≡ true → length (o ++ m.field) < packet_length (o ++ m.field) → IsTail limit (o ++ m.field)
       longer [] h a k = absurd h
       longer (x ∷ xs) h a k = (begins-longer limit x xs m h.0 a, k)
 

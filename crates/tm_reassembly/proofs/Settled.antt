@@ -6,11 +6,11 @@ use Rattle.std.proofs.lemmas.Bool.{cases_lt, lt-ltb, le-leb, lt-leb, and_right}
 use Rattle.tm_reassembly.specs.code.Fits.{PlacesFit}
 use Rattle.tm_reassembly.specs.Chain.{ChainMember}
 use Rattle.tm_reassembly.specs.Parts.{text, far_end, is_long, begins_packet, agrees, open_after, breaker}
-use Rattle.tm_items.specs.OnePacket.{reach}
+use Rattle.tm_items.specs.OnePacket.{packet_length}
 use Rattle.tm_reassembly.specs.Verdict.{is_whole, ends_in}
 use Rattle.tm_reassembly.proofs.Split.{breaker-settled}
 use Rattle.tm_reassembly.proofs.Long.{not-long}
-use Rattle.tm_reassembly.proofs.Step.{reach-two, PlaceFits, agrees_both}
+use Rattle.tm_reassembly.proofs.Step.{packet_length-two, PlaceFits, agrees_both}
 
 module _ (limit : ℕ) where
   -- far beyond the frames between, the number itself doesn't matter
@@ -22,10 +22,7 @@ module _ (limit : ℕ) where
       let e : agrees limit d a m ≡ agrees limit n a m = agrees_both limit d n a m fits.0 (omega arith) (omega arith) (omega arith) in
       let f : open_after limit d (a + length m.field) between ≡ open_after limit n (a + length m.field) between =
       open_far d n (a + length m.field) between fits.1 (omega arith) (omega arith) (omega arith) in
-      both_same e f
-    where
-      both_same : {a b c e : Bool} → a ≡ c → b ≡ e → (a && b) ≡ (c && e)
-      both_same p q = rw (p, q)
+      cc
 
   -- where a packet ends is settled by the frames between and m, or lies beyond m
   far-settled : (start : List ℕ) (between : List ChainMember) (m : ChainMember) (more : List ChainMember)
@@ -37,13 +34,13 @@ module _ (limit : ℕ) where
       let s : List ℕ = start ++ (text between ++ m.field) in
       let now : start ++ text (between ++ m ∷ []) ≡ start ++ (text between ++ m.field) = simp (flat_map-append, append-nil) in
       let all : start ++ text (between ++ m ∷ more) ≡ (start ++ (text between ++ m.field)) ++ text more = simp (flat_map-append, append_assoc) in
-      let rnow : reach (start ++ text (between ++ m ∷ [])) ≡ reach (start ++ (text between ++ m.field)) = ap reach now in
-      let rall : reach (start ++ text (between ++ m ∷ more)) ≡ reach ((start ++ (text between ++ m.field)) ++ text more) = ap reach all in
+      let rnow : packet_length (start ++ text (between ++ m ∷ [])) ≡ packet_length (start ++ (text between ++ m.field)) = ap packet_length now in
+      let rall : packet_length (start ++ text (between ++ m ∷ more)) ≡ packet_length ((start ++ (text between ++ m.field)) ++ text more) = ap packet_length all in
       let len : length (start ++ (text between ++ m.field)) ≡ length start + (length (text between) + length m.field) = simp (length-append) in
       ⊎_elim
       (λ e. inl (rall ∙ e ∙ sym rnow))
       (λ both. inr (omega (arith, rnow, rall, len, both.1), omega (arith, rnow, rall, len, both.0), omega (arith, len, both.2)))
-      (reach-two s (text more))
+      (packet_length-two s (text more))
 
   pub open-settled : (start : List ℕ) (between : List ChainMember) (m : ChainMember) (more : List ChainMember) → PlacesFit between
       → open_after limit (far_end start (between ++ m ∷ more)) (length start) between ≡ open_after limit (far_end start (between ++ m ∷ [])) (length start) between
@@ -74,12 +71,12 @@ module _ (limit : ℕ) where
 
   -- and in its own frame
   pub own-long-settled : (start : List ℕ) (later : List ChainMember)
-      → is_long limit (far_end start later) (length start) ≡ is_long limit (reach start) (length start)
+      → is_long limit (far_end start later) (length start) ≡ is_long limit (packet_length start) (length start)
   own-long-settled start later =
       ⊎_elim
       (λ e. ap (λ (d : ℕ). is_long limit d (length start)) e)
       (λ both. not-long limit _ _ both.2 ∙ sym (not-long limit _ _ both.2))
-      (reach-two start (text later))
+      (packet_length-two start (text later))
 
   -- where a packet ends in m or before, the frames after m have no say
   breaker-within : (d a : ℕ) (between : List ChainMember) (m : ChainMember) (more : List ChainMember) → d ≤ (a + length (text between)) + length m.field

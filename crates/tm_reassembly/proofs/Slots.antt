@@ -8,7 +8,7 @@ use Rattle.std.proofs.lemmas.List.Concat.{flat_map-append}
 use Rattle.std.proofs.Math.Seq.{take-suc}
 use Rattle.tm_reassembly.specs.Checkpoint.{block}
 use Rattle.tm_reassembly.specs.Items.{close_last, close_channels}
-use Rattle.tm_reassembly.specs.code.Kept.{Slot, HaveLimit, IsFor, lasts, rooms}
+use Rattle.tm_reassembly.specs.code.Slots.{Slot, HaveLimit, IsFor, lasts, rooms}
 use Rattle.tm_reassembly.specs.State.{Last}
 
 -- what is kept in a slot

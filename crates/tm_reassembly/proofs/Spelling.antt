@@ -1,5 +1,5 @@
 -- What is spelled is read again.
-use Rattle.std.proofs.Common.{◌≡◌, ℕ, suc, ◌+◌, ◌-◌, ◌*◌, ◌/◌, ◌%◌, ◌<◌, ◌≤◌, Bool, true, false, not, ◌||◌, Ok, Err, Result, Option, Some, None, List, [], ◌∷◌, ◌++◌, length, take, drop, refl, sym, ap, subst, ◌∙◌, arith, append_assoc, length-append, ltb, leb, eqb}
+use Rattle.std.proofs.Common.{◌≡◌, ℕ, suc, ◌+◌, ◌-◌, ◌*◌, ◌/◌, ◌%◌, ◌<◌, ◌≤◌, Bool, true, false, not, ◌||◌, Ok, Result, Option, Some, None, List, [], ◌∷◌, ◌++◌, length, take, drop, refl, sym, ap, subst, ◌∙◌, arith, append_assoc, length-append, ltb, leb, eqb}
 use Rattle.std.specs.Prelude.{slice_index, slice_range}
 use Rattle.std.specs.List.{slice_get, flat_map}
 use Rattle.std.proofs.Math.Seq.{take-append_seam, drop-append_seam}
@@ -11,9 +11,10 @@ use Rattle.tm_reassembly.specs.declared.fault.StateFault.{StateFault}
 use Rattle.tm_rules.specs.Rules.{Rules, chooses}
 use Rattle.tm_reassembly.specs.State.{State, Last, Tail}
 use Rattle.tm_reassembly.specs.Checkpoint.{block, with_tail, master_octets, state_spelling, old_spelling, four_at, ReadBlock, DecodedState, is_unfinished, tail_read, flagged, block_read, blocks_read, in_front, and_then_blocks, master_read, with_channels, with_master, state_decoding_of, old_decoding_of}
+use Rattle.tm_reassembly.specs.OlderForms.{without_master}
 use Rattle.tm_bits.specs.Bits.{two_at}
 use Rattle.tm_reassembly.specs.Parts.{begins_packet}
-use Rattle.tm_items.specs.OnePacket.{reach}
+use Rattle.tm_items.specs.OnePacket.{packet_length}
 use Rattle.tm_reassembly.specs.Valid as ok
 use Rattle.tm_reassembly.specs.Valid.{IsValidState}
 use Rattle.tm_reassembly.proofs.States.{tail-short}
@@ -46,7 +47,7 @@ module _ (limit : ℕ) where
 
   unfinished-is : (octets : List ℕ) → ok.IsTail limit octets → is_unfinished limit octets ≡ true
   unfinished-is [] h = absurd h
-  unfinished-is (x ∷ xs) h = and_from (begins_packet limit (x ∷ xs)) (ltb (length (x ∷ xs)) (reach (x ∷ xs))) h.0 (lt-ltb (length (x ∷ xs)) (reach (x ∷ xs)) h.1)
+  unfinished-is (x ∷ xs) h = and_from (begins_packet limit (x ∷ xs)) (ltb (length (x ∷ xs)) (packet_length (x ∷ xs))) h.0 (lt-ltb (length (x ∷ xs)) (packet_length (x ∷ xs)) h.1)
 
   some_octets : (octets : List ℕ) → ok.IsTail limit octets → 0 < length octets
   some_octets [] h = absurd h
@@ -207,20 +208,19 @@ module _ (rules : Rules) where
       ∙ ap (with_channels s.records None 4) (channels-again s rest v)
       ∙ ap (decoded (record { records = s.records; master = None; channels = s.channels })) (let z : 4 + length (flat_map block s.channels) ≡ length (old_spelling s) = omega arith in z)
 
-  unfoldable pub state_in : Result DecodedState StateFault → State → State
-  state_in (Ok d) s = d.state
-  state_in (Err found) s = s
+  -- no spelling is a proper prefix of another, in whatever form
+  pub no-prefix-of : (reads : List ℕ → Result DecodedState StateFault) (a b rest : List ℕ) (s t : State) → reads (a ++ rest) ≡ decoded s (length a)
+      → reads (b ++ []) ≡ decoded t (length b) → a ++ rest ≡ b → (s ≡ t) × (rest ≡ [])
+  no-prefix-of reads a b rest s t e f g =
+      let whole : decoded s (length a) ≡ decoded t (length b) = sym e ∙ ap reads (g ∙ sym (append-nil b)) ∙ f in
+      let both : ◌≡◌ {A = DecodedState} (record { state = s; octets = length a }) (record { state = t; octets = length b }) = cc in
+      let long : length a ≡ length b = ap (λ (d : DecodedState). d.octets) both in
+      (ap (λ (d : DecodedState). d.state) both, nil_from_length rest (omega (arith, long, length-append a rest, ap length g)))
 
-  unfoldable pub octets_in : Result DecodedState StateFault → ℕ
-  octets_in (Ok d) = d.octets
-  octets_in (Err found) = 0
-
-  -- no spelling is a proper prefix of another
   pub no-prefix : (s t : State) (rest : List ℕ) → IsValidState rules s → IsValidState rules t → state_spelling s ++ rest ≡ state_spelling t → (s ≡ t) × (rest ≡ [])
-  unfolding state_in octets_in
-  no-prefix s t rest v w e =
-      let same : decoded s (length (state_spelling s)) ≡ decoded t (length (state_spelling t)) =
-      sym (read-again s rest v) ∙ ap (state_decoding_of rules) (e ∙ sym (append-nil (state_spelling t))) ∙ read-again t [] w in
-      let long : length (state_spelling s) ≡ length (state_spelling t) = ap octets_in same in
-      let sum : length (state_spelling s) + length rest ≡ length (state_spelling t) = sym (length-append (state_spelling s) rest) ∙ ap length e in
-      (ap (λ (x : Result DecodedState StateFault). state_in x s) same, nil_from_length rest (omega arith))
+  no-prefix s t rest v w e = no-prefix-of (state_decoding_of rules) (state_spelling s) (state_spelling t) rest s t (read-again s rest v) (read-again t [] w) e
+
+  pub old-no-prefix : (s t : State) (rest : List ℕ) → IsValidState rules s → IsValidState rules t → old_spelling s ++ rest ≡ old_spelling t
+      → (without_master s ≡ without_master t) × (rest ≡ [])
+  old-no-prefix s t rest v w e =
+      no-prefix-of (old_decoding_of rules) (old_spelling s) (old_spelling t) rest (without_master s) (without_master t) (old-read-again s rest v) (old-read-again t [] w) e

@@ -14,7 +14,7 @@ use Rattle.tm_frame.specs.Frame.{GoodFrame, is_vca_kind}
 use Rattle.tm_reassembly.specs.Readings.{Reading}
 use Rattle.tm_reassembly.specs.State.{State, Last, Tail}
 use Rattle.tm_reassembly.specs.Chain.{has_frame_gap, member, counted_field, start_place_of}
-use Rattle.tm_items.specs.OnePacket.{reach}
+use Rattle.tm_items.specs.OnePacket.{packet_length}
 use Rattle.tm_reassembly.specs.Parts.{agrees, begins_packet}
 use Rattle.tm_reassembly.specs.code.Field.{chain_tail_at, step_tail, frame_tail, tail_left, tail_at, left_in, unfinished}
 use Rattle.tm_reassembly.specs.Items.{empty}
@@ -57,7 +57,7 @@ module _ (limit : ℕ) where
   octets_unfinished skip [] h = h
   octets_unfinished zero (x ∷ xs) h =
       cond_both (begins_packet limit (x ∷ xs)) _ _ AreOctets
-      (λ p. cond_both (leb (reach (x ∷ xs)) (length (x ∷ xs))) _ _ AreOctets (λ q. octets_unfinished _ xs (octets_after x xs h)) (λ q. h))
+      (λ p. cond_both (leb (packet_length (x ∷ xs)) (length (x ∷ xs))) _ _ AreOctets (λ q. octets_unfinished _ xs (octets_after x xs h)) (λ q. h))
       (λ p. record { below = λ i. omega arith })
   octets_unfinished (suc skip) (x ∷ xs) h = octets_unfinished skip xs (octets_after x xs h)
 
@@ -69,8 +69,8 @@ module _ (limit : ℕ) where
   unfinished_most skip [] = omega arith
   unfinished_most zero (x ∷ xs) =
       cond_both (begins_packet limit (x ∷ xs)) _ _ (λ (l : List ℕ). length l ≤ suc (length xs))
-      (λ p. cond_both (leb (reach (x ∷ xs)) (length (x ∷ xs))) _ _ (λ (l : List ℕ). length l ≤ suc (length xs))
-      (λ q. let n = unfinished_most (pred (reach (x ∷ xs))) xs in omega arith) (λ q. omega arith))
+      (λ p. cond_both (leb (packet_length (x ∷ xs)) (length (x ∷ xs))) _ _ (λ (l : List ℕ). length l ≤ suc (length xs))
+      (λ q. let n = unfinished_most (pred (packet_length (x ∷ xs))) xs in omega arith) (λ q. omega arith))
       (λ p. omega arith)
   unfinished_most (suc skip) (x ∷ xs) = let n = unfinished_most skip xs in omega arith
 
@@ -106,7 +106,7 @@ module _ (limit : ℕ) where
 
     within-step : (tail : Option Tail) → Within layout records tail → Within layout (records + 1) (step_tail limit tail (member records f))
     within-step None h = within-frame
-    within-step (Some t) h = within-left t (reach (t.octets ++ counted_field f.kind f.field)) h
+    within-step (Some t) h = within-left t (packet_length (t.octets ++ counted_field f.kind f.field)) h
 
     within-chain : (gap vca : Bool) (tail : Option Tail) → Within layout records tail → Within layout (records + 1) (chain_tail_at limit gap vca tail (member records f))
     within-chain gap true tail h = tt
@@ -131,7 +131,7 @@ keeps-at rules s v c last e = record {
     inside None f = tt
     inside (Some t) f = v.within c last t e f
 
--- a state of which each channel keeps what it may
+-- a state in which each channel keeps what it may
 pub state-from : (rules : Rules) (s : State) → IsLimit rules.max_packet → s.records < 2 ^ 32 → ok.IsCount s.master → length s.channels ≡ 8
     → ((c : ℕ) → chooses rules c ≡ false → c < 8 → slice_get s.channels c ≡ Some None)
     → ((c : ℕ) (last : Last) → slice_get s.channels c ≡ Some (Some last) → Keeps rules.max_packet rules.layout s.records last)
@@ -232,10 +232,10 @@ records-valid rules s (octets ∷ rest) v h most =
 pub tail-short : (limit : ℕ) (o : List ℕ) → 7 ≤ limit → ok.IsTail limit o → length o < limit
 tail-short limit [] least h = absurd h
 tail-short limit (x ∷ xs) least h =
-    let less : length (x ∷ xs) < reach (x ∷ xs) = h.1 in
+    let less : length (x ∷ xs) < packet_length (x ∷ xs) = h.1 in
     ⊎_elim
     (λ short. omega arith)
-    (λ enough. let most = within-limit limit (reach (x ∷ xs)) (length (x ∷ xs)) enough (begins-short limit (x ∷ xs) h.0) in omega arith)
+    (λ enough. let most = within-limit limit (packet_length (x ∷ xs)) (length (x ∷ xs)) enough (begins-short limit (x ∷ xs) h.0) in omega arith)
     (cases_lt (length (x ∷ xs)) 6)
 
 pub short-tails : (rules : Rules) (s : State) → IsValidState rules s → (c : ℕ) (last : Last) (t : Tail)

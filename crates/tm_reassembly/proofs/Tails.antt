@@ -4,11 +4,11 @@ use Rattle.std.proofs.Math.Seq.{take-append-add}
 use Rattle.std.proofs.lemmas.Bool.{le-leb, eq-eqb, eqb-true, cond-true}
 use Rattle.tm_reassembly.specs.State.{Tail, octets_in}
 use Rattle.tm_reassembly.specs.Parts.{Given, agrees_at, is_long}
-use Rattle.tm_items.specs.OnePacket.{IsOnePacket, is_packet, reach}
+use Rattle.tm_items.specs.OnePacket.{IsOnePacket, is_packet, packet_length}
 use Rattle.tm_items.proofs.Spans.{one-front}
 use Rattle.tm_reassembly.specs.code.Field.{step_parts, frame_parts}
 use Rattle.tm_reassembly.proofs.Long.{and_not}
-use Rattle.tm_reassembly.specs.code.Kept.{tail_of_octets, grown, completed, member_at}
+use Rattle.tm_reassembly.specs.code.Slots.{tail_of_octets, grown, completed, member_at}
 
 -- the first six octets of a tail and a field
 pub join_six : (tail field : List ℕ) → length tail ≤ 6 → tail ++ take (6 - length tail) field ≡ take 6 (tail ++ field)
@@ -26,9 +26,9 @@ pub octets_again : (first place : ℕ) (octets : List ℕ) → octets_in (tail_o
 octets_again first place [] = refl
 octets_again first place (x ∷ xs) = refl
 
--- a tail and a front of the field are the packet whose end was reckoned from both
+-- a tail and a prefix of the field are the packet whose end was reckoned from both
 pub whole_with : (octets field : List ℕ) (far start : ℕ) → is_packet octets ≡ true → 0 < length octets → start ≤ length field
-    → far ≡ reach (octets ++ field) → far ≡ length octets + start → IsOnePacket (octets ++ take start field)
+    → far ≡ packet_length (octets ++ field) → far ≡ length octets + start → IsOnePacket (octets ++ take start field)
 whole_with [] field far start version some inside e stop = absurd (omega arith)
 whole_with (x ∷ xs) field far start version some inside e stop =
     let reaches : far ≤ length ((x ∷ xs) ++ field) = omega (arith, length-append (x ∷ xs) field) in
@@ -37,12 +37,12 @@ whole_with (x ∷ xs) field far start version some inside e stop =
 
 -- a packet that ends at the frame's place
 pub step_completed : (limit : ℕ) (tail : Option Tail) (seen start : ℕ) (field : List ℕ) → 0 < length (octets_in tail) → start ≤ length field
-    → length (octets_in tail) + start ≡ reach (octets_in tail ++ field)
-    → is_long limit (reach (octets_in tail ++ field)) (length (octets_in tail) + length field) ≡ false
+    → length (octets_in tail) + start ≡ packet_length (octets_in tail ++ field)
+    → is_long limit (packet_length (octets_in tail ++ field)) (length (octets_in tail) + length field) ≡ false
     → completed tail (take start field) seen ++ frame_parts limit (member_at seen (Some start) field) ≡ step_parts limit tail (member_at seen (Some start) field)
 step_completed limit None seen start field some inside h short = absurd (omega arith)
 step_completed limit (Some t) seen start field some inside h short =
-    let far : ℕ = reach (t.octets ++ field) in
+    let far : ℕ = packet_length (t.octets ++ field) in
     let l : length (t.octets ++ field) ≡ length t.octets + length field = length-append t.octets field in
     ap (λ (o : List ℕ). record { first = t.first; place = t.place; octets = o; fate = Given seen } ∷ frame_parts limit (member_at seen (Some start) field))
     (sym (take-append-add t.octets field start) ∙ ap (λ (n : ℕ). take n (t.octets ++ field)) h)
@@ -53,12 +53,12 @@ step_completed limit (Some t) seen start field some inside h short =
 
 -- the same, by what the code tests
 pub step_completed_at : (limit : ℕ) (tail : Option Tail) (seen start : ℕ) (field : List ℕ) (far held : ℕ) (place : Option ℕ) → place ≡ Some start
-    → far ≡ reach (octets_in tail ++ field) → held ≡ length (octets_in tail) → 0 < held → start ≤ length field
+    → far ≡ packet_length (octets_in tail ++ field) → held ≡ length (octets_in tail) → 0 < held → start ≤ length field
     → agrees_at far held (length field) place ≡ true → is_long limit far (held + length field) ≡ false
     → completed tail (take start field) seen ++ frame_parts limit (member_at seen (Some start) field) ≡ step_parts limit tail (member_at seen place field)
 step_completed_at limit tail seen start field far held place at e same some inside agree short =
     let there : agrees_at far held (length field) (Some start) ≡ true = subst (λ (p : Option ℕ). agrees_at far held (length field) p ≡ true) at agree in
     let stop : far ≡ held + start = eqb-true far (held + start) there in
-    let s : is_long limit (reach (octets_in tail ++ field)) (length (octets_in tail) + length field) ≡ false = rw (← e, ← same) short in
+    let s : is_long limit (packet_length (octets_in tail ++ field)) (length (octets_in tail) + length field) ≡ false = rw (← e, ← same) short in
     step_completed limit tail seen start field (omega (arith, same)) inside (omega (arith, e, same, stop)) s
     ∙ ap (λ (p : Option ℕ). step_parts limit tail (member_at seen p field)) (sym at)

@@ -3,7 +3,10 @@ use Rattle.std.proofs.Common.{◌≡◌, ⊎_elim, ◌≤◌, ◌+◌, Ok, Err, 
 use Rattle.std.specs.List.{filter, list_any}
 use Rattle.std.specs.Prelude.{◌==◌, ◌||◌, ◌&&◌, not}
 use Rattle.std.proofs.lemmas.Bool.{cases_Bool, cases_eq, cond_both, cond-true, cond-false, ne_eqb}
+pub use Rattle.std.proofs.Math.Bool.{and-false}
+use Rattle.std.proofs.Math.Bool.{or-false}
 use Rattle.std.proofs.lemmas.List.Elements.{filter-append}
+use Rattle.std.proofs.lemmas.List.Filters.{length-filter_both}
 use Rattle.std.proofs.lemmas.List.Folds.{list_any-append}
 use Rattle.tm_items.specs.Among.{is_master_gap}
 use Rattle.tm_items.specs.Item.{Item, seen_of}
@@ -11,11 +14,11 @@ use Rattle.tm_reassembly.specs.Chain.{ChainMember, has_frame_gap, master_frames,
 use Rattle.tm_reassembly.specs.Items.{gap_at, gaps, master_gap_item, seen_at}
 use Rattle.tm_reassembly.specs.OlderForms.{is_gap_at, without_gaps_at}
 use Rattle.tm_reassembly.specs.Readings.{Reading}
-use Rattle.tm_reassembly.proofs.Each.{Each, Each-weaken, filter-all}
+use Rattle.tm_reassembly.proofs.Each.{Each, Each-every, Each-weaken, filter-all}
 use Rattle.tm_reassembly.proofs.Joining.{none_before}
 use Rattle.tm_reassembly.proofs.Masters.{master_after, masters-from, masters-here, masters-there}
 
--- items of which none is one of those gaps
+-- items with none of those gaps among them
 pub without-none : (numbers : List ℕ) (xs : List Item) → Each (λ x. is_gap_at numbers x ≡ false) xs → without_gaps_at numbers xs ≡ xs
 without-none numbers xs h =
     filter-all (λ x. not (is_gap_at numbers x)) xs (Each-weaken (λ x. is_gap_at numbers x ≡ false) (λ x. not (is_gap_at numbers x) ≡ true) xs (λ x e. ap not e) h)
@@ -25,10 +28,6 @@ without-append numbers xs ys = filter-append (λ x. not (is_gap_at numbers x)) x
 
 pub no-gap : (numbers : List ℕ) (x : Item) → is_master_gap x ≡ false → is_gap_at numbers x ≡ false
 no-gap numbers x e = ap (λ (b : Bool). b && list_any (λ n. seen_of x == n) numbers) e
-
-pub and-false : (b : Bool) → (b && false) ≡ false
-and-false true = refl
-and-false false = refl
 
 pub not-there : (n : ℕ) (x : Item) → (seen_of x ≡ n → ⊥) → is_gap_at (n ∷ []) x ≡ false
 not-there n x ne = ap (λ (b : Bool). is_master_gap x && (b || false)) (ne_eqb (seen_of x) n ne) ∙ and-false (is_master_gap x)
@@ -61,12 +60,8 @@ without-but a b xs =
     ∙ ap (λ (t : Bool). not (is_master_gap x && t)) (sym (list_any-append (λ n. seen_of x == n) a b)))
     xs
 
-every : (xs : List Item) → (P : Item → Type 0) → ((x : Item) → P x) → Each P xs
-every [] P h = tt
-every (x ∷ xs) P h = (h x, every xs P h)
-
 pub without-no : (xs : List Item) → without_gaps_at [] xs ≡ xs
-without-no xs = without-none [] xs (every xs (λ x. is_gap_at [] x ≡ false) (λ x. and-false (is_master_gap x)))
+without-no xs = without-none [] xs (Each-every (λ x. is_gap_at [] x ≡ false) xs (λ x. and-false (is_master_gap x)))
 
 -- ---- how many are left out
 
@@ -82,33 +77,16 @@ shorter p q (x ∷ xs) =
     (cases_Bool (p x)))
     (λ e. cond_both (p x) (x ∷ filter p xs) (filter p xs) (λ ys. length (filter p (filter q xs)) ≤ length ys) (λ f. omega arith) (λ f. omega arith))
 
-both-parts : (p : Item → Bool) (xs : List Item) → length xs ≤ length (filter (λ x. not (p x)) xs) + length (filter p xs)
-both-parts p [] = omega arith
-both-parts p (x ∷ xs) =
-    let less = both-parts p xs in
-    ⊎_elim
-    (λ e.
-    rw (cond-false (not (p x)) (x ∷ filter (λ y. not (p y)) xs) (filter (λ y. not (p y)) xs) (ap not e), cond-true (p x) (x ∷ filter p xs) (filter p xs) e)
-    (omega arith))
-    (λ e.
-    rw (cond-true (not (p x)) (x ∷ filter (λ y. not (p y)) xs) (filter (λ y. not (p y)) xs) (ap not e), cond-false (p x) (x ∷ filter p xs) (filter p xs) e)
-    (omega arith))
-    (cases_Bool (p x))
-
 -- one number
-or-false : (b : Bool) → b ≡ (b || false)
-or-false true = refl
-or-false false = refl
-
 at-one : (n : ℕ) (xs : List Item) → seen_at n (filter is_master_gap xs) ≡ filter (λ x. is_gap_at (n ∷ []) x) xs
 at-one n xs =
-    filter-filter (λ x. seen_of x == n) is_master_gap (λ x. is_gap_at (n ∷ []) x) (λ x. ap (λ (b : Bool). is_master_gap x && b) (or-false (seen_of x == n))) xs
+    filter-filter (λ x. seen_of x == n) is_master_gap (λ x. is_gap_at (n ∷ []) x) (λ x. ap (λ (b : Bool). is_master_gap x && b) (sym (or-false (seen_of x == n)))) xs
 
 -- where at each record there is one gap at most, for each number one is left out at most
 few-from : (numbers : List ℕ) (xs : List Item) → ((n : ℕ) → length (filter (λ x. is_gap_at (n ∷ []) x) xs) ≤ 1) → length xs ≤ length (without_gaps_at numbers xs) + length numbers
 few-from [] xs h = rw (without-no xs) (omega arith)
 few-from (n ∷ numbers) xs h =
-    let first = both-parts (λ x. is_gap_at (n ∷ []) x) xs in
+    let first = length-filter_both (λ x. is_gap_at (n ∷ []) x) (λ x. not (is_gap_at (n ∷ []) x)) (λ x. refl) xs in
     let one = h n in
     let others = few-from numbers (without_gaps_at (n ∷ []) xs)
     (λ m. let less = shorter (λ x. is_gap_at (m ∷ []) x) (λ x. not (is_gap_at (n ∷ []) x)) xs in let most = h m in omega arith) in

@@ -8,9 +8,9 @@ use Rattle.tm_items.specs.declared.items.Reason.TheVariants as why
 use Rattle.tm_items.specs.declared.items.Reason.{Reason}
 use Rattle.tm_reassembly.specs.State.{State, Last, Tail}
 
--- A frame of a chain: its record's number and its count; whether it is a VCA frame; the place in its field of the first
--- packet that starts there, if one does; its field; and `base`, which is 0 but for the stem: the place of the field's first
--- octet in the data field of its record.
+-- A frame of a chain: its record's number and count, whether it is a VCA frame, the place of the first packet that starts in its
+-- field, and the field. `base` is 0 but for the stem, where it is the place of the field's first octet in the data field of its
+-- record.
 pub record ChainMember : Type 0 where
   pub number : ℕ
   pub count : ℕ
@@ -73,8 +73,8 @@ frames channel number (r ∷ rs) = member_of channel number r ++ frames channel 
 abbrev pub chain : State → ℕ → List Reading → List ChainMember
 chain s channel records = stem_of (slice_get s.channels channel) ++ frames channel s.records records
 
--- A good frame, as a member of the master chain: its count is the one over all channels together (4.1.2.5). Of such a member only the
--- number and the count say anything.
+-- A good frame, as a member of the master chain: its count is the one over all channels together (4.1.2.5). Only the number and
+-- the count of such a member say anything.
 abbrev pub master_member : ℕ → GoodFrame → ChainMember
 master_member number f = record (member number f) { count = f.master_count }
 

@@ -6,7 +6,7 @@ use Rattle.tm_frame.specs.declared.layout.LayoutParts.{LayoutParts}
 use Rattle.tm_reassembly.specs.declared.fault.StateFault.{StateFault}
 use Rattle.tm_reassembly.specs.declared.fault.StateFault.TheVariants as fault
 use Rattle.tm_reassembly.specs.Parts.{begins_packet}
-use Rattle.tm_items.specs.OnePacket.{reach}
+use Rattle.tm_items.specs.OnePacket.{packet_length}
 use Rattle.tm_rules.specs.Rules.{Rules, chooses}
 use Rattle.tm_reassembly.specs.State.{State, Last, Tail}
 
@@ -56,9 +56,9 @@ pub record ReadBlock : Type 0 where
 module _ (limit : ℕ) where
   -- an unfinished packet: of version 0, not long, and not whole
   abbrev pub is_unfinished : List ℕ → Bool
-  is_unfinished octets = begins_packet limit octets && nat_lt (length octets) (reach octets)
+  is_unfinished octets = begins_packet limit octets && nat_lt (length octets) (packet_length octets)
 
-  -- the tail in a block of which the fixed parts are there: its beginning, its length, its octets, and what these begin
+  -- the tail in a block whose fixed parts are there: its beginning, its length, its octets, and what these begin
   abbrev pub tail_read : LayoutParts → ℕ → List ℕ → ℕ → ℕ → ℕ → Result ReadBlock StateFault
   tail_read layout records xs first place size =
       if not (nat_lt first records) || nat_lt layout.frame_length (place + 7) then Err fault.Place
@@ -73,6 +73,10 @@ module _ (limit : ℕ) where
         octets = 12 + size;
       })
 
+  -- likewise, the fixed parts being read
+  abbrev pub tail_block : LayoutParts → ℕ → List ℕ → Result ReadBlock StateFault
+  tail_block layout records xs = tail_read layout records xs (four_at xs 2) (two_at xs 6) (four_at xs 8)
+
   -- the block of a channel, by its flag
   abbrev pub flagged : LayoutParts → Bool → ℕ → List ℕ → ℕ → Result ReadBlock StateFault
   flagged layout chosen records xs flag =
@@ -81,11 +85,15 @@ module _ (limit : ℕ) where
       else if flag == 1
       then (if nat_lt (length xs) 2 then Err fault.Short else Ok (record { kept = Some (record { count = slice_index xs 1; tail = None }); octets = 2 }))
       else if nat_lt (length xs) 12 then Err fault.Short
-      else tail_read layout records xs (four_at xs 2) (two_at xs 6) (four_at xs 8)
+      else tail_block layout records xs
 
   -- the block at the front of octets
   unfoldable pub block_read : LayoutParts → Bool → ℕ → List ℕ → Result ReadBlock StateFault
   block_read layout chosen records xs = if length xs == 0 then Err fault.Short else flagged layout chosen records xs (slice_index xs 0)
+
+-- the block of a channel at the front of octets, under the rules
+abbrev pub channel_block : Rules → ℕ → ℕ → List ℕ → Result ReadBlock StateFault
+channel_block rules channel records xs = block_read rules.max_packet rules.layout (chooses rules channel) records xs
 
 -- what is kept of several channels, and how many octets spelled it
 pub record ReadBlocks : Type 0 where
@@ -106,7 +114,7 @@ and_then_blocks (Err found) others = Err found
 unfoldable pub blocks_read : Rules → ℕ → ℕ → ℕ → List ℕ → Result ReadBlocks StateFault
 blocks_read rules records zero c xs = Ok (record { kept = []; octets = 0 })
 blocks_read rules records (suc n) c xs =
-    and_then_blocks (block_read rules.max_packet rules.layout (chooses rules c) records xs) (λ used. blocks_read rules records n (c + 1) (drop used xs))
+    and_then_blocks (channel_block rules c records xs) (λ used. blocks_read rules records n (c + 1) (drop used xs))
 
 -- a last master channel count, if there is one, and how many octets spelled it
 pub record ReadMaster : Type 0 where

@@ -8,6 +8,7 @@ pub mod Steps
 pub mod Checkpoint
 pub mod OlderForms
 pub mod Valid
+pub mod Origins
 pub mod Verdict
 pub mod Tiles
 pub mod Absolute

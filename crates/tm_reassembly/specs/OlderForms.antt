@@ -14,8 +14,8 @@ use Rattle.tm_reassembly.specs.State.{State}
 abbrev pub without_master : State → State
 without_master s = record { records = s.records; master = None; channels = s.channels }
 
--- Of records that are numbered from a number on: the items of those before the first good frame, which are all bad; the gap that this frame
--- has after a last master channel count, if it comes and has one; and the number of its record, if it comes.
+-- For records that are numbered from a number on: the items of those before the first good frame, which are all bad. Then the gap
+-- of this frame after a last master channel count, and the number of its record, if they come.
 abbrev pub leading_bad_items : ℕ → List Reading → List Item
 leading_bad_items number [] = []
 leading_bad_items number (Err fault ∷ rs) = Bad number fault ∷ leading_bad_items (number + 1) rs

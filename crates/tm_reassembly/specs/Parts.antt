@@ -1,11 +1,11 @@
 -- A run's text is cut into packets and other parts (CCSDS 132.0-B-3, packet extraction). Each packet is judged by looking ahead over
 -- the whole run.
 --
--- A place in a run is told by what lies ahead of it: a start is the rest of its frame's field from it on, and with it go the
--- frames that come later in the run. `reach` is the number of octets from the start to where its packet ends.
+-- A place in a run is told by what lies ahead of it. A start is the rest of its frame's field from it on, and with it go the
+-- frames that come later in the run. `packet_length` is the number of octets from the start to where its packet ends.
 use Rattle.std.specs.Prelude.{ℕ, suc, zero, pred, ◌+◌, ◌==◌, nat_lt, nat_le, Bool, not, ◌&&◌, Option, None, Some, List, [], ◌∷◌, ◌++◌, length, take, map, if◌then◌else◌}
 use Rattle.std.specs.List.{flat_map}
-use Rattle.tm_items.specs.OnePacket.{is_packet, reach}
+use Rattle.tm_items.specs.OnePacket.{is_packet, packet_length}
 use Rattle.tm_items.specs.declared.items.Reason.TheVariants as why
 use Rattle.tm_items.specs.declared.items.Reason.{Reason}
 use Rattle.tm_reassembly.specs.Chain.{ChainMember, Run, End, Unended, Ended}
@@ -19,12 +19,12 @@ pub record Start : Type 0 where
   pub place : ℕ
   pub octets : List ℕ
 
--- Of a start, octets are counted from the start itself: `far` is how many there are to where its packet ends, and `at` how many
--- there are to a frame's beginning.
+-- Octets are counted from the start itself: `far` is how many there are to where its packet ends, and `at` how many there are to
+-- a frame's beginning.
 
 -- how many octets there are from a start to where its packet ends, by the whole text ahead
 abbrev pub far_end : List ℕ → List ChainMember → ℕ
-far_end start later = reach (start ++ text later)
+far_end start later = packet_length (start ++ text later)
 
 -- by its place a frame agrees with a packet: it has no place, and the packet reaches its end; or the packet reaches just its place
 abbrev pub agrees_at : ℕ → ℕ → ℕ → Option ℕ → Bool
@@ -67,6 +67,10 @@ abbrev pub lead_part : ChainMember → Reason → List ℕ → List Part
 lead_part m reason [] = []
 lead_part m reason (x ∷ xs) = record { first = m.number; place = m.base; octets = x ∷ xs; fate = Lost reason m.number } ∷ []
 
+-- the octets before a frame's place, lost for this reason
+abbrev pub front_lost : ChainMember → Reason → List Part
+front_lost m reason = lead_part m reason (front_of m.place m.field)
+
 -- why a frame doesn't agree: only because the packet is long, where its place agrees; else by its place
 abbrev pub reason_at : ℕ → ℕ → ChainMember → Reason
 reason_at far at m = if agrees_at far at (length m.field) m.place then why.Length else why.Pointer
@@ -86,21 +90,22 @@ broken_part first place octets far broken = record {
 
 -- All that follows depends on the limit: how many octets a packet may have at most.
 module _ (limit : ℕ) where
-  -- A packet is long at a frame: it has more octets than the limit, `far`, and its whole header lies before the frame's end, which is
-  -- `stop` octets from the start.
+  -- A packet is long at a frame if it has more octets than the limit, `far`, and its whole header lies before the frame's end.
+  -- That end is `stop` octets from the start.
   abbrev pub is_long : ℕ → ℕ → Bool
   is_long far stop = nat_le 6 stop && nat_lt limit far
 
   -- whether a start begins a packet that is read: it is of version 0, and not long in its own frame
   abbrev pub begins_packet : List ℕ → Bool
-  begins_packet start = is_packet start && not (is_long (reach start) (length start))
+  begins_packet start = is_packet start && not (is_long (packet_length start) (length start))
 
-  -- The starts among octets of which the first is at a place of its record's data field: the first `skip` octets hold none; the next
-  -- octet is one; and where that begins a packet that is read, so is what the packet reaches, if it is among these octets.
+  -- The starts among octets, where the first octet is at a place of its record's data field. The first `skip` octets hold none,
+  -- and the next octet is one. Where that begins a packet that is read, the octet behind the packet is one too, if it is among
+  -- these octets.
   abbrev pub starts : ℕ → ℕ → List ℕ → List Start
   starts place skip [] = []
   starts place zero (x ∷ xs) =
-      record { place = place; octets = x ∷ xs } ∷ (if begins_packet (x ∷ xs) then starts (place + 1) (pred (reach (x ∷ xs))) xs else [])
+      record { place = place; octets = x ∷ xs } ∷ (if begins_packet (x ∷ xs) then starts (place + 1) (pred (packet_length (x ∷ xs))) xs else [])
   starts place (suc skip) (x ∷ xs) = starts (place + 1) skip xs
 
   abbrev pub starts_from : ℕ → Option ℕ → List ℕ → List Start
@@ -114,8 +119,8 @@ module _ (limit : ℕ) where
   abbrev pub agrees : ℕ → ℕ → ChainMember → Bool
   agrees far at m = agrees_at far at (length m.field) m.place && not (is_long far (at + length m.field))
 
-  -- A start reaches past the frames `between`, and each of them agrees with it. Of a start that begins a packet that is read this
-  -- says that it is open at the frame after them.
+  -- A start reaches past the frames `between`, and each of them agrees with it. For a start that begins a packet that is read
+  -- this says that it is open at the frame after them.
   abbrev pub open_after : ℕ → ℕ → List ChainMember → Bool
   open_after far at [] = nat_lt at far
   open_after far at (m ∷ between) = agrees far at m && open_after far (at + length m.field) between
@@ -131,8 +136,8 @@ module _ (limit : ℕ) where
   breaker far at (m ∷ later) =
       if nat_lt at far then (if agrees far at m then breaker far (at + length m.field) later else Some m) else None
 
-  -- A start that begins a packet that is read: a tail up to the frame that doesn't agree; else a whole packet, if the text has it; else
-  -- a tail up to the end of the run.
+  -- A start that begins a packet that is read. It is a tail up to the frame that doesn't agree; else a whole packet, if the text
+  -- has it; else a tail up to the end of the run.
   abbrev pub packet_part : ℕ → ℕ → List ChainMember → End → List ℕ → ℕ → Option ChainMember → Part
   packet_part first place later end start far (Some broken) =
       broken_part first place (start ++ text (joined far (length start) later)) far broken
@@ -171,8 +176,8 @@ module _ (limit : ℕ) where
   -- the lead of a frame: lost where no start is open there, or where one is and the frame doesn't agree (there is at most one, which is
   -- proved)
   abbrev pub lead : List Claim → ChainMember → List Part
-  lead [] m = lead_part m why.NoStart (front_of m.place m.field)
-  lead (c ∷ more) m = if agrees c.far c.at m then [] else lead_part m (reason_at c.far c.at m) (front_of m.place m.field)
+  lead [] m = front_lost m why.NoStart
+  lead (c ∷ more) m = if agrees c.far c.at m then [] else front_lost m (reason_at c.far c.at m)
 
   -- the parts of a run from a frame on, in the order of the text
   abbrev pub parts_from : List ChainMember → List ChainMember → End → List Part

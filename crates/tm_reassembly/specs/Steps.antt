@@ -1,5 +1,5 @@
 -- What the code is seen as, and how a step and a closed end may be refused.
-use Rattle.std.specs.Prelude.{◌≡◌, ℕ, ◌*◌, ◌<◌, Bool, true, false, Option, Some, None, List, [], ◌∷◌, slice_get}
+use Rattle.std.specs.Prelude.{◌≡◌, ◌⊎◌, ℕ, Result, Ok, Err, IsOk, ◌*◌, ◌<◌, Bool, true, false, Option, Some, None, List, [], ◌∷◌, slice_get}
 use Rattle.tm_reassembly.specs.declared.fault.StepFault as fault
 use Rattle.tm_reassembly.specs.declared.fault.StepFault.TheVariants.{Sink, Failed, TooMany}
 pub use Rattle.tm_frame.specs.Layout.{most_records}
@@ -9,6 +9,10 @@ use Rattle.tm_reassembly.specs.Items.{empty}
 use Rattle.tm_reassembly.specs.Recording.{items, after}
 use Rattle.tm_items.specs.Sinks.{RefusesOne}
 use Rattle.tm_reassembly.specs.State.{State, Last}
+use Rattle.tm_frame.specs.declared.layout.LayoutParts.{LayoutParts}
+use Rattle.tm_reassembly.specs.declared.fault.StateFault.{StateFault}
+use Rattle.tm_reassembly.specs.declared.fault.StateFault.TheVariants as wrong
+use Rattle.tm_reassembly.specs.Checkpoint.{DecodedState}
 
 -- the rules, the state, whether a sink refused an item, and for how many octets of packets there is room, of all eight channels together
 pub record Progress : Type 0 where
@@ -61,3 +65,15 @@ module _ {S K F : Type 0} (known : S → K) (takes : K → Item → K → Type 0
   CloseRefused old sink_old sink_new xs (Sink f) = (old.failed ≡ false) × RefusesOne takes refuses (known sink_old) xs f (known sink_new)
   CloseRefused old sink_old sink_new xs Failed = (old.failed ≡ true) × (sink_new ≡ sink_old)
   CloseRefused old sink_old sink_new xs TooMany = ⊥
+
+-- the rules of these parts
+abbrev pub rules_of : LayoutParts → List Bool → ℕ → Rules
+rules_of layout channels max_packet = record { layout = layout; channels = channels; max_packet = max_packet }
+
+-- so many octets were read, and they spell this state
+abbrev pub IsDecoded : Result DecodedState StateFault → State → ℕ → Type 0
+IsDecoded decoded state octets = decoded ≡ Ok (record { state = state; octets = octets })
+
+-- why octets aren't read: by their first fault; or they have none, and memory ran out
+abbrev pub IsRefusal : Result DecodedState StateFault → StateFault → Type 0
+IsRefusal decoded found = (decoded ≡ Err found) ⊎ ((found ≡ wrong.NoMemory) × IsOk decoded)

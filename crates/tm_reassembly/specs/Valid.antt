@@ -1,18 +1,18 @@
 -- Which records and which states may be.
 use Rattle.std.specs.Prelude.{◌≡◌, ℕ, ◌+◌, ◌^◌, ◌<◌, ◌≤◌, Bool, true, false, Option, Some, None, List, [], ◌∷◌, length, slice_get}
+use Rattle.std.specs.List.{AllByRecursion}
 use Rattle.tm_bits.specs.Bits.{AreOctets}
 use Rattle.tm_frame.specs.declared.layout.LayoutParts.{LayoutParts}
 use Rattle.tm_reassembly.specs.State.{State, Last, Tail}
 use Rattle.tm_reassembly.specs.Parts.{begins_packet}
-use Rattle.tm_items.specs.OnePacket.{reach}
+use Rattle.tm_items.specs.OnePacket.{packet_length}
 use Rattle.tm_rules.specs.Rules.{Rules, IsLimit, chooses}
 
 -- ---- records
 
 -- each record is of octets
 abbrev pub AllOctets : List (List ℕ) → Type 0
-AllOctets [] = Unit {0}
-AllOctets (octets ∷ more) = AreOctets octets × AllOctets more
+AllOctets records = AllByRecursion AreOctets records
 
 -- ---- states
 
@@ -20,9 +20,9 @@ module _ (limit : ℕ) where
   -- an unfinished packet: octets that begin a packet of version 0 that isn't long, and don't hold it whole
   abbrev pub IsTail : List ℕ → Type 0
   IsTail [] = ⊥
-  IsTail (x ∷ xs) = (begins_packet limit (x ∷ xs) ≡ true) × (length (x ∷ xs) < reach (x ∷ xs))
+  IsTail (x ∷ xs) = (begins_packet limit (x ∷ xs) ≡ true) × (length (x ∷ xs) < packet_length (x ∷ xs))
 
-  -- eight channels; nothing is kept of one that isn't chosen; and each tail is an unfinished packet
+  -- eight channels; nothing is kept for one that isn't chosen; and each tail is an unfinished packet
   pub record HasShape (chosen : ℕ → Bool) (s : State) : Type 0 where
     pub eight_channels : length s.channels ≡ 8
     pub only_chosen : (c : ℕ) → chosen c ≡ false → c < 8 → slice_get s.channels c ≡ Some None

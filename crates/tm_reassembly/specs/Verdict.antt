@@ -1,5 +1,5 @@
 -- What is said of a start at a later frame of its run, and how runs grow.
-use Rattle.std.specs.Prelude.{◌≡◌, ℕ, ◌+◌, nat_lt, nat_le, Bool, ◌&&◌, is_none, List, [], ◌∷◌, ◌++◌, length}
+use Rattle.std.specs.Prelude.{◌≡◌, ℕ, ◌+◌, nat_lt, nat_le, Bool, ◌&&◌, Some, is_none, List, [], ◌∷◌, ◌++◌, length, slice_get}
 use Rattle.tm_reassembly.specs.Chain.{ChainMember, Run, Unended}
 use Rattle.tm_reassembly.specs.Parts.{text, far_end, is_long, begins_packet, open_after, agrees, breaker}
 
@@ -22,7 +22,7 @@ module _ (limit : ℕ) where
       begins_packet limit start
       && (is_none (breaker limit (far_end start later) (length start) later) && nat_le (far_end start later) (length (start ++ text later)))
 
-  -- of a start, by the frames between its own and m, by m, and by the frames after m
+  -- for a start, by the frames between its own and m, by m, and by the frames after m
   abbrev pub verdict : List ℕ → List ChainMember → ChainMember → List ChainMember → Verdict
   verdict start between m later =
       record {
@@ -51,3 +51,11 @@ GrowFrom r (next ∷ rs) (q ∷ qs) = (q ≡ r) × GrowFrom next rs qs
 abbrev pub Grow : List Run → List Run → Type 0
 Grow [] qs = ⊥
 Grow (r ∷ rs) qs = GrowFrom r rs qs
+
+-- The run at i of these runs begins with the frames up to m and those after it. Whatever more frames it has, the verdict on each
+-- start of the frame f is at m as it was.
+abbrev pub IsSettledIn : List Run → ℕ → List ChainMember → ChainMember → List ChainMember → ChainMember → List ChainMember → Type 0
+IsSettledIn qs i before f between m later =
+    (q : Run) × (more : List ChainMember) × (slice_get qs i ≡ Some q)
+    × (q.members ≡ before ++ f ∷ (between ++ m ∷ (later ++ more)))
+    × ((limit : ℕ) (start : List ℕ) → verdict limit start between m (later ++ more) ≡ verdict limit start between m later)

@@ -1,4 +1,5 @@
 pub mod Blocks
+pub mod DataFields
 pub mod Field
-pub mod Kept
+pub mod Slots
 pub mod Fits

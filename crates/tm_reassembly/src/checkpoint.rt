@@ -1,18 +1,26 @@
 //! The block of a channel in a checkpoint.
 
 ghost use Rattle.std.specs.Prelude.{◌≡◌, ◌+◌, ◌<◌, ◌≤◌, ◌++◌, None, Some, Ok, Err, true, length, slice_index, vec_len, vec_capacity, IfOk, IfErr};
-ghost use Rattle.tm_reassembly.specs.Checkpoint.{four_octets, four_at, is_unfinished, master_octets, master_read, tail_read, flagged, block_read};
-ghost use Rattle.tm_bits.specs.Bits.{two_octets, two_at};
-ghost use Rattle.tm_reassembly.specs.code.Blocks.{block_last};
+ghost use Rattle.tm_reassembly.specs.Checkpoint.{four_octets, four_at, is_unfinished, master_octets, tail_block, flagged, channel_block};
+ghost use Rattle.tm_bits.specs.Bits.{two_at};
+ghost use Rattle.tm_reassembly.specs.code.Blocks.{block_last, IsBlock, master_read_in};
 ghost use Rattle.tm_rules.specs.Rules.{chooses};
 ghost use Rattle.tm_reassembly.specs.Valid.{IsCount};
 ghost use Rattle.tm_reassembly.specs.declared.fault.StateFault.TheVariants as found;
 
 use crate::fault::StateFault;
 use crate::packets::measure;
+use tm_bits::{push, two_at};
 use tm_rules::Rules;
 
-/// What is spelled of a channel: the last count, if there is one, and the tail, whose octets are lent from the checkpoint.
+/// The form of a state's spelling: with the last master channel count, or the older one without it.
+#[derive(Clone, Copy, PartialEq, Eq)]
+pub enum Form {
+    WithMaster,
+    WithoutMaster,
+}
+
+/// What is spelled of a channel: the last count, if there is one, and the tail, whose octets are borrowed from the checkpoint.
 #[derive(Clone, Copy)]
 pub struct Block<'a> {
     pub count: Option<u8>,
@@ -31,16 +39,6 @@ impl<'a> Block<'a> {
     };
 }
 
-/// Appends a number in two octets, for which there is room.
-pub fn push_two(out: &mut Vec<u8>, number: u16)
-    requires { vec_len out.old + 2 ≤ vec_capacity out.old }
-    ensures items { out.new.items ≡ out.old.items ++ two_octets number }
-    ensures len { vec_len out.new ≡ vec_len out.old + 2 }
-    ensures room { vec_capacity out.old ≤ vec_capacity out.new }
-{
-    push(out, &number.to_be_bytes());
-}
-
 /// Appends a number in four octets, for which there is room.
 pub fn push_four(out: &mut Vec<u8>, number: u32)
     requires { vec_len out.old + 4 ≤ vec_capacity out.old }
@@ -49,27 +47,6 @@ pub fn push_four(out: &mut Vec<u8>, number: u32)
     ensures room { vec_capacity out.old ≤ vec_capacity out.new }
 {
     push(out, &number.to_be_bytes());
-}
-
-/// Appends octets, for which there is room.
-pub fn push(out: &mut Vec<u8>, octets: &[u8])
-    requires { vec_len out.old + length octets.now ≤ vec_capacity out.old }
-    ensures items { out.new.items ≡ out.old.items ++ octets.now }
-    ensures len { vec_len out.new ≡ vec_len out.old + length octets.now }
-    ensures room { vec_capacity out.old ≤ vec_capacity out.new }
-{
-    match out.extend_from_slice(octets) {
-        Ok(()) => {}
-        Err(_) => unreachable!(),
-    }
-}
-
-/// The number in the two octets at a place.
-pub fn two_at(octets: &[u8], at: usize) -> u16
-    requires { at + 2 ≤ length octets.now }
-    ensures { result ≡ two_at octets.now at }
-{
-    u16::from_be_bytes([octets[at], octets[at + 1]])
 }
 
 /// The number in the four octets at a place.
@@ -86,7 +63,7 @@ fn is_unfinished(limit: usize, octets: &[u8]) -> bool
     ensures { result ≡ is_unfinished limit octets.now }
 {
     match measure(limit, octets) {
-        Ok(far) => octets.len() < far,
+        Ok(length) => octets.len() < length,
         Err(_) => false,
     }
 }
@@ -115,19 +92,22 @@ pub fn push_master(out: &mut Vec<u8>, master: Option<u8>)
     }
 }
 
-/// Reads the last master channel count at the front of octets: the count, if there is one, and how many octets spell it.
+/// Reads the last master channel count at the front of octets, where the form has one: the count, if there is one, and how many octets spell it.
 ///
 /// # Errors
 ///
-/// `Short` where octets are wanting; `Flag` where the first is over 1.
+/// `Short` where octets are missing; `Flag` where the first is over 1.
 #[tactic(auto, unfolding(crate::specs::Checkpoint::master_read))]
-pub fn read_master(octets: &[u8]) -> Result<(Option<u8>, usize), StateFault>
-    ensures ok { IfOk result (λ found. master_read octets.now ≡ Ok (record { count = found.0; octets = found.1 })) }
+pub fn read_master(form: Form, octets: &[u8]) -> Result<(Option<u8>, usize), StateFault>
+    ensures ok { IfOk result (λ found. master_read_in form octets.now ≡ Ok (record { count = found.0; octets = found.1 })) }
     ensures count { IfOk result (λ found. IsCount found.0) }
     ensures inside { IfOk result (λ found. found.1 ≤ length octets.now) }
     ensures most { IfOk result (λ found. found.1 ≤ 2) }
-    ensures refused { IfErr result (λ fault. master_read octets.now ≡ Err fault) }
+    ensures refused { IfErr result (λ fault. master_read_in form octets.now ≡ Err fault) }
 {
+    if form == Form::WithoutMaster {
+        return Ok((None, 0));
+    }
     match octets {
         [] => Err(StateFault::Short),
         [0, ..] => Ok((None, 1)),
@@ -149,10 +129,10 @@ pub fn read_block<'a>(
     records: u32,
     octets: &'a [u8],
 ) -> Result<(Block<'a>, usize), StateFault>
-    ensures ok { IfOk result (λ found. block_read rules.now.max_packet rules.now.layout (chooses rules.now channel) records octets.now ≡ Ok (record { kept = block_last found.0; octets = found.1 })) }
+    ensures ok { IfOk result (λ found. IsBlock (channel_block rules.now channel records octets.now) found.0 found.1) }
     ensures inside { IfOk result (λ found. found.1 ≤ length octets.now) }
     ensures most { IfOk result (λ found. length found.0.tail.now ≤ rules.now.max_packet) }
-    ensures refused { IfErr result (λ fault. block_read rules.now.max_packet rules.now.layout (chooses rules.now channel) records octets.now ≡ Err fault) }
+    ensures refused { IfErr result (λ fault. channel_block rules.now channel records octets.now ≡ Err fault) }
 {
     if octets.is_empty() {
         return Err(StateFault::Short);
@@ -175,7 +155,9 @@ pub fn read_block<'a>(
 
 // Reads the block of a channel without a tail, whose flag is there.
 fn read_count<'a>(octets: &'a [u8]) -> Result<(Block<'a>, usize), StateFault>
-    ensures ok { IfOk result (λ found. (2 ≤ length octets.now) × (block_last found.0 ≡ Some (record { count = slice_index octets.now 1; tail = None })) × (found.1 ≡ 2) × (length found.0.tail.now ≡ 0)) }
+    ensures ok { IfOk result (λ found. (2 ≤ length octets.now)
+        × (block_last found.0 ≡ Some (record { count = slice_index octets.now 1; tail = None })) × (found.1 ≡ 2)
+        × (length found.0.tail.now ≡ 0)) }
     ensures refused { IfErr result (λ fault. (length octets.now < 2) × (fault ≡ found.Short)) }
 {
     if octets.len() < 2 {
@@ -195,11 +177,11 @@ fn read_tail<'a>(
     octets: &'a [u8],
 ) -> Result<(Block<'a>, usize), StateFault>
     requires { 12 ≤ length octets.now }
-    ensures ok { IfOk result (λ found. tail_read rules.now.max_packet rules.now.layout records octets.now (four_at octets.now 2) (two_at octets.now 6) (four_at octets.now 8)
-        ≡ Ok (record { kept = block_last found.0; octets = found.1 })) }
+    ensures ok { IfOk result (λ found. IsBlock
+        (tail_block rules.now.max_packet rules.now.layout records octets.now) found.0 found.1) }
     ensures inside { IfOk result (λ found. found.1 ≤ length octets.now) }
     ensures most { IfOk result (λ found. length found.0.tail.now ≤ rules.now.max_packet) }
-    ensures refused { IfErr result (λ fault. tail_read rules.now.max_packet rules.now.layout records octets.now (four_at octets.now 2) (two_at octets.now 6) (four_at octets.now 8) ≡ Err fault) }
+    ensures refused { IfErr result (λ fault. tail_block rules.now.max_packet rules.now.layout records octets.now ≡ Err fault) }
 {
     let first = four_at(octets, 2);
     let place = two_at(octets, 6);

@@ -1,9 +1,9 @@
 //! The packets and the lost parts of channels (CCSDS 132.0-B-3, section 4.1 and packet extraction).
 #![tactic(auto)]
 
+mod channel;
 mod checkpoint;
 mod fault;
-mod kept;
 pub mod laws;
 mod packets;
 mod reassembly;

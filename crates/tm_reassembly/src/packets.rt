@@ -2,16 +2,24 @@
 
 ghost use Rattle.std.specs.Prelude.{◌≡◌, ◌+◌, ◌^◌, ◌<◌, ◌≤◌, ◌==◌, true, false, length, take, drop, None, Some, ◌++◌, IfOk, IfErr, IfSome, OnOk};
 ghost use Rattle.tm_items.specs.OnePacket as one_packet;
-ghost use Rattle.tm_reassembly.specs.code.Field.{HasNoWholeFront, IsWholeFront, field_parts, unfinished, items_from, left_in, frame_parts, part_items};
-ghost use Rattle.tm_reassembly.specs.code.Kept.{member_at};
+ghost use Rattle.tm_reassembly.specs.code.DataFields.{IsDataField, member_with};
+ghost use Rattle.tm_reassembly.specs.code.Field.{HasNoWholePacket, IsLeft, IsWholePacketOf, begun_parts, field_parts, unfinished, items_from, left_in, part_items, GivesParts};
+ghost use Rattle.tm_reassembly.specs.code.Slots.{member_at};
 ghost use Rattle.tm_reassembly.specs.Parts as model;
-ghost use Rattle.tm_reassembly.specs.Parts.{begins_packet, unread_reason, lead_part, front_of};
+ghost use Rattle.tm_reassembly.specs.Parts.{begins_packet, unread_reason, lead_part};
 ghost use Rattle.tm_rules.specs.Rules.{IsLimit};
-ghost use Rattle.tm_items.specs.Sinks.{TakesAll, RefusesOne};
+ghost use Rattle.tm_items.specs.Giving.{Gives};
 ghost use Rattle.tm_reassembly.specs.code.Fits.{PlaceFits};
 
-use tm_items::{Item, Reason, Sink, reach};
+use tm_items::{Item, Reason, Sink, packet_length};
 use tm_packet::packet_version;
+
+/// A data field, and the place of the first packet that starts in it, if one does.
+#[derive(Clone, Copy)]
+pub struct DataField<'f> {
+    pub place: Option<u16>,
+    pub octets: &'f [u8],
+}
 
 /// Whether octets begin with version 0.
 #[tactic(auto, using(tm_items::proofs::Headers::version_first))]
@@ -22,24 +30,24 @@ pub fn is_packet(octets: &[u8]) -> bool
     packet_version(octets[0]) == 0
 }
 
-/// Whether a packet of `far` octets is long at a frame that ends `stop` octets behind its start: it has more octets than the limit, and its
-/// whole header is there.
-pub fn is_long(limit: usize, far: usize, stop: usize) -> bool
-    ensures { result ≡ model.is_long limit far stop }
+/// Whether a packet of so many octets is long at a frame that ends `end` octets behind its start. It is if it has more octets
+/// than the limit, and its whole header is there.
+pub fn is_long(limit: usize, length: usize, end: usize) -> bool
+    ensures { result ≡ model.is_long limit length end }
 {
-    stop >= 6 && limit < far
+    end >= 6 && limit < length
 }
 
-/// Whether a frame of which the field has `len` octets, and begins `at` octets behind a packet's start, agrees by its place with the packet
-/// having `far` octets: it has no place, and the packet reaches its end; or the packet reaches just its place.
-pub fn agrees_at(far: usize, at: usize, len: usize, place: Option<u16>) -> bool
-    requires room { at + len < 2 ^ 64 }
-    requires place { PlaceFits place len }
-    ensures { result ≡ model.agrees_at far at len place }
+/// Whether a frame agrees by its place with a packet of so many octets, at whose offset its field begins. It agrees if it has no
+/// place and the packet reaches the end of the field, or if the packet ends at its place.
+pub fn agrees_at(length: usize, offset: usize, field_length: usize, place: Option<u16>) -> bool
+    requires room { offset + field_length < 2 ^ 64 }
+    requires place { PlaceFits place field_length }
+    ensures { result ≡ model.agrees_at length offset field_length place }
 {
     match place {
-        None => at + len <= far,
-        Some(start) => far == at + start as usize,
+        None => offset + field_length <= length,
+        Some(start) => length == offset + start as usize,
     }
 }
 
@@ -50,41 +58,41 @@ pub fn agrees_at(far: usize, at: usize, len: usize, place: Option<u16>) -> bool
 /// Why what begins here isn't read: it is of another version, or a packet that is long where these octets end.
 pub fn measure(limit: usize, octets: &[u8]) -> Result<usize, Reason>
     requires { 0 < length octets.now }
-    ensures ok { IfOk result (λ far. (begins_packet limit octets.now ≡ true) × (far ≡ one_packet.reach octets.now)) }
+    ensures ok { IfOk result (λ size. (begins_packet limit octets.now ≡ true) × (size ≡ one_packet.packet_length octets.now)) }
     ensures packet { OnOk result (one_packet.is_packet octets.now ≡ true) }
-    ensures most { IfOk result (λ far. far ≤ 65542) }
-    ensures short { IfOk result (λ far. 6 ≤ length octets.now → far ≤ limit) }
+    ensures most { IfOk result (λ size. size ≤ 65542) }
+    ensures short { IfOk result (λ size. 6 ≤ length octets.now → size ≤ limit) }
     ensures unread { IfErr result (λ reason. (begins_packet limit octets.now ≡ false) × (reason ≡ unread_reason octets.now)) }
 {
     if !is_packet(octets) {
         return Err(Reason::Version);
     }
-    let far = reach(octets);
-    if is_long(limit, far, octets.len()) {
+    let length = packet_length(octets);
+    if is_long(limit, length, octets.len()) {
         return Err(Reason::Length);
     }
-    Ok(far)
+    Ok(length)
 }
 
-/// How many octets the packet has that begins with a tail and goes on with a field, as `reach` says.
-pub fn reach_over(tail: &[u8], field: &[u8]) -> usize
+/// How many octets the packet has that begins with a tail and goes on with a field, as `packet_length` says.
+pub fn packet_length_over(tail: &[u8], field: &[u8]) -> usize
     requires some { 0 < length tail.now }
     requires packet { one_packet.is_packet tail.now ≡ true }
-    ensures value { result ≡ one_packet.reach (tail.now ++ field.now) }
+    ensures value { result ≡ one_packet.packet_length (tail.now ++ field.now) }
     ensures most { result ≤ 65542 }
 {
     if tail.len() >= 6 {
-        reach(tail)
+        packet_length(tail)
     } else if tail.len() + field.len() < 6 {
         7
     } else {
-        reach(&joined_header(tail, field))
+        packet_length(&join_header(tail, field))
     }
 }
 
 // The first six octets of a tail and a field.
 #[tactic(auto, using(crate::proofs::Tails::join_six))]
-fn joined_header(tail: &[u8], field: &[u8]) -> [u8; 6]
+fn join_header(tail: &[u8], field: &[u8]) -> [u8; 6]
     requires short { length tail.now ≤ 6 }
     requires enough { 6 ≤ length tail.now + length field.now }
     ensures { result ≡ take 6 (tail.now ++ field.now) }
@@ -106,10 +114,8 @@ pub fn give_lead<S: Sink>(
 ) -> Result<(), S::Fault>
     requires channel { channel < 8 }
     requires most { length lead.now ≤ 2042 }
-    ensures taken { OnOk result (TakesAll S.takes (S.known sink.old)
-        (part_items channel (lead_part (member_at seen None lead.now) reason lead.now)) (S.known sink.new)) }
-    ensures refused { IfErr result (λ fault. RefusesOne S.takes S.refuses (S.known sink.old)
-        (part_items channel (lead_part (member_at seen None lead.now) reason lead.now)) fault (S.known sink.new)) }
+    ensures given { GivesParts S.Sink sink.old sink.new channel
+        (lead_part (member_at seen None lead.now) reason lead.now) result }
 {
     match lead {
         [] => Ok(()),
@@ -131,15 +137,15 @@ pub fn give_lead<S: Sink>(
 }
 
 // How many octets the packet has that begins here, where it is read and lies whole in these octets.
-fn whole_front(limit: usize, octets: &[u8]) -> Option<usize>
-    ensures whole { IfSome result (λ far. IsWholeFront limit octets.now far) }
-    ensures none { result ≡ None → HasNoWholeFront limit octets.now }
+fn whole_packet(limit: usize, octets: &[u8]) -> Option<usize>
+    ensures whole { IfSome result (λ size. IsWholePacketOf limit octets.now size) }
+    ensures none { result ≡ None → HasNoWholePacket limit octets.now }
 {
     if octets.is_empty() {
         return None;
     }
     match measure(limit, octets) {
-        Ok(far) if far <= octets.len() => Some(far),
+        Ok(length) if length <= octets.len() => Some(length),
         Ok(_) | Err(_) => None,
     }
 }
@@ -150,34 +156,29 @@ fn give_unread<S: Sink>(
     seen: u32,
     channel: u8,
     field: &[u8],
-    at: usize,
+    offset: usize,
     sink: &mut S,
 ) -> Result<usize, S::Fault>
     requires channel { channel < 8 }
     requires most { length field.now ≤ 2042 }
-    requires inside { at ≤ length field.now }
+    requires inside { offset ≤ length field.now }
     requires limit { IsLimit limit }
-    requires none { HasNoWholeFront limit (drop at field.now) }
-    ensures taken { OnOk result (TakesAll S.takes (S.known sink.old)
-        (items_from limit seen channel field.now at) (S.known sink.new)) }
-    ensures rest { IfOk result (λ left. drop left field.now ≡ unfinished limit 0 (drop at field.now)) }
-    ensures inside { IfOk result (λ left. left ≤ length field.now) }
-    ensures short { IfOk result (λ left. length field.now < left + limit) }
-    ensures refused { IfErr result (λ fault. RefusesOne S.takes S.refuses (S.known sink.old)
-        (items_from limit seen channel field.now at) fault (S.known sink.new)) }
+    requires none { HasNoWholePacket limit (drop offset field.now) }
+    ensures given { Gives S.Sink sink.old sink.new (items_from limit seen channel field.now offset) result }
+    ensures left { IfOk result (λ left. IsLeft limit field.now left (unfinished limit 0 (drop offset field.now))) }
 {
-    let left = &field[at..];
+    let left = &field[offset..];
     if left.is_empty() {
-        return Ok(at);
+        return Ok(offset);
     }
     let Err(reason) = measure(limit, left) else {
-        return Ok(at);
+        return Ok(offset);
     };
     let unread = Item::Dropped {
         seen,
         channel,
         first: seen,
-        place: at as u16,
+        place: offset as u16,
         octets: left.len() as u32,
         reason,
     };
@@ -187,8 +188,8 @@ fn give_unread<S: Sink>(
     }
 }
 
-/// Gives the packets that lie whole in a field from `place` on, and its unread part. Answers where its unfinished packet begins, of which
-/// there are fewer octets than a packet may have.
+/// Gives the packets that lie whole in a field from `place` on, and its unread part. Answers where its unfinished packet begins,
+/// with fewer octets than a packet may have.
 pub fn read_field<S: Sink>(
     limit: usize,
     seen: u32,
@@ -201,22 +202,18 @@ pub fn read_field<S: Sink>(
     requires most { length field.now ≤ 2042 }
     requires inside { place ≤ length field.now }
     requires limit { IsLimit limit }
-    ensures taken { OnOk result (TakesAll S.takes (S.known sink.old)
-        (part_items channel (field_parts limit seen (length field.now) place field.now)) (S.known sink.new)) }
-    ensures rest { IfOk result (λ at. drop at field.now ≡ unfinished limit place field.now) }
-    ensures inside { IfOk result (λ at. at ≤ length field.now) }
-    ensures short { IfOk result (λ at. length field.now < at + limit) }
-    ensures refused { IfErr result (λ fault. RefusesOne S.takes S.refuses (S.known sink.old)
-        (part_items channel (field_parts limit seen (length field.now) place field.now)) fault (S.known sink.new)) }
+    ensures given { GivesParts S.Sink sink.old sink.new channel
+        (field_parts limit seen (length field.now) place field.now) result }
+    ensures left { IfOk result (λ left. IsLeft limit field.now left (unfinished limit place field.now)) }
 {
-    let mut at = place;
-    while let Some(far) = whole_front(limit, &field[at..]) {
-        at += far;
+    let mut offset = place;
+    while let Some(length) = whole_packet(limit, &field[offset..]) {
+        offset += length;
     }
-    if let Err(fault) = sink.take_span(seen, channel, place as u16, &field[place..at]) {
+    if let Err(fault) = sink.take_span(seen, channel, place as u16, &field[place..offset]) {
         return Err(fault);
     }
-    give_unread(limit, seen, channel, field, at, sink)
+    give_unread(limit, seen, channel, field, offset, sink)
 }
 
 /// Gives what a field has where no packet is open: what stands before its place is lost for this reason, and then come its packets
@@ -226,34 +223,28 @@ pub fn give_field<S: Sink>(
     seen: u32,
     channel: u8,
     reason: Reason,
-    place: Option<u16>,
-    field: &[u8],
+    field: DataField<'_>,
     sink: &mut S,
 ) -> Result<usize, S::Fault>
     requires channel { channel < 8 }
-    requires most { length field.now ≤ 2042 }
-    requires place { PlaceFits place (length field.now) }
+    requires field { IsDataField field }
     requires limit { IsLimit limit }
-    ensures taken { OnOk result (TakesAll S.takes (S.known sink.old)
-        (part_items channel (lead_part (member_at seen place field.now) reason (front_of place field.now) ++ frame_parts limit (member_at seen place field.now))) (S.known sink.new)) }
-    ensures rest { IfOk result (λ at. drop at field.now ≡ left_in limit place field.now) }
-    ensures inside { IfOk result (λ at. at ≤ length field.now) }
-    ensures short { IfOk result (λ at. length field.now < at + limit) }
-    ensures refused { IfErr result (λ fault. RefusesOne S.takes S.refuses (S.known sink.old)
-        (part_items channel (lead_part (member_at seen place field.now) reason (front_of place field.now) ++ frame_parts limit (member_at seen place field.now))) fault (S.known sink.new)) }
+    ensures given { GivesParts S.Sink sink.old sink.new channel (begun_parts limit reason (member_with seen field.entry)) result }
+    ensures left { IfOk result (λ left. IsLeft limit field.entry.octets.now left
+        (left_in limit field.entry.place field.entry.octets.now)) }
 {
-    match place {
-        None => match give_lead(seen, channel, reason, field, sink) {
-            Ok(()) => Ok(field.len()),
+    match field.place {
+        None => match give_lead(seen, channel, reason, field.octets, sink) {
+            Ok(()) => Ok(field.octets.len()),
             Err(fault) => Err(fault),
         },
         Some(place) => {
             let start = place as usize;
-            if let Err(fault) = give_lead(seen, channel, reason, &field[..start], sink) {
+            if let Err(fault) = give_lead(seen, channel, reason, &field.octets[..start], sink) {
                 return Err(fault);
             }
-            match read_field(limit, seen, channel, field, start, sink) {
-                Ok(at) => Ok(at),
+            match read_field(limit, seen, channel, field.octets, start, sink) {
+                Ok(left) => Ok(left),
                 Err(fault) => Err(fault),
             }
         }

@@ -4,20 +4,23 @@ ghost use Rattle.std.specs.Prelude.{◌≡◌, ◌⊎◌, ◌+◌, ◌*◌, ◌<
 ghost use Rattle.std.specs.List.{flat_map};
 ghost use Rattle.tm_frame.specs.Layout.{record_length_of};
 ghost use Rattle.tm_reassembly.specs.Checkpoint.{block, state_spelling, blocks_read, with_channels, state_decoding_of, old_decoding_of};
-ghost use Rattle.tm_reassembly.specs.declared.fault.StateFault.TheVariants as found;
+ghost use Rattle.tm_reassembly.specs.code.Blocks.{decoding_in};
 ghost use Rattle.tm_reassembly.specs.Items.{closing, close_channels};
-ghost use Rattle.tm_reassembly.specs.code.Kept.{HaveLimit, lasts, rooms, unused};
+ghost use Rattle.tm_reassembly.specs.code.Slots.{HaveLimit, lasts, rooms, state_kept, unused};
 ghost use Rattle.tm_reassembly.specs.State.{octets_in, State, Last};
 ghost use Rattle.tm_reassembly.specs.Recording.{items, after};
 ghost use Rattle.tm_rules.specs.Rules.{IsLimit, chooses};
-ghost use Rattle.tm_items.specs.Sinks.{TakesAll, RefusesOne};
-ghost use Rattle.tm_reassembly.specs.Steps.{Progress, new_progress, most_records, progress_in, step_items, stepped, StepRefused, CloseRefused, last_count_of};
+ghost use Rattle.tm_items.specs.Giving.{Gives};
+ghost use Rattle.tm_items.specs.Sinks.{TakesAll};
+ghost use Rattle.tm_reassembly.specs.Steps.{Progress, new_progress, most_records, progress_in, step_items, stepped, StepRefused, CloseRefused, last_count_of, rules_of, IsDecoded, IsRefusal};
 ghost use Rattle.tm_reassembly.specs.Tiles.{held_tail};
 ghost use Rattle.tm_reassembly.specs.Valid.{IsCount, IsValidState};
 
-use crate::checkpoint::{four_at, master_length, push_four, push_master, read_block, read_master};
+use crate::channel::{ChannelState, give_master_gap};
+use crate::checkpoint::{
+    Form, four_at, master_length, push_four, push_master, read_block, read_master,
+};
 use crate::fault::{NoMemory, StateFault, StepFault};
-use crate::kept::{Kept, give_master_gap};
 use std::alloc::{AllocError, Global};
 use std::marker::Model;
 use tm_frame::{Layout, read};
@@ -31,7 +34,7 @@ pub struct Reassembly {
     records: u32,
     master: Option<u8>,
     failed: bool,
-    kept: [Kept; 8],
+    states: [ChannelState; 8],
 }
 
 impl Model for Reassembly {
@@ -39,13 +42,13 @@ impl Model for Reassembly {
 
     ghost view = { λ r. record {
       rules = r.rules;
-      state = record { records = r.records; master = r.master; channels = lasts r.kept };
+      state = state_kept r.records r.master r.states;
       failed = r.failed;
-      room = rooms r.kept;
+      room = rooms r.states;
     } };
 
-    ghost invariant = { λ r. r.failed ≡ false → IsValidState r.rules (record { records = r.records; master = r.master; channels = lasts r.kept })
-        × HaveLimit r.rules.max_packet r.kept };
+    ghost invariant = { λ r. r.failed ≡ false → IsValidState r.rules (state_kept r.records r.master r.states)
+        × HaveLimit r.rules.max_packet r.states };
 }
 
 impl Reassembly {
@@ -62,10 +65,10 @@ impl Reassembly {
         max_packet: u32,
     ) -> Result<Reassembly, NoMemory>
         requires { IsLimit max_packet }
-        ensures { IfOk result (λ reassembly. reassembly ≡ new_progress (record { layout = layout; channels = channels; max_packet = max_packet })) }
+        ensures { IfOk result (λ reassembly. reassembly ≡ new_progress (rules_of layout channels max_packet)) }
     {
-        match eight(alloc, max_packet as usize) {
-            Ok(kept) => Ok(Reassembly {
+        match eight_states(alloc, max_packet as usize) {
+            Ok(states) => Ok(Reassembly {
                 rules: Rules {
                     layout,
                     channels,
@@ -74,7 +77,7 @@ impl Reassembly {
                 records: 0,
                 master: None,
                 failed: false,
-                kept,
+                states,
             }),
             Err(_) => Err(NoMemory),
         }
@@ -89,10 +92,11 @@ impl Reassembly {
     /// records stays.
     pub fn step<S: Sink>(&mut self, octets: &[u8], sink: &mut S) -> Result<(), StepFault<S::Fault>>
         requires { length octets.now ≡ record_length_of self.old.rules.layout }
-        ensures taken { OnOk result (TakesAll S.takes (S.known sink.old) (step_items self.old octets.now) (S.known sink.new)) }
+        ensures accepted { OnOk result (TakesAll S.takes (S.known sink.old) (step_items self.old octets.now) (S.known sink.new)) }
         ensures left { OnOk result (self.new ≡ stepped self.old octets.now) }
         ensures asked { OnOk result ((self.old.failed ≡ false) × (self.old.state.records < most_records)) }
-        ensures refused { IfErr result (StepRefused S.known S.takes S.refuses self.old self.new sink.old sink.new (step_items self.old octets.now)) }
+        ensures refused { IfErr result (StepRefused S.known S.takes S.refuses self.old self.new sink.old sink.new
+            (step_items self.old octets.now)) }
     {
         if self.failed() {
             return Err(StepFault::Failed);
@@ -100,11 +104,11 @@ impl Reassembly {
         if self.records == u32::MAX {
             return Err(StepFault::TooMany);
         }
-        match take_record(
+        match add_record(
             &self.rules,
             self.records,
             &mut self.master,
-            &mut self.kept,
+            &mut self.states,
             octets,
             sink,
         ) {
@@ -119,7 +123,7 @@ impl Reassembly {
         }
     }
 
-    /// Closes the recording, of which so many octets are left, fewer than a record: gives the short record, if octets are left, and the
+    /// Closes the recording, with `rest` octets left, fewer than a record. It gives the short record, if octets are left, and the
     /// tails that are held, by rising channel.
     ///
     /// # Errors
@@ -127,15 +131,33 @@ impl Reassembly {
     /// `Failed` where a step was refused by its sink; else `Sink` where the sink refused an item, having taken those before it.
     pub fn finish<S: Sink>(self, rest: usize, sink: &mut S) -> Result<(), StepFault<S::Fault>>
         requires { rest < record_length_of self.rules.layout }
-        ensures taken { OnOk result (TakesAll S.takes (S.known sink.old) (closing self.state rest) (S.known sink.new)) }
+        ensures accepted { OnOk result (TakesAll S.takes (S.known sink.old) (closing self.state rest) (S.known sink.new)) }
         ensures asked { OnOk result (self.failed ≡ false) }
         ensures refused { IfErr result (CloseRefused S.known S.takes S.refuses self sink.old sink.new (closing self.state rest)) }
+    {
+        match self.close(rest, sink) {
+            Ok(()) => Ok(()),
+            Err(fault) => Err(fault),
+        }
+    }
+
+    /// The same of an object that is kept: it stays as it is, and may take further records.
+    ///
+    /// # Errors
+    ///
+    /// As `finish`.
+    pub fn close<S: Sink>(&self, rest: usize, sink: &mut S) -> Result<(), StepFault<S::Fault>>
+        requires { rest < record_length_of self.now.rules.layout }
+        ensures accepted { OnOk result (TakesAll S.takes (S.known sink.old) (closing self.now.state rest) (S.known sink.new)) }
+        ensures asked { OnOk result (self.now.failed ≡ false) }
+        ensures refused { IfErr result (CloseRefused S.known S.takes S.refuses self.now sink.old sink.new
+            (closing self.now.state rest)) }
     {
         prove!(rest < self.rules.layout.record_length());
         if self.failed {
             return Err(StepFault::Failed);
         }
-        match close(self.records, rest as u32, &self.kept, sink) {
+        match close_recording(self.records, rest as u32, &self.states, sink) {
             Ok(()) => Ok(()),
             Err(fault) => Err(StepFault::Sink(fault)),
         }
@@ -177,8 +199,8 @@ impl Reassembly {
         self.records
     }
 
-    /// The octets so far of the packet of a channel that is not whole, fewer than a packet may have; none where nothing is held, as of a channel
-    /// that isn't chosen. No step was refused.
+    /// The octets so far of the packet of a channel that is not whole, fewer than a packet may have. There are none where nothing
+    /// is held, as for a channel that isn't chosen. No step was refused.
     pub fn held(&self, channel: u8) -> &[u8]
         requires channel { channel < 8 }
         requires done { self.now.failed ≡ false }
@@ -186,7 +208,7 @@ impl Reassembly {
         ensures short { length result.now < self.now.rules.max_packet }
         ensures other { chooses self.now.rules channel ≡ false → result.now ≡ [] }
     {
-        self.kept[channel as usize].octets()
+        self.states[channel as usize].octets()
     }
 
     /// The virtual channel frame count of the last good frame of a channel, if there was one and the channel is chosen. No step was refused.
@@ -196,7 +218,7 @@ impl Reassembly {
         ensures value { result ≡ last_count_of self.now.state channel }
         ensures other { chooses self.now.rules channel ≡ false → result ≡ None }
     {
-        self.kept[channel as usize].count()
+        self.states[channel as usize].count()
     }
 
     /// The master channel frame count of the last good frame, of whatever channel, if there was one and it is known. It isn't known where the state
@@ -208,10 +230,11 @@ impl Reassembly {
         self.master
     }
 
-    /// Appends the spelling of the state: the number of records in four octets, the most significant first; the last master channel frame count,
-    /// 0 where there is none, else 1 and the count; and for each of the eight channels its block. The block is 0 where nothing is kept; 1 and the last count where no tail is held; else 2, the last count, and the
-    /// tail: the record in which it begins in four octets, its place there in two, the number of its octets in four, and these. No step was
-    /// refused.
+    /// Appends the spelling of the state. First come the number of records in four octets, the most significant first, and the
+    /// last master channel frame count: 0 where there is none, else 1 and the count. Then comes the block of each of the eight
+    /// channels. The block is 0 where nothing is kept; 1 and the last count where no tail is held; else 2, the last count, and
+    /// the tail. A tail is the record in which it begins in four octets, its place there in two, the number of its octets in
+    /// four, and these. No step was refused.
     ///
     /// # Errors
     ///
@@ -222,13 +245,13 @@ impl Reassembly {
         ensures full { OnErr result (vec_capacity out.old < vec_len out.old + length (state_spelling self.now.state)) }
         ensures unchanged { OnErr result (out.new.items ≡ out.old.items) }
     {
-        match out.try_reserve(4 + master_length(self.master) + spelled_length(&self.kept)) {
+        match out.try_reserve(4 + master_length(self.master) + spelled_length(&self.states)) {
             Ok(()) => {}
             Err(_) => return Err(NoMemory),
         }
         push_four(out, self.records);
         push_master(out, self.master);
-        push_channels(out, &self.kept);
+        push_channels(out, &self.states);
         Ok(())
     }
 
@@ -237,11 +260,11 @@ impl Reassembly {
     ///
     /// # Errors
     ///
-    /// What is wrong first, in the order of the octets. `Short` where octets are wanting; `Flag` where the flag of the master channel's count is
-    /// over 1, or a channel's flag is over 2, or not 0 for a channel that isn't chosen; `Place` where a tail begins in a record that isn't done, or
-    /// at a place over the frame length less 7; `Tail` where its length is 0 or not less than `max_packet`, its version is not 0, it holds the whole
-    /// packet, or its header gives a packet that is longer than `max_packet`. `NoMemory` only after all of these.
-    #[tactic(auto, using(crate::proofs::Decoding::decoding_short))]
+    /// What is wrong first, in the order of the octets. `Short` where octets are missing. `Flag` where the flag of the master
+    /// channel's count is over 1, or a channel's flag is over 2, or not 0 for a channel that isn't chosen. `Place` where a tail
+    /// begins in a record that isn't done, or at a place over the frame length less 7. `Tail` where its length is 0 or not less
+    /// than `max_packet`, or its version is not 0. `Tail` also where it holds the whole packet, or its header gives a packet that
+    /// is longer than `max_packet`. `NoMemory` only after all of these.
     pub fn decode(
         alloc: Global,
         layout: Layout,
@@ -250,28 +273,18 @@ impl Reassembly {
         octets: &[u8],
     ) -> Result<(Reassembly, usize), StateFault>
         requires { IsLimit max_packet }
-        ensures ok { IfOk result (λ read. state_decoding_of (record { layout = layout; channels = channels; max_packet = max_packet }) octets.now
-            ≡ Ok (record { state = read.0.state; octets = read.1 })) }
-        ensures same { IfOk result (λ read. read.0
-            ≡ progress_in (record { layout = layout; channels = channels; max_packet = max_packet }) read.0.state) }
-        ensures refused { IfErr result (λ fault. (state_decoding_of (record { layout = layout; channels = channels; max_packet = max_packet }) octets.now ≡ Err fault)
-            ⊎ ((fault ≡ found.NoMemory) × IsOk (state_decoding_of (record { layout = layout; channels = channels; max_packet = max_packet }) octets.now))) }
+        ensures ok { IfOk result (λ read. IsDecoded
+            (state_decoding_of (rules_of layout channels max_packet) octets.now) read.0.state read.1) }
+        ensures same { IfOk result (λ read. read.0 ≡ progress_in (rules_of layout channels max_packet) read.0.state) }
+        ensures refused { IfErr result (λ fault. IsRefusal
+            (state_decoding_of (rules_of layout channels max_packet) octets.now) fault) }
     {
         let rules = Rules {
             layout,
             channels,
             max_packet,
         };
-        if octets.len() < 4 {
-            return Err(StateFault::Short);
-        }
-        let records = four_at(octets, 0);
-        match read_master(&octets[4..]) {
-            Ok((master, used)) => {
-                restored(alloc, rules, records, master, 4 + used, &octets[4 + used..])
-            }
-            Err(fault) => Err(fault),
-        }
+        decode_form(alloc, rules, Form::WithMaster, octets)
     }
 
     /// Reads the older form of the spelling, which has no last master channel count: the state that is read has none. All else is as
@@ -280,7 +293,6 @@ impl Reassembly {
     /// # Errors
     ///
     /// As `decode`.
-    #[tactic(auto, using(crate::proofs::Decoding::old_decoding_short))]
     pub fn decode_old(
         alloc: Global,
         layout: Layout,
@@ -289,82 +301,113 @@ impl Reassembly {
         octets: &[u8],
     ) -> Result<(Reassembly, usize), StateFault>
         requires { IsLimit max_packet }
-        ensures ok { IfOk result (λ read. old_decoding_of (record { layout = layout; channels = channels; max_packet = max_packet }) octets.now
-            ≡ Ok (record { state = read.0.state; octets = read.1 })) }
-        ensures same { IfOk result (λ read. read.0
-            ≡ progress_in (record { layout = layout; channels = channels; max_packet = max_packet }) read.0.state) }
-        ensures refused { IfErr result (λ fault. (old_decoding_of (record { layout = layout; channels = channels; max_packet = max_packet }) octets.now ≡ Err fault)
-            ⊎ ((fault ≡ found.NoMemory) × IsOk (old_decoding_of (record { layout = layout; channels = channels; max_packet = max_packet }) octets.now))) }
+        ensures ok { IfOk result (λ read. IsDecoded
+            (old_decoding_of (rules_of layout channels max_packet) octets.now) read.0.state read.1) }
+        ensures same { IfOk result (λ read. read.0 ≡ progress_in (rules_of layout channels max_packet) read.0.state) }
+        ensures refused { IfErr result (λ fault. IsRefusal
+            (old_decoding_of (rules_of layout channels max_packet) octets.now) fault) }
     {
         let rules = Rules {
             layout,
             channels,
             max_packet,
         };
-        if octets.len() < 4 {
-            return Err(StateFault::Short);
-        }
-        restored(alloc, rules, four_at(octets, 0), None, 4, &octets[4..])
+        decode_form(alloc, rules, Form::WithoutMaster, octets)
     }
 }
 
-// The reassembly of which so much is read, and whose channels these octets spell; `before` octets were read before them.
-fn restored(
+// Reads a spelling of this form.
+#[tactic(auto, using(crate::proofs::Decoding::decoding_short))]
+fn decode_form(
+    alloc: Global,
+    rules: Rules,
+    form: Form,
+    octets: &[u8],
+) -> Result<(Reassembly, usize), StateFault>
+    requires { IsLimit rules.max_packet }
+    ensures ok { IfOk result (λ read. IsDecoded (decoding_in form rules octets.now) read.0.state read.1) }
+    ensures same { IfOk result (λ read. read.0 ≡ progress_in rules read.0.state) }
+    ensures refused { IfErr result (λ fault. IsRefusal (decoding_in form rules octets.now) fault) }
+{
+    if octets.len() < 4 {
+        return Err(StateFault::Short);
+    }
+    let records = four_at(octets, 0);
+    match read_master(form, &octets[4..]) {
+        Ok((master, used)) => {
+            decode_channels(alloc, rules, records, master, 4 + used, &octets[4 + used..])
+        }
+        Err(fault) => Err(fault),
+    }
+}
+
+// Reads the channels, whose spelling begins at `start`, where the numbers before them are read.
+fn decode_channels(
     alloc: Global,
     rules: Rules,
     records: u32,
     master: Option<u8>,
-    before: usize,
+    start: usize,
     octets: &[u8],
 ) -> Result<(Reassembly, usize), StateFault>
     requires limit { IsLimit rules.max_packet }
     requires count { IsCount master }
-    requires before { before ≤ 6 }
-    ensures ok { IfOk result (λ read. with_channels records master before (blocks_read rules records 8 0 octets.now)
-        ≡ Ok (record { state = read.0.state; octets = read.1 })) }
+    requires start { start ≤ 6 }
+    ensures ok { IfOk result (λ read. IsDecoded
+        (with_channels records master start (blocks_read rules records 8 0 octets.now)) read.0.state read.1) }
     ensures same { IfOk result (λ read. read.0 ≡ progress_in rules read.0.state) }
-    ensures refused { IfErr result (λ fault. (with_channels records master before (blocks_read rules records 8 0 octets.now) ≡ Err fault)
-        ⊎ ((fault ≡ found.NoMemory) × IsOk (with_channels records master before (blocks_read rules records 8 0 octets.now)))) }
+    ensures refused { IfErr result (λ fault. IsRefusal
+        (with_channels records master start (blocks_read rules records 8 0 octets.now)) fault) }
 {
     if let Err(fault) = check(&rules, records, octets) {
         return Err(fault);
     }
-    let Ok(mut kept) = eight(alloc, rules.max_packet as usize) else {
+    let Ok(mut states) = eight_states(alloc, rules.max_packet as usize) else {
         return Err(StateFault::NoMemory);
     };
-    match restore(&rules, records, octets, &mut kept) {
+    match restore(&rules, records, octets, &mut states) {
         Ok(used) => {
             let reassembly = Reassembly {
                 rules,
                 records,
                 master,
                 failed: false,
-                kept,
+                states,
             };
-            Ok((reassembly, before + used))
+            Ok((reassembly, start + used))
         }
         Err(fault) => Err(fault),
     }
 }
 
-// Two channels of which nothing is kept, with room for a packet of so many octets each.
-fn two(alloc: Global, limit: usize) -> Result<(Kept, Kept), AllocError>
+// Two channels without anything kept, with capacity for a packet of so many octets each.
+fn two_states(alloc: Global, limit: usize) -> Result<(ChannelState, ChannelState), AllocError>
     requires { IsLimit limit }
-    ensures { IfOk result (λ two. (two.0 ≡ unused limit) × (two.1 ≡ unused limit)) }
+    ensures { IfOk result (λ two_states. (two_states.0 ≡ unused limit) × (two_states.1 ≡ unused limit)) }
 {
-    Ok((Kept::new(alloc, limit)?, Kept::new(alloc, limit)?))
+    Ok((
+        ChannelState::new(alloc, limit)?,
+        ChannelState::new(alloc, limit)?,
+    ))
 }
 
 // Four of them.
-fn four(alloc: Global, limit: usize) -> Result<((Kept, Kept), (Kept, Kept)), AllocError>
+fn four_states(
+    alloc: Global,
+    limit: usize,
+) -> Result<((ChannelState, ChannelState), (ChannelState, ChannelState)), AllocError>
     requires { IsLimit limit }
-    ensures { IfOk result (λ four. (four.0.0 ≡ unused limit) × (four.0.1 ≡ unused limit) × (four.1.0 ≡ unused limit) × (four.1.1 ≡ unused limit)) }
+    ensures { IfOk result (λ four_states. (four_states.0.0 ≡ unused limit) × (four_states.0.1 ≡ unused limit)
+        × (four_states.1.0 ≡ unused limit) × (four_states.1.1 ≡ unused limit)) }
 {
-    Ok((two(alloc, limit)?, two(alloc, limit)?))
+    Ok((two_states(alloc, limit)?, two_states(alloc, limit)?))
 }
 
 // The channels in a row.
-fn in_a_row(low: ((Kept, Kept), (Kept, Kept)), high: ((Kept, Kept), (Kept, Kept))) -> [Kept; 8]
+fn states_in_a_row(
+    low: ((ChannelState, ChannelState), (ChannelState, ChannelState)),
+    high: ((ChannelState, ChannelState), (ChannelState, ChannelState)),
+) -> [ChannelState; 8]
     ensures { result ≡ low.0.0 ∷ low.0.1 ∷ low.1.0 ∷ low.1.1 ∷ high.0.0 ∷ high.0.1 ∷ high.1.0 ∷ high.1.1 ∷ [] }
 {
     let ((a, b), (c, d)) = low;
@@ -373,32 +416,30 @@ fn in_a_row(low: ((Kept, Kept), (Kept, Kept)), high: ((Kept, Kept), (Kept, Kept)
 }
 
 // All eight.
-fn eight(alloc: Global, limit: usize) -> Result<[Kept; 8], AllocError>
+fn eight_states(alloc: Global, limit: usize) -> Result<[ChannelState; 8], AllocError>
     requires { IsLimit limit }
-    ensures { IfOk result (λ kept. kept ≡ replicate 8 (unused limit)) }
+    ensures { IfOk result (λ states. states ≡ replicate 8 (unused limit)) }
 {
-    Ok(in_a_row(four(alloc, limit)?, four(alloc, limit)?))
+    Ok(states_in_a_row(four_states(alloc, limit)?, four_states(alloc, limit)?))
 }
 
-// Takes a record, of which so many were done before.
-fn take_record<S: Sink>(
+// Reads a record, behind so many that were done.
+fn add_record<S: Sink>(
     rules: &Rules,
     seen: u32,
     master: &mut Option<u8>,
-    kept: &mut [Kept; 8],
+    states: &mut [ChannelState; 8],
     octets: &[u8],
     sink: &mut S,
 ) -> Result<(), S::Fault>
     requires record { length octets.now ≡ record_length_of rules.now.layout }
-    requires state { IsValidState rules.now (record { records = seen; master = master.old; channels = lasts kept.old }) }
-    requires limit { HaveLimit rules.now.max_packet kept.old }
-    ensures taken { OnOk result (TakesAll S.takes (S.known sink.old)
-        (items rules.now (record { records = seen; master = master.old; channels = lasts kept.old }) (octets.now ∷ [])) (S.known sink.new)) }
-    ensures left { OnOk result (record { records = seen + 1; master = master.new; channels = lasts kept.new }
-        ≡ after rules.now (record { records = seen; master = master.old; channels = lasts kept.old }) (octets.now ∷ [])) }
-    ensures limit { OnOk result (HaveLimit rules.now.max_packet kept.new) }
-    ensures refused { IfErr result (λ fault. RefusesOne S.takes S.refuses (S.known sink.old)
-        (items rules.now (record { records = seen; master = master.old; channels = lasts kept.old }) (octets.now ∷ [])) fault (S.known sink.new)) }
+    requires state { IsValidState rules.now (state_kept seen master.old states.old) }
+    requires limit { HaveLimit rules.now.max_packet states.old }
+    ensures given { Gives S.Sink sink.old sink.new
+        (items rules.now (state_kept seen master.old states.old) (octets.now ∷ [])) result }
+    ensures left { OnOk result (state_kept (seen + 1) master.new states.new
+        ≡ after rules.now (state_kept seen master.old states.old) (octets.now ∷ [])) }
+    ensures limit { OnOk result (HaveLimit rules.now.max_packet states.new) }
 {
     match read(&rules.layout, octets) {
         Ok(frame) => {
@@ -409,7 +450,7 @@ fn take_record<S: Sink>(
             *master = Some(count);
             let channel = frame.channel();
             if rules.channels.has(channel) {
-                kept[channel as usize].take_frame(seen, channel, &frame, sink)
+                states[channel as usize].add_frame(seen, channel, &frame, sink)
             } else {
                 Ok(())
             }
@@ -422,26 +463,33 @@ fn take_record<S: Sink>(
 }
 
 // The items of a closed end: of the rest, and of the tails.
-fn close<S: Sink>(seen: u32, rest: u32, kept: &[Kept; 8], sink: &mut S) -> Result<(), S::Fault>
-    ensures taken { OnOk result (TakesAll S.takes (S.known sink.old) (closing (record { records = seen; master = None; channels = lasts kept.now }) rest) (S.known sink.new)) }
-    ensures refused { IfErr result (λ fault. RefusesOne S.takes S.refuses (S.known sink.old) (closing (record { records = seen; master = None; channels = lasts kept.now }) rest) fault (S.known sink.new)) }
+fn close_recording<S: Sink>(
+    seen: u32,
+    rest: u32,
+    states: &[ChannelState; 8],
+    sink: &mut S,
+) -> Result<(), S::Fault>
+    ensures given { Gives S.Sink sink.old sink.new (closing (state_kept seen None states.now) rest) result }
 {
     if rest > 0 {
         if let Err(fault) = sink.take(Item::Short { seen, octets: rest }) {
             return Err(fault);
         }
     }
-    close_channels(seen, kept, sink)
+    close_channels(seen, states, sink)
 }
 
 // The tails that are held, by rising channel.
 #[tactic(auto, using(crate::proofs::Slots::close_more))]
-fn close_channels<S: Sink>(seen: u32, kept: &[Kept; 8], sink: &mut S) -> Result<(), S::Fault>
-    ensures taken { OnOk result (TakesAll S.takes (S.known sink.old) (close_channels seen 0 (lasts kept.now)) (S.known sink.new)) }
-    ensures refused { IfErr result (λ fault. RefusesOne S.takes S.refuses (S.known sink.old) (close_channels seen 0 (lasts kept.now)) fault (S.known sink.new)) }
+fn close_channels<S: Sink>(
+    seen: u32,
+    states: &[ChannelState; 8],
+    sink: &mut S,
+) -> Result<(), S::Fault>
+    ensures given { Gives S.Sink sink.old sink.new (close_channels seen 0 (lasts states.now)) result }
 {
     for channel in 0..8 {
-        if let Err(fault) = kept[channel].close(seen, channel as u8, sink) {
+        if let Err(fault) = states[channel].close(seen, channel as u8, sink) {
             return Err(fault);
         }
     }
@@ -450,25 +498,25 @@ fn close_channels<S: Sink>(seen: u32, kept: &[Kept; 8], sink: &mut S) -> Result<
 
 // How many octets spell the channels.
 #[tactic(auto, using(crate::proofs::Slots::spelled_more))]
-fn spelled_length(kept: &[Kept; 8]) -> usize
-    ensures value { result ≡ length (flat_map block (lasts kept.now)) }
+fn spelled_length(states: &[ChannelState; 8]) -> usize
+    ensures value { result ≡ length (flat_map block (lasts states.now)) }
     ensures most { result ≤ 8 * 65554 }
 {
     let mut length = 0;
     for channel in 0..8 {
-        length += kept[channel].spelled_length();
+        length += states[channel].spelled_length();
     }
     length
 }
 
 // Appends the spelling of the channels, for which there is room.
 #[tactic(auto, using(crate::proofs::Slots::spelled_rest))]
-fn push_channels(out: &mut Vec<u8>, kept: &[Kept; 8])
-    requires { vec_len out.old + length (flat_map block (lasts kept.now)) ≤ vec_capacity out.old }
-    ensures { out.new.items ≡ out.old.items ++ flat_map block (lasts kept.now) }
+fn push_channels(out: &mut Vec<u8>, states: &[ChannelState; 8])
+    requires { vec_len out.old + length (flat_map block (lasts states.now)) ≤ vec_capacity out.old }
+    ensures { out.new.items ≡ out.old.items ++ flat_map block (lasts states.now) }
 {
     for channel in 0..8 {
-        kept[channel].push(out);
+        states[channel].push(out);
     }
 }
 
@@ -494,11 +542,12 @@ fn restore(
     rules: &Rules,
     records: u32,
     octets: &[u8],
-    kept: &mut [Kept; 8],
+    states: &mut [ChannelState; 8],
 ) -> Result<usize, StateFault>
-    requires { HaveLimit rules.now.max_packet kept.old }
-    ensures ok { IfOk result (λ used. blocks_read rules.now records 8 0 octets.now ≡ Ok (record { kept = lasts kept.new; octets = used })) }
-    ensures limit { OnOk result (HaveLimit rules.now.max_packet kept.new) }
+    requires { HaveLimit rules.now.max_packet states.old }
+    ensures ok { IfOk result (λ used. blocks_read rules.now records 8 0 octets.now
+        ≡ Ok (record { kept = lasts states.new; octets = used })) }
+    ensures limit { OnOk result (HaveLimit rules.now.max_packet states.new) }
     ensures inside { IfOk result (λ used. used ≤ length octets.now) }
     ensures refused { IfErr result (λ fault. blocks_read rules.now records 8 0 octets.now ≡ Err fault) }
 {
@@ -506,7 +555,7 @@ fn restore(
     for channel in 0..8 {
         match read_block(rules, channel as u8, records, &octets[at..]) {
             Ok((block, used)) => {
-                kept[channel].restore(&block);
+                states[channel].restore(&block);
                 at += used;
             }
             Err(fault) => return Err(fault),

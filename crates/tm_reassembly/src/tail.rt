@@ -3,22 +3,23 @@
 ghost use Rattle.std.specs.Prelude.{◌≡◌, ◌+◌, ◌<◌, ◌≤◌, ◌++◌, length, take, IfOk, IfErr, OnOk, Option, None, Some, is_some, true, vec_len, vec_capacity};
 ghost use Rattle.tm_reassembly.specs.code.Blocks.{spelled_tail};
 ghost use Rattle.tm_items.specs.declared.items.Reason.TheVariants as why;
-ghost use Rattle.tm_reassembly.specs.code.Field.{step_parts, step_tail, ended_parts, frame_parts, frame_tail, part_items};
+ghost use Rattle.tm_reassembly.specs.code.DataFields.{IsDataField, member_with};
+ghost use Rattle.tm_reassembly.specs.code.Field.{begun_parts, broken_off_parts, step_parts, step_tail, ended_parts, frame_parts, frame_tail, part_items, GivesParts};
 ghost use Rattle.tm_items.specs.Item as value;
-ghost use Rattle.tm_reassembly.specs.code.Kept.{Buffer, tail_of_octets, grown, completed, member_at};
+ghost use Rattle.tm_reassembly.specs.code.Slots.{Buffer, HoldsTail, LeavesTail, tail_of_octets, grown, completed, completed_parts, member_at};
 ghost use Rattle.tm_reassembly.specs.State.{octets_in};
 ghost use Rattle.tm_reassembly.specs.Parts as model;
-ghost use Rattle.tm_reassembly.specs.Parts.{lead_part, front_of};
 ghost use Rattle.tm_rules.specs.Rules.{IsLimit};
 ghost use Rattle.tm_items.specs.OnePacket.{IsOnePacket};
-ghost use Rattle.tm_items.specs.Sinks.{TakesAll, RefusesOne};
+ghost use Rattle.tm_items.specs.Giving.{Gives};
 ghost use Rattle.tm_reassembly.specs.State as state;
-ghost use Rattle.tm_reassembly.specs.code.Fits.{PlaceFits, IsOpenTail};
+ghost use Rattle.tm_reassembly.specs.code.Fits.{IsOpenTail};
 
-use crate::checkpoint::{push, push_four, push_two};
-use crate::packets::{agrees_at, give_field, is_long, reach_over, read_field};
+use crate::checkpoint::push_four;
+use crate::packets::{DataField, agrees_at, give_field, is_long, packet_length_over, read_field};
 use std::alloc::{AllocError, Global};
 use std::marker::Model;
+use tm_bits::{push, push_two};
 use tm_items::{Item, Reason, Sink};
 
 /// The tail that is held, if its octets are not empty, and the record and place where it begins. A packet has at most `limit` octets, for
@@ -74,9 +75,7 @@ impl Tail {
     /// Holds these octets in place of what was held.
     pub fn hold(&mut self, first: u32, place: u16, octets: &[u8])
         requires { length octets.now ≤ self.old.limit }
-        ensures tail { self.new.tail ≡ tail_of_octets first place octets.now }
-        ensures limit { self.new.limit ≡ self.old.limit }
-        ensures room { self.old.room ≤ self.new.room }
+        ensures { HoldsTail self.old self.new (tail_of_octets first place octets.now) }
     {
         self.octets.clear();
         match self.octets.extend_from_slice(octets) {
@@ -96,8 +95,7 @@ impl Tail {
         sink: &mut S,
     ) -> Result<(), S::Fault>
         requires { channel < 8 }
-        ensures taken { OnOk result (TakesAll S.takes (S.known sink.old) (part_items channel (ended_parts self.now.tail reason seen)) (S.known sink.new)) }
-        ensures refused { IfErr result (λ fault. RefusesOne S.takes S.refuses (S.known sink.old) (part_items channel (ended_parts self.now.tail reason seen)) fault (S.known sink.new)) }
+        ensures given { GivesParts S.Sink sink.old sink.new channel (ended_parts self.now.tail reason seen) result }
     {
         if self.octets.is_empty() {
             return Ok(());
@@ -125,11 +123,8 @@ impl Tail {
         sink: &mut S,
     ) -> Result<(), S::Fault>
         requires { channel < 8 }
-        ensures taken { OnOk result (TakesAll S.takes (S.known sink.old) (part_items channel (ended_parts self.old.tail reason seen)) (S.known sink.new)) }
-        ensures left { OnOk result (self.new.tail ≡ None) }
-        ensures limit { self.new.limit ≡ self.old.limit }
-        ensures room { self.old.room ≤ self.new.room }
-        ensures refused { IfErr result (λ fault. RefusesOne S.takes S.refuses (S.known sink.old) (part_items channel (ended_parts self.old.tail reason seen)) fault (S.known sink.new)) }
+        ensures given { GivesParts S.Sink sink.old sink.new channel (ended_parts self.old.tail reason seen) result }
+        ensures left { LeavesTail self.old self.new None result }
     {
         match self.give_lost(seen, channel, reason, sink) {
             Ok(()) => {
@@ -147,24 +142,18 @@ impl Tail {
         seen: u32,
         channel: u8,
         reason: Reason,
-        place: Option<u16>,
-        field: &[u8],
+        field: DataField<'_>,
         sink: &mut S,
     ) -> Result<(), S::Fault>
         requires channel { channel < 8 }
-        requires most { length field.now ≤ 2042 }
-        requires place { PlaceFits place (length field.now) }
-        ensures taken { OnOk result (TakesAll S.takes (S.known sink.old)
-            (part_items channel (lead_part (member_at seen place field.now) reason (front_of place field.now) ++ frame_parts self.old.limit (member_at seen place field.now))) (S.known sink.new)) }
-        ensures left { OnOk result (self.new.tail ≡ frame_tail self.old.limit (member_at seen place field.now)) }
-        ensures limit { self.new.limit ≡ self.old.limit }
-        ensures room { self.old.room ≤ self.new.room }
-        ensures refused { IfErr result (λ fault. RefusesOne S.takes S.refuses (S.known sink.old)
-            (part_items channel (lead_part (member_at seen place field.now) reason (front_of place field.now) ++ frame_parts self.old.limit (member_at seen place field.now))) fault (S.known sink.new)) }
+        requires field { IsDataField field }
+        ensures given { GivesParts S.Sink sink.old sink.new channel
+            (begun_parts self.old.limit reason (member_with seen field.entry)) result }
+        ensures left { LeavesTail self.old self.new (frame_tail self.old.limit (member_with seen field.entry)) result }
     {
-        match give_field(self.limit, seen, channel, reason, place, field, sink) {
+        match give_field(self.limit, seen, channel, reason, field, sink) {
             Ok(at) => {
-                self.hold(seen, at as u16, &field[at..]);
+                self.hold(seen, at as u16, &field.octets[at..]);
                 Ok(())
             }
             Err(fault) => Err(fault),
@@ -172,42 +161,40 @@ impl Tail {
     }
 
     /// Takes a frame's field, by what is held and by the place of the first packet that starts in it.
-    pub fn take_field<S: Sink>(
+    pub fn add_field<S: Sink>(
         &mut self,
         seen: u32,
         channel: u8,
-        place: Option<u16>,
-        field: &[u8],
+        field: DataField<'_>,
         sink: &mut S,
     ) -> Result<(), S::Fault>
         requires channel { channel < 8 }
-        requires most { length field.now ≤ 2042 }
-        requires place { PlaceFits place (length field.now) }
+        requires field { IsDataField field }
         requires open { IsOpenTail self.old.limit self.old.tail }
-        ensures taken { OnOk result (TakesAll S.takes (S.known sink.old) (part_items channel (step_parts self.old.limit self.old.tail (member_at seen place field.now))) (S.known sink.new)) }
-        ensures left { OnOk result (self.new.tail ≡ step_tail self.old.limit self.old.tail (member_at seen place field.now)) }
-        ensures limit { self.new.limit ≡ self.old.limit }
-        ensures room { self.old.room ≤ self.new.room }
-        ensures refused { IfErr result (λ fault. RefusesOne S.takes S.refuses (S.known sink.old) (part_items channel (step_parts self.old.limit self.old.tail (member_at seen place field.now))) fault (S.known sink.new)) }
+        ensures given { GivesParts S.Sink sink.old sink.new channel
+            (step_parts self.old.limit self.old.tail (member_with seen field.entry)) result }
+        ensures left { LeavesTail self.old self.new
+            (step_tail self.old.limit self.old.tail (member_with seen field.entry)) result }
     {
         if self.octets.is_empty() {
-            return self.begin(seen, channel, Reason::NoStart, place, field, sink);
+            return self.begin(seen, channel, Reason::NoStart, field, sink);
         }
         let held = self.octets.len();
-        let reach = reach_over(self.octets.as_slice(), field);
-        if !agrees_at(reach, held, field.len(), place) {
-            return self.break_off(seen, channel, Reason::Pointer, place, field, sink);
+        let end = held + field.octets.len();
+        let length = packet_length_over(self.octets.as_slice(), field.octets);
+        if !agrees_at(length, held, field.octets.len(), field.place) {
+            return self.break_off(seen, channel, Reason::Pointer, field, sink);
         }
-        if is_long(self.limit, reach, held + field.len()) {
-            return self.break_off(seen, channel, Reason::Length, place, field, sink);
+        if is_long(self.limit, length, end) {
+            return self.break_off(seen, channel, Reason::Length, field, sink);
         }
-        match place {
-            None if held + field.len() < reach => {
-                self.grow(field);
+        match field.place {
+            None if end < length => {
+                self.grow(field.octets);
                 Ok(())
             }
-            None => self.complete(seen, channel, field, sink),
-            Some(start) => self.complete_in(seen, channel, start, field, sink),
+            None => self.complete(seen, channel, field.octets, sink),
+            Some(start) => self.complete_in(seen, channel, start, field.octets, sink),
         }
     }
 
@@ -216,9 +203,7 @@ impl Tail {
     fn grow(&mut self, more: &[u8])
         requires some { 0 < length (octets_in self.old.tail) }
         requires most { length (octets_in self.old.tail) + length more.now ≤ self.old.limit }
-        ensures tail { self.new.tail ≡ grown self.old.tail more.now }
-        ensures limit { self.new.limit ≡ self.old.limit }
-        ensures room { self.old.room ≤ self.new.room }
+        ensures { HoldsTail self.old self.new (grown self.old.tail more.now) }
     {
         match self.octets.extend_from_slice(more) {
             Ok(()) => {}
@@ -238,11 +223,8 @@ impl Tail {
         requires most { length (octets_in self.old.tail) + length last.now ≤ self.old.limit }
         requires some { 0 < length (octets_in self.old.tail) }
         requires whole { IsOnePacket (octets_in self.old.tail ++ last.now) }
-        ensures taken { OnOk result (TakesAll S.takes (S.known sink.old) (part_items channel (completed self.old.tail last.now seen)) (S.known sink.new)) }
-        ensures left { OnOk result (self.new.tail ≡ None) }
-        ensures limit { self.new.limit ≡ self.old.limit }
-        ensures room { self.old.room ≤ self.new.room }
-        ensures refused { IfErr result (λ fault. RefusesOne S.takes S.refuses (S.known sink.old) (part_items channel (completed self.old.tail last.now seen)) fault (S.known sink.new)) }
+        ensures given { GivesParts S.Sink sink.old sink.new channel (completed self.old.tail last.now seen) result }
+        ensures left { LeavesTail self.old self.new None result }
     {
         self.grow(last);
         let packet = Item::Packet {
@@ -274,13 +256,9 @@ impl Tail {
         requires some { 0 < length (octets_in self.old.tail) }
         requires whole { IsOnePacket (octets_in self.old.tail ++ take start field.now) }
         requires room { length (octets_in self.old.tail) + start ≤ self.old.limit }
-        ensures taken { OnOk result (TakesAll S.takes (S.known sink.old)
-            (part_items channel (completed self.old.tail (take start field.now) seen ++ frame_parts self.old.limit (member_at seen (Some start) field.now))) (S.known sink.new)) }
-        ensures left { OnOk result (self.new.tail ≡ frame_tail self.old.limit (member_at seen (Some start) field.now)) }
-        ensures limit { self.new.limit ≡ self.old.limit }
-        ensures room { self.old.room ≤ self.new.room }
-        ensures refused { IfErr result (λ fault. RefusesOne S.takes S.refuses (S.known sink.old)
-            (part_items channel (completed self.old.tail (take start field.now) seen ++ frame_parts self.old.limit (member_at seen (Some start) field.now))) fault (S.known sink.new)) }
+        ensures given { GivesParts S.Sink sink.old sink.new channel
+            (completed_parts self.old.limit self.old.tail seen start field.now) result }
+        ensures left { LeavesTail self.old self.new (frame_tail self.old.limit (member_at seen (Some start) field.now)) result }
     {
         let start = start as usize;
         if let Err(fault) = self.complete(seen, channel, &field[..start], sink) {
@@ -301,25 +279,19 @@ impl Tail {
         seen: u32,
         channel: u8,
         reason: Reason,
-        place: Option<u16>,
-        field: &[u8],
+        field: DataField<'_>,
         sink: &mut S,
     ) -> Result<(), S::Fault>
         requires channel { channel < 8 }
-        requires most { length field.now ≤ 2042 }
-        requires place { PlaceFits place (length field.now) }
-        ensures taken { OnOk result (TakesAll S.takes (S.known sink.old)
-            (part_items channel (ended_parts self.old.tail reason seen ++ lead_part (member_at seen place field.now) reason (front_of place field.now) ++ frame_parts self.old.limit (member_at seen place field.now))) (S.known sink.new)) }
-        ensures left { OnOk result (self.new.tail ≡ frame_tail self.old.limit (member_at seen place field.now)) }
-        ensures limit { self.new.limit ≡ self.old.limit }
-        ensures room { self.old.room ≤ self.new.room }
-        ensures refused { IfErr result (λ fault. RefusesOne S.takes S.refuses (S.known sink.old)
-            (part_items channel (ended_parts self.old.tail reason seen ++ lead_part (member_at seen place field.now) reason (front_of place field.now) ++ frame_parts self.old.limit (member_at seen place field.now))) fault (S.known sink.new)) }
+        requires field { IsDataField field }
+        ensures given { GivesParts S.Sink sink.old sink.new channel
+            (broken_off_parts self.old.limit self.old.tail reason (member_with seen field.entry)) result }
+        ensures left { LeavesTail self.old self.new (frame_tail self.old.limit (member_with seen field.entry)) result }
     {
         if let Err(fault) = self.end(seen, channel, reason, sink) {
             return Err(fault);
         }
-        match self.begin(seen, channel, reason, place, field, sink) {
+        match self.begin(seen, channel, reason, field, sink) {
             Ok(()) => Ok(()),
             Err(fault) => Err(fault),
         }

@@ -8,7 +8,7 @@ use tm_octets::Octets;
 pub enum SettingsFault {
     /// The text is not UTF-8, or is no TOML document.
     Toml,
-    /// It has keys that name no setting, of which this is the least by its octets.
+    /// It has keys that name no setting. This is the least of them by its octets.
     Unknown(Octets),
     /// This key has to be there.
     Missing(Key),

@@ -16,11 +16,38 @@ pub enum Key {
     MaxPacket,
 }
 
+/// The least and the greatest that a number may be.
+#[derive(Clone, Copy, Debug, PartialEq, Eq)]
+pub struct Limits {
+    pub least: u32,
+    pub most: u32,
+}
+
+pub(crate) const SPACECRAFT: Limits = Limits {
+    least: 0,
+    most: 1023,
+};
+
+pub(crate) const FRAME_LENGTH: Limits = Limits {
+    least: 9,
+    most: 2048,
+};
+
+pub(crate) const SKIP: Limits = Limits {
+    least: 0,
+    most: 1024,
+};
+
+pub(crate) const MAX_PACKET: Limits = Limits {
+    least: 7,
+    most: 65542,
+};
+
 impl Key {
-    ghost use Rattle.tm_settings.specs.Keys.{key_name};
+    ghost use Rattle.tm_settings.specs.Keys.{key_name, limits_of};
 
     /// All keys.
-    pub(crate) const ALL: [Key; 9] = [
+    pub const ALL: [Key; 9] = [
         Key::Spacecraft,
         Key::FrameLength,
         Key::SkipBefore,
@@ -46,6 +73,19 @@ impl Key {
             Key::ErrorControl => "error_control",
             Key::Channels => "channels",
             Key::MaxPacket => "max_packet",
+        }
+    }
+
+    /// The limits of a key whose value is a number.
+    pub fn limits(self) -> Option<Limits>
+        ensures { result ≡ limits_of self }
+    {
+        match self {
+            Key::Spacecraft => Some(SPACECRAFT),
+            Key::FrameLength => Some(FRAME_LENGTH),
+            Key::SkipBefore | Key::SkipAfter => Some(SKIP),
+            Key::MaxPacket => Some(MAX_PACKET),
+            Key::Secondary | Key::Ocf | Key::ErrorControl | Key::Channels => None,
         }
     }
 }

@@ -7,5 +7,5 @@ mod settings;
 mod values;
 
 pub use fault::SettingsFault;
-pub use key::Key;
+pub use key::{Key, Limits};
 pub use settings::Settings;

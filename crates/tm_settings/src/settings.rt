@@ -10,6 +10,7 @@ ghost use Rattle.tm_rules.specs.Rules.{IsLimit};
 ghost use Rattle.tm_settings.specs.Keys.{is_name};
 ghost use Rattle.tm_settings.specs.Settings.{choices_from, layout_from, least, settings_from, unknown_keys};
 
+use crate::key::{FRAME_LENGTH, SPACECRAFT};
 use crate::values::{channels_at, integer_at, limit_at, presence_at, skip_at, truth_at};
 use crate::{Key, SettingsFault};
 use std::alloc::Global;
@@ -78,8 +79,8 @@ fn layout_of(parts: LayoutParts) -> Layout
 fn read_layout(table: &Table) -> Result<Layout, SettingsFault>
     ensures { result ≡ layout_from (table_view table.now) }
 {
-    let spacecraft = integer_at(table, Key::Spacecraft, 0, 1023)?;
-    let frame_length = integer_at(table, Key::FrameLength, 9, 2048)?;
+    let spacecraft = integer_at(table, Key::Spacecraft, SPACECRAFT)?;
+    let frame_length = integer_at(table, Key::FrameLength, FRAME_LENGTH)?;
     let skip_before = skip_at(table, Key::SkipBefore)?;
     let skip_after = skip_at(table, Key::SkipAfter)?;
     let secondary = presence_at(table, Key::Secondary)?;
@@ -126,11 +127,10 @@ fn read_table(alloc: Global, table: &Table) -> Result<Settings, SettingsFault>
 }
 
 impl Settings {
-    /// The settings that a text says: a TOML document with the keys `spacecraft` (0 to 1023),
-    /// `frame_length` (9 to 2048), `skip_before` and `skip_after` (0 to 1024), `secondary` and `ocf`
-    /// (`"flag"`, `"always"` or `"never"`), `error_control` (a boolean), `channels` (distinct numbers
-    /// 0 to 7, at least one) and `max_packet` (7 to 65542). `spacecraft`, `frame_length` and
-    /// `error_control` have to be there.
+    /// The settings that a text says: a TOML document with these keys. `spacecraft` is 0 to 1023, `frame_length` 9 to 2048,
+    /// `skip_before` and `skip_after` 0 to 1024, and `max_packet` 7 to 65542. `secondary` and `ocf` are `"flag"`, `"always"` or
+    /// `"never"`, `error_control` is a boolean, and `channels` distinct numbers 0 to 7, at least one. `spacecraft`,
+    /// `frame_length` and `error_control` have to be there.
     pub fn read(alloc: Global, text: &[u8]) -> Result<Settings, SettingsFault>
         // Settings and refusals are those that the document says, by `toml`'s own definition of one.
         ensures ok { IfOk result (λ s. IsUtf8 text.now × (settings_from (parse_document text.now) ≡ Ok s)) }

@@ -6,6 +6,7 @@ ghost use Rattle.tm_rules.specs.Channels.{all_channels};
 ghost use Rattle.tm_rules.specs.Rules.{IsLimit};
 ghost use Rattle.tm_settings.specs.Settings.{channel_number, channels_at, integers, integer_between, integer_of, optional, presence_named, presence_of, required, truth_of, value_at};
 
+use crate::key::{Limits, MAX_PACKET, SKIP};
 use crate::{Key, SettingsFault};
 use std::alloc::{AllocError, Global};
 use tm_frame::Presence;
@@ -22,20 +23,20 @@ fn value_at(table: &Table, key: Key) -> Option<&Value>
 // ---- numbers
 
 // A number in its range.
-fn number_in(low: u32, high: u32, number: i64) -> Option<u32>
-    ensures value { result ≡ integer_between low high number }
+fn number_in(limits: Limits, number: i64) -> Option<u32>
+    ensures value { result ≡ integer_between limits.least limits.most number }
 {
     match u32::try_from(number) {
-        Ok(n) if low <= n && n <= high => Some(n),
+        Ok(n) if limits.least <= n && n <= limits.most => Some(n),
         _ => None,
     }
 }
 
-fn read_number(key: Key, low: u32, high: u32, value: &Value) -> Result<u32, SettingsFault>
-    ensures { result ≡ integer_of key low high (view value.now) }
+fn read_number(key: Key, limits: Limits, value: &Value) -> Result<u32, SettingsFault>
+    ensures { result ≡ integer_of key limits.least limits.most (view value.now) }
 {
     match value.as_integer() {
-        Some(number) => match number_in(low, high, number) {
+        Some(number) => match number_in(limits, number) {
             Some(n) => Ok(n),
             None => Err(SettingsFault::Range(key)),
         },
@@ -44,27 +45,21 @@ fn read_number(key: Key, low: u32, high: u32, value: &Value) -> Result<u32, Sett
 }
 
 /// A number that has to be there.
-pub fn integer_at(table: &Table, key: Key, low: u32, high: u32) -> Result<u32, SettingsFault>
-    ensures { result ≡ required key (integer_of key low high) (value_at key (table_view table.now)) }
+pub fn integer_at(table: &Table, key: Key, limits: Limits) -> Result<u32, SettingsFault>
+    ensures { result ≡ required key (integer_of key limits.least limits.most) (value_at key (table_view table.now)) }
 {
     match value_at(table, key) {
-        Some(value) => read_number(key, low, high, value),
+        Some(value) => read_number(key, limits, value),
         None => Err(SettingsFault::Missing(key)),
     }
 }
 
 // A number, or the default where it is absent.
-fn number_or(
-    table: &Table,
-    key: Key,
-    low: u32,
-    high: u32,
-    default: u32,
-) -> Result<u32, SettingsFault>
-    ensures { result ≡ optional default (integer_of key low high) (value_at key (table_view table.now)) }
+fn number_or(table: &Table, key: Key, limits: Limits, default: u32) -> Result<u32, SettingsFault>
+    ensures { result ≡ optional default (integer_of key limits.least limits.most) (value_at key (table_view table.now)) }
 {
     match value_at(table, key) {
-        Some(value) => read_number(key, low, high, value),
+        Some(value) => read_number(key, limits, value),
         None => Ok(default),
     }
 }
@@ -73,7 +68,7 @@ fn number_or(
 pub fn skip_at(table: &Table, key: Key) -> Result<u32, SettingsFault>
     ensures { result ≡ optional 0 (integer_of key 0 1024) (value_at key (table_view table.now)) }
 {
-    number_or(table, key, 0, 1024, 0)
+    number_or(table, key, SKIP, 0)
 }
 
 /// The most octets that a packet may have, 7 to 65,542, the greatest where the key is absent.
@@ -81,7 +76,7 @@ pub fn limit_at(table: &Table, key: Key) -> Result<u32, SettingsFault>
     ensures value { result ≡ optional 65542 (integer_of key 7 65542) (value_at key (table_view table.now)) }
     ensures range { IfOk result IsLimit }
 {
-    number_or(table, key, 7, 65542, 65542)
+    number_or(table, key, MAX_PACKET, 65542)
 }
 
 // ---- booleans and words
@@ -100,7 +95,7 @@ pub fn truth_at(table: &Table, key: Key) -> Result<bool, SettingsFault>
 }
 
 // The presence of this name.
-fn presence_by_name(word: &str) -> Option<Presence>
+fn presence_named(word: &str) -> Option<Presence>
     ensures { result ≡ presence_named word.now }
 {
     if word == "flag" {
@@ -118,7 +113,7 @@ fn read_presence(key: Key, value: &Value) -> Result<Presence, SettingsFault>
     ensures { result ≡ presence_of key (view value.now) }
 {
     match value.as_str() {
-        Some(word) => match presence_by_name(word) {
+        Some(word) => match presence_named(word) {
             Some(presence) => Ok(presence),
             None => Err(SettingsFault::Range(key)),
         },
@@ -139,7 +134,7 @@ pub fn presence_at(table: &Table, key: Key) -> Result<Presence, SettingsFault>
 // ---- channels
 
 // The channel of a number, or 8.
-fn channel_by(number: i64) -> u8
+fn channel_number(number: i64) -> u8
     ensures { result ≡ channel_number number }
 {
     match u8::try_from(number) {
@@ -158,7 +153,7 @@ fn channel_numbers(alloc: Global, array: &[Value]) -> Result<Option<Vec<u8>>, Al
         let Some(number) = value.as_integer() else {
             return Ok(None);
         };
-        numbers.push(channel_by(number))?;
+        numbers.push(channel_number(number))?;
     }
     Ok(Some(numbers))
 }

@@ -9,7 +9,7 @@ use Rattle.tm_packet.specs.declared.notes.Why.TheVariants as broken_by
 use Rattle.tm_items.specs.declared.items.Reason.TheVariants as why
 use Rattle.tm_items.specs.Item.{MasterGap, Gap, Vca, Dropped, Packet, Short}
 use Rattle.tm_summary.specs.declared.channel.Loss.{Loss}
-use Rattle.tm_summary.specs.Numbers.{application_of, channel_counts, in_all, items_on, for_numbers}
+use Rattle.tm_summary.specs.SummaryNumbers.{application_of, channel_counts, in_all, items_on, for_numbers}
 
 abbrev frame : Kind → ℕ → GoodFrame
 frame kind octets = record {

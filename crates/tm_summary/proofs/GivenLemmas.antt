@@ -8,10 +8,10 @@ use Rattle.tm_output.specs.Pieces.{HasLine, noted, notes_of}
 use Rattle.tm_output.proofs.PacketLemmas.{notes_one}
 use Rattle.tm_summary.specs.Adding.{with_item, with_packet}
 use Rattle.tm_packet.specs.Merge.{Entries, pair_key}
-use Rattle.tm_summary.specs.Numbers.{Numbers}
+use Rattle.tm_summary.specs.SummaryNumbers.{SummaryNumbers}
 use Rattle.tm_summary.specs.Tallies.{with_given, noted_numbers}
 
-pub packet_given : (n m r : Numbers) (e : Entries) (seen channel application size key : ℕ) (octets : List ℕ) (h : Fields) (notes : List Note)
+pub packet_given : (n m r : SummaryNumbers) (e : Entries) (seen channel application size key : ℕ) (octets : List ℕ) (h : Fields) (notes : List Note)
     → h ≡ packet_header_of octets → application ≡ h.application → size ≡ length octets → key ≡ pair_key channel application
     → m ≡ with_packet n seen channel application size → sequence.notes e (record { channel = channel; header = h } ∷ []) ≡ notes ∷ []
     → r ≡ noted_numbers m key notes → r ≡ with_given e n (Packet seen channel 0 0 octets)
@@ -20,7 +20,7 @@ packet_given n m r e seen channel application size key octets h notes is of long
     let given : notes ≡ notes_of e (record { channel = channel; header = h }) = notes_one e (record { channel = channel; header = h }) notes noted in
     rw (all, counted, given, at, long, of, is) refl
 
-pub line_given : (e : Entries) (n : Numbers) (x : Item) → HasLine x → with_given e n x ≡ with_item n x
+pub line_given : (e : Entries) (n : SummaryNumbers) (x : Item) → HasLine x → with_given e n x ≡ with_item n x
 unfolding with_given
 line_given e n (Bad seen fault) has = refl
 line_given e n (MasterGap seen expected found missing) has = refl

@@ -11,8 +11,9 @@ use Rattle.tm_items.specs.declared.items.Reason.TheVariants as why
 use Rattle.tm_items.specs.Item.{Item, Gap, Vca, Dropped, Packet, seen_of}
 use Rattle.tm_summary.specs.declared.channel.Loss.{Loss}
 use Rattle.tm_summary.specs.Adding.{drop_more, frame_more, gap_more, loss_more, no_loss, note_more, packet_more, whole_more}
-use Rattle.tm_summary.specs.Kinds.{is_idle_kind, is_joined_kind, is_gap, gap_missing, is_packet_item, packet_length, is_drop, drop_octets, has_reason, place_of, is_sequence_gap, sequence_missing, is_whole_group, is_broken, is_stray}
-use Rattle.tm_summary.specs.Numbers.{application_of, capped, channel_counts, count_capped, first_seen, how_many, in_all, joined_frames, loss_of, for_numbers}
+use Rattle.tm_items.specs.Reasons.{reason_place}
+use Rattle.tm_summary.specs.Kinds.{is_idle_kind, is_joined_kind, is_gap, gap_missing, is_packet_item, packet_item_length, is_drop, drop_octets, has_reason, is_sequence_gap, sequence_missing, is_whole_group, is_broken, is_stray}
+use Rattle.tm_summary.specs.SummaryNumbers.{application_of, capped, channel_counts, count_capped, first_seen, how_many, in_all, joined_frames, loss_of, for_numbers}
 use Rattle.tm_summary.proofs.Tables.{table-more, table-same}
 
 -- ---- sums and filters
@@ -57,7 +58,7 @@ loss parts octets = record { parts = parts; octets = octets }
 loss_is : {parts parts' octets octets' : ℕ} → parts ≡ parts' → octets ≡ octets' → loss parts octets ≡ loss parts' octets'
 loss_is a b = rw (a, b) refl
 
-place_below : (reason : Reason) → place_of reason < 7
+place_below : (reason : Reason) → reason_place reason < 7
 place_below why.Pointer = omega arith
 place_below why.Gap = omega arith
 place_below why.Vca = omega arith
@@ -100,7 +101,7 @@ module _ (frames : List GoodFrame) (items : List Item) where
         how_many_more is_gap items (Gap seen channel expected found missing),
         in_all_more gap_missing items (Gap seen channel expected found missing),
         how_many_more is_packet_item items (Gap seen channel expected found missing),
-        in_all_same packet_length items (Gap seen channel expected found missing) refl,
+        in_all_same packet_item_length items (Gap seen channel expected found missing) refl,
         how_many_more is_drop items (Gap seen channel expected found missing),
         in_all_same drop_octets items (Gap seen channel expected found missing) refl,
         losses-same (Gap seen channel expected found missing) (λ n. refl),
@@ -112,7 +113,7 @@ module _ (frames : List GoodFrame) (items : List Item) where
         how_many_more is_gap items (Vca seen channel),
         in_all_same gap_missing items (Vca seen channel) refl,
         how_many_more is_packet_item items (Vca seen channel),
-        in_all_same packet_length items (Vca seen channel) refl,
+        in_all_same packet_item_length items (Vca seen channel) refl,
         how_many_more is_drop items (Vca seen channel),
         in_all_same drop_octets items (Vca seen channel) refl,
         losses-same (Vca seen channel) (λ n. refl),
@@ -125,7 +126,7 @@ module _ (frames : List GoodFrame) (items : List Item) where
         how_many_more is_gap items (Packet seen channel first place octets),
         in_all_same gap_missing items (Packet seen channel first place octets) refl,
         how_many_more is_packet_item items (Packet seen channel first place octets),
-        in_all_more packet_length items (Packet seen channel first place octets),
+        in_all_more packet_item_length items (Packet seen channel first place octets),
         how_many_more is_drop items (Packet seen channel first place octets),
         in_all_same drop_octets items (Packet seen channel first place octets) refl,
         losses-same (Packet seen channel first place octets) (λ n. refl),
@@ -135,17 +136,17 @@ module _ (frames : List GoodFrame) (items : List Item) where
     abbrev dropped : Item
     dropped = Dropped seen channel first place octets reason
 
-    other_loss : (j : ℕ) → j ≢ place_of reason → loss_of (items ++ dropped ∷ []) j ≡ loss_of items j
+    other_loss : (j : ℕ) → j ≢ reason_place reason → loss_of (items ++ dropped ∷ []) j ≡ loss_of items j
     other_loss j other =
-        let differs : (place_of reason == j) ≡ false = ne_eqb (place_of reason) j (λ e. other (sym e)) in
+        let differs : (reason_place reason == j) ≡ false = ne_eqb (reason_place reason) j (λ e. other (sym e)) in
         loss_is (in_all_same (λ y. if has_reason j y then 1 else 0) items dropped (rw differs refl)) (ap (in_all drop_octets) (filter_no (has_reason j) items dropped differs))
 
-    own_loss : loss_of (items ++ dropped ∷ []) (place_of reason) ≡ loss_more (loss_of items (place_of reason)) octets
+    own_loss : loss_of (items ++ dropped ∷ []) (reason_place reason) ≡ loss_more (loss_of items (reason_place reason)) octets
     own_loss =
-        let same : (place_of reason == place_of reason) ≡ true = eq-eqb (place_of reason) (place_of reason) refl in
+        let same : (reason_place reason == reason_place reason) ≡ true = eq-eqb (reason_place reason) (reason_place reason) refl in
         loss_is
-        (in_all_more (λ y. if has_reason (place_of reason) y then 1 else 0) items dropped ∙ rw same refl)
-        (ap (in_all drop_octets) (filter_yes (has_reason (place_of reason)) items dropped same) ∙ in_all_more drop_octets (filter (has_reason (place_of reason)) items) dropped)
+        (in_all_more (λ y. if has_reason (reason_place reason) y then 1 else 0) items dropped ∙ rw same refl)
+        (ap (in_all drop_octets) (filter_yes (has_reason (reason_place reason)) items dropped same) ∙ in_all_more drop_octets (filter (has_reason (reason_place reason)) items) dropped)
 
     pub channel_drop : channel_counts frames (items ++ dropped ∷ []) ≡ drop_more (channel_counts frames items) octets reason
     channel_drop =
@@ -153,10 +154,10 @@ module _ (frames : List GoodFrame) (items : List Item) where
           how_many_more is_gap items dropped,
           in_all_same gap_missing items dropped refl,
           how_many_more is_packet_item items dropped,
-          in_all_same packet_length items dropped refl,
+          in_all_same packet_item_length items dropped refl,
           how_many_more is_drop items dropped,
           in_all_more drop_octets items dropped,
-          table-more 7 (place_of reason) (loss_of (items ++ dropped ∷ [])) (loss_of items) no_loss (λ l. loss_more l octets) other_loss (place_below reason) own_loss,
+          table-more 7 (reason_place reason) (loss_of (items ++ dropped ∷ [])) (loss_of items) no_loss (λ l. loss_more l octets) other_loss (place_below reason) own_loss,
         ) refl
 
 -- ---- a channel and application with one packet or note more
@@ -172,7 +173,7 @@ pub application_packet : (packets : List Item) (notes : List Note) (seen channel
 application_packet packets notes seen channel first place octets =
     rw (
       counted_more packets (Packet seen channel first place octets),
-      in_all_more packet_length packets (Packet seen channel first place octets),
+      in_all_more packet_item_length packets (Packet seen channel first place octets),
       first_more packets (Packet seen channel first place octets),
       fold_push (λ (before : ℕ) (x : Item). seen_of x) 0 packets (Packet seen channel first place octets),
     ) refl

@@ -16,8 +16,9 @@ use Rattle.tm_summary.specs.declared.application.ApplicationCounts.{ApplicationC
 use Rattle.tm_summary.specs.declared.channel.ChannelCounts.{ChannelCounts}
 use Rattle.tm_summary.specs.declared.channel.Loss.{Loss}
 use Rattle.tm_summary.specs.Adding.{no_application, no_channel}
-use Rattle.tm_summary.specs.Kinds.{drop_octets, has_fault, has_key, has_reason, is_bad, is_drop, is_packet_item, packet_length, place_of}
-use Rattle.tm_summary.specs.Numbers.{Tally, application_of, below, capped, channel_counts, count_capped, for_numbers, frames_of, how_many, in_all, items_on, loss_of, notes_at_key, numbers_of, packets_of}
+use Rattle.tm_items.specs.Reasons.{reason_place}
+use Rattle.tm_summary.specs.Kinds.{drop_octets, has_fault, has_key, has_reason, is_bad, is_drop, is_packet_item, packet_item_length}
+use Rattle.tm_summary.specs.SummaryNumbers.{Tally, application_of, below, capped, channel_counts, count_capped, for_numbers, frames_of, how_many, in_all, items_on, loss_of, notes_at_key, numbers_of, packets_of}
 use Rattle.tm_summary.specs.Sums.{IsBelowGreatest, application_counts, counts_on, fault_counts, loss_counts}
 use Rattle.tm_summary.proofs.Tables.{table-get}
 
@@ -161,7 +162,7 @@ fault_each (Packet seen channel first place octets) = refl
 fault_each (Short seen octets) = refl
 
 -- so much for a part of any reason
-reason_part : (n : ℕ) (reason : Reason) → sum (for_numbers 7 (λ k. if place_of reason == k then n else 0)) ≡ n
+reason_part : (n : ℕ) (reason : Reason) → sum (for_numbers 7 (λ k. if reason_place reason == k then n else 0)) ≡ n
 unfolding for_numbers
 reason_part n why.Pointer = omega arith
 reason_part n why.Gap = omega arith
@@ -234,7 +235,7 @@ module _ (channel : ℕ) where
       application_part 2048 channel own (packet_header_of octets).application 1 (omega arith) ((header-range octets).application)
   packets_each (Short seen octets) = none_each 2048
 
-  lengths_each : (x : Item) → sum (for_numbers 2048 (λ a. number_at packet_length a x)) ≡ number_on packet_length x
+  lengths_each : (x : Item) → sum (for_numbers 2048 (λ a. number_at packet_item_length a x)) ≡ number_on packet_item_length x
   lengths_each (Bad seen fault) = none_each 2048
   lengths_each (MasterGap seen expected found missing) = none_each 2048
   lengths_each (Gap seen own expected found missing) = none_each 2048 ∙ sym (same_if (own == channel) 0)
@@ -306,13 +307,13 @@ module _ (t : Tally) (channel : ℕ) (below_eight : channel < 8) where
   pub octets_added : IsBelowGreatest (counts_on channel (numbers_of t)).octets
       → sum_by (λ a. a.octets) (application_counts channel (numbers_of t)) ≡ (counts_on channel (numbers_of t)).octets
   octets_added =
-      let all : in_all (number_on channel packet_length) t.items ≡ here.octets = sym (filter_all (is_of channel) packet_length t.items) in
+      let all : in_all (number_on channel packet_item_length) t.items ≡ here.octets = sym (filter_all (is_of channel) packet_item_length t.items) in
       let P : ℕ → Type 0 = λ n. IsBelowGreatest n → sum_by (λ (a : ApplicationCounts). a.octets) (application_counts channel (numbers_of t)) ≡ n in
       subst P (all ∙ ap (λ (c : ChannelCounts). c.octets) (sym counts_are))
-      (lines_added (λ (a : ApplicationCounts). a.packets) (λ (a : ApplicationCounts). a.octets) given (number_at channel packet_length)
-      (number_on channel packet_length) 2048 t.items
-      (λ a h. ap (λ (c : ApplicationCounts). c.octets) (application_is a h) ∙ filter_all (has_key (pair_key channel a)) packet_length t.items)
+      (lines_added (λ (a : ApplicationCounts). a.packets) (λ (a : ApplicationCounts). a.octets) given (number_at channel packet_item_length)
+      (number_on channel packet_item_length) 2048 t.items
+      (λ a h. ap (λ (c : ApplicationCounts). c.octets) (application_is a h) ∙ filter_all (has_key (pair_key channel a)) packet_item_length t.items)
       (λ a h none.
       ap (λ (c : ApplicationCounts). c.octets) (application_is a h)
-      ∙ none_counted packet_length (packets_of (pair_key channel a) t.items) (ap (λ (c : ApplicationCounts). c.packets) (sym (application_is a h)) ∙ none))
+      ∙ none_counted packet_item_length (packets_of (pair_key channel a) t.items) (ap (λ (c : ApplicationCounts). c.packets) (sym (application_is a h)) ∙ none))
       (lengths_each channel))

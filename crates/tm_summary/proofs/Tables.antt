@@ -5,7 +5,7 @@ use Rattle.std.proofs.lemmas.List.{map-append, set-append_left, set_at, get_or_a
 use Rattle.tm_summary.specs.declared.application.ApplicationCounts.{ApplicationCounts}
 use Rattle.tm_summary.specs.Adding.{more_at, no_application}
 use Rattle.tm_summary.specs.code.Places.{no_applications}
-use Rattle.tm_summary.specs.Numbers.{below, for_numbers}
+use Rattle.tm_summary.specs.SummaryNumbers.{below, for_numbers}
 
 pub length-below : (n : ℕ) → length (below n) ≡ n
 length-below zero = refl

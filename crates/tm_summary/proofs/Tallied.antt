@@ -12,7 +12,7 @@ use Rattle.tm_output.specs.Pieces.{noted, notes_of, sent}
 use Rattle.tm_summary.specs.Tallies.{AllFit, and_items, and_notes, noted_at, notes_among, notes_in, open_notes, with_all, with_given, noted_numbers, with_open}
 use Rattle.tm_summary.specs.Kinds.{Noted}
 use Rattle.tm_packet.specs.Merge.{Entries, pair_key}
-use Rattle.tm_summary.specs.Numbers.{Numbers, Tally, and_item, and_note, numbers_of}
+use Rattle.tm_summary.specs.SummaryNumbers.{SummaryNumbers, Tally, and_item, and_note, numbers_of}
 use Rattle.tm_summary.proofs.WithOne.{item_counted, note_counted}
 
 abbrev tally : List GoodFrame → List Item → List Noted → Tally
@@ -23,7 +23,7 @@ notes_counted : (frames : List GoodFrame) (items : List Item) (before : List Not
 notes_counted frames items before key [] below = ap (λ (l : List Noted). numbers_of (tally frames items l)) (sym (append-nil before))
 notes_counted frames items before key (n ∷ ns) below =
     let one : Noted = record { key = key; note = n } in
-    ap (λ (x : Numbers). noted_numbers x key ns) (sym (note_counted (tally frames items before) one below))
+    ap (λ (x : SummaryNumbers). noted_numbers x key ns) (sym (note_counted (tally frames items before) one below))
     ∙ notes_counted frames items (before ++ one ∷ []) key ns below
     ∙ ap (λ (l : List Noted). numbers_of (tally frames items l)) (append_assoc before (one ∷ []) (noted_at key ns))
 
@@ -46,7 +46,7 @@ pub open_counted : (t : Tally) (us : List Unclosed) → KeysFit us → with_open
 open_counted t [] fit = ap (λ (l : List Noted). numbers_of (tally t.frames t.items l)) (sym (append-nil t.notes))
 open_counted t (u ∷ us) fit =
     let one : Noted = record { key = u.key; note = u.note } in
-    ap (λ (x : Numbers). with_open x us) (sym (note_counted t one fit.0))
+    ap (λ (x : SummaryNumbers). with_open x us) (sym (note_counted t one fit.0))
     ∙ open_counted (and_note t one) us fit.1
     ∙ ap (λ (l : List Noted). numbers_of (tally t.frames t.items l)) (append_assoc t.notes (one ∷ []) (open_notes us))
 
@@ -59,7 +59,7 @@ unfolding with_given notes_in
 given_counted t e (Packet seen channel first place octets) fits =
     let x : Item = Packet seen channel first place octets in
     let inside : pair_key channel (packet_header_of octets).application < 16384 = omega (arith, fits.0, (header-range octets).application) in
-    ap (λ (n : Numbers). noted_numbers n (pair_key channel (packet_header_of octets).application) (notes_of e (sent channel octets))) (sym (item_counted t x fits))
+    ap (λ (n : SummaryNumbers). noted_numbers n (pair_key channel (packet_header_of octets).application) (notes_of e (sent channel octets))) (sym (item_counted t x fits))
     ∙ notes_counted t.frames (t.items ++ x ∷ []) t.notes (pair_key channel (packet_header_of octets).application) (notes_of e (sent channel octets)) inside
     ∙ ap (λ (l : List Noted). numbers_of (tally t.frames (t.items ++ x ∷ []) (t.notes ++ l))) (sym (append-nil (notes_in e x)))
 given_counted t e (Bad seen fault) fits = sym (item_counted t (Bad seen fault) fits) ∙ none_noted t (Bad seen fault)
@@ -73,6 +73,6 @@ given_counted t e (Short seen octets) fits = sym (item_counted t (Short seen oct
 pub all_counted : (t : Tally) (e : Entries) (xs : List Item) → AllFit xs → with_all e (numbers_of t) xs ≡ numbers_of (and_items t e xs)
 all_counted t e [] fit = rw (append-nil t.items, append-nil t.notes) refl
 all_counted t e (x ∷ xs) fit =
-    ap (λ (n : Numbers). with_all (noted e x) n xs) (given_counted t e x fit.0)
+    ap (λ (n : SummaryNumbers). with_all (noted e x) n xs) (given_counted t e x fit.0)
     ∙ all_counted (and_items t e (x ∷ [])) (noted e x) xs fit.1
     ∙ rw (append_assoc t.items (x ∷ []) xs, append-nil (notes_in e x), append_assoc t.notes (notes_in e x) (notes_among (noted e x) xs)) refl

@@ -18,11 +18,11 @@ use Rattle.tm_summary.specs.code.Places.{no_applications}
 use Rattle.tm_summary.specs.Kinds.{Noted, is_bad, has_fault, master_missing, rest_octets, has_key}
 use Rattle.tm_packet.specs.Merge.{pair_key}
 use Rattle.tm_items.specs.Among.{is_master_gap, is_of}
-use Rattle.tm_summary.specs.Numbers.{Numbers, Tally, and_frame, and_item, and_note, application_of, capped, channel_counts, frames_of, how_many, in_all, items_on, nothing, notes_at_key, numbers_of, packets_of, for_numbers}
+use Rattle.tm_summary.specs.SummaryNumbers.{SummaryNumbers, Tally, and_frame, and_item, and_note, application_of, capped, channel_counts, frames_of, how_many, in_all, items_on, nothing, notes_at_key, numbers_of, packets_of, for_numbers}
 use Rattle.tm_summary.proofs.OneMore.{application_packet, channel_drop, channel_frame, channel_gap, channel_packet, channel_vca, counted_more, filter_no, filter_yes, how_many_more, in_all_more, in_all_same, notes_more}
 use Rattle.tm_summary.proofs.Tables.{table-more, table-same, table_all, table_none}
 
-abbrev pub numbers : (good bad rest : ℕ) (faults : List ℕ) (gaps missing : ℕ) (channels : List ChannelCounts) (applications : List ApplicationCounts) → Numbers
+abbrev pub numbers : (good bad rest : ℕ) (faults : List ℕ) (gaps missing : ℕ) (channels : List ChannelCounts) (applications : List ApplicationCounts) → SummaryNumbers
 numbers good bad rest faults gaps missing channels applications = record {
   good = good;
   bad = bad;

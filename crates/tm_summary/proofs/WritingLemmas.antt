@@ -1,26 +1,25 @@
 -- Lines that are written one after the other, and where writing stops.
-use Rattle.std.proofs.Common.{◌≡◌, ◌<◌, ◌≤◌, ◌+◌, ℕ, zero, suc, List, [], ◌∷◌, ◌++◌, length, refl, sym, ap, subst, ◌∙◌, append_assoc, append-nil, arith, ⊎_elim, inl, Option, ◌≢◌, Bool, true, get_or, ltb, lt-ltb}
+use Rattle.std.proofs.Common.{◌≡◌, ◌<◌, ◌≤◌, ◌+◌, ℕ, zero, suc, List, [], ◌∷◌, ◌++◌, length, refl, sym, ap, subst, ◌∙◌, append_assoc, append-nil, arith, ⊎_elim, Option, Bool, true, get_or, ltb, lt-ltb}
 use Rattle.std.specs.List.{flat_map}
 use Rattle.std.specs.Io.KnownBytes.{Appends}
-use Rattle.std.proofs.KnownBytes.{Appends-nil, Appends-trans}
 use Rattle.std.proofs.lemmas.Bool.{cases_lt}
 use Rattle.std.proofs.lemmas.List.{get_or_default}
 use Rattle.tm_faults.specs.declared.fault.RunFault.{RunFault}
-use Rattle.tm_output.specs.Outputs.{Stopped, Took, View, line_piece, line_pieces, octets_way}
+use Rattle.tm_output.specs.Outputs.{Stopped, Took, View, line_pieces, octets_buffering}
 use Rattle.tm_output.proofs.LinePieces.{lines_lines, lines_more, lines_stopped}
 use Rattle.tm_rules.specs.Channels.{is_chosen}
 use Rattle.tm_summary.specs.declared.application.ApplicationCounts.{ApplicationCounts}
 use Rattle.tm_summary.specs.declared.channel.ChannelCounts.{ChannelCounts}
 use Rattle.tm_summary.specs.declared.channel.Loss.{Loss}
 use Rattle.tm_summary.specs.Adding.{no_application, no_channel, no_loss}
-use Rattle.tm_summary.specs.Lines.{application_lines_at, application_lines_of, channel_line, channel_lines_at, channel_lines_of, line_if, loss_line, loss_lines, loss_lines_at, numbered_reason}
-use Rattle.tm_summary.specs.Numbers.{below}
+use Rattle.tm_summary.specs.Lines.{application_lines_at, application_lines_of, channel_line, channel_lines_at, channel_lines_of, line_if, loss_line, loss_lines, loss_lines_at, loss_reason_at}
+use Rattle.tm_summary.specs.SummaryNumbers.{below}
 
 abbrev pub TookLines : View (Option (List ℕ)) → View (Option (List ℕ)) → List (List ℕ) → Type 0
 TookLines old new lines = Took Appends old new (line_pieces lines)
 
 abbrev pub StoppedLines : View (Option (List ℕ)) → View (Option (List ℕ)) → List (List ℕ) → RunFault → Type 0
-StoppedLines old new lines fault = Stopped Appends octets_way old new (line_pieces lines) fault
+StoppedLines old new lines fault = Stopped Appends octets_buffering old new (line_pieces lines) fault
 
 -- ---- the lines of the numbers below one
 
@@ -67,9 +66,9 @@ module _ (f : ℕ → List (List ℕ)) where
 -- ---- the lines of one place, whatever stands for a place that isn't there
 
 pub loss_one : (channel n : ℕ) (losses : List Loss) (d : Loss) → n < length losses
-    → line_if (ltb 0 (get_or losses n d).parts) (loss_line channel (numbered_reason n) (get_or losses n d)) ≡ loss_lines_at channel losses n
+    → line_if (ltb 0 (get_or losses n d).parts) (loss_line channel (loss_reason_at n) (get_or losses n d)) ≡ loss_lines_at channel losses n
 loss_one channel n losses d inside =
-    ap (λ (l : Loss). line_if (ltb 0 l.parts) (loss_line channel (numbered_reason n) l)) (get_or_default losses n d no_loss inside)
+    ap (λ (l : Loss). line_if (ltb 0 l.parts) (loss_line channel (loss_reason_at n) l)) (get_or_default losses n d no_loss inside)
 
 pub channel_one : (chosen : List Bool) (channels : List ChannelCounts) (n : ℕ) (d : ChannelCounts) → n < length channels
     → channel_lines_of chosen n (get_or channels n d) ≡ channel_lines_at chosen channels n

@@ -11,14 +11,15 @@ use Rattle.tm_items.specs.Item.{Item, Bad, MasterGap, Gap, Vca, Dropped, Packet,
 use Rattle.tm_summary.specs.declared.application.ApplicationCounts.{ApplicationCounts}
 use Rattle.tm_summary.specs.declared.channel.ChannelCounts.{ChannelCounts}
 use Rattle.tm_summary.specs.declared.channel.Loss.{Loss}
-use Rattle.tm_summary.specs.Kinds.{is_idle_kind, is_joined_kind, place_of}
+use Rattle.tm_items.specs.Reasons.{reason_place}
+use Rattle.tm_summary.specs.Kinds.{is_idle_kind, is_joined_kind}
 use Rattle.tm_packet.specs.Merge.{pair_key}
 use Rattle.tm_frame.specs.Frame.{is_vca_kind}
-use Rattle.tm_summary.specs.Numbers.{Numbers, application_of, capped, channel_counts}
+use Rattle.tm_summary.specs.SummaryNumbers.{SummaryNumbers, application_of, capped, channel_counts}
 
 -- ---- of a channel
 
--- a channel of which nothing came, and an application
+-- a channel for which nothing came, and such an application
 abbrev pub no_channel : ChannelCounts
 no_channel = channel_counts [] []
 
@@ -53,7 +54,7 @@ abbrev pub drop_more : ChannelCounts → ℕ → Reason → ChannelCounts
 drop_more c octets reason = record c {
   dropped = capped (c.dropped + 1);
   lost = capped (c.lost + octets);
-  losses = more_at c.losses (place_of reason) no_loss (λ l. loss_more l octets);
+  losses = more_at c.losses (reason_place reason) no_loss (λ l. loss_more l octets);
 }
 
 -- ---- of a channel and application
@@ -78,33 +79,33 @@ note_more a (note.Stray count flags) = notes_counted a a.gaps a.missing a.groups
 
 -- ---- of all
 
-abbrev pub numbers_with : Numbers → List ChannelCounts → List ApplicationCounts → Numbers
+abbrev pub numbers_with : SummaryNumbers → List ChannelCounts → List ApplicationCounts → SummaryNumbers
 numbers_with n channels applications = record n { channels = channels; applications = applications }
 
--- of one channel more
-abbrev pub in_channel : Numbers → ℕ → (ChannelCounts → ChannelCounts) → Numbers
+-- in one channel more
+abbrev pub in_channel : SummaryNumbers → ℕ → (ChannelCounts → ChannelCounts) → SummaryNumbers
 in_channel n channel more = numbers_with n (more_at n.channels channel no_channel more) n.applications
 
 -- a good frame more of this channel, whose data field holds this and has so many octets
-unfoldable pub with_frame : Numbers → ℕ → Kind → ℕ → Numbers
+unfoldable pub with_frame : SummaryNumbers → ℕ → Kind → ℕ → SummaryNumbers
 with_frame n channel kind octets =
     record n { good = capped (n.good + 1); channels = more_at n.channels channel no_channel (λ c. frame_more c kind octets) }
 
-abbrev pub with_bad : Numbers → FrameFault → Numbers
+abbrev pub with_bad : SummaryNumbers → FrameFault → SummaryNumbers
 with_bad n fault = record n { bad = capped (n.bad + 1); faults = more_at n.faults (fault_number fault - 1) 0 (λ k. capped (k + 1)) }
 
-abbrev pub with_master_gap : Numbers → ℕ → Numbers
+abbrev pub with_master_gap : SummaryNumbers → ℕ → SummaryNumbers
 with_master_gap n missing = record n { master_gaps = capped (n.master_gaps + 1); master_missing = capped (n.master_missing + missing) }
 
-abbrev pub with_rest : Numbers → ℕ → Numbers
+abbrev pub with_rest : SummaryNumbers → ℕ → SummaryNumbers
 with_rest n octets = record n { rest = capped (n.rest + octets) }
 
-abbrev pub with_packet : Numbers → (seen channel application octets : ℕ) → Numbers
+abbrev pub with_packet : SummaryNumbers → (seen channel application octets : ℕ) → SummaryNumbers
 with_packet n seen channel application octets =
     numbers_with n (more_at n.channels channel no_channel (λ c. packet_more c octets))
     (more_at n.applications (pair_key channel application) no_application (λ a. whole_more a seen octets))
 
-unfoldable pub with_item : Numbers → Item → Numbers
+unfoldable pub with_item : SummaryNumbers → Item → SummaryNumbers
 with_item n (Bad seen fault) = with_bad n fault
 with_item n (MasterGap seen expected found missing) = with_master_gap n missing
 with_item n (Gap seen channel expected found missing) = in_channel n channel (λ c. gap_more c missing)
@@ -113,5 +114,5 @@ with_item n (Dropped seen channel first place octets reason) = in_channel n chan
 with_item n (Packet seen channel first place octets) = with_packet n seen channel (packet_header_of octets).application (length octets)
 with_item n (Short seen octets) = with_rest n octets
 
-unfoldable pub with_note : Numbers → ℕ → Note → Numbers
+unfoldable pub with_note : SummaryNumbers → ℕ → Note → SummaryNumbers
 with_note n key note = numbers_with n n.channels (more_at n.applications key no_application (λ a. note_more a note))

@@ -8,8 +8,7 @@ use Rattle.tm_packet.specs.declared.notes.Note.{Note}
 use Rattle.tm_packet.specs.declared.notes.Note.TheVariants as note
 use Rattle.tm_packet.specs.Header.{packet_header_of}
 use Rattle.tm_packet.specs.Merge.{pair_key}
-use Rattle.tm_items.specs.declared.items.Reason.{Reason}
-use Rattle.tm_items.specs.declared.items.Reason.TheVariants as why
+use Rattle.tm_items.specs.Reasons.{reason_place}
 use Rattle.tm_items.specs.Item.{Item, Bad, MasterGap, Gap, Dropped, Packet, Short}
 
 -- ---- frames, by what their data fields hold
@@ -59,9 +58,9 @@ abbrev pub is_packet_item : Item → Bool
 is_packet_item (Packet seen channel first place octets) = true
 is_packet_item _ = false
 
-abbrev pub packet_length : Item → ℕ
-packet_length (Packet seen channel first place octets) = length octets
-packet_length _ = 0
+abbrev pub packet_item_length : Item → ℕ
+packet_item_length (Packet seen channel first place octets) = length octets
+packet_item_length _ = 0
 
 abbrev pub is_drop : Item → Bool
 is_drop (Dropped seen channel first place octets reason) = true
@@ -71,19 +70,9 @@ abbrev pub drop_octets : Item → ℕ
 drop_octets (Dropped seen channel first place octets reason) = octets
 drop_octets _ = 0
 
--- the number of a reason, in their order from 0
-abbrev pub place_of : Reason → ℕ
-place_of why.Pointer = 0
-place_of why.Gap = 1
-place_of why.Vca = 2
-place_of why.Close = 3
-place_of why.NoStart = 4
-place_of why.Version = 5
-place_of why.Length = 6
-
--- a dropped part with the reason of this number
+-- a dropped part with the reason at this place
 abbrev pub has_reason : ℕ → Item → Bool
-has_reason n (Dropped seen channel first place octets reason) = place_of reason == n
+has_reason n (Dropped seen channel first place octets reason) = reason_place reason == n
 has_reason n _ = false
 
 -- a packet of the channel and application of this number

@@ -1,5 +1,5 @@
 pub mod Kinds
-pub mod Numbers
+pub mod SummaryNumbers
 pub mod Adding
 pub mod Lines
 pub mod Sums

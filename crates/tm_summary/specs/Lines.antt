@@ -1,19 +1,21 @@
 -- The lines of a summary. Each ends with one line feed; numbers are decimal, without leading zeros.
-use Rattle.std.specs.Prelude.{ℕ, zero, suc, ◌/◌, ◌%◌, ◌&&◌, nat_lt, Bool, List, [], ◌∷◌, ◌++◌, codes, slice_index_or, if◌then◌else◌}
+use Rattle.std.specs.Prelude.{ℕ, ◌/◌, ◌%◌, ◌&&◌, nat_lt, Bool, List, [], ◌∷◌, ◌++◌, codes, slice_index_or, if◌then◌else◌}
 use Rattle.std.specs.Fmt.{decimal}
 use Rattle.std.specs.List.{concat, flat_map}
 use Rattle.tm_frame.specs.declared.fault.FrameFault.{FrameFault}
 use Rattle.tm_frame.specs.declared.fault.FrameFault.TheVariants as fault
+use Rattle.tm_frame.specs.Fault.{all_faults}
 use Rattle.tm_frame.specs.FaultWords as fault_word
 use Rattle.tm_items.specs.declared.items.Reason.{Reason}
 use Rattle.tm_items.specs.declared.items.Reason.TheVariants as why
 use Rattle.tm_items.specs.Reasons as reason
+use Rattle.tm_items.specs.Reasons.{all_reasons}
 use Rattle.tm_rules.specs.Channels.{is_chosen}
 use Rattle.tm_summary.specs.declared.application.ApplicationCounts.{ApplicationCounts}
 use Rattle.tm_summary.specs.declared.channel.ChannelCounts.{ChannelCounts}
 use Rattle.tm_summary.specs.declared.channel.Loss.{Loss}
 use Rattle.tm_summary.specs.Adding.{no_application, no_channel, no_loss}
-use Rattle.tm_summary.specs.Numbers.{Numbers, below}
+use Rattle.tm_summary.specs.SummaryNumbers.{SummaryNumbers, below}
 
 -- the whole records, those that are good frames, those that are bad, and the octets that are left
 unfoldable pub recording_line : (records good bad rest : ℕ) → List ℕ
@@ -77,26 +79,12 @@ application_line channel application a =
     ∷ codes " strays=" ∷ decimal a.strays
     ∷ codes "\n" ∷ [])
 
--- the fault of a number that is less by one
+-- the fault and the reason at a place, counted from 0
 abbrev pub fault_at : ℕ → FrameFault
-fault_at zero = fault.Crc
-fault_at (suc zero) = fault.Version
-fault_at (suc (suc zero)) = fault.Spacecraft
-fault_at (suc (suc (suc zero))) = fault.SecondaryFlag
-fault_at (suc (suc (suc (suc zero)))) = fault.OcfFlag
-fault_at (suc (suc (suc (suc (suc zero))))) = fault.SecondaryVersion
-fault_at (suc (suc (suc (suc (suc (suc zero)))))) = fault.Layout
-fault_at (suc (suc (suc (suc (suc (suc (suc n))))))) = fault.Pointer
+fault_at place = slice_index_or all_faults place fault.Crc
 
--- the reason of a number
-abbrev pub numbered_reason : ℕ → Reason
-numbered_reason zero = why.Pointer
-numbered_reason (suc zero) = why.Gap
-numbered_reason (suc (suc zero)) = why.Vca
-numbered_reason (suc (suc (suc zero))) = why.Close
-numbered_reason (suc (suc (suc (suc zero)))) = why.NoStart
-numbered_reason (suc (suc (suc (suc (suc zero))))) = why.Version
-numbered_reason (suc (suc (suc (suc (suc (suc n)))))) = why.Length
+abbrev pub loss_reason_at : ℕ → Reason
+loss_reason_at place = slice_index_or all_reasons place why.Pointer
 
 -- a line where there is something of it
 abbrev pub line_if : Bool → List ℕ → List (List ℕ)
@@ -109,7 +97,7 @@ fault_lines_at faults n = line_if (nat_lt 0 (slice_index_or faults n 0)) (fault_
 -- that of a reason that came
 abbrev pub loss_lines_at : ℕ → List Loss → ℕ → List (List ℕ)
 loss_lines_at channel losses n =
-    line_if (nat_lt 0 (slice_index_or losses n no_loss).parts) (loss_line channel (numbered_reason n) (slice_index_or losses n no_loss))
+    line_if (nat_lt 0 (slice_index_or losses n no_loss).parts) (loss_line channel (loss_reason_at n) (slice_index_or losses n no_loss))
 
 unfoldable pub loss_lines : ℕ → List Loss → List (List ℕ)
 loss_lines channel losses = flat_map (loss_lines_at channel losses) (below 7)
@@ -140,7 +128,7 @@ unfoldable pub application_lines : List ApplicationCounts → List (List ℕ)
 application_lines applications = flat_map (application_lines_at applications) (below 16384)
 
 -- all lines, where these channels are chosen and there are so many records
-abbrev pub summary_lines : List Bool → ℕ → Numbers → List (List ℕ)
+abbrev pub summary_lines : List Bool → ℕ → SummaryNumbers → List (List ℕ)
 summary_lines chosen records n =
     (recording_line records n.good n.bad n.rest ∷ [])
     ++ (fault_lines n.faults

@@ -11,7 +11,7 @@ use Rattle.tm_summary.specs.declared.counting.Counting.{Counting}
 use Rattle.tm_summary.specs.Adding.{with_item, with_note}
 use Rattle.tm_summary.specs.Kinds.{Noted, is_bad}
 use Rattle.tm_packet.specs.Merge.{Entries, pair_key}
-use Rattle.tm_summary.specs.Numbers.{Numbers, Tally}
+use Rattle.tm_summary.specs.SummaryNumbers.{SummaryNumbers, Tally}
 
 -- ---- the notes of packets, each with its channel and application
 
@@ -48,22 +48,22 @@ AllFit (x ∷ xs) = ItemFits x × AllFit xs
 -- ---- the numbers with one more and one more; the law of a sink that counts says that they are those of lists
 
 -- with these notes on a channel and application more
-abbrev pub noted_numbers : Numbers → ℕ → List Note → Numbers
+abbrev pub noted_numbers : SummaryNumbers → ℕ → List Note → SummaryNumbers
 noted_numbers n key [] = n
 noted_numbers n key (note ∷ notes) = noted_numbers (with_note n key note) key notes
 
 -- with an item more, and a packet's notes
-unfoldable pub with_given : Entries → Numbers → Item → Numbers
+unfoldable pub with_given : Entries → SummaryNumbers → Item → SummaryNumbers
 with_given entries n (Packet seen channel first place octets) =
     noted_numbers (with_item n (Packet seen channel first place octets)) (pair_key channel (packet_header_of octets).application) (notes_of entries (sent channel octets))
 with_given entries n x = with_item n x
 
-abbrev pub with_all : Entries → Numbers → List Item → Numbers
+abbrev pub with_all : Entries → SummaryNumbers → List Item → SummaryNumbers
 with_all entries n [] = n
 with_all entries n (x ∷ xs) = with_all (noted entries x) (with_given entries n x) xs
 
 -- with these groups more that are open at a closed end
-abbrev pub with_open : Numbers → List Unclosed → Numbers
+abbrev pub with_open : SummaryNumbers → List Unclosed → SummaryNumbers
 with_open n [] = n
 with_open n (u ∷ us) = with_open (with_note n u.key u.note) us
 

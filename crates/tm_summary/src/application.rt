@@ -2,12 +2,13 @@
 
 ghost use Rattle.std.specs.Prelude.{◌≡◌, []};
 ghost use Rattle.tm_summary.specs.Adding.{note_more, whole_more};
-ghost use Rattle.tm_summary.specs.Numbers.{application_of};
+ghost use Rattle.tm_summary.specs.SummaryNumbers.{application_of};
 
 use tm_packet::Note;
 
-/// What is counted of a channel and application: its whole packets and their octets, the records that completed the first and the last
-/// of them, the gaps of its sequence counts and what is missing there, its whole and its broken groups, and its strays.
+/// What is counted for a channel and application: its whole packets and their octets, and the records that completed the first
+/// and the last of them. Also the gaps of its sequence counts and what is missing there, its whole and its broken groups, and its
+/// strays.
 #[derive(Clone, Copy, Debug, PartialEq, Eq)]
 pub struct ApplicationCounts {
     pub packets: u64,
@@ -22,8 +23,8 @@ pub struct ApplicationCounts {
 }
 
 impl ApplicationCounts {
-    // Of a channel and application of which nothing came.
-    #[tactic(auto, unfolding(crate::specs::Numbers::in_all))]
+    // A channel and application for which nothing came.
+    #[tactic(auto, unfolding(crate::specs::SummaryNumbers::in_all))]
     pub(crate) fn none() -> ApplicationCounts
         ensures { result ≡ application_of [] [] }
     {

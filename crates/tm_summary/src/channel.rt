@@ -2,8 +2,7 @@
 
 ghost use Rattle.std.specs.Prelude.{◌≡◌, ◌<◌, []};
 ghost use Rattle.tm_summary.specs.Adding.{drop_more, frame_more, gap_more, loss_more, packet_more};
-ghost use Rattle.tm_summary.specs.Kinds.{place_of};
-ghost use Rattle.tm_summary.specs.Numbers.{channel_counts};
+ghost use Rattle.tm_summary.specs.SummaryNumbers.{channel_counts};
 
 use tm_frame::Kind;
 use tm_items::Reason;
@@ -25,9 +24,9 @@ impl Loss {
     }
 }
 
-/// What is counted of a channel: its good frames, the idle-only and VCA frames among them, the gaps of its counts and what is missing
-/// there, its whole packets and their octets, its dropped parts and their octets, the octets of its joined data fields, those of VCA and
-/// idle-only frames left out, and what is lost for each reason, in the order of `Reason`.
+/// What is counted for a channel: its good frames, the idle-only and VCA frames among them, the gaps of its counts and what is
+/// missing there. Also its whole packets and their octets, its dropped parts and their octets, and what is lost for each reason,
+/// in the order of `Reason`. The octets of its joined data fields leave out those of VCA and idle-only frames.
 #[derive(Clone, Copy, Debug, PartialEq, Eq)]
 pub struct ChannelCounts {
     pub frames: u64,
@@ -43,25 +42,9 @@ pub struct ChannelCounts {
     pub losses: [Loss; 7],
 }
 
-// The place of a reason among the losses.
-fn place_of(reason: Reason) -> usize
-    ensures place { result ≡ place_of reason }
-    ensures below { result < 7 }
-{
-    match reason {
-        Reason::Pointer => 0,
-        Reason::Gap => 1,
-        Reason::Vca => 2,
-        Reason::Close => 3,
-        Reason::NoStart => 4,
-        Reason::Version => 5,
-        Reason::Length => 6,
-    }
-}
-
 impl ChannelCounts {
-    // Of a channel of which nothing came.
-    #[tactic(auto, unfolding(crate::specs::Numbers::in_all, crate::specs::Numbers::for_numbers))]
+    // A channel for which nothing came.
+    #[tactic(auto, unfolding(crate::specs::SummaryNumbers::in_all, crate::specs::SummaryNumbers::for_numbers))]
     pub(crate) fn none() -> ChannelCounts
         ensures { result ≡ channel_counts [] [] }
     {
@@ -120,6 +103,6 @@ impl ChannelCounts {
     {
         self.dropped = self.dropped.saturating_add(1);
         self.lost = self.lost.saturating_add(u64::from(octets));
-        self.losses[place_of(reason)].add(octets);
+        self.losses[reason as usize].add(octets);
     }
 }

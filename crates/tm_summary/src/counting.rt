@@ -13,7 +13,7 @@ use crate::counts::Counts;
 use tm_faults::RunFault;
 use tm_items::{Item, Sink};
 use tm_output::header_in;
-use tm_packet::{Notes, Tracker};
+use tm_packet::{Notes, Pair, Tracker};
 
 /// Counts the items that it takes, and the notes of their packets. It remembers whether one of them was a bad frame.
 #[derive(Drop)]
@@ -50,7 +50,8 @@ impl Counting<'_> {
         requires packet { IsOnePacket octets.now }
         ensures same { SameReferences self.old self.new }
         ensures noted { self.new.tracker.now ≡ noted self.old.tracker.now (value.Packet seen channel 0 0 octets.now) }
-        ensures counted { self.new.counts.now ≡ with_given self.old.tracker.now self.old.counts.now (value.Packet seen channel 0 0 octets.now) }
+        ensures counted { self.new.counts.now
+            ≡ with_given self.old.tracker.now self.old.counts.now (value.Packet seen channel 0 0 octets.now) }
         ensures bad { self.new.bad ≡ self.old.bad }
     {
         let header = header_in(octets);
@@ -58,7 +59,11 @@ impl Counting<'_> {
         let length = octets.len() as u64;
         self.counts.add_packet(seen, channel, application, length);
         let notes = self.tracker.take(channel, header);
-        add_notes(self.counts, 2048 * u16::from(channel) + application, &notes);
+        let pair = Pair {
+            channel,
+            application,
+        };
+        add_notes(self.counts, pair.key(), &notes);
     }
 
     // Counts an item that is no packet.

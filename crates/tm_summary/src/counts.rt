@@ -1,13 +1,12 @@
 //! What is counted of a recording.
 
 ghost use Rattle.std.specs.Prelude.{◌≡◌, ◌<◌, ◌-◌, ◌∷◌, [], length, IfOk};
-ghost use Rattle.tm_frame.specs.FaultWords.{fault_number};
 ghost use Rattle.tm_packet.specs.Header.{packet_header_of};
 ghost use Rattle.tm_items.specs.Item as value;
 ghost use Rattle.tm_items.specs.Sinks.{item_of, ItemFits};
 ghost use Rattle.tm_summary.specs.Adding.{with_bad, with_frame, with_item, with_note, with_packet};
 ghost use Rattle.tm_summary.specs.code.Places.{no_applications};
-ghost use Rattle.tm_summary.specs.Numbers.{numbers_of, nothing};
+ghost use Rattle.tm_summary.specs.SummaryNumbers.{numbers_of, nothing};
 ghost use Rattle.tm_output.specs.Pieces.{HasLine};
 
 use crate::application::ApplicationCounts;
@@ -16,10 +15,10 @@ use std::alloc::{AllocError, Global};
 use std::marker::Model;
 use tm_frame::{FrameFault, Kind};
 use tm_items::Item;
-use tm_packet::Note;
+use tm_packet::{Note, Pair};
 
 // A place for each channel and application.
-const PLACES: usize = 16384;
+const PAIRS: usize = 16384;
 
 /// What is counted of a recording. The room for all channels and applications is made at the beginning.
 #[derive(Drop)]
@@ -36,9 +35,9 @@ pub struct Counts {
 
 impl Model for Counts {
     ghost use Rattle.std.specs.Prelude.{◌≡◌, length};
-    ghost use Rattle.tm_summary.specs.Numbers.{Numbers};
+    ghost use Rattle.tm_summary.specs.SummaryNumbers.{SummaryNumbers};
 
-    ghost Value = { Numbers };
+    ghost Value = { SummaryNumbers };
 
     ghost view = { λ c. record {
       good = c.good;
@@ -54,31 +53,14 @@ impl Model for Counts {
     ghost invariant = { λ c. (length c.faults ≡ 8) × (length c.channels ≡ 8) × (length c.applications.items ≡ 16384) };
 }
 
-// A place for each channel and application, of which nothing came.
+// A place for each channel and application, for which nothing came.
 #[tactic(auto, using(crate::proofs::Tables::filled))]
-fn places(alloc: Global) -> Result<Vec<ApplicationCounts>, AllocError>
-    ensures { IfOk result (λ places. places.items ≡ no_applications) }
+fn empty_counts(alloc: Global) -> Result<Vec<ApplicationCounts>, AllocError>
+    ensures { IfOk result (λ empty_counts. empty_counts.items ≡ no_applications) }
 {
-    let mut places = Vec::with_capacity(alloc, PLACES)?;
-    places.resize(PLACES, ApplicationCounts::none())?;
-    Ok(places)
-}
-
-// The place of a fault among the faults.
-fn place_of_fault(fault: FrameFault) -> usize
-    ensures place { result ≡ fault_number fault - 1 }
-    ensures below { result < 8 }
-{
-    match fault {
-        FrameFault::Crc => 0,
-        FrameFault::Version => 1,
-        FrameFault::Spacecraft => 2,
-        FrameFault::SecondaryFlag => 3,
-        FrameFault::OcfFlag => 4,
-        FrameFault::SecondaryVersion => 5,
-        FrameFault::Layout => 6,
-        FrameFault::Pointer => 7,
-    }
+    let mut empty_counts = Vec::with_capacity(alloc, PAIRS)?;
+    empty_counts.resize(PAIRS, ApplicationCounts::none())?;
+    Ok(empty_counts)
 }
 
 impl Counts {
@@ -86,7 +68,7 @@ impl Counts {
     pub fn new(alloc: Global) -> Result<Counts, AllocError>
         ensures { IfOk result (λ counts. counts ≡ numbers_of nothing) }
     {
-        let applications = places(alloc)?;
+        let applications = empty_counts(alloc)?;
         Ok(Counts {
             good: 0,
             bad: 0,
@@ -114,7 +96,7 @@ impl Counts {
         ensures { self.new ≡ with_bad self.old fault }
     {
         self.bad = self.bad.saturating_add(1);
-        let place = place_of_fault(fault);
+        let place = fault as usize;
         self.faults[place] = self.faults[place].saturating_add(1);
     }
 
@@ -125,8 +107,11 @@ impl Counts {
         ensures { self.new ≡ with_packet self.old seen channel application octets }
     {
         self.channels[usize::from(channel)].add_packet(octets);
-        let key = 2048 * usize::from(channel) + usize::from(application);
-        self.applications[key].add_packet(seen, octets);
+        let pair = Pair {
+            channel,
+            application,
+        };
+        self.applications[usize::from(pair.key())].add_packet(seen, octets);
     }
 
     /// An item more that is no packet.
@@ -159,7 +144,7 @@ impl Counts {
         }
     }
 
-    /// A note more on the sequence counts of the channel and application of this key, `2048 * channel + application`.
+    /// A note more on the sequence counts of the channel and application of this key.
     #[tactic(auto, unfolding(crate::specs::Adding::with_note))]
     pub fn add_note(&mut self, key: u16, note: Note)
         requires { key < 16384 }

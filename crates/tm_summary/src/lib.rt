@@ -13,4 +13,4 @@ pub use application::ApplicationCounts;
 pub use channel::{ChannelCounts, Loss};
 pub use counting::Counting;
 pub use counts::Counts;
-pub use writing::put_summary;
+pub use writing::write_summary;

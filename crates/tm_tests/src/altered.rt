@@ -1,7 +1,7 @@
 //! Checkpoints and frames with one bit changed, and checkpoints that are cut off: each is refused.
 
 use crate::checkpoints::{CHECKPOINT, LIMITED, VERSION_1, VERSION_2};
-use crate::frames::listed;
+use crate::frames::list_through;
 use crate::runs::{BASE, TWELVE, octets_of, settings_of};
 use std::alloc::{AllocError, Global};
 use tm_frame::FrameFault;
@@ -22,7 +22,7 @@ const CHECKPOINTS: [(&str, &str, usize); 4] = [
     (VERSION_1, BASE, 33),
 ];
 
-// How a checkpoint is refused of which the octet of this number was changed, and is this one now.
+// How a checkpoint is refused whose octet of this number was changed, and is this one now.
 fn fault_at(at: usize, octet: Option<&u8>) -> CheckpointFault {
     match (at, octet) {
         (0..=3, _) => CheckpointFault::Magic,
@@ -66,7 +66,7 @@ fn checkpoints_with_a_bit_changed(rt: HostRuntime) {
 }
 
 // Each front is refused, as too short below so many octets.
-fn fronts_are_refused(alloc: Global, text: &str, settings: &str, least: usize) -> Option<bool> {
+fn prefixes_are_refused(alloc: Global, text: &str, settings: &str, least: usize) -> Option<bool> {
     let settings = settings_of(alloc, settings)?;
     let octets = octets_of(alloc, text)?;
     for len in 0..octets.len() {
@@ -86,7 +86,7 @@ fn fronts_are_refused(alloc: Global, text: &str, settings: &str, least: usize) -
 #[test]
 fn checkpoints_cut_off(rt: HostRuntime) {
     for (text, settings, least) in CHECKPOINTS {
-        let refused = fronts_are_refused(rt.alloc(), text, settings, least);
+        let refused = prefixes_are_refused(rt.alloc(), text, settings, least);
         assert!(rt; refused == Some(true), "{text}");
     }
 }
@@ -138,7 +138,7 @@ fn list_of_frames_with_a_bit_changed(rt: HostRuntime) {
     let wanted = bad_lines(alloc, 72).expect(&rt, "lines");
     let mut lines = Vec::new(alloc);
     let mut source = Reading::new(recording.as_slice());
-    let answer = listed(
+    let answer = list_through(
         alloc,
         CONTROLLED,
         &mut source,

@@ -13,7 +13,7 @@ pub(crate) struct Call {
 }
 
 /// How many of these calls are the device's, and how many octets they move.
-pub(crate) fn moved(calls: &[Call], device: Device) -> (u64, usize) {
+pub(crate) fn calls_until(calls: &[Call], device: Device) -> (u64, usize) {
     let mut count = 0u64;
     let mut octets = 0usize;
     for call in calls {
@@ -64,6 +64,10 @@ struct Calls<'l> {
     // The octets of a record, and of the rest behind all records.
     record: usize,
     rest: usize,
+    // The devices that are flushed: before each read but the first, where the source may wait, and at the end.
+    outputs: [Option<Device>; 2],
+    waits: bool,
+    has_read: bool,
     // The lines of the packets and of the report that are still to come.
     packets: &'l [u8],
     lines: &'static [u8],
@@ -92,8 +96,34 @@ impl Calls<'_> {
         }
     }
 
+    // Flushes the outputs.
+    fn flush(&mut self) -> Result<(), AllocError> {
+        for output in self.outputs {
+            if let Some(device) = output {
+                self.push(device, 0)?;
+            }
+        }
+        Ok(())
+    }
+
+    // The same behind a record, where the source may wait for the next one.
+    fn flush_before_waiting(&mut self) -> Result<(), AllocError> {
+        if self.waits && self.has_read {
+            self.flush()?;
+        }
+        self.has_read = true;
+        Ok(())
+    }
+
+    // Reads a record.
+    fn read(&mut self) -> Result<(), AllocError> {
+        self.flush_before_waiting()?;
+        self.push_all(Device::Recording, self.record)
+    }
+
     // Reads the rest, and finds the end.
     fn end(&mut self) -> Result<(), AllocError> {
+        self.flush_before_waiting()?;
         self.push_all(Device::Recording, self.rest)?;
         self.push(Device::Recording, 0)
     }
@@ -143,7 +173,7 @@ impl Calls<'_> {
     fn follow(&mut self, order: &str) -> Result<(), AllocError> {
         for letter in order.chars() {
             match letter {
-                '/' => self.push_all(Device::Recording, self.record)?,
+                '/' => self.read()?,
                 '.' => self.end()?,
                 '-' => self.report(1)?,
                 '(' => self.begin_span(),
@@ -158,7 +188,7 @@ impl Calls<'_> {
     // Follows a listing: a line for each record, and one for a rest.
     fn follow_frames(&mut self, records: u32) -> Result<(), AllocError> {
         for _ in 0..records {
-            self.push_all(Device::Recording, self.record)?;
+            self.read()?;
             self.give(0)?;
         }
         self.end()?;
@@ -169,7 +199,8 @@ impl Calls<'_> {
     }
 }
 
-/// All calls of a run over a row's recording, which gives this output. Rows have a head before the first record.
+/// All calls of a run over a row's recording, which gives this output. Rows have a head before the first record, which is flushed where the
+/// source may wait.
 pub(crate) fn calls_of(
     alloc: Global,
     bench: &Bench,
@@ -189,6 +220,18 @@ pub(crate) fn calls_of(
         per_call: bench.source.per_call,
         record,
         rest: bench.source.octets.len() % record,
+        outputs: [
+            match by {
+                By::Split => None,
+                By::Frames | By::Run(_) => Some(Device::Out),
+            },
+            match by {
+                By::Frames => None,
+                By::Run(_) | By::Split => Some(Device::Report),
+            },
+        ],
+        waits: bench.source.waits,
+        has_read: false,
         packets: if has_octets {
             row.lines.as_bytes()
         } else {
@@ -198,16 +241,14 @@ pub(crate) fn calls_of(
     };
     if calls.has_rows {
         calls.give(0)?;
+        if calls.waits {
+            calls.push(Device::Out, 0)?;
+        }
     }
     match by {
         By::Frames => calls.follow_frames(row.records)?,
         By::Run(_) | By::Split => calls.follow(row.order)?,
     }
-    if !matches!(by, By::Split) {
-        calls.push(Device::Out, 0)?;
-    }
-    if !matches!(by, By::Frames) {
-        calls.push(Device::Report, 0)?;
-    }
+    calls.flush()?;
     Ok(calls.list)
 }

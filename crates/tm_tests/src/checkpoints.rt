@@ -5,8 +5,8 @@ use std::alloc::Global;
 use tm_frame::error_control;
 use tm_tool::{CheckpointFault, Job};
 
-/// Three records of two channels are done: the last count of the master channel is 2, a packet of 26 octets is begun on channel 0, and one of
-/// count 1 was the last on channel 1.
+/// Three records of two channels are done. The last count of the master channel is 2, a packet of 26 octets is begun on channel
+/// 0, and one of count 1 was the last on channel 1.
 pub(crate) const CHECKPOINT: &str =
     "544D5843 03 002A 0018 0000 0000 00 00 00 FF 010006 00000003 01 02 \
     02 00 00000000 0000 00000012 0064C0000013555555555555555555555555 01 01 00 00 00 00 00 00 0001 0864 0001 FFFF 074F";
@@ -84,10 +84,10 @@ fn before_any_record(rt: HostRuntime) {
 }
 
 // The checkpoint with other octets between a front and a back.
-fn altered(alloc: Global, front: usize, other: &[u8], back: (usize, usize)) -> Option<Vec<u8>> {
+fn alter(alloc: Global, prefix: usize, other: &[u8], back: (usize, usize)) -> Option<Vec<u8>> {
     let octets = octets_of(alloc, CHECKPOINT)?;
     let mut altered = Vec::new(alloc);
-    for part in [octets.get(..front)?, other, octets.get(back.0..back.1)?] {
+    for part in [octets.get(..prefix)?, other, octets.get(back.0..back.1)?] {
         altered.extend_from_slice(part).ok()?;
     }
     Some(altered)
@@ -119,10 +119,10 @@ fn altered_checkpoint(rt: HostRuntime) {
         // An octet 0 is put before a right check.
         (72, &[0x00], (72, 72), true, CheckpointFault::Trailing),
     ];
-    for (front, other, back, is_checked, fault) in table {
-        let octets = altered(alloc, front, other, back).expect(&rt, "octets");
+    for (prefix, other, back, is_checked, fault) in table {
+        let octets = alter(alloc, prefix, other, back).expect(&rt, "octets");
         let answer = refusal(alloc, octets, is_checked);
-        assert!(rt; answer == Some(fault), "octets {other:?} behind {front}");
+        assert!(rt; answer == Some(fault), "octets {other:?} behind {prefix}");
     }
     // It is read with other settings.
     let longer = "spacecraft = 42\nframe_length = 25\nerror_control = false\n";

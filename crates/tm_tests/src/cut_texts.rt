@@ -7,8 +7,8 @@ use tm_frame::{LayoutParts, Presence};
 use tm_reassembly::Channels;
 use tm_tool::{Key, Settings, SettingsFault};
 
-// What a table says of a text's front of so many octets. A row has the greatest length of which it speaks, and begins where the one before
-// ends.
+// What a table says of a text's front of so many octets. A row has the greatest length that it is for, and begins where the one
+// before ends.
 fn answer_at<A: Copy>(table: &[(usize, A)], len: usize) -> Option<A> {
     for &(last, answer) in table {
         if len <= last {
@@ -20,7 +20,7 @@ fn answer_at<A: Copy>(table: &[(usize, A)], len: usize) -> Option<A> {
 
 // What settings are read as, or how they are refused.
 #[derive(Clone, Copy, PartialEq, Eq)]
-enum Answer {
+enum CutAnswer {
     Read(LayoutParts, Channels, u32),
     Toml,
     Missing(Key),
@@ -29,22 +29,22 @@ enum Answer {
     Other,
 }
 
-fn settings_answer(alloc: Global, text: &[u8]) -> Answer {
+fn settings_answer(alloc: Global, text: &[u8]) -> CutAnswer {
     match Settings::read(alloc, text) {
-        Ok(settings) => Answer::Read(
+        Ok(settings) => CutAnswer::Read(
             settings.layout().parts(),
             settings.channels(),
             settings.max_packet(),
         ),
-        Err(SettingsFault::Toml) => Answer::Toml,
-        Err(SettingsFault::Missing(key)) => Answer::Missing(key),
-        Err(SettingsFault::Range(key)) => Answer::Range(key),
-        Err(_) => Answer::Other,
+        Err(SettingsFault::Toml) => CutAnswer::Toml,
+        Err(SettingsFault::Missing(key)) => CutAnswer::Missing(key),
+        Err(SettingsFault::Range(key)) => CutAnswer::Range(key),
+        Err(_) => CutAnswer::Other,
     }
 }
 
 // Spacecraft 42, and all that isn't named here absent.
-fn read(frame_length: u32, skip_before: u32, error_control: bool, max_packet: u32) -> Answer {
+fn read(frame_length: u32, skip_before: u32, error_control: bool, max_packet: u32) -> CutAnswer {
     let parts = LayoutParts {
         frame_length,
         skip_before,
@@ -54,7 +54,7 @@ fn read(frame_length: u32, skip_before: u32, error_control: bool, max_packet: u3
         ocf: Presence::Flag,
         error_control,
     };
-    Answer::Read(parts, Channels::all(), max_packet)
+    CutAnswer::Read(parts, Channels::all(), max_packet)
 }
 
 // A line is whole from the first digit of its number on, or from the end of its boolean. A text that is cut before that is no document.
@@ -62,12 +62,12 @@ fn read(frame_length: u32, skip_before: u32, error_control: bool, max_packet: u3
 fn settings_with_error_control(rt: HostRuntime) {
     let text = "spacecraft = 42\nframe_length = 9\nerror_control = true\n";
     let table = [
-        (0, Answer::Missing(Key::Spacecraft)),
-        (13, Answer::Toml),
-        (16, Answer::Missing(Key::FrameLength)),
-        (31, Answer::Toml),
-        (33, Answer::Missing(Key::ErrorControl)),
-        (52, Answer::Toml),
+        (0, CutAnswer::Missing(Key::Spacecraft)),
+        (13, CutAnswer::Toml),
+        (16, CutAnswer::Missing(Key::FrameLength)),
+        (31, CutAnswer::Toml),
+        (33, CutAnswer::Missing(Key::ErrorControl)),
+        (52, CutAnswer::Toml),
         (54, read(9, 0, true, 65_542)),
     ];
     for len in 0..=text.len() {
@@ -82,20 +82,20 @@ fn settings_with_skipped_octets_and_a_limit(rt: HostRuntime) {
     let text =
         "spacecraft = 42\nframe_length = 24\nerror_control = false\nskip_before = 4\nmax_packet = 12\n";
     let table = [
-        (0, Answer::Missing(Key::Spacecraft)),
-        (13, Answer::Toml),
-        (16, Answer::Missing(Key::FrameLength)),
-        (31, Answer::Toml),
+        (0, CutAnswer::Missing(Key::Spacecraft)),
+        (13, CutAnswer::Toml),
+        (16, CutAnswer::Missing(Key::FrameLength)),
+        (31, CutAnswer::Toml),
         // A frame length of 2.
-        (32, Answer::Range(Key::FrameLength)),
-        (34, Answer::Missing(Key::ErrorControl)),
-        (54, Answer::Toml),
+        (32, CutAnswer::Range(Key::FrameLength)),
+        (34, CutAnswer::Missing(Key::ErrorControl)),
+        (54, CutAnswer::Toml),
         (56, read(24, 0, false, 65_542)),
-        (70, Answer::Toml),
+        (70, CutAnswer::Toml),
         (72, read(24, 4, false, 65_542)),
-        (85, Answer::Toml),
+        (85, CutAnswer::Toml),
         // Packets of one octet.
-        (86, Answer::Range(Key::MaxPacket)),
+        (86, CutAnswer::Range(Key::MaxPacket)),
         (88, read(24, 4, false, 12)),
     ];
     for len in 0..=text.len() {

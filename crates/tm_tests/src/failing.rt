@@ -1,8 +1,9 @@
-//! Devices that fail. All calls of a run are known, in their order, with the octets that each of them moves. So is what was read and written
-//! before any one of them fails: each piece before the call is whole, in the output and in the report, and nothing behind it was begun.
+//! Devices that fail. All calls of a run are known, in their order, with the octets that each of them moves. So is what was read
+//! and written before any one of them fails. Each piece before the call is whole, in the output and in the report, and nothing
+//! behind it was begun.
 
 use crate::bench::{Bench, By, Device};
-use crate::calls::{Call, calls_of, moved};
+use crate::calls::{Call, calls_of, calls_until};
 use crate::runs::{
     POINTER_DROP_AND_SEQUENCE_GAP, Row, SPLIT_WITH_IDLE, TWO_PACKETS, octets_of, rows,
 };
@@ -15,9 +16,9 @@ const DEFINITION: &[u8] = b"name,data_type,bit_length\nA,uint,8\n";
 
 const HEAD: &[u8] = b"tm_record,tm_channel,tm_apid,tm_count,A\n";
 
-// A run of which all is known.
+// A run about which all is known.
 #[derive(Drop)]
-struct Plan<'a> {
+struct KnownRun<'a> {
     records: u32,
     by: By<'a>,
     out: Vec<u8>,
@@ -49,11 +50,11 @@ fn out_of(alloc: Global, row: &Row, by: By<'_>) -> Option<Vec<u8>> {
 }
 
 // The first octets.
-fn front(octets: &[u8], n: usize) -> &[u8] {
+fn prefix(octets: &[u8], n: usize) -> &[u8] {
     octets.get(..n).unwrap_or(&[])
 }
 
-impl<'a> Plan<'a> {
+impl<'a> KnownRun<'a> {
     fn new(alloc: Global, bench: &Bench, row: &'a Row, by: By<'a>) -> Option<Self> {
         let out = out_of(alloc, row, by)?;
         let calls = calls_of(alloc, bench, row, by, &out).ok()?;
@@ -61,7 +62,7 @@ impl<'a> Plan<'a> {
             By::Frames => "",
             By::Run(_) | By::Split => row.report,
         };
-        Some(Plan {
+        Some(KnownRun {
             records: row.records,
             by,
             out,
@@ -85,15 +86,15 @@ impl<'a> Plan<'a> {
         device: Device,
         (answer, failed): (Result<u32, RunFault>, [u64; 3]),
     ) -> bool {
-        let (count, _) = moved(calls, device);
+        let (count, _) = calls_until(calls, device);
         bench.begin(device, count.saturating_add(1));
-        let (_, read) = moved(calls, Device::Recording);
-        let (_, written) = moved(calls, Device::Out);
-        let (_, reported) = moved(calls, Device::Report);
+        let (_, read) = calls_until(calls, Device::Recording);
+        let (_, written) = calls_until(calls, Device::Out);
+        let (_, reported) = calls_until(calls, Device::Report);
         bench.close(alloc, self.by) == answer
             && bench.failed() == failed
             && bench.source.at == read
-            && bench.has_given(front(&self.out, written), front(self.report, reported))
+            && bench.has_given(prefix(&self.out, written), prefix(self.report, reported))
     }
 
     // The call fails, and the run ends there.
@@ -140,7 +141,7 @@ impl<'a> Plan<'a> {
 // Each call of each device fails in turn, and does what is known.
 fn row_fails(alloc: Global, row: &Row, by: By<'_>, per_call: usize) -> Option<bool> {
     let mut bench = Bench::new(alloc, row.settings, row.recording, per_call)?;
-    let plan = Plan::new(alloc, &bench, row, by)?;
+    let plan = KnownRun::new(alloc, &bench, row, by)?;
     Some(plan.first_wrong(alloc, &mut bench).is_none())
 }
 
@@ -191,18 +192,22 @@ fn each_octet_failing(rt: HostRuntime) {
     }
 }
 
-// No call fails.
-fn row_is_done(alloc: Global, row: &Row, by: By<'_>, per_call: usize) -> Option<bool> {
+// No call fails. The source may wait or not.
+fn row_is_done(alloc: Global, row: &Row, by: By<'_>, per_call: usize, waits: bool) -> Option<bool> {
     let mut bench = Bench::new(alloc, row.settings, row.recording, per_call)?;
-    let plan = Plan::new(alloc, &bench, row, by)?;
-    Some(plan.is_done(alloc, &mut bench, Device::Out))
+    bench.source.waits = waits;
+    let plan = KnownRun::new(alloc, &bench, row, by)?;
+    Some(
+        plan.is_done(alloc, &mut bench, Device::Out)
+            && plan.is_done(alloc, &mut bench, Device::Report),
+    )
 }
 
-// In runs over all rows, octet by octet, and in few calls.
+// In runs over all rows, octet by octet, and in few calls of a source that never waits: then nothing is flushed before the end.
 fn none_failing(rt: &impl Abort, alloc: Global, by: By<'_>) {
     for row in rows() {
-        let by_octets = row_is_done(alloc, row, by, 1);
-        let at_once = row_is_done(alloc, row, by, 65_536);
+        let by_octets = row_is_done(alloc, row, by, 1, true);
+        let at_once = row_is_done(alloc, row, by, 65_536, false);
         assert!(rt;
             by_octets == Some(true) && at_once == Some(true),
             "{}",
@@ -227,8 +232,8 @@ fn worked_rows(rt: HostRuntime) {
     }
 }
 
-// A run by `packets` with five octets per call, of which a device's call fails, answers this, and has written just this.
-fn ends_by(
+// A run by `packets` with five octets per call, where a device's call fails, answers this, and has written just this.
+fn end_of_run(
     alloc: Global,
     row: &Row,
     device: Device,
@@ -258,12 +263,12 @@ fn worked_failures(rt: HostRuntime) {
         ),
     ];
     for (row, device, call, fault, written) in table {
-        assert!(rt; ends_by(rt.alloc(), row, device, call, fault, written) == Some(true));
+        assert!(rt; end_of_run(rt.alloc(), row, device, call, fault, written) == Some(true));
     }
 }
 
 // What is put of two packets where the second put is refused and leaves so many octets: how many, if they are the first.
-fn put_of_two(alloc: Global, leaves: usize) -> Option<(Result<u32, RunFault>, usize)> {
+fn answer_of_two_puts(alloc: Global, leaves: usize) -> Option<(Result<u32, RunFault>, usize)> {
     let row = &SPLIT_WITH_IDLE;
     let mut bench = Bench::new(alloc, row.settings, row.recording, 65_536)?;
     bench.begin(Device::Out, 2);
@@ -271,7 +276,7 @@ fn put_of_two(alloc: Global, leaves: usize) -> Option<(Result<u32, RunFault>, us
     let answer = bench.close(alloc, By::Split);
     let octets = octets_of(alloc, row.octets)?;
     let put = 7usize.saturating_add(leaves);
-    if bench.has_given(front(&octets, put), b"") {
+    if bench.has_given(prefix(&octets, put), b"") {
         Some((answer, put))
     } else {
         None
@@ -283,6 +288,9 @@ fn put_of_two(alloc: Global, leaves: usize) -> Option<(Result<u32, RunFault>, us
 fn refused_put_that_leaves_octets(rt: HostRuntime) {
     for (leaves, put) in [(0, 7), (5, 12), (10, 17)] {
         let wanted = Some((Err(RunFault::Write), put));
-        assert!(rt; put_of_two(rt.alloc(), leaves) == wanted, "{leaves} octets");
+        assert!(rt;
+            answer_of_two_puts(rt.alloc(), leaves) == wanted,
+            "{leaves} octets"
+        );
     }
 }

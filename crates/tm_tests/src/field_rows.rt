@@ -23,7 +23,7 @@ const HEAD_AND_ONE_BIT: &str =
 
 const SHORT: &str = "shortpacket record=0 channel=0 from=0 at=0 needed=129 found=128\n";
 
-// Runs a job by `fields`, with devices that write 5 octets per call, of which a call of one fails: the answer, and the devices then.
+// Runs a job by `fields`, with devices that write 5 octets per call, where a call of one fails: the answer, and the devices then.
 fn run_rows(
     alloc: Global,
     definition: &str,
@@ -61,7 +61,7 @@ fn worked_rows_by_fields(rt: HostRuntime) {
     }
 }
 
-// How a run is answered of which this write fails, if what was written is the front of the head and the row.
+// How a run is answered whose write of this number fails, if what was written is a prefix of the head and the row.
 fn answer_at(alloc: Global, fails_at: u64) -> Option<Result<u32, RunFault>> {
     let (answer, bench) = run_rows(alloc, TEXT, 100, RECORDING, Device::Out, fails_at)?;
     let written = bench.out.octets.as_slice();
@@ -73,15 +73,16 @@ fn answer_at(alloc: Global, fails_at: u64) -> Option<Result<u32, RunFault>> {
     }
 }
 
-// Each write fails in turn, up to the run in which none does: 13 writes for the head, 7 for the row, and the flush. Likewise one write of
-// the report, and the first read, before which the head is written.
+// Each write fails in turn, up to the run in which none does. There are 13 writes for the head and a flush, 7 for the row and a
+// flush, since the source may wait, and the flush at the end. Likewise one write of the report, and the first read, before which
+// the head is written.
 #[test]
 fn each_write_of_rows_failing(rt: HostRuntime) {
     let alloc = rt.alloc();
-    for fails_at in 1..=21u64 {
+    for fails_at in 1..=23u64 {
         assert!(rt; answer_at(alloc, fails_at) == Some(Err(RunFault::Write)));
     }
-    assert!(rt; answer_at(alloc, 22) == Some(Ok(1)));
+    assert!(rt; answer_at(alloc, 24) == Some(Ok(1)));
     let ran = run_rows(alloc, AND_ONE_BIT, 100, RECORDING, Device::Report, 2);
     let (answer, bench) = ran.expect(&rt, "a run");
     assert!(rt; answer == Err(RunFault::Report));

@@ -151,7 +151,7 @@ const WITH_REST_LINES: &str =
     "frame record=0 channel=0 master=0 count=0 kind=packets place=0 secondary=0 ocf=no order=0 segment=3 octets=18\nframe record=1 channel=0 master=0 count=0 kind=packets place=0 secondary=0 ocf=no order=0 segment=3 octets=18\nshort record=2 octets=10\n";
 
 /// What a listing answers under the settings of a text.
-pub(crate) fn listed<R: BufferedSource, W: Drain>(
+pub(crate) fn list_through<R: BufferedSource, W: Drain>(
     alloc: Global,
     settings: &str,
     source: &mut R,
@@ -167,7 +167,7 @@ fn through_readers_and_writers(rt: HostRuntime) {
     let octets = octets_of(alloc, WITH_REST).expect(&rt, "octets");
     let mut lines = Vec::new(alloc);
     let mut source = Reading::new(octets.as_slice());
-    let answer = listed(alloc, BASE, &mut source, &mut Writing::new(&mut lines));
+    let answer = list_through(alloc, BASE, &mut source, &mut Writing::new(&mut lines));
     assert!(rt; answer == Some(Ok(2)));
     assert!(rt; lines.as_slice() == WITH_REST_LINES.as_bytes());
 }
@@ -181,7 +181,7 @@ fn through_a_buffer(rt: HostRuntime) {
         let reader = BufReader::with_capacity(alloc, capacity, octets.as_slice());
         let mut source = Buffered::new(reader.expect(&rt, "buffer"));
         let mut lines = Vec::new(alloc);
-        let answer = listed(alloc, BASE, &mut source, &mut Writing::new(&mut lines));
+        let answer = list_through(alloc, BASE, &mut source, &mut Writing::new(&mut lines));
         assert!(rt; answer == Some(Ok(2)));
         assert!(rt; lines.as_slice() == WITH_REST_LINES.as_bytes());
     }
@@ -192,7 +192,7 @@ fn through_a_buffer(rt: HostRuntime) {
 fn passed_over_by_a_seek(rt: HostRuntime) {
     let octets = octets_of(rt.alloc(), WITH_REST).expect(&rt, "octets");
     let reader = BufReader::new(rt.alloc(), Cursor::new(octets.as_slice()));
-    let mut source = Seeking::new(reader.expect(&rt, "buffer"));
+    let mut source = Seeking::new(reader.expect(&rt, "buffer"), false);
     let mut next = [0; 24];
     assert!(rt; source.pass_over(24) == Ok(true));
     assert!(rt; source.pass_over(1000) == Ok(false));
@@ -222,7 +222,7 @@ impl Seek for Stuck {
 #[test]
 fn failing_seek(rt: HostRuntime) {
     let reader = BufReader::new(rt.alloc(), Stuck).expect(&rt, "buffer");
-    assert!(rt; Seeking::new(reader).pass_over(0) == Err(DeviceFailed));
+    assert!(rt; Seeking::new(reader, false).pass_over(0) == Err(DeviceFailed));
 }
 
 // A reader that fails.
@@ -269,15 +269,15 @@ fn failing_readers_and_writers(rt: HostRuntime) {
     let alloc = rt.alloc();
     let octets = octets_of(alloc, TWO_PACKETS).expect(&rt, "octets");
     let mut out = Writing::new(Unflushed);
-    let answer = listed(alloc, BASE, &mut Reading::new(Broken), &mut out);
+    let answer = list_through(alloc, BASE, &mut Reading::new(Broken), &mut out);
     assert!(rt; answer == Some(Err(RunFault::Read)));
-    let answer = listed(
+    let answer = list_through(
         alloc,
         BASE,
         &mut Reading::new(octets.as_slice()),
         &mut Writing::new(Full),
     );
     assert!(rt; answer == Some(Err(RunFault::Write)));
-    let answer = listed(alloc, BASE, &mut Reading::new(octets.as_slice()), &mut out);
+    let answer = list_through(alloc, BASE, &mut Reading::new(octets.as_slice()), &mut out);
     assert!(rt; answer == Some(Err(RunFault::Write)));
 }

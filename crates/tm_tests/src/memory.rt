@@ -2,7 +2,7 @@
 //! of its calls fails, if that is asked for.
 
 ghost use Rattle.std.specs.Prelude.{◌≡◌, ◌<◌, ◌≤◌, [], Some, take, drop, true, false, vec_len};
-ghost use Rattle.tm_devices.specs.Devices.{Puts, PutsFront};
+ghost use Rattle.tm_devices.specs.Devices.{Puts, PutsPrefix};
 ghost use Rattle.tm_tests.specs.Stored.{stored};
 
 use std::alloc::Global;
@@ -19,6 +19,8 @@ pub struct MemorySource {
     /// The call that fails, counted from 1; 0 for none.
     pub fails_at: u64,
     pub failed: u64,
+    /// A read may wait.
+    pub waits: bool,
     ghost within: { at ≤ vec_len octets },
     ghost some: { 0 < per_call },
 }
@@ -32,6 +34,7 @@ impl MemorySource {
         ensures fails_at { result.fails_at ≡ fails_at }
         ensures calls { result.calls ≡ 0 }
         ensures failed { result.failed ≡ 0 }
+        ensures waits { result.waits ≡ true }
     {
         MemorySource {
             octets,
@@ -40,6 +43,7 @@ impl MemorySource {
             calls: 0,
             fails_at,
             failed: 0,
+            waits: true,
         }
     }
 }
@@ -48,6 +52,8 @@ impl Source for MemorySource {
     ghost failures = { λ s. s.failed };
 
     ghost left = { λ s. Some (drop s.at s.octets.items) };
+
+    ghost waits = { λ s. s.waits };
 
     fn read(&mut self, buffer: &mut [u8]) -> Result<usize, DeviceFailed> {
         self.calls = self.calls.saturating_add(1);
@@ -60,6 +66,10 @@ impl Source for MemorySource {
         buffer[..n].copy_from_slice(&self.octets[self.at..self.at + n]);
         self.at += n;
         Ok(n)
+    }
+
+    fn may_wait(&self) -> bool {
+        self.waits
     }
 }
 
@@ -171,7 +181,8 @@ impl MemoryShelf {
     // Keeps octets of an application behind the others, if there is memory for it: whether it did.
     #[tactic(auto, using(crate::proofs::Stored::stored_one))]
     fn keep(&mut self, application: u16, octets: &[u8]) -> bool
-        ensures kept { result ≡ true → Puts (Some (stored self.old.puts.items)) (Some (stored self.new.puts.items)) application octets.now }
+        ensures kept { result ≡ true → Puts (Some (stored self.old.puts.items))
+            (Some (stored self.new.puts.items)) application octets.now }
         ensures lost { result ≡ false → self.new.puts.items ≡ self.old.puts.items }
         ensures refused { self.new.refused ≡ self.old.refused }
     {
@@ -188,7 +199,7 @@ impl MemoryShelf {
     // Keeps the first octets of a put that is refused, as many as are to be left.
     #[tactic(auto, using(crate::proofs::Stored::put_none, crate::proofs::Stored::put_front))]
     fn leave(&mut self, application: u16, octets: &[u8])
-        ensures left { PutsFront (Some (stored self.old.puts.items)) (Some (stored self.new.puts.items)) application octets.now }
+        ensures left { PutsPrefix (Some (stored self.old.puts.items)) (Some (stored self.new.puts.items)) application octets.now }
         ensures refused { self.new.refused ≡ self.old.refused }
     {
         let leaves = self.leaves;

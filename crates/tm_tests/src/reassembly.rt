@@ -66,12 +66,12 @@ fn sink_of<'w>(alloc: Global, items: &'w str, octets: &'w [u8]) -> Wanted<'w> {
         alloc,
         items: items.as_bytes(),
         octets,
-        taken: 0,
+        accepted: 0,
         refuses: usize::MAX,
     }
 }
 
-// A row's reassembly behind so many records, each of which is taken.
+// A row's reassembly behind so many records, all of them taken.
 fn after_records(
     alloc: Global,
     row: &Row,
@@ -96,7 +96,7 @@ fn held(reassembly: &Reassembly) -> &[u8] {
     reassembly.held(0)
 }
 
-// What is known of the records of a row of which two channels hold a front.
+// What is known after the records of a row where two channels hold a tail.
 fn is_held(reassembly: &Reassembly) -> bool {
     !reassembly.failed()
         && reassembly.records() == 2
@@ -114,7 +114,7 @@ fn held_and_closed(rt: HostRuntime) {
     let reassembly = after_records(alloc, &SHORT_REST, 2, &mut sink).expect(&rt, "two records");
     assert!(rt; is_held(&reassembly));
     assert!(rt; finish(reassembly, 10, &mut sink) == Ok(()));
-    assert!(rt; sink.taken == 3);
+    assert!(rt; sink.accepted == 3);
 }
 
 // How many octets are held of channel 0 behind the first record of a row, and its last count.
@@ -135,12 +135,12 @@ fn kept_of_the_first_record(rt: HostRuntime) {
     assert!(rt; kept_of_first(alloc, &HELD_AFTER_FIRST_RECORD) == Some((18, Some(0))));
 }
 
-// What is spelled of the state after three records, of which the first leaves a tail, and the others have two packets.
+// What is spelled of the state after three records: the first leaves a tail, and the others have two packets.
 fn spelled_state(alloc: Global) -> Option<Vec<u8>> {
     let octets = octets_of(alloc, TWO_CHANNELS.octets)?;
     let mut sink = sink_of(alloc, TWO_CHANNELS.items, &octets);
     let reassembly = after_records(alloc, &TWO_CHANNELS, 3, &mut sink)?;
-    if reassembly.failed() || sink.taken != 2 {
+    if reassembly.failed() || sink.accepted != 2 {
         return None;
     }
     let mut spelled = Vec::new(alloc);
@@ -174,7 +174,7 @@ fn is_read_again(alloc: Global, is_old: bool, state: &[u8], master: Option<u8>) 
     let is_same = read == state.len() && is_state(&again, master);
     let mut sink = sink_of(alloc, "bad 3 version\n", &[]);
     step(&mut again, &[0x42; 24], &mut sink).ok()?;
-    Some(is_same && sink.taken == 1 && is_master(&again, master))
+    Some(is_same && sink.accepted == 1 && is_master(&again, master))
 }
 
 // The last count of the master channel.
@@ -270,7 +270,7 @@ fn is_greatest_given(alloc: Global) -> Option<bool> {
         &mut sink,
     )
     .ok()?;
-    Some(is_held && sink.taken == 3)
+    Some(is_held && sink.accepted == 3)
 }
 
 #[test]

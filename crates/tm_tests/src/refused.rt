@@ -7,7 +7,7 @@ use crate::runs::settings_of;
 use std::alloc::Global;
 use tm_fields::{Definition, DefinitionFault, RowFault, Rows};
 use tm_frame::Layout;
-use tm_memory::{Answer, Turns, made};
+use tm_memory::{Answer, Turns, try_twice};
 use tm_packet::{Tracker, TrackerFault};
 use tm_reassembly::{Channels, Reassembly, StateFault};
 use tm_tool::{Job, Settings, SettingsFault};
@@ -26,7 +26,7 @@ pub(crate) fn passes<T: Tried>(rt: &HostRuntime, tried: &mut T) -> bool {
             break;
         }
     }
-    turns.passed()
+    turns.has_passed()
 }
 
 // Octets that a vector holds before others are appended, without room for more.
@@ -35,8 +35,8 @@ const BEFORE: [u8; 64] = [0xAA; 64];
 // One entry: two packets were taken.
 const ENTRY: [u8; 8] = [0x00, 0x01, 0x08, 0x64, 0x00, 0x01, 0xFF, 0xFF];
 
-/// Three records are done: the last of the master channel has count 2, 18 octets are held of channel 0, and one of count 1 was the last on
-/// channel 1.
+/// Three records are done. The last of the master channel has count 2, 18 octets are held of channel 0, and one of count 1 was
+/// the last on channel 1.
 pub(crate) const STATE: [u8; 44] = [
     0, 0, 0, 3, 1, 2, 2, 0, 0, 0, 0, 0, 0, 0, 0, 0, 0, 0x12, 0x00, 0x64, 0xC0, 0x00, 0x00, 0x13,
     0x55, 0x55, 0x55, 0x55, 0x55, 0x55, 0x55, 0x55, 0x55, 0x55, 0x55, 0x55, 1, 1, 0, 0, 0, 0, 0, 0,
@@ -126,7 +126,7 @@ impl Tried for Needs {
 
 // All turns of a call pass, with what it needs made beforehand.
 fn passes_call(rt: &HostRuntime, call: Call) -> bool {
-    match made(|| Needs::new(rt.alloc(), call)) {
+    match try_twice(|| Needs::new(rt.alloc(), call)) {
         Some(mut needs) => passes(rt, &mut needs),
         None => false,
     }
@@ -140,7 +140,7 @@ fn tracker_made(alloc: Global) -> Answer {
 }
 
 // What is appended to octets that were there before, or none of it.
-fn appended(encoded: bool, octets: &[u8], wanted: &[u8]) -> Answer {
+fn answer_of_appending(encoded: bool, octets: &[u8], wanted: &[u8]) -> Answer {
     let more = octets.strip_prefix(BEFORE.as_slice());
     if encoded {
         Answer::right_if(more == Some(wanted))
@@ -151,7 +151,7 @@ fn appended(encoded: bool, octets: &[u8], wanted: &[u8]) -> Answer {
 
 fn tracker_encoded(tracker: &Tracker, octets: &mut Vec<u8>) -> Answer {
     let encoded = tracker.encode(octets).is_ok();
-    appended(encoded, octets, &ENTRY)
+    answer_of_appending(encoded, octets, &ENTRY)
 }
 
 fn tracker_decoded(alloc: Global, again: &mut Vec<u8>) -> Answer {
@@ -179,7 +179,7 @@ fn reassembly_encoded(reassembly: &Reassembly, octets: &mut Vec<u8>) -> Answer {
         return Answer::Wrong;
     }
     let encoded = reassembly.encode(octets).is_ok();
-    appended(encoded, octets, &STATE)
+    answer_of_appending(encoded, octets, &STATE)
 }
 
 /// The state has three records, the tail and this last count of the master channel.

@@ -13,7 +13,7 @@ use crate::runs::{
 use crate::summaries::SUMMARY;
 use std::alloc::Global;
 use tm_fields::Definition;
-use tm_memory::{Answer, Held, made};
+use tm_memory::{Answer, Held, try_twice};
 use tm_tool::{CheckpointFault, Command, Ending, Job, RunFault, Settings, Shelf, split};
 
 // A checkpoint, and the job that was resumed from it. It is written again.
@@ -45,7 +45,7 @@ impl Tried for Written {
 
 #[test]
 fn checkpoint_of_a_job(rt: HostRuntime) {
-    let mut written = made(|| Written::new(rt.alloc())).expect(&rt, "a checkpoint");
+    let mut written = try_twice(|| Written::new(rt.alloc())).expect(&rt, "a checkpoint");
     assert!(rt; passes(&rt, &mut written));
 }
 
@@ -85,7 +85,7 @@ fn resumed_job(rt: HostRuntime) {
         (LIMITED, TWELVE, 1),
     ];
     for (text, settings, records) in table {
-        let resumed = made(|| Resumed::new(rt.alloc(), text, settings, records));
+        let resumed = try_twice(|| Resumed::new(rt.alloc(), text, settings, records));
         let mut resumed = resumed.expect(&rt, "a checkpoint");
         assert!(rt; passes(&rt, &mut resumed), "{text}");
     }
@@ -106,33 +106,33 @@ fn are_packets(octets: usize, lines: &str) -> bool {
 }
 
 // What was written is the front of what is to be written, and ends with a whole line.
-fn is_front_of_lines(written: &[u8], all: &[u8]) -> bool {
+fn is_prefix_of_lines(written: &[u8], all: &[u8]) -> bool {
     all.starts_with(written) && (written.is_empty() || written.ends_with(b"\n"))
 }
 
 // A shelf that puts all octets into one room, whatever their application.
 #[derive(Drop)]
-struct Room {
+struct SmallShelf {
     octets: Vec<u8>,
     refused: u64,
 }
 
 // There was no room.
 #[derive(Clone, Copy, Debug, PartialEq, Eq)]
-struct NoRoom;
+struct ShelfIsFull;
 
-impl Shelf for Room {
-    type Fault = NoRoom;
+impl Shelf for SmallShelf {
+    type Fault = ShelfIsFull;
 
     ghost refusals = { λ s. s.refused };
 
     #[tactic(auto, using(crate::proofs::Stored::put_none))]
-    fn put(&mut self, _application: u16, octets: &[u8]) -> Result<(), NoRoom> {
+    fn put(&mut self, _application: u16, octets: &[u8]) -> Result<(), ShelfIsFull> {
         match self.octets.extend_from_slice(octets) {
             Ok(()) => Ok(()),
             Err(_) => {
                 self.refused = self.refused.saturating_add(1);
-                Err(NoRoom)
+                Err(ShelfIsFull)
             }
         }
     }
@@ -140,7 +140,7 @@ impl Shelf for Room {
 
 // What is done in turn.
 #[derive(Clone, Copy, PartialEq, Eq)]
-enum Way {
+enum Task {
     Frames,
     Summary,
     Extract,
@@ -154,13 +154,13 @@ const LINES: &[u8] =
     frame record=1 channel=0 master=1 count=1 kind=packets place=8 secondary=0 ocf=no order=0 segment=3 octets=18\n";
 
 // What is to be written of a row.
-fn out_of(alloc: Global, row: &Row, way: Way) -> Option<Vec<u8>> {
-    match way {
-        Way::Frames => LINES.to_vec(alloc).ok(),
-        Way::Summary => SUMMARY.as_bytes().to_vec(alloc).ok(),
-        Way::Extract | Way::Split => octets_of(alloc, row.octets),
-        Way::Packets => row.lines.as_bytes().to_vec(alloc).ok(),
-        Way::Fields => HEAD_AND_ROW.as_bytes().to_vec(alloc).ok(),
+fn out_of(alloc: Global, row: &Row, task: Task) -> Option<Vec<u8>> {
+    match task {
+        Task::Frames => LINES.to_vec(alloc).ok(),
+        Task::Summary => SUMMARY.as_bytes().to_vec(alloc).ok(),
+        Task::Extract | Task::Split => octets_of(alloc, row.octets),
+        Task::Packets => row.lines.as_bytes().to_vec(alloc).ok(),
+        Task::Fields => HEAD_AND_ROW.as_bytes().to_vec(alloc).ok(),
     }
 }
 
@@ -169,7 +169,7 @@ fn out_of(alloc: Global, row: &Row, way: Way) -> Option<Vec<u8>> {
 struct Devices {
     definition: Definition,
     bench: Bench,
-    room: Room,
+    room: SmallShelf,
     job: Option<Job>,
 }
 
@@ -184,7 +184,7 @@ impl Devices {
         Some(Devices {
             definition,
             bench,
-            room: Room { octets, refused: 0 },
+            room: SmallShelf { octets, refused: 0 },
             job,
         })
     }
@@ -206,7 +206,7 @@ impl Devices {
     }
 
     // Runs a job once. Frames are listed, and recordings summed up, without it.
-    fn run(&mut self, alloc: Global, job: Job, way: Way) -> Result<u32, RunFault> {
+    fn run(&mut self, alloc: Global, job: Job, task: Task) -> Result<u32, RunFault> {
         let Devices {
             definition,
             bench,
@@ -214,15 +214,15 @@ impl Devices {
             ..
         } = self;
         let ending = Ending::Close;
-        records_of(match way {
-            Way::Frames | Way::Summary => bench.run(alloc, job, By::Frames, ending),
-            Way::Extract => bench.run(alloc, job, By::Run(Command::Extract), ending),
-            Way::Packets => bench.run(alloc, job, By::Run(Command::Packets), ending),
-            Way::Fields => {
+        records_of(match task {
+            Task::Frames | Task::Summary => bench.run(alloc, job, By::Frames, ending),
+            Task::Extract => bench.run(alloc, job, By::Run(Command::Extract), ending),
+            Task::Packets => bench.run(alloc, job, By::Run(Command::Packets), ending),
+            Task::Fields => {
                 let command = Command::Fields(definition, 100);
                 bench.run(alloc, job, By::Run(command), ending)
             }
-            Way::Split => {
+            Task::Split => {
                 let source = &mut bench.source;
                 split(alloc, job, source, room, &mut bench.report, ending)
             }
@@ -230,14 +230,14 @@ impl Devices {
     }
 
     // Runs a job once, or does without one what needs none. None where no job could be made.
-    fn answer(&mut self, alloc: Global, way: Way) -> Option<Result<u32, RunFault>> {
+    fn answer(&mut self, alloc: Global, task: Task) -> Option<Result<u32, RunFault>> {
         self.rewind();
-        match way {
-            Way::Frames => Some(self.bench.list(alloc)),
-            Way::Summary => Some(self.bench.summarize(alloc)),
-            Way::Extract | Way::Packets | Way::Fields | Way::Split => {
+        match task {
+            Task::Frames => Some(self.bench.list(alloc)),
+            Task::Summary => Some(self.bench.summarize(alloc)),
+            Task::Extract | Task::Packets | Task::Fields | Task::Split => {
                 let job = self.next_job(alloc)?;
-                Some(self.run(alloc, job, way))
+                Some(self.run(alloc, job, task))
             }
         }
     }
@@ -247,7 +247,7 @@ impl Devices {
 #[derive(Drop)]
 struct Running {
     devices: Devices,
-    way: Way,
+    task: Task,
     records: u32,
     out: Vec<u8>,
     lines: &'static str,
@@ -255,26 +255,26 @@ struct Running {
 }
 
 impl Running {
-    fn new(alloc: Global, row: &Row, way: Way) -> Option<Running> {
+    fn new(alloc: Global, row: &Row, task: Task) -> Option<Running> {
         let devices = Devices::new(alloc, row)?;
-        let out = out_of(alloc, row, way)?;
+        let out = out_of(alloc, row, task)?;
         Some(Running {
             devices,
-            way,
+            task,
             records: row.records,
             out,
             lines: row.lines,
-            report: match way {
-                Way::Frames | Way::Summary => "",
-                Way::Extract | Way::Packets | Way::Fields | Way::Split => row.report,
+            report: match task {
+                Task::Frames | Task::Summary => "",
+                Task::Extract | Task::Packets | Task::Fields | Task::Split => row.report,
             },
         })
     }
 
     // What was written.
     fn written(&self) -> &[u8] {
-        match self.way {
-            Way::Split => self.devices.room.octets.as_slice(),
+        match self.task {
+            Task::Split => self.devices.room.octets.as_slice(),
             _ => self.devices.bench.out.octets.as_slice(),
         }
     }
@@ -286,33 +286,33 @@ impl Running {
     }
 
     // What was written is the front of what is to be written, and ends with a whole line or packet.
-    fn is_whole_front(&self) -> bool {
+    fn is_whole_prefix(&self) -> bool {
         let written = self.written();
-        let is_front = match self.way {
-            Way::Extract | Way::Split => {
+        let is_front = match self.task {
+            Task::Extract | Task::Split => {
                 self.out.starts_with(written) && are_packets(written.len(), self.lines)
             }
-            _ => is_front_of_lines(written, &self.out),
+            _ => is_prefix_of_lines(written, &self.out),
         };
-        is_front && is_front_of_lines(&self.devices.bench.report.octets, self.report.as_bytes())
+        is_front && is_prefix_of_lines(&self.devices.bench.report.octets, self.report.as_bytes())
     }
 }
 
 impl Tried for Running {
     fn once(&mut self, alloc: Global) -> Answer {
-        match self.devices.answer(alloc, self.way) {
+        match self.devices.answer(alloc, self.task) {
             None => Answer::NotMade,
             Some(Ok(records)) => Answer::right_if(records == self.records && self.is_whole()),
             Some(Err(fault)) => {
-                Answer::refused_if(fault == RunFault::NoMemory && self.is_whole_front())
+                Answer::refused_if(fault == RunFault::NoMemory && self.is_whole_prefix())
             }
         }
     }
 }
 
 // All turns of a row's run pass.
-fn passes_row(rt: &HostRuntime, row: &Row, way: Way) -> bool {
-    match made(|| Running::new(rt.alloc(), row, way)) {
+fn passes_row(rt: &HostRuntime, row: &Row, task: Task) -> bool {
+    match try_twice(|| Running::new(rt.alloc(), row, task)) {
         Some(mut running) => passes(rt, &mut running),
         None => false,
     }
@@ -320,12 +320,12 @@ fn passes_row(rt: &HostRuntime, row: &Row, way: Way) -> bool {
 
 #[test]
 fn listed_frames(rt: HostRuntime) {
-    assert!(rt; passes_row(&rt, &POINTER_DROP_AND_SEQUENCE_GAP, Way::Frames));
+    assert!(rt; passes_row(&rt, &POINTER_DROP_AND_SEQUENCE_GAP, Task::Frames));
 }
 
 #[test]
 fn summed_recording(rt: HostRuntime) {
-    assert!(rt; passes_row(&rt, &POINTER_DROP_AND_SEQUENCE_GAP, Way::Summary));
+    assert!(rt; passes_row(&rt, &POINTER_DROP_AND_SEQUENCE_GAP, Task::Summary));
 }
 
 // Recordings with reports: in two of them packets are too long, and in one a frame is missing.
@@ -341,33 +341,33 @@ fn reported_rows() -> [&'static Row; 4] {
 #[test]
 fn run_by_extract(rt: HostRuntime) {
     for row in reported_rows() {
-        assert!(rt; passes_row(&rt, row, Way::Extract), "{}", row.name);
+        assert!(rt; passes_row(&rt, row, Task::Extract), "{}", row.name);
     }
 }
 
 #[test]
 fn run_by_packets(rt: HostRuntime) {
     for row in reported_rows() {
-        assert!(rt; passes_row(&rt, row, Way::Packets), "{}", row.name);
+        assert!(rt; passes_row(&rt, row, Task::Packets), "{}", row.name);
     }
 }
 
 #[test]
 fn run_by_fields(rt: HostRuntime) {
-    assert!(rt; passes_row(&rt, &FIELDS, Way::Fields));
+    assert!(rt; passes_row(&rt, &FIELDS, Task::Fields));
 }
 
 #[test]
 fn split_recordings(rt: HostRuntime) {
     for row in reported_rows() {
-        assert!(rt; passes_row(&rt, row, Way::Split), "{}", row.name);
+        assert!(rt; passes_row(&rt, row, Task::Split), "{}", row.name);
     }
 }
 
 // Devices for the two channels, whose packets have 72 octets and give no line in the report, with the job for the run.
-fn two_channels(alloc: Global, way: Way) -> Option<Running> {
-    let running = Running::new(alloc, &TWO_CHANNELS, way)?;
-    let is_known = way == Way::Packets || running.out.len() == 72;
+fn two_channels(alloc: Global, task: Task) -> Option<Running> {
+    let running = Running::new(alloc, &TWO_CHANNELS, task)?;
+    let is_known = task == Task::Packets || running.out.len() == 72;
     if is_known && running.devices.job.is_some() {
         Some(running)
     } else {
@@ -388,8 +388,8 @@ fn in_held_memory(rt: &HostRuntime, running: &mut Running) -> Answer {
 // A run whose report has no line takes no memory behind its job: with none left it closes the recording and gives all.
 #[test]
 fn closed_without_memory(rt: HostRuntime) {
-    for way in [Way::Extract, Way::Packets, Way::Split] {
-        let running = made(|| two_channels(rt.alloc(), way));
+    for task in [Task::Extract, Task::Packets, Task::Split] {
+        let running = try_twice(|| two_channels(rt.alloc(), task));
         let mut running = running.expect(&rt, "devices");
         let answer = in_held_memory(&rt, &mut running);
         assert_eq!(rt; answer, Answer::Right);

@@ -11,7 +11,7 @@ pub(crate) struct Wanted<'w> {
     pub(crate) alloc: Global,
     pub(crate) items: &'w [u8],
     pub(crate) octets: &'w [u8],
-    pub(crate) taken: usize,
+    pub(crate) accepted: usize,
     pub(crate) refuses: usize,
 }
 
@@ -38,7 +38,7 @@ fn line_of(alloc: Global, name: &str, numbers: &[u64], word: &str) -> Result<Str
 }
 
 // The place of a packet or of a lost part in the recording, and how many octets it has.
-fn place_of(seen: u32, channel: u8, first: u32, place: u16, octets: u64) -> [u64; 5] {
+fn identity_of(seen: u32, channel: u8, first: u32, place: u16, octets: u64) -> [u64; 5] {
     [
         u64::from(seen),
         u64::from(channel),
@@ -95,7 +95,7 @@ fn words_of(alloc: Global, item: Item<'_>) -> Result<String, AllocError> {
             octets,
             reason,
         } => {
-            let numbers = place_of(seen, channel, first, place, u64::from(octets));
+            let numbers = identity_of(seen, channel, first, place, u64::from(octets));
             line_of(alloc, "drop", &numbers, reason.word())
         }
         Item::Packet {
@@ -105,7 +105,7 @@ fn words_of(alloc: Global, item: Item<'_>) -> Result<String, AllocError> {
             place,
             octets,
         } => {
-            let numbers = place_of(seen, channel, first, place, octets.len() as u64);
+            let numbers = identity_of(seen, channel, first, place, octets.len() as u64);
             line_of(alloc, "packet", &numbers, "")
         }
         Item::Short { seen, octets } => {
@@ -126,7 +126,7 @@ impl Sink for Wanted<'_> {
     ghost refuses = { λ old item fault new. Unit {0} };
 
     fn take(&mut self, item: Item<'_>) -> Result<(), Refused> {
-        if self.taken == self.refuses {
+        if self.accepted == self.refuses {
             return Err(Refused::AsAsked);
         }
         let Ok(words) = words_of(self.alloc, item) else {
@@ -142,7 +142,7 @@ impl Sink for Wanted<'_> {
             self.octets = rest;
         }
         self.items = items;
-        self.taken = self.taken.saturating_add(1);
+        self.accepted = self.accepted.saturating_add(1);
         Ok(())
     }
 }
@@ -216,11 +216,11 @@ fn is_cut_at(alloc: Global, row: &Row, refuses: usize, is_asked: bool) -> Option
         alloc,
         items: row.items.as_bytes(),
         octets: &octets,
-        taken: 0,
+        accepted: 0,
         refuses,
     };
     let is_right = runs_into(alloc, row, &mut sink, is_asked)?;
-    Some(is_right && sink.taken == refuses)
+    Some(is_right && sink.accepted == refuses)
 }
 
 // Each item of a row is refused in turn, up to the row's end without a refusal.

@@ -29,9 +29,9 @@ pub(crate) struct Row {
     pub(crate) rows: &'static str,
     // What all three write to the report.
     pub(crate) report: &'static str,
-    // What is done, in this order: `/` reads a record, and `.` finds the end. A digit is a packet with so many lines in the report, `i` is
-    // an idle packet, and `-` is a line of the report alone. Between `(` and `)` are packets that lie end to end in one data field, of which the
-    // report says nothing.
+    // What is done, in this order: `/` reads a record, and `.` finds the end. A digit is a packet with so many lines in the
+    // report, `i` is an idle packet, and `-` is a line of the report alone. Between `(` and `)` are packets that lie end to end
+    // in one data field, and add nothing to the report.
     pub(crate) order: &'static str,
 }
 

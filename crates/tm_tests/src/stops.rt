@@ -1,4 +1,4 @@
-//! Jobs that are stopped and go on: the outputs joined are those of one run.
+//! Jobs that are stopped and go on: the outputs joined are those for one run.
 
 use crate::bench::{Bench, By, records_of};
 use crate::checkpoints::{CHECKPOINT, LIMITED, VERSION_1, VERSION_2};
@@ -50,7 +50,7 @@ fn next_job(alloc: Global, settings: &Settings, job: Job, going: Going) -> Optio
 const EXTRACT: By<'static> = By::Run(Command::Extract);
 
 // Runs a job over the recording up to a record: the job that goes on behind it.
-fn stepped(
+fn run_and_reload(
     alloc: Global,
     bench: &mut Bench,
     job: Job,
@@ -64,7 +64,7 @@ fn stepped(
 }
 
 // Runs a job to the end of the recording: how many records are done, where no job is kept.
-fn closed(alloc: Global, bench: &mut Bench, job: Job, by: By<'_>) -> Option<u32> {
+fn run_to_the_close(alloc: Global, bench: &mut Bench, job: Job, by: By<'_>) -> Option<u32> {
     bench.source.at = 0;
     let done = bench.run(alloc, job, by, Ending::Close).ok()?;
     match done.kept {
@@ -84,12 +84,12 @@ fn goes_in_steps(
     let mut bench = Bench::new(alloc, row.settings, row.recording, 65_536)?;
     let mut job = Job::new(alloc, &bench.settings).ok()?;
     for records in 1..=row.records {
-        job = stepped(alloc, &mut bench, job, by, Ending::StopAfter(1), going)?;
+        job = run_and_reload(alloc, &mut bench, job, by, Ending::StopAfter(1), going)?;
         if job.records() != records {
             return Some(false);
         }
     }
-    let records = closed(alloc, &mut bench, job, by)?;
+    let records = run_to_the_close(alloc, &mut bench, job, by)?;
     Some(records == row.records && bench.has_given(octets, row.report.as_bytes()))
 }
 
@@ -142,7 +142,7 @@ fn worked_rows_split_in_steps(rt: HostRuntime) {
 fn checkpoint_behind(alloc: Global, bench: &mut Bench, records: u32) -> Option<Vec<u8>> {
     let job = Job::new(alloc, &bench.settings).ok()?;
     let ending = Ending::StopAfter(records);
-    let kept = stepped(alloc, bench, job, EXTRACT, ending, Going::Kept)?;
+    let kept = run_and_reload(alloc, bench, job, EXTRACT, ending, Going::Kept)?;
     kept.checkpoint(alloc).ok()
 }
 
@@ -155,7 +155,7 @@ fn goes_on(
     report: &str,
 ) -> Option<bool> {
     let job = Job::resume(alloc, &bench.settings, checkpoint).ok()?;
-    closed(alloc, bench, job, EXTRACT)?;
+    run_to_the_close(alloc, bench, job, EXTRACT)?;
     let octets = octets_of(alloc, octets)?;
     Some(bench.has_given(&octets, report.as_bytes()))
 }
@@ -218,8 +218,8 @@ fn goes_on_from(
     goes_on(alloc, &mut bench, &checkpoint, octets, report)
 }
 
-// Each version of a checkpoint after three records is gone on from. Of the older ones the last count of the master channel isn't known, so that
-// the report lacks its gap.
+// Each version of a checkpoint after three records is gone on from. The older ones don't tell the last count of the master
+// channel, so the report lacks its gap.
 #[test]
 fn resumed_from_three_versions(rt: HostRuntime) {
     let gap = FRAME_GAP.report;
@@ -254,15 +254,15 @@ fn goes_in_versions(
     let mut job = Job::new(alloc, &bench.settings).ok()?;
     for version in versions {
         let going = Going::Resumed(*version);
-        job = stepped(alloc, &mut bench, job, by, Ending::StopAfter(1), going)?;
+        job = run_and_reload(alloc, &mut bench, job, by, Ending::StopAfter(1), going)?;
     }
-    closed(alloc, &mut bench, job, by)?;
+    run_to_the_close(alloc, &mut bench, job, by)?;
     let octets = octets_of(alloc, row.octets)?;
     Some(bench.has_given(&octets, report.as_bytes()))
 }
 
-// Stopped after each of the first three records, each time in another version: the only gap of the master channel is that of the fourth. Its line is
-// lost exactly where the last stop, behind which its frame is the first good one, is in an older version.
+// Stopped after each of the first three records, each time in another version: the only gap of the master channel is that of the
+// fourth. Its line is lost if and only if the last stop, behind which its frame is the first good one, is in an older version.
 #[test]
 fn stopped_in_several_versions(rt: HostRuntime) {
     let alloc = rt.alloc();
@@ -308,11 +308,11 @@ fn reads_two_records(rt: HostRuntime) {
     assert!(rt; octets_read(rt.alloc()) == Some(48));
 }
 
-// Kept at its end, with ten octets left, and gone on with when the recording is longer.
+// Kept at its end, with ten octets left, and resumed when the recording is longer.
 fn rest_is_kept(alloc: Global) -> Option<bool> {
     let mut bench = Bench::new(alloc, BASE, SHORT_REST.recording, 65_536)?;
     let job = Job::new(alloc, &bench.settings).ok()?;
-    let job = stepped(
+    let job = run_and_reload(
         alloc,
         &mut bench,
         job,
@@ -322,7 +322,7 @@ fn rest_is_kept(alloc: Global) -> Option<bool> {
     )?;
     let has_kept = job.records() == 2 && bench.has_given(b"", b"");
     let mut bench = Bench::new(alloc, BASE, TWO_CHANNELS.recording, 65_536)?;
-    closed(alloc, &mut bench, job, EXTRACT)?;
+    run_to_the_close(alloc, &mut bench, job, EXTRACT)?;
     let octets = octets_of(alloc, TWO_CHANNELS.octets)?;
     Some(has_kept && bench.has_given(&octets, b""))
 }

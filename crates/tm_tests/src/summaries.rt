@@ -235,7 +235,7 @@ fn summaries_of_worked_rows(rt: HostRuntime) {
     }
 }
 
-// The call of this number of the device fails. Nothing was written before all was read, and then a front of the lines.
+// The call of this number of the device fails. Nothing was written before all was read, and then a prefix of the lines.
 fn stops(alloc: Global, bench: &mut Bench, device: Device, call: u64) -> bool {
     bench.begin(device, call);
     let (fault, most) = match device {

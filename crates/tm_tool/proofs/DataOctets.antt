@@ -1,7 +1,6 @@
 -- The packets and dropped parts of a channel come to the octets of its joined data fields.
-use Rattle.std.proofs.Common.{◌≡◌, ◌<◌, ◌≤◌, ◌+◌, ◌-◌, ◌^◌, ℕ, zero, suc, Bool, true, false, Option, None, Some, List, [], ◌∷◌, ◌++◌, length, map, refl, sym, ap, subst, ◌∙◌, arith, length-append, zero-add, ne_eqb, eq-eqb}
+use Rattle.std.proofs.Common.{◌≡◌, ◌<◌, ◌+◌, ℕ, zero, suc, Bool, true, false, Option, None, Some, List, [], ◌∷◌, ◌++◌, length, refl, sym, ap, subst, ◌∙◌, arith, length-append, zero-add, ne_eqb, eq-eqb}
 use Rattle.std.specs.Prelude.{Ok, Err, filter, sum_by, slice_get, nat_lt, if◌then◌else◌, ◌==◌}
-use Rattle.std.specs.List.{flat_map}
 use Rattle.std.proofs.lemmas.List.{length-map}
 use Rattle.std.proofs.lemmas.List.Elements.{filter-append}
 use Rattle.std.proofs.lemmas.List.Sums.{sum_by-append, sum_by-cons}
@@ -18,12 +17,12 @@ use Rattle.tm_reassembly.specs.Items.{close_channels, close_last, close_tail, cl
 use Rattle.tm_reassembly.specs.Readings.{Reading}
 use Rattle.tm_reassembly.specs.Recording.{after, items, readings}
 use Rattle.tm_reassembly.specs.State.{Last, State, Tail}
-use Rattle.tm_reassembly.specs.Tiles.{Covers, IsHeld, Spot, Tile, channel_spots, field_spots, held_tail, kind_spots, parts_of, record_spots, spot_octets, tail_of}
+use Rattle.tm_reassembly.specs.Tiles.{Covers, IsHeld, Spot, Tile, channel_spots, field_spots, held_tail, kind_spots, parts_of, record_spots, tail_of}
 use Rattle.tm_reassembly.proofs.Raw.{raw-tiled}
 use Rattle.tm_output.specs.Records.{records, rest_of}
 use Rattle.tm_summary.specs.declared.channel.ChannelCounts.{ChannelCounts}
-use Rattle.tm_summary.specs.Kinds.{drop_octets, is_joined_kind, packet_length}
-use Rattle.tm_summary.specs.Numbers.{Numbers, capped, frames_of, in_all, items_on, joined_frames, numbers_of}
+use Rattle.tm_summary.specs.Kinds.{drop_octets, is_joined_kind, packet_item_length}
+use Rattle.tm_summary.specs.SummaryNumbers.{frames_of, in_all, items_on, joined_frames, numbers_of}
 use Rattle.tm_summary.specs.Sums.{IsBelowGreatest, counts_on}
 use Rattle.tm_summary.proofs.Summed.{counts_are}
 use Rattle.tm_checkpoint.specs.Works.{new_job}
@@ -33,7 +32,7 @@ use Rattle.tm_tool.specs.Summaries.{closed_items, frames_in, good_frames, tally_
 -- ---- the octets that items tell of
 
 abbrev told_octets : Item → ℕ
-told_octets x = packet_length x + drop_octets x
+told_octets x = packet_item_length x + drop_octets x
 
 sums_both : {A : Type 0} (f g : A → ℕ) (xs : List A) → sum_by (λ x. f x + g x) xs ≡ sum_by f xs + sum_by g xs
 sums_both f g [] = refl
@@ -122,7 +121,7 @@ module _ (channel number : ℕ) where
   close_told own None false is = refl
   close_told own (Some last) b is = close_tail_told own last.tail b is
 
-  -- of the channels from a number on
+  -- for the channels from a number on
   past_told : (own : ℕ) (lasts : List (Option Last)) → channel < own → on_channel channel (close_channels number own lasts) ≡ 0
   past_told own [] h = refl
   past_told own (x ∷ xs) h =
@@ -218,7 +217,7 @@ module _ (channel : ℕ) where
     unfolding in_all
     counted rs rest =
         let xs : List Item = items_on channel (closed_items (new_job rules).work rs rest) in
-        let all : sum_by packet_length xs + sum_by drop_octets xs ≡ joined_octets (good_frames rules.layout rs) = sym (sums_both packet_length drop_octets xs) ∙ all_told rs rest in
+        let all : sum_by packet_item_length xs + sum_by drop_octets xs ≡ joined_octets (good_frames rules.layout rs) = sym (sums_both packet_item_length drop_octets xs) ∙ all_told rs rest in
         subst AddsUp (sym (counts_are (tally_of (new_job rules).work rs rest) channel below)) (λ count. omega (arith, all, count))
 
     pub data_told : (recording : List ℕ) → AddsUp (counts_on channel (summary_numbers rules recording))

@@ -20,7 +20,7 @@ use Rattle.tm_rules.specs.Channels.{all_channels}
 use Rattle.tm_reassembly.specs.Recording.{items, after}
 use Rattle.tm_output.specs.declared.command.Command.TheVariants.{Extract, Packets}
 use Rattle.tm_output.specs.declared.command.Ending.TheVariants.{Close, Keep, StopAfter}
-use Rattle.tm_checkpoint.specs.Checkpoints.{framed, resumed, spelled_in, work_without_master}
+use Rattle.tm_checkpoint.specs.Checkpoints.{version_in, resumed, spelled_in, work_without_master}
 use Rattle.tm_frame.specs.ErrorControl.{error_control_of, long_division, subtract}
 use Rattle.tm_packet.specs.Spelling.{state_of}
 use Rattle.tm_reassembly.specs.Checkpoint.{block_read, blocks_read, state_decoding_of, master_read, old_decoding_of}
@@ -103,7 +103,8 @@ gap_resumed_without : reports (pieces (text_of Extract) Close (work_without_mast
 unfolding pieces records rest_of items after packet_octets listed report_of item_line master_gap_line gap_line drop_line note_line short_line digits noted notes_of no_entries unclosed_piece layout job fifty_fives packet cut before_gap with_gap behind_master fault_of part number bits_of low_bits
 gap_resumed_without = refl
 
--- stopped behind each of the three, and resumed through checkpoints of the versions 1, 3 and 2: of one run just that line is left out
+-- stopped behind each of the three, and resumed through checkpoints of the versions 1, 3 and 2: for one run just that line is
+-- left out
 mixed_stops : List Stop
 mixed_stops =
     record { ending = Keep; recording = take 24 with_gap; version = version.One }
@@ -127,7 +128,7 @@ mixed_one_run = refl
 
 -- so the runs themselves, with their checkpoints
 mixed_runs : reports (resumed_pieces (head_pieces Extract) (text_of Extract) Close with_gap (job 24).rules (new_job (job 24).rules) mixed_stops) ≡ behind_master
-unfolding resumed framed spelled_in mixed_stops pieces state_of block_read blocks_read master_read state_decoding_of old_decoding_of error_control_of long_division subtract records rest_of items after packet_octets listed report_of item_line master_gap_line gap_line drop_line note_line short_line digits noted notes_of no_entries unclosed_piece layout job fifty_fives packet cut before_gap with_gap behind_master fault_of part number bits_of low_bits
+unfolding resumed version_in spelled_in mixed_stops pieces state_of block_read blocks_read master_read state_decoding_of old_decoding_of error_control_of long_division subtract records rest_of items after packet_octets listed report_of item_line master_gap_line gap_line drop_line note_line short_line digits noted notes_of no_entries unclosed_piece layout job fifty_fives packet cut before_gap with_gap behind_master fault_of part number bits_of low_bits
 mixed_runs = refl
 
 groups : reports (pieces (text_of Extract) Close (job 27)

@@ -1,6 +1,8 @@
 pub mod Running
 pub mod Passing
 pub mod Sinks
+pub mod SplitRuns
+pub mod Flushed
 pub mod RunEnds
 pub mod RunPieces
 pub mod HeadedRuns

@@ -34,7 +34,7 @@ use Rattle.tm_checkpoint.specs.Works.{IsWork, JobState, Work}
 use Rattle.tm_checkpoint.proofs.CheckpointLemmas.{older_again}
 use Rattle.tm_tool.specs.LostGaps.{AllTell, lost_gaps, done_at, lost_gap_at, older_count, item_pieces_without_gaps, run_pieces_without_gaps}
 use Rattle.tm_tool.specs.RecordingPieces.{records_for, end_pieces, further, items_of, pieces, record_pieces, worked}
-use Rattle.tm_tool.specs.Resuming.{Follows, KeepsJob, Stop, done_by, done_in_all, in_one, left_by, resumed_pieces, run_pieces, then_pieces}
+use Rattle.tm_tool.specs.Resuming.{Follows, KeepsJob, Stop, done_after, done_in_all, in_one, work_left, resumed_pieces, run_pieces, then_pieces}
 use Rattle.tm_tool.proofs.ForgottenCount.{ends_same}
 use Rattle.tm_tool.proofs.Running.{IsValid, pieces-append, records-counted, worked-append}
 use Rattle.tm_tool.proofs.Stops.{records_for-counted, records_for_all, taken, whole}
@@ -177,7 +177,7 @@ module _ {A : Type 0} (head : Bool → List (Piece A)) (none : head false ≡ []
   all-from done [] h = tt
   all-from done (s ∷ stops) (more, is, keeps, rest) =
       let c : List (List ℕ) = records_for s.ending more in
-      let now : done_by s.ending (length done) (length (records size s.recording)) ≡ length (done ++ c) =
+      let now : done_after s.ending (length done) (length (records size s.recording)) ≡ length (done ++ c) =
       rw is (sym (records_for-counted s.ending done more)) in
       let k : ℕ = length (done ++ c) in
       let long : length done ≤ length (done ++ c) = omega (arith, length-append done c) in
@@ -212,7 +212,7 @@ module _ {A : Type 0} (head : Bool → List (Piece A)) (none : head false ≡ []
       records-counted w c ∙ ap (λ (n : ℕ). n + length c) count ∙ sym (length-append done c) in
       let lost : List ℕ = lost_gap_at settings last one.version k in
       let later : List ℕ = lost_gaps settings last k stops in
-      let now : done_by one.ending (length done) (length (records size one.recording)) ≡ k = rw is (sym (records_for-counted one.ending done more)) in
+      let now : done_after one.ending (length done) (length (records size one.recording)) ≡ k = rw is (sym (records_for-counted one.ending done more)) in
       let end : List (Piece A) = end_pieces text ending (worked next t) (length (rest_of size last)) in
       -- the run up to the stop
       let here : run_pieces head text one.ending (record { work = w; fresh = fresh }) one.recording ≡ head fresh ++ record_pieces text w c =
@@ -220,9 +220,9 @@ module _ {A : Type 0} (head : Bool → List (Piece A)) (none : head false ≡ []
       (pieces_is s e done count one.recording more is one.ending
       ∙ ap (λ (ps : List (Piece A)). record_pieces text w c ++ ps) (no_end text one.ending next (length (rest_of size one.recording)) keeps)
       ∙ append-nil (record_pieces text w c)) in
-      let left : left_by one.ending w one.recording ≡ next =
+      let left : work_left one.ending w one.recording ≡ next =
       ap (λ (rs : List (List ℕ)). worked w (records_for one.ending rs)) (further_is s e done count one.recording more is) in
-      let again : resumed settings (spelled_in one.version (left_by one.ending w one.recording)) ≡ Ok (record { work = kept; fresh = false }) =
+      let again : resumed settings (spelled_in one.version (work_left one.ending w one.recording)) ≡ Ok (record { work = kept; fresh = false }) =
       ap (λ (x : Work). resumed settings (spelled_in one.version x)) left ∙ older_again one.version next next_work told.0 in
       -- the runs behind it
       let there : resumed_pieces head text ending last settings (record { work = kept; fresh = false }) stops
@@ -237,7 +237,7 @@ module _ {A : Type 0} (head : Bool → List (Piece A)) (none : head false ≡ []
       (items-kept next next_work.state last k next_count t others
       (ap (drop k) behind ∙ drop-append_seam (done ++ c) (t ++ others)) one.version)
       ∙ without-but lost later (items_of next t)) in
-      -- of one run
+      -- for one run
       let early : without_gaps_at (lost ++ later) (items_of w c) ≡ items_of w c =
       without-early k (lost ++ later) (items_of w c)
       (Each-append (λ n. length (done ++ c) ≤ n) lost later (lost-from settings last one.version k) (all-from (done ++ c) stops rest))
@@ -254,9 +254,9 @@ module _ {A : Type 0} (head : Bool → List (Piece A)) (none : head false ≡ []
       (ap (pieces_of text e) joined ∙ pieces-append text e (items_of w c) (without_gaps_at (lost ++ later) (items_of next t)))
       ∙ append_assoc (record_pieces text w c) (pieces_of text next.entries (without_gaps_at (lost ++ later) (items_of next t))) end in
       let both : run_pieces head text one.ending (record { work = w; fresh = fresh }) one.recording
-      ++ then_pieces (resumed settings (spelled_in one.version (left_by one.ending w one.recording))) (λ job. resumed_pieces head text ending last settings job stops)
+      ++ then_pieces (resumed settings (spelled_in one.version (work_left one.ending w one.recording))) (λ job. resumed_pieces head text ending last settings job stops)
       ≡ head fresh ++ (record_pieces text w c ++ (pieces_of text next.entries (without_gaps_at (lost ++ later) (items_of next t)) ++ end)) =
-      ap (λ (ps : List (Piece A)). ps ++ then_pieces (resumed settings (spelled_in one.version (left_by one.ending w one.recording))) (λ job. resumed_pieces head text ending last settings job stops)) here
+      ap (λ (ps : List (Piece A)). ps ++ then_pieces (resumed settings (spelled_in one.version (work_left one.ending w one.recording))) (λ job. resumed_pieces head text ending last settings job stops)) here
       ∙ ap (λ (r : Result JobState CheckpointFault). (head fresh ++ record_pieces text w c) ++ then_pieces r (λ job. resumed_pieces head text ending last settings job stops)) again
       ∙ ap (λ (ps : List (Piece A)). (head fresh ++ record_pieces text w c) ++ ps) there
       ∙ append_assoc (head fresh) (record_pieces text w c) (pieces_of text next.entries (without_gaps_at (lost ++ later) (items_of next t)) ++ end) in
@@ -265,7 +265,7 @@ module _ {A : Type 0} (head : Bool → List (Piece A)) (none : head false ≡ []
       ∙ ap (λ (n : ℕ). head fresh ++ (pieces_of text e (without_gaps_at (lost_gap_at settings last one.version n ++ lost_gaps settings last n stops) (items_of w (c ++ t)))
       ++ end_pieces text ending (worked w (c ++ t)) (length (rest_of size last)))) (sym now)
 
-  -- from a job of which no record is done
+  -- from a job without a record done
   pub mixed : (s : State) (e : Entries) (fresh : Bool) (stops : List Stop) → Follows size last [] stops → AllTell settings stops
       → s.records ≡ 0 → IsWork (work s e)
       → resumed_pieces head text ending last settings (record { work = work s e; fresh = fresh }) stops

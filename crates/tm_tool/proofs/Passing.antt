@@ -7,7 +7,7 @@ use Rattle.std.specs.Io.KnownBytes.{Consumes, IsAtEnd}
 use Rattle.std.proofs.KnownBytes.{Consumes-nil, Consumes-trans}
 use Rattle.tm_output.specs.Records.{AreRecords}
 use Rattle.tm_tool.specs.Runs.{HasRead}
-use Rattle.tm_tool.specs.code.Taking.{HasPassed, PassingFails, PassingEnds}
+use Rattle.tm_tool.specs.code.RecordLoop.{HasPassed, PassingFails, PassingEnds}
 use Rattle.tm_output.proofs.RecordLemmas.{AreRecords-append, concat-one}
 
 pub passing_first : (size : ℕ) (left : Option (List ℕ)) → HasPassed size 0 left left

@@ -15,7 +15,7 @@ use Rattle.tm_reassembly.specs.Recording.{items}
 use Rattle.tm_reassembly.specs.State.{State}
 use Rattle.tm_summary.specs.Adding.{with_frame}
 use Rattle.tm_summary.specs.Kinds.{is_bad}
-use Rattle.tm_summary.specs.Numbers.{Numbers, Tally, numbers_of}
+use Rattle.tm_summary.specs.SummaryNumbers.{SummaryNumbers, Tally, numbers_of}
 use Rattle.tm_summary.specs.Tallies.{AllFit, and_items, notes_among, with_all}
 use Rattle.tm_summary.proofs.Taken.{any_bad}
 use Rattle.tm_summary.proofs.Tallied.{all_counted}
@@ -124,9 +124,9 @@ a_fault (Err fault) h = (fault, refl)
 
 -- ---- what is counted
 
-module _ (w : Work) (octets : List ℕ) (before now : Numbers) (fit : AllFit (items_of w (octets ∷ []))) where
+module _ (w : Work) (octets : List ℕ) (before now : SummaryNumbers) (fit : AllFit (items_of w (octets ∷ []))) where
   all_given : (t : Tally) → before ≡ numbers_of t → with_all w.entries before (items_of w (octets ∷ [])) ≡ numbers_of (and_items t w.entries (items_of w (octets ∷ [])))
-  all_given t are = ap (λ (n : Numbers). with_all w.entries n (items_of w (octets ∷ []))) are ∙ all_counted t w.entries (items_of w (octets ∷ [])) fit
+  all_given t are = ap (λ (n : SummaryNumbers). with_all w.entries n (items_of w (octets ∷ []))) are ∙ all_counted t w.entries (items_of w (octets ∷ [])) fit
 
   pub counted_bad : (fault : FrameFault) → frame_reading_of w.rules.layout octets ≡ Err fault → now ≡ with_all w.entries before (items_of w (octets ∷ []))
       → (t : Tally) → before ≡ numbers_of t → now ≡ numbers_of (and_records w t (octets ∷ []))
@@ -142,6 +142,6 @@ module _ (w : Work) (octets : List ℕ) (before now : Numbers) (fit : AllFit (it
   counted_good f reads below counted t are =
       let one : good_frames w.rules.layout (octets ∷ []) ≡ f ∷ [] = ap (λ (r : Reading). frames_in r ++ []) reads in
       counted
-      ∙ ap (λ (n : Numbers). with_frame n f.channel f.kind (length f.field)) (all_given t are)
+      ∙ ap (λ (n : SummaryNumbers). with_frame n f.channel f.kind (length f.field)) (all_given t are)
       ∙ sym (frame_counted (and_items t w.entries (items_of w (octets ∷ []))) f below)
       ∙ ap (λ (fs : List GoodFrame). numbers_of (record { frames = t.frames ++ fs; items = t.items ++ items_of w (octets ∷ []); notes = t.notes ++ notes_among w.entries (items_of w (octets ∷ [])) })) (sym one)

@@ -1,21 +1,20 @@
 -- The good frames and the bad ones are the records.
-use Rattle.std.proofs.Common.{◌≡◌, ◌<◌, ◌+◌, ◌-◌, ◌^◌, ℕ, Bool, true, false, Option, None, Some, List, [], ◌∷◌, ◌++◌, length, refl, sym, ap, ◌∙◌, arith, zero-add}
+use Rattle.std.proofs.Common.{◌≡◌, ◌+◌, ℕ, Bool, true, false, Option, None, Some, List, [], ◌∷◌, length, refl, ◌∙◌, arith, zero-add}
 use Rattle.std.specs.Prelude.{Ok, Err, sum_by, nat_lt, if◌then◌else◌}
-use Rattle.std.specs.List.{flat_map}
 use Rattle.std.proofs.lemmas.List.Sums.{sum_by-append, sum_by-cons}
 use Rattle.tm_frame.specs.declared.layout.LayoutParts.{LayoutParts}
 use Rattle.tm_frame.specs.Fault.{frame_reading_of}
 use Rattle.tm_frame.specs.Frame.{GoodFrame}
 use Rattle.tm_frame.specs.Layout.{record_length_of}
 use Rattle.tm_rules.specs.Rules.{Rules, chooses}
-use Rattle.tm_items.specs.Item.{Item, Bad, Short}
+use Rattle.tm_items.specs.Item.{Item, Short}
 use Rattle.tm_reassembly.specs.Items.{close_channels, close_last, close_tail, closing, empty, items_of_readings, merged, record_items}
 use Rattle.tm_reassembly.specs.Readings.{Reading}
 use Rattle.tm_reassembly.specs.Recording.{after, items, readings}
 use Rattle.tm_reassembly.specs.State.{Last, State, Tail}
 use Rattle.tm_output.specs.Records.{records, rest_of}
 use Rattle.tm_summary.specs.Kinds.{is_bad}
-use Rattle.tm_summary.specs.Numbers.{Numbers, in_all, numbers_of}
+use Rattle.tm_summary.specs.SummaryNumbers.{SummaryNumbers, in_all, numbers_of}
 use Rattle.tm_summary.specs.Sums.{IsBelowGreatest}
 use Rattle.tm_checkpoint.specs.Works.{new_job}
 use Rattle.tm_tool.specs.SummaryNumbers.{summary_numbers}
@@ -90,7 +89,7 @@ module _ (rules : Rules) where
       let none : bads ys ≡ 0 = no_bads ys (closing_none (after rules empty rs) rest) in
       rw (sum_by-append (λ (x : Item). if is_bad x then 1 else 0) xs ys) (omega (arith, told, none))
 
-  abbrev AreRecords : ℕ → Numbers → Type 0
+  abbrev AreRecords : ℕ → SummaryNumbers → Type 0
   AreRecords count n = IsBelowGreatest count → n.good + n.bad ≡ count
 
   counted : (rs : List (List ℕ)) (rest : ℕ) → AreRecords (length rs) (numbers_of (tally_of (new_job rules).work rs rest))

@@ -1,5 +1,5 @@
 -- Runs that are stopped and resumed through checkpoints of today's version, which keeps all, write what one run writes.
-use Rattle.std.proofs.Common.{◌≡◌, ◌<◌, ◌^◌, ℕ, Bool, true, false, List, [], ◌∷◌, ◌++◌, length, refl, sym, ap, subst, ◌∙◌}
+use Rattle.std.proofs.Common.{◌≡◌, ◌<◌, ◌^◌, ℕ, Bool, false, List, [], ◌∷◌, ◌++◌, length, refl, ap, ◌∙◌}
 use Rattle.tm_frame.specs.Layout.{record_length_of}
 use Rattle.tm_packet.specs.Merge.{Entries}
 use Rattle.tm_rules.specs.Rules.{Rules}
@@ -10,7 +10,6 @@ use Rattle.tm_output.specs.Outputs.{Piece}
 use Rattle.tm_output.specs.Pieces.{Texts, pieces_of}
 use Rattle.tm_output.specs.Records.{records, rest_of}
 use Rattle.tm_checkpoint.specs.declared.version.Version.{Version}
-use Rattle.tm_checkpoint.specs.declared.version.Version.TheVariants.{Three}
 use Rattle.tm_checkpoint.specs.Checkpoints.{tells}
 use Rattle.tm_checkpoint.specs.Works.{IsWork, JobState}
 use Rattle.tm_tool.specs.LostGaps.{AllTell, lost_gap_at, lost_gaps, done_at, run_pieces_without_gaps}
@@ -30,7 +29,7 @@ none-lost settings last done (stop ∷ stops) h =
     ap (λ (v : Version). lost_gap_at settings last v (done_at settings done stop) ++ lost_gaps settings last (done_at settings done stop) stops) h.0
     ∙ none-lost settings last (done_at settings done stop) stops h.1
 
--- one run, of which nothing is left out
+-- one run, with nothing left out
 same-run : {A : Type 0} (head : Bool → List (Piece A)) (text : Texts A) (last : List ℕ) (one : Ending) (job : JobState)
     → run_pieces_without_gaps head text [] one job last ≡ run_pieces head text one job last
 unfolding run_pieces_without_gaps pieces

@@ -1,18 +1,18 @@
 -- The end of a run, after all records that it reads were taken.
-use Rattle.std.proofs.Common.{◌≡◌, ℕ, List, [], ◌++◌, length, ap, subst, ◌∙◌, append-nil, inr, Option}
+use Rattle.std.proofs.Common.{◌≡◌, ℕ, List, [], ◌++◌, length, ap, subst, ◌∙◌, append-nil, inr, Option, Result, Ok, Err}
 use Rattle.tm_packet.specs.Merge as sequence
 use Rattle.tm_reassembly.specs.Items.{closing}
 use Rattle.tm_faults.specs.declared.fault.RunFault.{RunFault}
 use Rattle.tm_faults.specs.declared.fault.RunFault.TheVariants.{Write, Report, NoMemory}
 use Rattle.tm_output.specs.declared.command.Ending.{Ending}
-use Rattle.tm_output.specs.Outputs.{Piece, View, Took, Stopped, Way}
+use Rattle.tm_output.specs.Outputs.{Piece, View, Took, Stopped, Buffering, Written}
 use Rattle.tm_packet.specs.Merge.{Entries}
 use Rattle.tm_output.specs.Pieces.{Texts, noted_all, pieces_of, unclosed_pieces}
 use Rattle.tm_checkpoint.specs.Works.{Work}
 use Rattle.tm_tool.specs.RecordingPieces.{worked, record_pieces, closing_pieces, end_pieces}
-use Rattle.tm_tool.specs.Runs.{StopsAtEnd, IsStoppedAt, behind, kept_of}
+use Rattle.tm_tool.specs.Runs.{StopsAtEnd, IsStoppedAt, behind, devices_at, kept_of}
 use Rattle.tm_tool.specs.code.Stepping.{IsRun, TookRecords}
-use Rattle.tm_tool.specs.code.Taking.{HasStepped}
+use Rattle.tm_tool.specs.code.RecordLoop.{HasStepped}
 use Rattle.tm_output.proofs.PieceLemmas.{took_took, took_stopped, took_failed, stopped_more}
 use Rattle.tm_tool.proofs.Running.{behind-counted}
 
@@ -20,15 +20,15 @@ module _ {A K : Type 0} (grows : K → K → List A → Type 0) (grows-nil : (k 
     (grows-trans : (j k l : K) (xs ys : List A) → grows j k xs → grows k l ys → grows j l (xs ++ ys)) where
   -- ---- a closed end: its items, and then the groups that are open after them
 
-  module _ (way : Way) (text : Texts A) (work : Work) (n : ℕ) (old : View K) where
+  module _ (buffering : Buffering) (text : Texts A) (work : Work) (n : ℕ) (old : View K) where
     abbrev items_end : List (Piece A)
     items_end = pieces_of text work.entries (closing work.state n)
 
     abbrev groups_end : List (Piece A)
     groups_end = unclosed_pieces work.state.records (sequence.unclosed 0 (noted_all work.entries (closing work.state n)))
 
-    pub stopped_items : (new : View K) (fault : RunFault) → Stopped grows way old new items_end fault → Stopped grows way old new (closing_pieces text work n) fault
-    stopped_items new fault h = stopped_more grows grows-nil grows-trans way old new items_end groups_end fault h
+    pub stopped_items : (new : View K) (fault : RunFault) → Stopped grows buffering old new items_end fault → Stopped grows buffering old new (closing_pieces text work n) fault
+    stopped_items new fault h = stopped_more grows grows-nil grows-trans buffering old new items_end groups_end fault h
 
     module _ (mid : View K) (entries : Entries) (seen : ℕ) (took_items : Took grows old mid items_end)
         (noted : entries ≡ noted_all work.entries (closing work.state n)) (count : seen ≡ work.state.records) where
@@ -36,25 +36,30 @@ module _ {A K : Type 0} (grows : K → K → List A → Type 0) (grows-nil : (k 
       groups_same =
           rw (count, noted)
 
-      pub stopped_groups : (new : View K) (fault : RunFault) → Stopped grows way mid new (unclosed_pieces seen (sequence.unclosed 0 entries)) fault
-          → Stopped grows way old new (closing_pieces text work n) fault
+      stopped_groups : (new : View K) (fault : RunFault) → Stopped grows buffering mid new (unclosed_pieces seen (sequence.unclosed 0 entries)) fault
+          → Stopped grows buffering old new (closing_pieces text work n) fault
       stopped_groups new fault h =
-          took_stopped grows grows-nil grows-trans way old mid new items_end groups_end took_items fault
-          (subst (λ (ps : List (Piece A)). Stopped grows way mid new ps fault) groups_same h)
+          took_stopped grows grows-nil grows-trans buffering old mid new items_end groups_end took_items fault
+          (subst (λ (ps : List (Piece A)). Stopped grows buffering mid new ps fault) groups_same h)
 
-      pub took_groups : (new : View K) → Took grows mid new (unclosed_pieces seen (sequence.unclosed 0 entries)) → Took grows old new (closing_pieces text work n)
+      took_groups : (new : View K) → Took grows mid new (unclosed_pieces seen (sequence.unclosed 0 entries)) → Took grows old new (closing_pieces text work n)
       took_groups new h = took_took grows grows-nil grows-trans old mid new items_end groups_end took_items (subst (Took grows mid new) groups_same h)
+
+      pub wrote_groups : {T : Type 0} (new : View K) (r : Result T RunFault)
+          → Written grows buffering mid new (unclosed_pieces seen (sequence.unclosed 0 entries)) r → Written grows buffering old new (closing_pieces text work n) r
+      wrote_groups new (Ok _) h = took_groups new h
+      wrote_groups new (Err fault) h = stopped_groups new fault h
 
   -- ---- the end of a run
 
-  module _ (way : Way) (text : Texts A) (ending : Ending) (w : Work) (first next : Option (List ℕ)) (old mid : View K) (work : Work) (n : ℕ)
+  module _ (buffering : Buffering) (text : Texts A) (ending : Ending) (w : Work) (first next : Option (List ℕ)) (old mid : View K) (work : Work) (n : ℕ)
       (stepped : HasStepped (TookRecords grows text) ending w first next old mid work n) where
     end_same : end_pieces text ending work n ≡ end_pieces text ending (worked w (behind w stepped.read)) (length stepped.rest)
     end_same =
         rw (stepped.work, stepped.left)
 
-    at_end : (new : View K) (fault : RunFault) → Stopped grows way mid new (end_pieces text ending work n) fault
-        → StopsAtEnd grows way text ending w first next old new fault
+    at_end : (new : View K) (fault : RunFault) → Stopped grows buffering mid new (end_pieces text ending work n) fault
+        → StopsAtEnd grows buffering text ending w first next old new fault
     at_end new fault h = record {
       read = stepped.read;
       rest = stepped.rest;
@@ -62,12 +67,12 @@ module _ {A K : Type 0} (grows : K → K → List A → Type 0) (grows-nil : (k 
       ended = stepped.ended;
       mid = mid;
       took = stepped.took;
-      stopped = subst (λ (ps : List (Piece A)). Stopped grows way mid new ps fault) end_same h;
+      stopped = subst (λ (ps : List (Piece A)). Stopped grows buffering mid new ps fault) end_same h;
     }
 
     -- writing stopped at a piece of the ending
-    pub end_stopped : (new : View K) (fault : RunFault) → Stopped grows way mid new (end_pieces text ending work n) fault
-        → IsStoppedAt grows way text ending w first next old new fault
+    pub end_stopped : (new : View K) (fault : RunFault) → Stopped grows buffering mid new (end_pieces text ending work n) fault
+        → IsStoppedAt grows buffering text ending w first next old new fault
     end_stopped new Write h = inr (at_end new Write h)
     end_stopped new Report h = inr (at_end new Report h)
     end_stopped new NoMemory h = inr (at_end new NoMemory h)
@@ -75,13 +80,13 @@ module _ {A K : Type 0} (grows : K → K → List A → Type 0) (grows-nil : (k 
 
     module _ (ended : View K) (took_end : Took grows mid ended (end_pieces text ending work n)) where
       -- nothing was left to write, and a flush failed
-      pub stopped_flush : (new : View K) (fault : RunFault) → Stopped grows way ended new [] fault → IsStoppedAt grows way text ending w first next old new fault
-      stopped_flush new fault h = end_stopped new fault (took_failed grows grows-nil grows-trans way mid ended new (end_pieces text ending work n) fault took_end h)
+      pub stopped_flush : (new : View K) (fault : RunFault) → Stopped grows buffering ended new [] fault → IsStoppedAt grows buffering text ending w first next old new fault
+      stopped_flush new fault h = end_stopped new fault (took_failed grows grows-nil grows-trans buffering mid ended new (end_pieces text ending work n) fault took_end h)
 
       -- all was written, and passed on
-      pub has_run : (new : View K) (count : ℕ) (kept : Option Work) → Took grows ended new [] → count ≡ work.state.records → kept ≡ kept_of ending work
-          → IsRun grows way text ending w first next old new count kept
-      has_run new count kept h number same = record {
+      pub has_run : (failures failures' : ℕ) (new : View K) (count : ℕ) (kept : Option Work) → Took grows ended new [] → count ≡ work.state.records
+          → kept ≡ kept_of ending work → IsRun grows buffering text ending w (devices_at first failures old) (devices_at next failures' new) count kept
+      has_run failures failures' new count kept h number same = record {
         read = stepped.read;
         rest = stepped.rest;
         passed = stepped.passed;

@@ -12,7 +12,7 @@ use Rattle.tm_faults.specs.declared.fault.RunFault.{RunFault}
 use Rattle.tm_faults.specs.declared.fault.RunFault.TheVariants.{Read, Write, Report, ShortRecording, TooMany, NoMemory}
 use Rattle.tm_output.specs.declared.command.Ending.{Ending}
 use Rattle.tm_output.specs.declared.command.Ending.TheVariants.{StopAfter}
-use Rattle.tm_output.specs.Outputs.{Piece, View, AppendsCut, Took, RefusesPut, WantsMemory, Stopped, outs, reports, Way}
+use Rattle.tm_output.specs.Outputs.{Piece, View, AppendsCut, Took, RefusesPut, WantsMemory, Stopped, outs, reports, Buffering}
 use Rattle.tm_output.specs.Pieces.{Texts}
 use Rattle.tm_checkpoint.specs.Works.{Work}
 use Rattle.tm_tool.specs.RecordingPieces.{records_for, further, worked, record_pieces, end_pieces, pieces_after, pieces}
@@ -21,7 +21,7 @@ use Rattle.tm_tool.specs.Runs.{HasRead, HasReadAll, HasEnded, IsEnough, WantsFur
 use Rattle.tm_output.proofs.PieceLemmas.{cut_all, cut_more, cut_none, took_took, took_stopped, stopped_more}
 use Rattle.tm_output.proofs.RecordLemmas.{AreRecords-append, always, concat-one, many_told, told, records_counted, records_front, records_sized, records_whole, rest_front, rest_small, count_front, count_short, records_short, rest_short}
 use Rattle.tm_tool.specs.code.Stepping.{IsRun}
-use Rattle.tm_tool.specs.code.Taking.{Reached}
+use Rattle.tm_tool.specs.code.RecordLoop.{Reached}
 use Rattle.tm_tool.proofs.Running.{IsValid, behind-more, behind-none, records-append, wanted_reached, more_reached}
 
 -- ---- which records an ending takes
@@ -58,7 +58,7 @@ end_none text _ done count w rest h = absurd h
 
 module _ {A K : Type 0} (grows : K → K → List A → Type 0) (grows-nil : (k : K) → grows k k [])
     (grows-trans : (j k l : K) (xs ys : List A) → grows j k xs → grows k l ys → grows j l (xs ++ ys))
-    (way : Way) (text : Texts A) (ending : Ending) (w : Work) (valid : IsValid w) (some : 0 < record_length_of w.rules.layout) where
+    (buffering : Buffering) (text : Texts A) (ending : Ending) (w : Work) (valid : IsValid w) (some : 0 < record_length_of w.rules.layout) where
   -- the records that follow those that are done
   further_front : (read : List (List ℕ)) (more : List ℕ) → AreRecords (record_length_of w.rules.layout) read → w.state.records ≤ length read
       → further w (concat read ++ more) ≡ behind w read ++ records (record_length_of w.rules.layout) more
@@ -91,7 +91,7 @@ module _ {A K : Type 0} (grows : K → K → List A → Type 0) (grows-nil : (k 
       end_none text ending w.state.records (length read) (worked w (behind w read)) (length (rest_of (record_length_of w.rules.layout) ((concat read ++ rest) ++ left))) h.2
       ∙ sym (end_none text ending w.state.records (length read) (worked w (behind w read)) (length rest) h.2)
 
-  -- the pieces of a recording of which an ending took these records
+  -- the pieces of a recording from which an ending took these records
   pieces_ended : (read : List (List ℕ)) (rest : List ℕ) (left_old left_new : Option (List ℕ)) (left : List ℕ) → w.state.records ≤ length read
       → HasEnded ending w left_old left_new read rest → (IsAtEnd left_new → left ≡ []) → AreRecords (record_length_of w.rules.layout) read
       → pieces text ending w ((concat read ++ rest) ++ left) ≡ pieces_after text ending w (behind w read) (length rest)
@@ -181,7 +181,8 @@ module _ {A K : Type 0} (grows : K → K → List A → Type 0) (grows-nil : (k 
 
     -- a run in records is one in octets
     pub ran_behind : (failures failures' : ℕ) (head : List (Piece A)) (mid : View K) (count : ℕ) (kept : Option Work) → Took grows old mid head
-        → IsRun grows way text ending w first next mid new count kept → Ran grows way text ending w head (devices_at first failures old) (devices_at next failures' new) count kept
+        → IsRun grows buffering text ending w (devices_at first failures mid) (devices_at next failures' new) count kept
+        → Ran grows buffering text ending w head (devices_at first failures old) (devices_at next failures' new) count kept
     ran_behind failures failures' head mid count kept headed h =
         let is : records_for ending (further w (concat h.read ++ h.rest)) ≡ behind w h.read = records_for_read h.read h.rest h.passed h.ended in
         record {
@@ -198,7 +199,7 @@ module _ {A K : Type 0} (grows : K → K → List A → Type 0) (grows-nil : (k 
 
     -- and what was read in octets was read in records
     module _ (failures failures' : ℕ) (head : List (Piece A)) (count : ℕ) (kept : Option Work)
-        (h : Ran grows way text ending w head (devices_at first failures old) (devices_at next failures' new) count kept) where
+        (h : Ran grows buffering text ending w head (devices_at first failures old) (devices_at next failures' new) count kept) where
       abbrev its_records : List (List ℕ)
       its_records = records (record_length_of w.rules.layout) h.read
 
@@ -217,8 +218,8 @@ module _ {A K : Type 0} (grows : K → K → List A → Type 0) (grows-nil : (k 
       its_octets : Consumes first next (concat its_records ++ its_rest)
       its_octets = subst (Consumes first next) (sym whole) h.octets
 
-      ended_by : HasEnded ending w first next its_records its_rest
-      ended_by = ⊎_elim
+      end_notes : HasEnded ending w first next its_records its_rest
+      end_notes = ⊎_elim
           (λ (e : IsAtEnd next × WantsFurther ending w.state.records (record_count (record_length_of w.rules.layout) h.read)).
           inl (
             record {
@@ -240,14 +241,14 @@ module _ {A K : Type 0} (grows : K → K → List A → Type 0) (grows-nil : (k 
           h.enough.1
 
       -- so it says the same of a recording that tells its octets
-      pub ran_told : IfSome first (λ octets. Outcome grows way text ending w head octets old new count kept)
+      pub ran_told : IfSome first (λ octets. Outcome grows buffering text ending w head octets old new count kept)
       ran_told =
-          ended_told _ its_records its_rest ended_by (λ left end sized.
+          ended_told _ its_records its_rest end_notes (λ left end sized.
           let records_for_same : records_for ending (further w ((concat its_records ++ its_rest) ++ left)) ≡ records_for ending (further w h.read) =
-          records_for_is its_records its_rest first next left passed_by ended_by end sized ∙ sym (records_for_read its_records its_rest passed_by ended_by)
+          records_for_is its_records its_rest first next left passed_by end_notes end sized ∙ sym (records_for_read its_records its_rest passed_by end_notes)
           ∙ ap (λ (l : List ℕ). records_for ending (further w l)) whole in
           let pieces_same : pieces text ending w ((concat its_records ++ its_rest) ++ left) ≡ pieces text ending w h.read =
-          pieces_ended its_records its_rest first next left passed_by ended_by end sized ∙ sym (pieces_read its_records its_rest passed_by ended_by)
+          pieces_ended its_records its_rest first next left passed_by end_notes end sized ∙ sym (pieces_read its_records its_rest passed_by end_notes)
           ∙ ap (λ (l : List ℕ). pieces text ending w l) whole in
           record {
             took = subst (λ (ps : List (Piece A)). Took grows old new (head ++ ps)) (sym pieces_same) h.outcome.took;
@@ -282,7 +283,7 @@ module _ {A K : Type 0} (grows : K → K → List A → Type 0) (grows-nil : (k 
         ⊎_elim (λ (few : length read < w.state.records). none_cut (none_took read (omega (arith, few)) took))
         (λ (passed : w.state.records ≤ length read). whole_cut read part has passed (reached passed) took) (cases_lt (length read) w.state.records)
 
-    read_cut : StopsAtRead grows way text ending w first next old new → IfSome first (λ octets. AppendsCut grows old new (pieces text ending w octets))
+    read_cut : StopsAtRead grows buffering text ending w first next old new → IfSome first (λ octets. AppendsCut grows old new (pieces text ending w octets))
     read_cut h = some_cut h.read h.part h.octets (reached h.wanted) h.took
       where
         reached : ((length h.read < w.state.records) ⊎ WantsFurther ending w.state.records (length h.read)) → w.state.records ≤ length h.read → Reached ending w.state.records (length h.read)
@@ -290,28 +291,28 @@ module _ {A K : Type 0} (grows : K → K → List A → Type 0) (grows-nil : (k 
         reached (inr wanted) passed = wanted_reached ending w.state.records (length h.read) wanted
 
     -- a stop at a record, and at the end
-    record_stopped : (fault : RunFault) → StopsAtRecord grows way text ending w first next old new fault → IfSome first (λ octets. Stopped grows way old new (pieces text ending w octets) fault)
+    record_stopped : (fault : RunFault) → StopsAtRecord grows buffering text ending w first next old new fault → IfSome first (λ octets. Stopped grows buffering old new (pieces text ending w octets) fault)
     record_stopped fault h =
         told _ (concat h.read ++ h.one) first next h.octets.octets (λ left end.
         let (others, split) = pieces_next h.read h.one left h.octets.sized h.exact h.passed h.wanted in
         let here : List (Piece A) = record_pieces text w (behind w h.read) in
         let there : List (Piece A) = record_pieces text (worked w (behind w h.read)) (h.one ∷ []) in
-        subst (λ (ps : List (Piece A)). Stopped grows way old new ps fault) (sym split)
-        (stopped_more grows grows-nil grows-trans way old new (here ++ there) others fault
-        (took_stopped grows grows-nil grows-trans way old h.mid new here there h.took fault h.stopped)))
+        subst (λ (ps : List (Piece A)). Stopped grows buffering old new ps fault) (sym split)
+        (stopped_more grows grows-nil grows-trans buffering old new (here ++ there) others fault
+        (took_stopped grows grows-nil grows-trans buffering old h.mid new here there h.took fault h.stopped)))
 
-    end_stopped : (fault : RunFault) → StopsAtEnd grows way text ending w first next old new fault → IfSome first (λ octets. Stopped grows way old new (pieces text ending w octets) fault)
+    end_stopped : (fault : RunFault) → StopsAtEnd grows buffering text ending w first next old new fault → IfSome first (λ octets. Stopped grows buffering old new (pieces text ending w octets) fault)
     end_stopped fault h =
         ended_told _ h.read h.rest h.ended (λ left end sized.
-        subst (λ (ps : List (Piece A)). Stopped grows way old new ps fault) (sym (pieces_ended h.read h.rest first next left h.passed h.ended end sized))
-        (took_stopped grows grows-nil grows-trans way old h.mid new (record_pieces text w (behind w h.read)) (end_pieces text ending (worked w (behind w h.read)) (length h.rest)) h.took fault h.stopped))
+        subst (λ (ps : List (Piece A)). Stopped grows buffering old new ps fault) (sym (pieces_ended h.read h.rest first next left h.passed h.ended end sized))
+        (took_stopped grows grows-nil grows-trans buffering old h.mid new (record_pieces text w (behind w h.read)) (end_pieces text ending (worked w (behind w h.read)) (length h.rest)) h.took fault h.stopped))
 
-    stopped_at : (fault : RunFault) → (StopsAtRecord grows way text ending w first next old new fault ⊎ StopsAtEnd grows way text ending w first next old new fault)
-        → IfSome first (λ octets. Stopped grows way old new (pieces text ending w octets) fault)
+    stopped_at : (fault : RunFault) → (StopsAtRecord grows buffering text ending w first next old new fault ⊎ StopsAtEnd grows buffering text ending w first next old new fault)
+        → IfSome first (λ octets. Stopped grows buffering old new (pieces text ending w octets) fault)
     stopped_at fault (inl h) = record_stopped fault h
     stopped_at fault (inr h) = end_stopped fault h
 
-    pub run_cut : (fault : RunFault) → IsStoppedAt grows way text ending w first next old new fault → IfSome first (λ octets. AppendsCut grows old new (pieces text ending w octets))
+    pub run_cut : (fault : RunFault) → IsStoppedAt grows buffering text ending w first next old new fault → IfSome first (λ octets. AppendsCut grows old new (pieces text ending w octets))
     run_cut Read h = read_cut h
     run_cut Write h = IfSome_then first (stopped_at Write h) (λ octets s. s.cut)
     run_cut Report h = IfSome_then first (stopped_at Report h) (λ octets s. s.cut)
@@ -319,19 +320,19 @@ module _ {A K : Type 0} (grows : K → K → List A → Type 0) (grows-nil : (k 
     run_cut TooMany h = some_cut h.read h.one h.octets (λ passed. wanted_reached ending w.state.records (length h.read) h.wanted) h.took
     run_cut NoMemory h = IfSome_then first (stopped_at NoMemory h) (λ octets s. s.cut)
 
-    pub run_memory : IsStoppedAt grows way text ending w first next old new NoMemory → IfSome first (λ octets. WantsMemory grows way old new (pieces text ending w octets))
+    pub run_memory : IsStoppedAt grows buffering text ending w first next old new NoMemory → IfSome first (λ octets. WantsMemory grows buffering old new (pieces text ending w octets))
     run_memory h = IfSome_then first (stopped_at NoMemory h) (λ octets s. s.memory refl)
 
-    -- a put was refused, of an outlet of which nothing waits for a flush
-    pub run_refused : way.flush ≡ false → IsStoppedAt grows way text ending w first next old new Write → IfSome first (λ octets. RefusesPut grows old new (pieces text ending w octets))
+    -- a put was refused by an outlet that doesn't buffer
+    pub run_refused : buffering.flush ≡ false → IsStoppedAt grows buffering text ending w first next old new Write → IfSome first (λ octets. RefusesPut grows old new (pieces text ending w octets))
     run_refused kept h = IfSome_then first (stopped_at Write h) (λ octets s. s.refused refl kept)
 
     -- the recording has more records than can be counted
-    pub run_many : IsStoppedAt grows way text ending w first next old new TooMany → IfSome first (λ octets. 2 ^ 32 - 1 < record_count (record_length_of w.rules.layout) octets)
+    pub run_many : IsStoppedAt grows buffering text ending w first next old new TooMany → IfSome first (λ octets. 2 ^ 32 - 1 < record_count (record_length_of w.rules.layout) octets)
     run_many h = many_told (record_length_of w.rules.layout) first next h.read h.one some h.octets h.exact h.most
 
     -- the recording has fewer records than are done
-    pub run_short : IsStoppedAt grows way text ending w first next old new ShortRecording → IfSome first (λ octets. record_count (record_length_of w.rules.layout) octets < w.state.records)
+    pub run_short : IsStoppedAt grows buffering text ending w first next old new ShortRecording → IfSome first (λ octets. record_count (record_length_of w.rules.layout) octets < w.state.records)
     run_short h =
         let n : ℕ = record_length_of w.rules.layout in
         told _ (concat h.read ++ h.rest) first next h.all.octets.octets (λ left end.

@@ -23,7 +23,7 @@ use Rattle.tm_faults.specs.declared.fault.RunFault.TheVariants.{Read, Write, Rep
 use Rattle.tm_output.specs.declared.command.Ending.{Ending}
 use Rattle.tm_output.specs.declared.command.Ending.TheVariants.{StopAfter}
 use Rattle.tm_output.specs.Faults.{RunCaused}
-use Rattle.tm_output.specs.Outputs.{CausedByOutput, Piece, SameCounts, View, Took, Stopped, Way}
+use Rattle.tm_output.specs.Outputs.{CausedByOutput, Piece, SameCounts, View, Took, Stopped, Buffering}
 use Rattle.tm_devices.specs.Devices.{raised}
 use Rattle.tm_packet.specs.Merge.{Entries}
 use Rattle.tm_output.specs.Pieces.{Texts, noted, noted_all, piece_of, pieces_of}
@@ -31,7 +31,7 @@ use Rattle.tm_checkpoint.specs.Works.{Work, work_of}
 use Rattle.tm_tool.specs.RecordingPieces.{items_of, worked, record_pieces}
 use Rattle.tm_tool.specs.Runs.{HasRead, WantsFurther, Suffices, StopsAtRecord, IsStoppedAt, behind}
 use Rattle.tm_tool.specs.code.Stepping.{RefusesRecord, StepStopped, TakesRecord, TookRecords}
-use Rattle.tm_tool.specs.code.Taking.{Enough, HasPassed, HasStepped, HasTaken, NextStopped, PassingStopped, Reached, TakesBehind, TakesRecords, TakingFails, TakingRefused, TakingStopped}
+use Rattle.tm_tool.specs.code.RecordLoop.{Enough, HasPassed, HasStepped, HasTaken, NextStopped, PassingStopped, Reached, TakesBehind, TakesRecords, TakingFails, TakingRefused, TakingStopped}
 use Rattle.tm_output.proofs.RecordLemmas.{AreRecords-append, concat-one}
 use Rattle.tm_output.proofs.PieceLemmas.{took_none, took_took}
 
@@ -51,12 +51,12 @@ stepped_valid p q octets valid are few left =
     (record-valid p.rules p.state octets valid are (omega (arith, few)))
 
 -- a fault of writing is a fault of stepping
-pub step_stopped : {A K : Type 0} (grows : K → K → List A → Type 0) (way : Way) (records : ℕ) (old new : View K) (ps : List (Piece A)) (fault : RunFault)
-    → Stopped grows way old new ps fault → StepStopped grows way records old new ps fault
-step_stopped grows way records old new ps Write s = s
-step_stopped grows way records old new ps Report s = s
-step_stopped grows way records old new ps NoMemory s = s
-step_stopped grows way records old new ps _ s = absurd s.cause
+pub step_stopped : {A K : Type 0} (grows : K → K → List A → Type 0) (buffering : Buffering) (records : ℕ) (old new : View K) (ps : List (Piece A)) (fault : RunFault)
+    → Stopped grows buffering old new ps fault → StepStopped grows buffering records old new ps fault
+step_stopped grows buffering records old new ps Write s = s
+step_stopped grows buffering records old new ps Report s = s
+step_stopped grows buffering records old new ps NoMemory s = s
+step_stopped grows buffering records old new ps _ s = absurd s.cause
 
 -- ---- joining, for pieces
 
@@ -111,7 +111,7 @@ just_enough _ done count r h = absurd h
 
 -- ---- the loop
 
--- the records behind those that are done, of which there is one more
+-- the records behind those that are done, one more among them
 pub behind-more : (w : Work) (read : List (List ℕ)) (one : List ℕ) → w.state.records ≤ length read → behind w (read ++ one ∷ []) ≡ behind w read ++ one ∷ []
 behind-more w read one passed = drop-append-le w.state.records read (one ∷ []) passed
 
@@ -275,9 +275,9 @@ module _ {A K : Type 0} (grows : K → K → List A → Type 0) (grows-nil : (k 
     pub took_records : (rs : List (List ℕ)) (old new : View K) → TakesRecords (TakesRecord grows text) w rs old new → TookRecords grows text w rs old new
     took_records = holds_of_all (TakesRecord grows text) (TookRecords grows text w) w more_records (no_records w)
 
-  module _ (way : Way) (ending : Ending) (w : Work) (valid : IsValid w) (first next : Option (List ℕ)) (failures failures' : ℕ) (old : View K) where
+  module _ (buffering : Buffering) (ending : Ending) (w : Work) (valid : IsValid w) (first next : Option (List ℕ)) (failures failures' : ℕ) (old : View K) where
     passing_stopped : (fault : RunFault) → PassingStopped (record_length_of w.rules.layout) w.state.records first next failures failures' fault
-        → IsStoppedAt grows way text ending w first next old old fault
+        → IsStoppedAt grows buffering text ending w first next old old fault
     passing_stopped Read h =
         let none : behind w h.0.read ≡ [] = behind-none w h.0.read (omega (arith, h.0.few)) in record {
           read = h.0.read;
@@ -297,13 +297,13 @@ module _ {A K : Type 0} (grows : K → K → List A → Type 0) (grows-nil : (k 
     passing_caused ShortRecording h = (h.1, (refl, refl))
     passing_caused _ h = absurd h
 
-    read_stopped : (new : View K) → TakingFails (TakesRecords (TakesRecord grows text)) ending w first next old new → IsStoppedAt grows way text ending w first next old new Read
+    read_stopped : (new : View K) → TakingFails (TakesRecords (TakesRecord grows text)) ending w first next old new → IsStoppedAt grows buffering text ending w first next old new Read
     read_stopped new h = record { read = h.read; part = h.part; octets = h.octets; short = h.short; wanted = inr h.wanted; took = took_records w valid (behind w h.read) old new h.took }
 
     module _ (new : View K) where
-      refused_record : (fault : RunFault) (h : TakingRefused (TakesRecords (TakesRecord grows text)) (RefusesRecord grows text way) ending w first next old new fault)
-          → Stopped grows way h.mid new (record_pieces text (worked w (behind w h.read)) (h.one ∷ [])) fault
-          → StopsAtRecord grows way text ending w first next old new fault
+      refused_record : (fault : RunFault) (h : TakingRefused (TakesRecords (TakesRecord grows text)) (RefusesRecord grows text buffering) ending w first next old new fault)
+          → Stopped grows buffering h.mid new (record_pieces text (worked w (behind w h.read)) (h.one ∷ [])) fault
+          → StopsAtRecord grows buffering text ending w first next old new fault
       refused_record fault h stopped = record {
         read = h.read;
         one = h.one;
@@ -317,8 +317,8 @@ module _ {A K : Type 0} (grows : K → K → List A → Type 0) (grows-nil : (k 
       }
 
       -- writing stopped in a record's pieces, or the record was one too many
-      refused_stopped : (fault : RunFault) → TakingRefused (TakesRecords (TakesRecord grows text)) (RefusesRecord grows text way) ending w first next old new fault
-          → IsStoppedAt grows way text ending w first next old new fault
+      refused_stopped : (fault : RunFault) → TakingRefused (TakesRecords (TakesRecord grows text)) (RefusesRecord grows text buffering) ending w first next old new fault
+          → IsStoppedAt grows buffering text ending w first next old new fault
       refused_stopped Write h = inl (refused_record Write h h.stopped)
       refused_stopped Report h = inl (refused_record Report h h.stopped)
       refused_stopped TooMany h = record {
@@ -333,10 +333,10 @@ module _ {A K : Type 0} (grows : K → K → List A → Type 0) (grows-nil : (k 
       refused_stopped NoMemory h = inl (refused_record NoMemory h h.stopped)
       refused_stopped _ h = absurd h.stopped
 
-      counts : {fault : RunFault} (h : TakingRefused (TakesRecords (TakesRecord grows text)) (RefusesRecord grows text way) ending w first next old new fault) → SameCounts old h.mid
+      counts : {fault : RunFault} (h : TakingRefused (TakesRecords (TakesRecord grows text)) (RefusesRecord grows text buffering) ending w first next old new fault) → SameCounts old h.mid
       counts h = (took_records w valid (behind w h.read) old h.mid h.took).counts
 
-      refused_caused : (fault : RunFault) → TakingRefused (TakesRecords (TakesRecord grows text)) (RefusesRecord grows text way) ending w first next old new fault
+      refused_caused : (fault : RunFault) → TakingRefused (TakesRecords (TakesRecord grows text)) (RefusesRecord grows text buffering) ending w first next old new fault
           → failures' ≡ failures → RunCaused failures failures' old new fault
       refused_caused Write h same = output_caused failures failures' old h.mid new Write same (counts h) h.stopped.cause
       refused_caused Report h same = output_caused failures failures' old h.mid new Report same (counts h) h.stopped.cause
@@ -346,13 +346,13 @@ module _ {A K : Type 0} (grows : K → K → List A → Type 0) (grows-nil : (k 
 
       -- so a run's records stop
       pub records_stopped : (fault : RunFault)
-          → TakingStopped (TakesRecords (TakesRecord grows text)) (RefusesRecord grows text way) ending w first next failures failures' old new fault
-          → IsStoppedAt grows way text ending w first next old new fault × RunCaused failures failures' old new fault
+          → TakingStopped (TakesRecords (TakesRecord grows text)) (RefusesRecord grows text buffering) ending w first next failures failures' old new fault
+          → IsStoppedAt grows buffering text ending w first next old new fault × RunCaused failures failures' old new fault
       records_stopped fault (inl h) =
-          subst (λ (v : View K). IsStoppedAt grows way text ending w first next old v fault × RunCaused failures failures' old v fault) (sym h.1)
+          subst (λ (v : View K). IsStoppedAt grows buffering text ending w first next old v fault × RunCaused failures failures' old v fault) (sym h.1)
           (passing_stopped fault h.0, passing_caused fault h.0)
       records_stopped fault (inr (inl h)) =
-          subst (λ (f : RunFault). IsStoppedAt grows way text ending w first next old new f × RunCaused failures failures' old new f) (sym h.1)
+          subst (λ (f : RunFault). IsStoppedAt grows buffering text ending w first next old new f × RunCaused failures failures' old new f) (sym h.1)
           (read_stopped new h.0, (h.2, (took_records w valid (behind w h.0.read) old new h.0.took).counts))
       records_stopped fault (inr (inr h)) = (refused_stopped fault h.0, refused_caused fault h.0 h.1)
 

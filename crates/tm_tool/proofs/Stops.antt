@@ -6,10 +6,10 @@ use Rattle.tm_output.specs.declared.command.Ending.{Ending}
 use Rattle.tm_output.specs.declared.command.Ending.TheVariants.{Close, StopAfter}
 use Rattle.tm_tool.specs.RecordingPieces.{records_for}
 use Rattle.tm_output.specs.Records.{records}
-use Rattle.tm_tool.specs.Resuming.{Stop, Follows, done_by, done_in_all, in_one}
+use Rattle.tm_tool.specs.Resuming.{Stop, Follows, done_after, done_in_all, in_one}
 
 -- how many records an ending takes
-pub records_for-counted : (ending : Ending) (done more : List (List ℕ)) → length (done ++ records_for ending more) ≡ done_by ending (length done) (length (done ++ more))
+pub records_for-counted : (ending : Ending) (done more : List (List ℕ)) → length (done ++ records_for ending more) ≡ done_after ending (length done) (length (done ++ more))
 records_for-counted (StopAfter n) done more =
     let left : length (done ++ more) - length done ≡ length more = omega (arith, length-append done more) in
     rw (length-append done (take n more), length-take n more, left) refl
@@ -51,7 +51,7 @@ module _ (size : ℕ) (ending : Ending) (last : List ℕ) where
       → done_in_all size ending last (length done) stops ≡ length (done ++ taken done stops h)
   counted done [] (more, is) = rw is (sym (records_for-counted ending done more))
   counted done (stop ∷ stops) (more, is, keeps, rest) =
-      let here : done_by stop.ending (length done) (length (records size stop.recording)) ≡ length (done ++ records_for stop.ending more) =
+      let here : done_after stop.ending (length done) (length (records size stop.recording)) ≡ length (done ++ records_for stop.ending more) =
       rw is (sym (records_for-counted stop.ending done more)) in
       rw (here, counted (done ++ records_for stop.ending more) stops rest, append_assoc done (records_for stop.ending more) (taken (done ++ records_for stop.ending more) stops rest)) refl
 

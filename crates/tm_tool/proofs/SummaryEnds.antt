@@ -9,13 +9,13 @@ use Rattle.tm_rules.specs.Rules.{Rules}
 use Rattle.tm_devices.specs.Devices.{raised}
 use Rattle.tm_faults.specs.declared.fault.RunFault.{RunFault}
 use Rattle.tm_faults.specs.declared.fault.RunFault.TheVariants.{Read, Write, Report, TooMany, NoMemory}
-use Rattle.tm_output.specs.Outputs.{AppendsCut, Stopped, Took, View, WantsMemory, Piece, line_piece, line_pieces, octets_way, outs, view}
+use Rattle.tm_output.specs.Outputs.{AppendsCut, Stopped, Took, View, WantsMemory, Piece, line_piece, line_pieces, octets_buffering, outs, view}
 use Rattle.tm_output.specs.Records.{AreRecords, record_count}
 use Rattle.tm_output.proofs.LinePieces.{lines_out, same_cut}
 use Rattle.tm_output.proofs.LinePieces as pieces
 use Rattle.tm_output.proofs.RecordLemmas.{always, count_all, many_told, records_all, rest_all, told}
 use Rattle.tm_summary.specs.Lines.{summary_lines}
-use Rattle.tm_summary.specs.Numbers.{Numbers}
+use Rattle.tm_summary.specs.SummaryNumbers.{SummaryNumbers}
 use Rattle.tm_checkpoint.specs.Works.{new_job, Work}
 use Rattle.tm_tool.specs.Summaries.{IsSummarized, IsSummaryStop, StopsInLines, SummaryStopped, lines_after, summary}
 use Rattle.tm_tool.specs.code.Summing.{HasSummed}
@@ -31,7 +31,7 @@ line_report (l ∷ ls) [] next more e = let same : line_piece l ≡ next = cc in
 line_report (l ∷ ls) (d ∷ done) next more e = line_report ls done next more (cc)
 
 -- so none takes memory
-no_memory : {old new : View (Option (List ℕ))} (ls : List (List ℕ)) → WantsMemory Appends octets_way old new (line_pieces ls) → ⊥
+no_memory : {old new : View (Option (List ℕ))} (ls : List (List ℕ)) → WantsMemory Appends octets_buffering old new (line_pieces ls) → ⊥
 no_memory ls wants =
     ⊎_elim (λ made. let made_is : false ≡ true = made.0 in cc) (λ (some : wants.next.report ≡ [] → ⊥). some (line_report ls wants.done wants.next wants.more wants.split)) wants.stopped.1
 
@@ -43,7 +43,7 @@ module _ (rules : Rules) where
   summary_read read rest sized short =
       rw (records_all (record_length_of rules.layout) read rest sized short, rest_all (record_length_of rules.layout) read rest sized short) refl
 
-  module _ (first next : Option (List ℕ)) (w : Work) (is : w ≡ (new_job rules).work) (numbers : Numbers) (count : ℕ) (h : HasSummed w first next numbers count) where
+  module _ (first next : Option (List ℕ)) (w : Work) (is : w ≡ (new_job rules).work) (numbers : SummaryNumbers) (count : ℕ) (h : HasSummed w first next numbers count) where
     summed : HasSummed (new_job rules).work first next numbers count
     summed = subst (λ (x : Work). HasSummed x first next numbers count) is h
 
@@ -54,20 +54,20 @@ module _ (rules : Rules) where
     lines_are chosen same =
         ap (λ (cs : List Bool). summary_lines cs count numbers) same
         ∙ ap (λ (n : ℕ). summary_lines rules.channels n numbers) counted
-        ∙ ap (λ (m : Numbers). summary_lines rules.channels (length summed.read) m) summed.counted
+        ∙ ap (λ (m : SummaryNumbers). summary_lines rules.channels (length summed.read) m) summed.counted
 
     -- writing stopped in the lines
     pub stops_in_lines : (chosen : List Bool) → chosen ≡ rules.channels → (old new : View (Option (List ℕ))) (fault : RunFault)
-        → Stopped Appends octets_way old new (line_pieces (summary_lines chosen count numbers)) fault → StopsInLines rules first next old new fault
+        → Stopped Appends octets_buffering old new (line_pieces (summary_lines chosen count numbers)) fault → StopsInLines rules first next old new fault
     stops_in_lines chosen same old new fault stopped = record {
       read = summed.read;
       rest = summed.rest;
       all = summed.all;
-      stopped = subst (λ (ls : List (List ℕ)). Stopped Appends octets_way old new (line_pieces ls) fault) (lines_are chosen same) stopped;
+      stopped = subst (λ (ls : List (List ℕ)). Stopped Appends octets_buffering old new (line_pieces ls) fault) (lines_are chosen same) stopped;
     }
 
     pub lines_stopped : (chosen : List Bool) → chosen ≡ rules.channels → (old new : Option (List ℕ)) (failures failures' : ℕ) (fault : RunFault)
-        → Stopped Appends octets_way (view old None failures 0) (view new None failures' 0) (line_pieces (summary_lines chosen count numbers)) fault
+        → Stopped Appends octets_buffering (view old None failures 0) (view new None failures' 0) (line_pieces (summary_lines chosen count numbers)) fault
         → IsSummaryStop rules first next (view old None failures 0) (view new None failures' 0) fault
     lines_stopped chosen same old new failures failures' Write stopped = stops_in_lines chosen same _ _ Write stopped
     lines_stopped chosen same old new failures failures' NoMemory stopped = absurd (no_memory (summary_lines chosen count numbers) (stopped.memory refl))
@@ -81,7 +81,7 @@ module _ (rules : Rules) where
         → IsSummaryStop rules first next (view old None failures 0) (view new None failures'' 0) Write
     flush_stopped chosen same old mid new failures failures' failures'' took kept counts =
         lines_stopped chosen same old new failures failures'' Write
-        (pieces.flush_stopped took kept octets_way refl counts)
+        (pieces.flush_stopped took kept octets_buffering refl counts)
 
     -- all lines were written
     pub summarized : (chosen : List Bool) → chosen ≡ rules.channels → (old mid new : Option (List ℕ)) (failures failures' : ℕ)
@@ -109,7 +109,7 @@ module _ (rules : Rules) where
 
     module _ (old new : View (Option (List ℕ))) where
       lines_told : (fault : RunFault) → StopsInLines rules first next old new fault
-          → IfSome first (λ octets. Stopped Appends octets_way old new (line_pieces (summary rules octets)) fault)
+          → IfSome first (λ octets. Stopped Appends octets_buffering old new (line_pieces (summary rules octets)) fault)
       lines_told fault h =
           told _ (concat h.read ++ h.rest) first next h.all.octets.octets (λ left end.
           let whole : (concat h.read ++ h.rest) ++ left ≡ concat h.read ++ h.rest = ap (λ (l : List ℕ). (concat h.read ++ h.rest) ++ l) (end h.all.ended) ∙ append-nil (concat h.read ++ h.rest) in

@@ -18,7 +18,7 @@ use Rattle.tm_items.specs.Item.{Item}
 use Rattle.tm_packet.specs.Merge.{Entries}
 use Rattle.tm_output.specs.Pieces.{noted, noted_all}
 use Rattle.tm_summary.specs.Kinds.{Noted}
-use Rattle.tm_summary.specs.Numbers.{Numbers, Tally, nothing, numbers_of}
+use Rattle.tm_summary.specs.SummaryNumbers.{SummaryNumbers, Tally, nothing, numbers_of}
 use Rattle.tm_summary.specs.declared.counting.Counting.{Counting}
 use Rattle.tm_summary.specs.Tallies.{AllFit, RefusesTally, TakesTally, and_items, and_notes, notes_among, notes_in, open_notes, with_all, with_open}
 use Rattle.tm_summary.proofs.Taken.{none_refused}
@@ -28,7 +28,7 @@ use Rattle.tm_tool.specs.RecordingPieces.{items_of, worked}
 use Rattle.tm_tool.specs.Runs.{HasEnded, HasReadAll, behind}
 use Rattle.tm_tool.specs.Summaries.{frames_in, good_frames, tally_of}
 use Rattle.tm_tool.specs.code.Summing.{CountCaused, CountedRecords, CountingStopped, CountsEnd, CountsRecord, HasSummed, RefusesCount, and_end, and_records}
-use Rattle.tm_tool.specs.code.Taking.{HasStepped, PassingStopped, TakesRecords, TakingStopped}
+use Rattle.tm_tool.specs.code.RecordLoop.{HasStepped, PassingStopped, TakesRecords, TakingStopped}
 use Rattle.tm_tool.proofs.NoteLemmas.{noted_all_is}
 use Rattle.tm_tool.proofs.Running.{IsValid, behind-counted, holds_of_all, noted-append, records-counted}
 
@@ -47,19 +47,19 @@ end_taken p s t xs Failed going h = false_true (sym going ∙ h.0)
 end_taken p s t xs TooMany going h = h
 
 -- and is counted
-pub end_counted : (w : Work) (before mid now : Numbers) (entries : Entries) (rest : ℕ) → AllFit (closing w.state rest) → entries ≡ noted_all w.entries (closing w.state rest)
+pub end_counted : (w : Work) (before mid now : SummaryNumbers) (entries : Entries) (rest : ℕ) → AllFit (closing w.state rest) → entries ≡ noted_all w.entries (closing w.state rest)
     → mid ≡ with_all w.entries before (closing w.state rest) → now ≡ with_open mid (sequence.unclosed 0 entries) → CountsEnd w before rest now
 end_counted w before mid now entries rest fit noted_is mid_is now_is t are most =
     let size : length entries ≡ length w.entries = ap length (noted_is ∙ noted_all_is w.entries (closing w.state rest)) ∙ length-after_from 0 w.entries _ in
     let first : Tally = and_items t w.entries (closing w.state rest) in
     now_is
-    ∙ ap (λ (n : Numbers). with_open n (sequence.unclosed 0 entries))
-    (mid_is ∙ ap (λ (n : Numbers). with_all w.entries n (closing w.state rest)) are ∙ all_counted t w.entries (closing w.state rest) fit)
+    ∙ ap (λ (n : SummaryNumbers). with_open n (sequence.unclosed 0 entries))
+    (mid_is ∙ ap (λ (n : SummaryNumbers). with_all w.entries n (closing w.state rest)) are ∙ all_counted t w.entries (closing w.state rest) fit)
     ∙ open_counted first (sequence.unclosed 0 entries) (keys_fit 0 entries (omega (arith, size, most)))
     ∙ ap (λ (e : Entries). numbers_of (and_notes first (open_notes (sequence.unclosed 0 e)))) noted_is
 
 -- no records count nothing
-counted_none : (w : Work) (n : Numbers) → CountedRecords w [] n n
+counted_none : (w : Work) (n : SummaryNumbers) → CountedRecords w [] n n
 unfolding items
 counted_none w n t are = are ∙ ap numbers_of (sym (rw (append-nil t.frames, append-nil t.items, append-nil t.notes) refl))
 
@@ -81,7 +81,7 @@ passing_no w first next failures failures' ShortRecording none h = absurd (not_l
 passing_no w first next failures failures' _ none h = absurd h
 
 -- counting stopped: a read failed, or a record was one too many
-pub counting_stopped : (w : Work) (first next : Option (List ℕ)) (failures failures' : ℕ) (old new : Numbers) (fault : RunFault) → w.state.records ≡ 0
+pub counting_stopped : (w : Work) (first next : Option (List ℕ)) (failures failures' : ℕ) (old new : SummaryNumbers) (fault : RunFault) → w.state.records ≡ 0
     → TakingStopped (TakesRecords CountsRecord) RefusesCount Close w first next failures failures' old new fault
     → CountingStopped w first next fault × CountCaused failures failures' fault
 counting_stopped w first next failures failures' old new fault none (inl h) = passing_no w first next failures failures' fault none h.0
@@ -106,10 +106,10 @@ module _ (w : Work) (valid : IsValid w) where
       ) refl
 
   -- so records that were counted are counted with more
-  counted_more : (rs : List (List ℕ)) (one : List ℕ) (h i j : Numbers) → CountedRecords w rs h i → CountsRecord (worked w rs) one i j → CountedRecords w (rs ++ one ∷ []) h j
+  counted_more : (rs : List (List ℕ)) (one : List ℕ) (h i j : SummaryNumbers) → CountedRecords w rs h i → CountsRecord (worked w rs) one i j → CountedRecords w (rs ++ one ∷ []) h j
   counted_more rs one h i j a b t are = b (and_records w t rs) (a t are) ∙ ap numbers_of (records_joined t rs (one ∷ []))
 
-  counted_records : (rs : List (List ℕ)) (old new : Numbers) → TakesRecords CountsRecord w rs old new → CountedRecords w rs old new
+  counted_records : (rs : List (List ℕ)) (old new : SummaryNumbers) → TakesRecords CountsRecord w rs old new → CountedRecords w rs old new
   counted_records = holds_of_all CountsRecord (CountedRecords w) w counted_more (counted_none w)
 
   -- with the closed end all is counted
@@ -121,7 +121,7 @@ module _ (w : Work) (valid : IsValid w) where
       ) refl
 
   -- so a recording that was taken whole is counted whole
-  pub summed : (first next : Option (List ℕ)) (old before now : Numbers) (v : Work) (rest count : ℕ) → w.state.records ≡ 0 → old ≡ numbers_of nothing → length w.entries ≡ 16384
+  pub summed : (first next : Option (List ℕ)) (old before now : SummaryNumbers) (v : Work) (rest count : ℕ) → w.state.records ≡ 0 → old ≡ numbers_of nothing → length w.entries ≡ 16384
       → HasStepped (TakesRecords CountsRecord) Close w first next old before v rest → CountsEnd v before rest now → count ≡ v.state.records → HasSummed w first next now count
   summed first next old before now v rest count none are places h end count_is =
       let from : behind w h.read ≡ h.read = ap (λ (d : ℕ). drop d h.read) none in

@@ -1,5 +1,5 @@
--- What is lost at stops: through a checkpoint of an older version the last master channel count is lost, and so the gap that the first good
--- frame behind it has.
+-- What is lost at stops. A checkpoint of an older version loses the last master channel count, and so the gap of the first good
+-- frame behind it.
 use Rattle.std.specs.Prelude.{⊤, ◌≡◌, ℕ, Bool, true, not, if◌then◌else◌, List, [], ◌∷◌, ◌++◌, length, drop}
 use Rattle.std.specs.List.{count_by}
 use Rattle.tm_frame.specs.Layout.{record_length_of}
@@ -16,7 +16,7 @@ use Rattle.tm_checkpoint.specs.declared.version.Version.{Version}
 use Rattle.tm_checkpoint.specs.Checkpoints.{form_of, tells}
 use Rattle.tm_checkpoint.specs.Works.{JobState, Work}
 use Rattle.tm_tool.specs.RecordingPieces.{records_for, end_pieces, further, items_of, worked}
-use Rattle.tm_tool.specs.Resuming.{Stop, done_by}
+use Rattle.tm_tool.specs.Resuming.{Stop, done_after}
 
 -- the settings can be told in each stop's version
 abbrev pub AllTell : Rules → List Stop → Type 0
@@ -31,7 +31,7 @@ lost_gap_at settings last version done =
 
 -- how many records are done after a stop, where so many were done before
 abbrev pub done_at : Rules → ℕ → Stop → ℕ
-done_at settings done stop = done_by stop.ending done (length (records (record_length_of settings.layout) stop.recording))
+done_at settings done stop = done_after stop.ending done (length (records (record_length_of settings.layout) stop.recording))
 
 -- the records of those frames, at all stops
 abbrev pub lost_gaps : Rules → List ℕ → ℕ → List Stop → List ℕ
@@ -54,7 +54,7 @@ module _ {A : Type 0} (text : Texts A) (lost : List ℕ) where
   abbrev pub pieces_without_gaps : Ending → Work → List (List ℕ) → ℕ → List (Piece A)
   pieces_without_gaps ending w rs rest = item_pieces_without_gaps w.entries (items_of w rs) ++ end_pieces text ending (worked w rs) rest
 
--- the pieces of one run but for those gaps
+-- the pieces for one run but for those gaps
 unfoldable pub run_pieces_without_gaps : {A : Type 0} → (Bool → List (Piece A)) → Texts A → List ℕ → Ending → JobState → List ℕ → List (Piece A)
 run_pieces_without_gaps head text lost ending job recording =
     head job.fresh

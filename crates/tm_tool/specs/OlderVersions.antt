@@ -11,8 +11,8 @@ use Rattle.tm_checkpoint.specs.Works.{Work}
 abbrev pub report_line_pieces : {A : Type 0} → List Item → List (Piece A)
 report_line_pieces xs = map (λ x. record { out = []; report = item_line x }) xs
 
--- The fewer pieces are all that begin with these records of a work, in their order, but for the master gap of the first good frame, if one
--- comes and has one. Before it stand only the lines of bad records.
+-- The fewer pieces are all that begin with these records of a work, in their order. Only the master gap of the first good frame
+-- is left out, if one comes and has one. Before it stand only the lines of bad records.
 pub record LacksGapLine {A : Type 0} (w : Work) (rs : List (List ℕ)) (all fewer : List (Piece A)) : Type 0 where
   pub back : List (Piece A)
   pub all_is : all ≡ report_line_pieces (leading_bad_items w.state.records (readings w.rules.layout rs))

@@ -25,7 +25,7 @@ worked w rs = record {
 
 -- ---- endings
 
--- of the records that follow those that are done an ending takes so many, or all
+-- an ending takes so many of the records that follow those that are done, or all
 abbrev pub records_for : {X : Type 0} → Ending → List X → List X
 records_for Close rs = rs
 records_for Keep rs = rs

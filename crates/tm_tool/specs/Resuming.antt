@@ -31,16 +31,16 @@ KeepsJob Keep = ⊤
 KeepsJob (StopAfter n) = ⊤
 
 -- the work of the job that a run leaves
-abbrev pub left_by : Ending → Work → List ℕ → Work
-left_by ending w recording = worked w (records_for ending (further w recording))
+abbrev pub work_left : Ending → Work → List ℕ → Work
+work_left ending w recording = worked w (records_for ending (further w recording))
 
 abbrev pub then_pieces : {A : Type 0} → Result JobState CheckpointFault → (JobState → List (Piece A)) → List (Piece A)
 then_pieces (Ok job) more = more job
 then_pieces (Err found) more = []
 
--- of what a fresh job writes before all else, and of what is given of each item
+-- for what a fresh job writes before all else, and for what is given of each item
 module _ {A : Type 0} (head : Bool → List (Piece A)) (text : Texts A) where
-  -- the pieces of one run
+  -- the pieces for one run
   abbrev pub run_pieces : Ending → JobState → List ℕ → List (Piece A)
   run_pieces ending job recording = head job.fresh ++ pieces text ending job.work recording
 
@@ -49,7 +49,7 @@ module _ {A : Type 0} (head : Bool → List (Piece A)) (text : Texts A) where
   resumed_pieces ending last settings job [] = run_pieces ending job last
   resumed_pieces ending last settings job (stop ∷ stops) =
       run_pieces stop.ending job stop.recording
-      ++ then_pieces (resumed settings (spelled_in stop.version (left_by stop.ending job.work stop.recording))) (λ next. resumed_pieces ending last settings next stops)
+      ++ then_pieces (resumed settings (spelled_in stop.version (work_left stop.ending job.work stop.recording))) (λ next. resumed_pieces ending last settings next stops)
 
 -- nothing is written before all else
 abbrev pub no_head : {A : Type 0} → Bool → List (Piece A)
@@ -62,18 +62,18 @@ Follows size last done (stop ∷ stops) =
     (more : List (List ℕ)) × (records size stop.recording ≡ done ++ more) × KeepsJob stop.ending × Follows size last (done ++ records_for stop.ending more) stops
 
 -- how many records are done after a run, of so many in its recording, where so many were done before
-abbrev pub done_by : Ending → ℕ → ℕ → ℕ
-done_by Close done count = count
-done_by Keep done count = count
-done_by (StopAfter n) done count = done + min n (count - done)
+abbrev pub done_after : Ending → ℕ → ℕ → ℕ
+done_after Close done count = count
+done_after Keep done count = count
+done_after (StopAfter n) done count = done + min n (count - done)
 
 -- how many are done after all runs
 abbrev pub done_in_all : ℕ → Ending → List ℕ → ℕ → List Stop → ℕ
-done_in_all size ending last done [] = done_by ending done (length (records size last))
+done_in_all size ending last done [] = done_after ending done (length (records size last))
 done_in_all size ending last done (stop ∷ stops) =
-    done_in_all size ending last (done_by stop.ending done (length (records size stop.recording))) stops
+    done_in_all size ending last (done_after stop.ending done (length (records size stop.recording))) stops
 
--- the ending of one run that takes all these records
+-- the ending for one run that takes all these records
 abbrev pub in_one : Ending → ℕ → Ending
 in_one Close count = Close
 in_one Keep count = StopAfter count

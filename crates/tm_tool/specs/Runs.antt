@@ -1,4 +1,4 @@
--- What was read and written when a run ended. Of a source that doesn't tell its octets nothing is said of what was read.
+-- What was read and written when a run ended. If a source doesn't tell its octets, nothing is said of what was read.
 use Rattle.std.specs.Prelude.{⊤, false, ◌≡◌, ◌≢◌, ◌⊎◌, ◌<◌, ◌≤◌, ◌+◌, ℕ, List, [], ◌∷◌, ◌++◌, length, drop, Option, None, Some, Result}
 use Rattle.std.specs.Io.KnownBytes.{Consumes, IsAtEnd}
 use Rattle.tm_frame.specs.Layout.{most_records, record_length_of}
@@ -7,7 +7,7 @@ use Rattle.tm_faults.specs.declared.fault.RunFault.{RunFault}
 use Rattle.tm_faults.specs.declared.fault.RunFault.TheVariants.{Read, Write, Report, ShortRecording, TooMany, NoMemory}
 use Rattle.tm_output.specs.declared.command.Ending.{Ending}
 use Rattle.tm_output.specs.declared.command.Ending.TheVariants.{Close, Keep, StopAfter}
-use Rattle.tm_output.specs.Outputs.{AppendsCut, Piece, RefusesPut, Stopped, Took, View, WantsMemory, Way}
+use Rattle.tm_output.specs.Outputs.{AppendsCut, Piece, RefusesPut, Stopped, Took, View, WantsMemory, Buffering}
 use Rattle.tm_output.specs.Pieces.{Texts}
 use Rattle.tm_output.specs.Faults.{RunCounted}
 use Rattle.tm_output.specs.Seen.{both, shelf_both}
@@ -19,7 +19,7 @@ use Rattle.tm_tool.specs.RecordingPieces.{records_for, further, worked, record_p
 use Rattle.tm_output.specs.Records.{record_count, rest_of}
 pub use Rattle.tm_output.specs.Records.{HasRead, HasReadAll}
 
--- Of a job of which so many records were done: after a count of records in all a further one is wanted.
+-- A job had so many records done: after a count of records in all a further one is wanted.
 abbrev pub WantsFurther : Ending → ℕ → ℕ → Type 0
 WantsFurther Close done count = ⊤
 WantsFurther Keep done count = ⊤
@@ -37,7 +37,7 @@ kept_of Close w = None
 kept_of Keep w = Some w
 kept_of (StopAfter n) w = Some w
 
--- of the records that were read, those that follow the records that are done
+-- among the records that were read, those that follow the records that are done
 abbrev pub behind : Work → List (List ℕ) → List (List ℕ)
 behind w read = drop w.state.records read
 
@@ -47,7 +47,7 @@ HasEnded ending w left_old left_new read rest =
     (HasReadAll (record_length_of w.rules.layout) left_old left_new read rest × WantsFurther ending w.state.records (length read))
     ⊎ (HasRead (record_length_of w.rules.layout) left_old left_new read [] × (rest ≡ []) × Suffices ending w.state.records (length read))
 
--- of each job: its state is a valid one, and a record has an octet
+-- for each job: its state is a valid one, and a record has an octet
 abbrev pub IsSoundWork : Work → Type 0
 IsSoundWork w = IsValidState w.rules w.state × (0 < record_length_of w.rules.layout)
 
@@ -81,7 +81,7 @@ DevicesCounted old new r = RunCounted old.failures new.failures old.outputs new.
 
 -- Records and what the ending has are written one after the other, from where the job has got. The recording is read from its beginning:
 -- the records that are done come first, and nothing is written of them.
-module _ {A K : Type 0} (grows : K → K → List A → Type 0) (way : Way) (text : Texts A) (ending : Ending) (w : Work) where
+module _ {A K : Type 0} (grows : K → K → List A → Type 0) (buffering : Buffering) (text : Texts A) (ending : Ending) (w : Work) where
   -- ---- with Ok, of a run that writes this head before all else
 
   -- what a run over these octets comes to: just their pieces were written; so many records are done; and this is kept
@@ -136,7 +136,7 @@ module _ {A K : Type 0} (grows : K → K → List A → Type 0) (way : Way) (tex
     pub wanted : WantsFurther ending w.state.records (length read)
     pub mid : View K
     pub took : Took grows old mid (record_pieces text w (behind w read))
-    pub stopped : Stopped grows way mid new (record_pieces text (worked w (behind w read)) (one ∷ [])) fault
+    pub stopped : Stopped grows buffering mid new (record_pieces text (worked w (behind w read)) (one ∷ [])) fault
 
   -- what the ending reads was read, and writing stopped at a piece of the ending, or no piece was left and a flush failed
   pub record StopsAtEnd (left_old left_new : Option (List ℕ)) (old new : View K) (fault : RunFault) : Type 0 where
@@ -146,7 +146,7 @@ module _ {A K : Type 0} (grows : K → K → List A → Type 0) (way : Way) (tex
     pub ended : HasEnded ending w left_old left_new read rest
     pub mid : View K
     pub took : Took grows old mid (record_pieces text w (behind w read))
-    pub stopped : Stopped grows way mid new (end_pieces text ending (worked w (behind w read)) (length rest)) fault
+    pub stopped : Stopped grows buffering mid new (end_pieces text ending (worked w (behind w read)) (length rest)) fault
 
   abbrev pub StopsWriting : Option (List ℕ) → Option (List ℕ) → View K → View K → RunFault → Type 0
   StopsWriting left_old left_new old new fault =
@@ -165,7 +165,7 @@ module _ {A K : Type 0} (grows : K → K → List A → Type 0) (way : Way) (tex
   pub record StopsAtHead (head : List (Piece A)) (left_old left_new : Option (List ℕ)) (old new : View K) (fault : RunFault) : Type 0 where
     pub some : head ≢ []
     pub unread : left_new ≡ left_old
-    pub stopped : Stopped grows way old new head fault
+    pub stopped : Stopped grows buffering old new head fault
 
   -- or it was written, and the run stopped
   pub record StopsBehindHead (head : List (Piece A)) (left_old left_new : Option (List ℕ)) (old new : View K) (fault : RunFault) : Type 0 where
@@ -186,9 +186,9 @@ module _ {A K : Type 0} (grows : K → K → List A → Type 0) (way : Way) (tex
   pub record StoppedIn (head : List (Piece A)) (old new : View K) (fault : RunFault) (octets : List ℕ) : Type 0 where
     pub cut : AppendsCut grows old new (head ++ pieces text ending w octets)
     -- something was to be made in memory, and nothing was written of that piece
-    pub memory : fault ≡ NoMemory → WantsMemory grows way old new (head ++ pieces text ending w octets)
+    pub memory : fault ≡ NoMemory → WantsMemory grows buffering old new (head ++ pieces text ending w octets)
     -- some octets of that packet aren't there, and nothing of it is reported
-    pub refused : fault ≡ Write → way.flush ≡ false → RefusesPut grows old new (head ++ pieces text ending w octets)
+    pub refused : fault ≡ Write → buffering.flush ≡ false → RefusesPut grows old new (head ++ pieces text ending w octets)
     -- it has more records than can be counted
     pub too_many : fault ≡ TooMany → most_records < record_count (record_length_of w.rules.layout) octets
     -- it has fewer records than are done

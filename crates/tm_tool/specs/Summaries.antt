@@ -13,11 +13,11 @@ use Rattle.tm_items.specs.Item.{Item}
 use Rattle.tm_reassembly.specs.Items.{closing}
 use Rattle.tm_faults.specs.declared.fault.RunFault.{RunFault}
 use Rattle.tm_faults.specs.declared.fault.RunFault.TheVariants.{Read, Write, Report, ShortRecording, TooMany, NoMemory}
-use Rattle.tm_output.specs.Outputs.{AppendsCut, Stopped, View, line_pieces, octets_way}
+use Rattle.tm_output.specs.Outputs.{AppendsCut, Stopped, View, line_pieces, octets_buffering}
 use Rattle.tm_output.specs.Pieces.{noted_all}
 use Rattle.tm_output.specs.Records.{record_count, records, rest_of}
 use Rattle.tm_summary.specs.Lines.{summary_lines}
-use Rattle.tm_summary.specs.Numbers.{Tally, numbers_of}
+use Rattle.tm_summary.specs.SummaryNumbers.{Tally, numbers_of}
 use Rattle.tm_summary.specs.Tallies.{notes_among, open_notes}
 use Rattle.tm_checkpoint.specs.Works.{new_job, Work}
 use Rattle.tm_tool.specs.RecordingPieces.{items_of, worked}
@@ -84,7 +84,7 @@ module _ (rules : Rules) (left_old left_new : Option (List ℕ)) where
     pub read : List (List ℕ)
     pub rest : List ℕ
     pub all : HasReadAll (record_length_of rules.layout) left_old left_new read rest
-    pub stopped : Stopped Appends octets_way old new (line_pieces (lines_after rules read (length rest))) fault
+    pub stopped : Stopped Appends octets_buffering old new (line_pieces (lines_after rules read (length rest))) fault
 
   -- where a fault leaves the devices: nothing is written before all is read, no line takes memory, and without memory nothing is read
   abbrev pub IsSummaryStop : View (Option (List ℕ)) → View (Option (List ℕ)) → RunFault → Type 0
@@ -95,8 +95,8 @@ module _ (rules : Rules) (left_old left_new : Option (List ℕ)) where
   IsSummaryStop old new TooMany = StopsAtMost × (new ≡ old)
   IsSummaryStop old new NoMemory = (left_new ≡ left_old) × (new ≡ old)
 
--- What a fault says of a recording that tells its octets: there is one place up to which the lines of its summary were written; without memory
--- nothing was; and it has more records than can be counted.
+-- What a fault says of a recording that tells its octets. There is one place up to which the lines of its summary were written;
+-- without memory nothing was; and it has more records than can be counted.
 pub record SummaryStopped (rules : Rules) (old new : View (Option (List ℕ))) (fault : RunFault) (octets : List ℕ) : Type 0 where
   pub cut : AppendsCut Appends old new (line_pieces (summary rules octets))
   pub memory : fault ≡ NoMemory → new ≡ old

@@ -1,4 +1,5 @@
 pub mod Stepping
-pub mod Taking
+pub mod RecordLoop
 pub mod Summing
 pub mod Heads
+pub mod Extractors

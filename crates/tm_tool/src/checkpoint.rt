@@ -4,15 +4,15 @@ ghost use Rattle.std.specs.Prelude.{◌≡◌, ◌≢◌, ◌≤◌, ◌+◌, �
 ghost use Rattle.tm_checkpoint.specs.Checkpoints.{AsksMemory, checkpoint_of, resumed};
 ghost use Rattle.tm_checkpoint.specs.Works.{IsWork};
 
-use crate::work::Work;
+use crate::extractor::Extractor;
 use crate::{CheckpointFault, Job, NoMemory, Settings};
 use std::alloc::Global;
 use tm_checkpoint::{read_checkpoint, write_checkpoint};
 
 impl Job {
-    /// The job in octets, at most 98,374 and eight times as many as a packet may have, so at most 622,710: the letters TMXC and the version
-    /// 3; the settings in fifteen octets; the state of the channels and the sequence counts, as `Reassembly::encode` and `Tracker::encode`
-    /// write them; and the error control of all these.
+    /// The job in octets, at most 98,374 and eight times as many as a packet may have, so at most 622,710. First come the letters
+    /// TMXC, the version 3, and the settings in fifteen octets. Then come the state of the channels and the sequence counts, as
+    /// `Reassembly::encode` and `Tracker::encode` write them. Last comes the error control of all these.
     ///
     /// # Errors
     ///
@@ -24,12 +24,13 @@ impl Job {
         ensures most { IfOk result (λ octets. length octets.items ≤ 622710) }
         ensures valid { IfOk result (λ octets. IsWork self.now.work) }
     {
-        self.work.checkpoint(alloc)
+        write_checkpoint(alloc, &self.extractor.reassembly, &self.extractor.tracker)
     }
 
-    /// The job that these octets say, which were written with the same settings, in version 3 or in one of the older versions 1 and 2. It
-    /// isn't fresh. Room is reserved as `new` does. Version 1 has no limit on packets in its settings: it stands for the greatest, 65,542.
-    /// Of an older version the job has no last master channel count, so that no gap of the master channel is reported at its first good frame.
+    /// The job that these octets say, which were written with the same settings, in version 3 or in one of the older versions 1
+    /// and 2. It isn't fresh. Room is reserved as `new` does. Version 1 has no limit on packets in its settings: it stands for
+    /// the greatest, 65,542. A job from an older version has no last master channel count, so its first good frame has no gap of
+    /// the master channel.
     ///
     /// # Errors
     ///
@@ -43,26 +44,12 @@ impl Job {
             Ok(read) => read,
             Err(fault) => return Err(fault),
         };
-        match Work::new(alloc, reassembly, tracker) {
-            Ok(work) => Ok(begun_with(work)),
+        match Extractor::new(alloc, reassembly, tracker) {
+            Ok(extractor) => Ok(Job {
+                extractor,
+                fresh: false,
+            }),
             Err(_) => Err(CheckpointFault::NoMemory),
         }
-    }
-}
-
-// A job that goes on with this work, so that it isn't fresh.
-fn begun_with(work: Work) -> Job
-    ensures { result ≡ record { work = work; fresh = false } }
-{
-    Job { work, fresh: false }
-}
-
-impl Work {
-    // The work in octets, in the version that is written.
-    fn checkpoint(&self, alloc: Global) -> Result<Vec<u8>, NoMemory>
-        ensures octets { IfOk result (λ octets. octets.items ≡ checkpoint_of self.now) }
-        ensures valid { IfOk result (λ octets. IsWork self.now) }
-    {
-        write_checkpoint(alloc, &self.reassembly, &self.tracker)
     }
 }

@@ -4,16 +4,18 @@ ghost use Rattle.std.specs.Prelude.{[], ◌≡◌, false, option_map, IfOk, IfEr
 ghost use Rattle.std.specs.Io.KnownBytes.{Appends, Keeps};
 ghost use Rattle.tm_checkpoint.specs.Works.{new_job};
 ghost use Rattle.tm_tool.specs.HeadPieces.{head_pieces};
-ghost use Rattle.tm_output.specs.Pieces.{way_of, text_of};
-ghost use Rattle.tm_tool.specs.Runs.{DevicesCounted, IsHeadedStop, IsSoundWork, IsStop, Ran, devices, shelf_devices};
-ghost use Rattle.tm_output.specs.Shelves.{Shelves, shelf_text, shelf_way};
+ghost use Rattle.tm_output.specs.Pieces.{buffering_of, text_of};
+ghost use Rattle.tm_tool.specs.Runs.{DevicesCounted, IsHeadedStop, IsSoundWork, IsStop, Ran, devices, kept_of, shelf_devices};
+ghost use Rattle.tm_tool.specs.code.Extractors.{IsReady, work_in};
+ghost use Rattle.tm_output.specs.Shelves.{Shelves, shelf_text, shelf_buffering};
 
-use crate::commands::{put_head, run_by, run_split};
-use crate::recording::Ended;
-use crate::work::Work;
+use crate::commands::{run_command, write_csv_head};
+use crate::extractor::Extractor;
+use crate::recording::run_into;
 use crate::{BufferedSource, Command, Drain, Ending, NoMemory, RunFault, Settings, Shelf};
 use std::alloc::Global;
 use std::marker::Model;
+use tm_output::PacketShelf;
 use tm_packet::Tracker;
 use tm_reassembly::Reassembly;
 
@@ -29,21 +31,24 @@ pub struct Done {
 /// The packets of a recording, as far as it has been read.
 #[derive(Drop)]
 pub struct Job {
-    pub(crate) work: Work,
+    pub(crate) extractor: Extractor,
     pub(crate) fresh: bool,
 }
 
 impl Model for Job {
     ghost use Rattle.tm_checkpoint.specs.Works.{JobState};
+    ghost use Rattle.tm_tool.specs.code.Extractors.{IsReady, work_in};
 
     ghost Value = { JobState };
 
-    ghost view = { λ j. record { work = j.work; fresh = j.fresh } };
+    ghost view = { λ j. record { work = work_in j.extractor; fresh = j.fresh } };
+
+    ghost invariant = { λ j. IsReady j.extractor };
 }
 
 impl Job {
-    /// Before any record. What `run` needs is reserved here: the room of eight channels' tails, each of so many octets as a packet may have,
-    /// the places of all sequence counts, and a buffer of one record.
+    /// Before any record. What `run` needs is reserved here: the tails of eight channels, each with capacity for the longest
+    /// packet, the entries of all sequence counts, and a buffer of one record.
     ///
     /// # Errors
     ///
@@ -63,8 +68,11 @@ impl Job {
         let Ok(tracker) = Tracker::new(alloc) else {
             return Err(NoMemory);
         };
-        match Work::new(alloc, reassembly, tracker) {
-            Ok(work) => Ok(Job { work, fresh: true }),
+        match Extractor::new(alloc, reassembly, tracker) {
+            Ok(extractor) => Ok(Job {
+                extractor,
+                fresh: true,
+            }),
             Err(_) => Err(NoMemory),
         }
     }
@@ -73,40 +81,36 @@ impl Job {
     pub fn records(&self) -> u32
         ensures { result ≡ self.now.work.state.records }
     {
-        self.work.records()
+        self.extractor.reassembly.records()
     }
 }
 
-// What was done. A job that is kept is fresh or not.
-fn done_by(ended: Ended, fresh: bool) -> Done
-    ensures records { result.records ≡ ended.records }
-    ensures kept { option_map (λ j. j.work) result.kept ≡ ended.kept }
+// What was done: the job is kept, unless the ending closed the recording.
+fn make_done(extractor: Extractor, fresh: bool, ending: Ending) -> Done
+    requires ready { IsReady extractor }
+    ensures records { result.records ≡ extractor.reassembly.state.records }
+    ensures kept { option_map (λ j. j.work) result.kept ≡ kept_of ending (work_in extractor) }
     ensures fresh { IfSome result.kept (λ j. j.fresh ≡ fresh) }
 {
-    let Ended { records, kept } = ended;
-    match kept {
-        Some(work) => Done {
-            records,
-            kept: Some(Job { work, fresh }),
-        },
-        None => Done {
-            records,
-            kept: None,
-        },
-    }
+    let records = extractor.reassembly.records();
+    let kept = match ending {
+        Ending::Close => None,
+        Ending::Keep | Ending::StopAfter(_) => Some(Job { extractor, fresh }),
+    };
+    Done { records, kept }
 }
 
-/// Reads the recording from its beginning, one record at a time, passes over the records that are done, and gives of those behind them
-/// what the job's settings choose: to `out` each whole packet, its octets or its line; to the report each bad frame, gap of the master
-/// channel, gap of a channel, VCA frame and dropped part, and the notes of the packets' sequence counts. For each item what belongs to
-/// `out` is written first. With `Close` the recording is closed at its end; with `Keep` and `StopAfter` the job after
-/// the records is kept. Both outputs are flushed.
+/// Reads the recording from its beginning, one record at a time, and passes over the records that are done. From those behind
+/// them it gives what the job's settings choose. To `out` goes each whole packet, its octets or its line. To the report goes each
+/// bad frame, gap of the master channel, gap of a channel, VCA frame and dropped part, and the notes of the packets' sequence
+/// counts. For each item what belongs to `out` is written first. With `Close` the recording is closed at its end; with `Keep` and
+/// `StopAfter` the job after the records is kept. Both outputs are flushed.
 ///
 /// # Errors
 ///
-/// `Read`, `Write` or `Report` where a call of that device failed; `ShortRecording` where there are fewer whole records than are done;
-/// `TooMany` where a whole record follows 2^32 - 1; `NoMemory` where a
-/// line can't be made: with `Extract` only a line for the report. The job is given up.
+/// `Read`, `Write` or `Report` where a call of that device failed. `ShortRecording` where there are fewer whole records than are done.
+/// `TooMany` where a whole record follows 2^32 - 1. `NoMemory` where a line can't be made: with `Extract` only a line for the report. The
+/// job is given up.
 pub fn run<R: BufferedSource, W: Drain, V: Drain>(
     alloc: Global,
     job: Job,
@@ -119,15 +123,19 @@ pub fn run<R: BufferedSource, W: Drain, V: Drain>(
     ensures sound { IsSoundWork job.work }
 
     // With Ok just the pieces of what was read were written, and passed on; and what was read is what the ending reads.
-    ensures ran { IfOk result (λ done. Ran Appends (way_of command.entry) (text_of command.entry) ending job.work (head_pieces command.entry job.fresh)
+    ensures ran { IfOk result (λ done. Ran Appends (buffering_of command.entry) (text_of command.entry) ending job.work
+        (head_pieces command.entry job.fresh)
         (devices R.BufferedSource W.Drain V.Drain recording.old out.old report.old)
-        (devices R.BufferedSource W.Drain V.Drain recording.new out.new report.new) done.records (option_map (λ j. j.work) done.kept)) }
+        (devices R.BufferedSource W.Drain V.Drain recording.new out.new report.new) done.records
+        (option_map (λ j. j.work) done.kept)) }
     ensures fresh { IfOk result (λ done. IfSome done.kept (λ j. j.fresh ≡ false)) }
     ensures flushed_out { OnOk result (Keeps (W.flushed out.new) (W.written out.new)) }
     ensures flushed_report { OnOk result (Keeps (V.flushed report.new) (V.written report.new)) }
 
-    // After a fault there is one place up to which pieces were written, and nothing was read past the record at a piece of which writing stopped.
-    ensures stopped { IfErr result (IsHeadedStop Appends (way_of command.entry) (text_of command.entry) ending job.work (head_pieces command.entry job.fresh)
+    // After a fault there is one place up to which pieces were written, and nothing was read past the record of the piece at
+    // which writing stopped.
+    ensures stopped { IfErr result (IsHeadedStop Appends (buffering_of command.entry) (text_of command.entry) ending job.work
+        (head_pieces command.entry job.fresh)
         (devices R.BufferedSource W.Drain V.Drain recording.old out.old report.old)
         (devices R.BufferedSource W.Drain V.Drain recording.new out.new report.new)) }
 
@@ -136,12 +144,23 @@ pub fn run<R: BufferedSource, W: Drain, V: Drain>(
         (devices R.BufferedSource W.Drain V.Drain recording.old out.old report.old)
         (devices R.BufferedSource W.Drain V.Drain recording.new out.new report.new) result }
 {
-    let Job { work, fresh } = job;
-    if let Err(fault) = put_head(alloc, command, fresh, out) {
+    let Job {
+        mut extractor,
+        fresh,
+    } = job;
+    if let Err(fault) = write_csv_head(alloc, command, fresh, recording.may_wait(), out) {
         return Err(fault);
     }
-    match run_by(alloc, command, work, recording, out, report, ending) {
-        Ok(ended) => Ok(done_by(ended, false)),
+    match run_command(
+        alloc,
+        command,
+        &mut extractor,
+        recording,
+        out,
+        report,
+        ending,
+    ) {
+        Ok(()) => Ok(make_done(extractor, false, ending)),
         Err(fault) => Err(fault),
     }
 }
@@ -152,8 +171,9 @@ pub fn run<R: BufferedSource, W: Drain, V: Drain>(
 /// # Errors
 ///
 /// As `run`: `Write` where a put was refused, and `NoMemory` only where a line for the report can't be made. The job is given up.
+#[tactic(auto, using(crate::proofs::SplitRuns::ran_split))]
 pub fn split<R: BufferedSource, H: Shelf, V: Drain>(
-    alloc: Global,
+    _alloc: Global,
     job: Job,
     recording: &mut R,
     shelf: &mut H,
@@ -163,14 +183,16 @@ pub fn split<R: BufferedSource, H: Shelf, V: Drain>(
     ensures sound { IsSoundWork job.work }
 
     // With Ok just the pieces of what was read were written, and passed on; and what was read is what the ending reads.
-    ensures ran { IfOk result (λ done. Ran Shelves shelf_way shelf_text ending job.work []
+    ensures ran { IfOk result (λ done. Ran Shelves shelf_buffering shelf_text ending job.work []
         (shelf_devices R.BufferedSource H.Shelf V.Drain recording.old shelf.old report.old)
-        (shelf_devices R.BufferedSource H.Shelf V.Drain recording.new shelf.new report.new) done.records (option_map (λ j. j.work) done.kept)) }
+        (shelf_devices R.BufferedSource H.Shelf V.Drain recording.new shelf.new report.new) done.records
+        (option_map (λ j. j.work) done.kept)) }
     ensures fresh { IfOk result (λ done. IfSome done.kept (λ j. j.fresh ≡ job.fresh)) }
     ensures flushed_report { OnOk result (Keeps (V.flushed report.new) (V.written report.new)) }
 
-    // After a fault there is one place up to which pieces were written, and nothing was read past the record at a piece of which writing stopped.
-    ensures stopped { IfErr result (IsStop Shelves shelf_way shelf_text ending job.work
+    // After a fault there is one place up to which pieces were written, and nothing was read past the record of the piece at
+    // which writing stopped.
+    ensures stopped { IfErr result (IsStop Shelves shelf_buffering shelf_text ending job.work
         (shelf_devices R.BufferedSource H.Shelf V.Drain recording.old shelf.old report.old)
         (shelf_devices R.BufferedSource H.Shelf V.Drain recording.new shelf.new report.new)) }
 
@@ -179,9 +201,13 @@ pub fn split<R: BufferedSource, H: Shelf, V: Drain>(
         (shelf_devices R.BufferedSource H.Shelf V.Drain recording.old shelf.old report.old)
         (shelf_devices R.BufferedSource H.Shelf V.Drain recording.new shelf.new report.new) result }
 {
-    let Job { work, fresh } = job;
-    match run_split(alloc, work, recording, shelf, report, ending) {
-        Ok(ended) => Ok(done_by(ended, fresh)),
+    let Job {
+        mut extractor,
+        fresh,
+    } = job;
+    let mut outlet = PacketShelf { shelf };
+    match run_into(&mut extractor, recording, &mut outlet, report, ending) {
+        Ok(()) => Ok(make_done(extractor, fresh, ending)),
         Err(fault) => Err(fault),
     }
 }

@@ -3,12 +3,12 @@
 
 mod checkpoint;
 mod commands;
+mod extractor;
 mod job;
 pub mod laws;
+mod record_loop;
 mod recording;
 mod summary;
-mod taking;
-mod work;
 
 pub use job::{Done, Job, run, split};
 pub use summary::summarize;

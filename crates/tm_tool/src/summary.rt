@@ -5,27 +5,29 @@ ghost use Rattle.std.specs.Io.KnownBytes.{Keeps};
 ghost use Rattle.tm_frame.specs.Layout.{record_length_of};
 ghost use Rattle.tm_output.specs.Faults.{FaultsCounted};
 ghost use Rattle.tm_output.specs.Seen.{out_alone};
-ghost use Rattle.tm_summary.specs.Numbers.{nothing, numbers_of};
+ghost use Rattle.tm_summary.specs.SummaryNumbers.{nothing, numbers_of};
 ghost use Rattle.tm_summary.specs.Tallies.{SameReferences};
 ghost use Rattle.tm_tool.specs.Summaries.{IsSummarized, IsSummaryStop};
 ghost use Rattle.tm_checkpoint.specs.Works.{IsGoing, work_of};
+ghost use Rattle.tm_tool.specs.code.Extractors.{IsReady, work_in};
 ghost use Rattle.tm_tool.specs.code.Summing.{CountCounted, CountingStopped, CountsEnd, HasSummed};
 
+use crate::extractor::Extractor;
 use crate::job::Job;
-use crate::taking::{RecordTaker, take_records};
-use crate::work::Work;
+use crate::record_loop::{RecordHandler, handle_records};
 use crate::{BufferedSource, Drain, Ending, RunFault, Settings};
 use std::alloc::Global;
 use tm_frame::read_good;
 use tm_packet::Tracker;
 use tm_reassembly::{Reassembly, StepFault};
-use tm_summary::{Counting, Counts, put_summary};
+use tm_summary::{Counting, Counts, write_summary};
 
-impl RecordTaker for Counting<'_> {
-    ghost use Rattle.tm_summary.specs.Numbers.{Numbers};
+impl RecordHandler for Counting<'_> {
+    ghost use Rattle.std.specs.Prelude.{⊤};
+    ghost use Rattle.tm_summary.specs.SummaryNumbers.{SummaryNumbers};
     ghost use Rattle.tm_tool.specs.code.Summing.{CountingNames, CountsRecord, RefusesCount};
 
-    ghost Held = { Numbers };
+    ghost Held = { SummaryNumbers };
 
     ghost Fixed = { CountingNames };
 
@@ -39,8 +41,14 @@ impl RecordTaker for Counting<'_> {
 
     ghost refuses = { λ _. RefusesCount };
 
+    ghost flushed = { λ _. ⊤ };
+
     // Counts a record, and its frame where it is a good one.
-    fn take_record(&mut self, reassembly: &mut Reassembly, octets: &[u8]) -> Result<(), RunFault> {
+    fn handle_record(
+        &mut self,
+        reassembly: &mut Reassembly,
+        octets: &[u8],
+    ) -> Result<(), RunFault> {
         let layout = reassembly.layout();
         self.bad = false;
         match reassembly.step(octets, self) {
@@ -56,92 +64,76 @@ impl RecordTaker for Counting<'_> {
         }
         Ok(())
     }
+
+    // Nothing is written before the recording's end.
+    fn flush_all(&mut self) -> Result<(), RunFault> {
+        Ok(())
+    }
 }
 
 // Counts a closed end, where so many octets are left.
-fn count_end(reassembly: Reassembly, rest: usize, counting: &mut Counting<'_>)
-    requires rest { rest < record_length_of reassembly.rules.layout }
-    requires going { reassembly.failed ≡ false }
+fn count_end(reassembly: &Reassembly, rest: usize, counting: &mut Counting<'_>)
+    requires rest { rest < record_length_of reassembly.now.rules.layout }
+    requires going { reassembly.now.failed ≡ false }
     ensures same { SameReferences counting.old counting.new }
-    ensures counted { CountsEnd (work_of reassembly counting.old.tracker.now) counting.old.counts.now rest counting.new.counts.now }
+    ensures counted { CountsEnd (work_of reassembly.now counting.old.tracker.now) counting.old.counts.now rest counting.new.counts.now }
 {
-    match reassembly.finish(rest, counting) {
+    match reassembly.close(rest, counting) {
         Ok(()) => {}
         Err(_) => unreachable!(),
     }
     counting.add_open();
 }
 
-// Counts a recording down to its closed end. Answers the number of its records.
-fn count_all<R: BufferedSource>(
-    mut reassembly: Reassembly,
-    buffer: &mut [u8],
-    recording: &mut R,
-    counting: &mut Counting<'_>,
-) -> Result<u32, RunFault>
-    requires exact { length buffer.old ≡ record_length_of reassembly.rules.layout }
-    requires some { 0 < length buffer.old }
-    requires going { IsGoing reassembly }
-    requires first { reassembly.state.records ≡ 0 }
-    requires none { counting.old.counts.now ≡ numbers_of nothing }
-    requires places { length counting.old.tracker.now ≡ 16384 }
-    ensures same { SameReferences counting.old counting.new }
-    ensures counted { IfOk result (HasSummed (work_of reassembly counting.old.tracker.now) (R.left recording.old) (R.left recording.new) counting.new.counts.now) }
-    ensures stopped { IfErr result (CountingStopped (work_of reassembly counting.old.tracker.now) (R.left recording.old) (R.left recording.new)) }
-    ensures counts { CountCounted (R.failures recording.old) (R.failures recording.new) result }
-{
-    let rest = match take_records(&mut reassembly, buffer, recording, counting, Ending::Close) {
-        Ok(rest) => rest,
-        Err(fault) => return Err(fault),
-    };
-    let records = reassembly.records();
-    count_end(reassembly, rest, counting);
-    Ok(records)
-}
-
-// What a summary is counted in.
-#[derive(Drop)]
-struct Summing {
-    tracker: Tracker,
-    counts: Counts,
-}
-
-// The same, into what holds the sequence counts and the numbers.
+// Counts a recording down to its closed end, with a job's extractor. Answers the number of its records.
+#[tactic(auto, using(crate::proofs::SummaryLemmas::summed))]
 fn count_into<R: BufferedSource>(
-    reassembly: Reassembly,
-    buffer: &mut [u8],
+    extractor: &mut Extractor,
     recording: &mut R,
-    summing: &mut Summing,
+    counts: &mut Counts,
 ) -> Result<u32, RunFault>
-    requires exact { length buffer.old ≡ record_length_of reassembly.rules.layout }
-    requires some { 0 < length buffer.old }
-    requires going { IsGoing reassembly }
-    requires first { reassembly.state.records ≡ 0 }
-    requires none { summing.old.counts ≡ numbers_of nothing }
-    requires places { length summing.old.tracker ≡ 16384 }
-    ensures counted { IfOk result (HasSummed (work_of reassembly summing.old.tracker) (R.left recording.old) (R.left recording.new) summing.new.counts) }
-    ensures stopped { IfErr result (CountingStopped (work_of reassembly summing.old.tracker) (R.left recording.old) (R.left recording.new)) }
+    requires ready { IsReady extractor.old }
+    requires first { extractor.old.reassembly.state.records ≡ 0 }
+    requires none { counts.old ≡ numbers_of nothing }
+    requires places { length extractor.old.tracker ≡ 16384 }
+    ensures counted { IfOk result (HasSummed (work_in extractor.old) (R.left recording.old) (R.left recording.new) counts.new) }
+    ensures stopped { IfErr result (CountingStopped (work_in extractor.old) (R.left recording.old) (R.left recording.new)) }
     ensures counts { CountCounted (R.failures recording.old) (R.failures recording.new) result }
 {
-    let Summing { tracker, counts } = summing;
+    let Extractor {
+        reassembly,
+        tracker,
+        buffer,
+        ..
+    } = extractor;
     let mut counting = Counting {
         tracker,
         counts,
         bad: false,
     };
-    match count_all(reassembly, buffer, recording, &mut counting) {
-        Ok(records) => Ok(records),
-        Err(fault) => Err(fault),
-    }
+    let rest = match handle_records(
+        reassembly,
+        buffer.as_mut_slice(),
+        recording,
+        &mut counting,
+        Ending::Close,
+    ) {
+        Ok(rest) => rest,
+        Err(fault) => return Err(fault),
+    };
+    let records = reassembly.records();
+    count_end(reassembly, rest, &mut counting);
+    Ok(records)
 }
 
-/// Writes the lines of a summary of the recording, closed at its end: its records, the faults of bad frames, the gaps of the master channel,
-/// and of each chosen channel and of each application what came and what was lost. It flushes, and answers the number of records. One record is
-/// read at a time. All memory is taken before the first is read, and nothing is written before the last.
+/// Writes the lines of a summary of the recording, closed at its end: its records, the faults of bad frames, and the gaps of the
+/// master channel. For each chosen channel and each application it says what came and what was lost. It flushes, and answers the
+/// number of records. One record is read at a time. All memory is taken before the first is read, and nothing is written before
+/// the last.
 ///
 /// # Errors
 ///
-/// `Read` or `Write` where a call of that device failed; `TooMany` where a whole record follows 2^32 - 1; `NoMemory` where memory for the
+/// `Read` or `Write` where a call of that device failed. `TooMany` where a whole record follows 2^32 - 1. `NoMemory` where memory for the
 /// numbers can't be had, and nothing was read or written then.
 pub fn summarize<R: BufferedSource, W: Drain>(
     alloc: Global,
@@ -150,7 +142,8 @@ pub fn summarize<R: BufferedSource, W: Drain>(
     out: &mut W,
 ) -> Result<u32, RunFault>
     // With Ok all was read, and just the lines of the summary of what was read were written, and passed on.
-    ensures summarized { IfOk result (IsSummarized settings.now (R.left recording.old) (R.left recording.new) (W.written out.old) (W.written out.new)) }
+    ensures summarized { IfOk result (IsSummarized settings.now (R.left recording.old) (R.left recording.new) (W.written out.old)
+        (W.written out.new)) }
     ensures flushed { OnOk result (Keeps (W.flushed out.new) (W.written out.new)) }
 
     // After a fault there is one place up to which lines were written: none before all was read.
@@ -158,25 +151,20 @@ pub fn summarize<R: BufferedSource, W: Drain>(
         (out_alone W.Drain out.old) (out_alone W.Drain out.new)) }
 
     // A device is blamed only where a call of it failed.
-    ensures counts { FaultsCounted (R.failures recording.old) (R.failures recording.new) (W.failures out.old) (W.failures out.new) result }
+    ensures counts { FaultsCounted (R.failures recording.old) (R.failures recording.new) (W.failures out.old)
+        (W.failures out.new) result }
 {
-    let Ok(job) = Job::new(alloc, settings) else {
+    let Ok(mut job) = Job::new(alloc, settings) else {
         return Err(RunFault::NoMemory);
     };
-    let Ok(counts) = Counts::new(alloc) else {
+    let Ok(mut counts) = Counts::new(alloc) else {
         return Err(RunFault::NoMemory);
     };
-    let Work {
-        reassembly,
-        tracker,
-        mut buffer,
-    } = job.work;
-    let mut summing = Summing { tracker, counts };
-    let records = match count_into(reassembly, buffer.as_mut_slice(), recording, &mut summing) {
+    let records = match count_into(&mut job.extractor, recording, &mut counts) {
         Ok(records) => records,
         Err(fault) => return Err(fault),
     };
-    if let Err(fault) = put_summary(&settings.channels(), records, &summing.counts, out) {
+    if let Err(fault) = write_summary(&settings.channels(), records, &counts, out) {
         return Err(fault);
     }
     match out.flush() {

@@ -1,16 +1,18 @@
 //! `tmx`: reads recordings of TM transfer frames (CCSDS 132.0-B-3).
 #![tactic(auto)]
 
+use std::cell::Cell;
 use std::env;
-use std::io::{ErrorKind, Write};
+use std::io::{ErrorKind, IsTerminal, Write};
 use std::process::ExitCode;
-use tm_program::{Octets, RunFault, ToolFault, UsageFault, fault_line, run, status};
+use tm_explanations::{Watched, explain, explain_bad_frames, explain_words};
+use tm_program::{Octets, Outcome, RunFault, ToolFault, UsageFault, fault_line, run, status};
 
 const NOT_TEXT: &str =
     "error: the arguments are not UTF-8\n\nFor more information, try '--help'.\n";
 
-// The words after the program's name.
-fn all_words(rt: &HostRuntime) -> Result<Vec<String>, ToolFault> {
+// The arguments after the program's name.
+fn all_arguments(rt: &HostRuntime) -> Result<Vec<String>, ToolFault> {
     let alloc = rt.alloc();
     match env::args(rt) {
         Ok(args) => args
@@ -27,40 +29,77 @@ fn all_words(rt: &HostRuntime) -> Result<Vec<String>, ToolFault> {
     }
 }
 
-// Prints the line of a fault on standard error.
-fn refuse(rt: &HostRuntime, fault: &ToolFault) -> ExitCode {
-    match fault_line(rt.alloc(), fault) {
+// What is said behind the line of a fault at a terminal: why it came, and what to do. The number is that of the system's first error.
+fn explanation(rt: &HostRuntime, fault: &ToolFault, number: Option<i32>) -> Option<Vec<u8>> {
+    let found = match env::args(rt) {
+        Ok(args) => match args.skip(1).collect(rt.alloc()) {
+            Ok(arguments) => explain(rt, arguments, fault, number),
+            Err(_) => return None,
+        },
+        Err(_) => explain_words(rt),
+    };
+    match found {
+        Ok(line) => line,
+        Err(_) => None,
+    }
+}
+
+// Prints the line of a fault on standard error, and behind it at a terminal why the fault came.
+fn refuse(rt: &HostRuntime, fault: &ToolFault, number: Option<i32>) -> ExitCode {
+    let mut errors = rt.stderr();
+    let code = match fault_line(rt.alloc(), fault) {
         Ok(line) => {
-            let _ = rt.stderr().write_all(line.as_slice());
+            let _ = errors.write_all(line.as_slice());
             ExitCode::from(status(fault))
         }
         Err(_) => {
-            let _ = rt.stderr().write_all(b"tmx: out of memory\n");
+            let _ = errors.write_all(b"tmx: out of memory\n");
             ExitCode::from(3)
         }
+    };
+    if errors.is_terminal()
+        && let Some(line) = explanation(rt, fault, number)
+    {
+        let _ = errors.write_all(line.as_slice());
+    }
+    code
+}
+
+// Says at a terminal that a run had no good frame, unless its report, which says so, went there.
+fn remark(rt: &HostRuntime, outcome: Outcome) {
+    let mut errors = rt.stderr();
+    if outcome.has_no_good_frame()
+        && !outcome.reports_to_errors
+        && errors.is_terminal()
+        && let Ok(line) = explain_bad_frames(rt.alloc(), outcome.records)
+    {
+        let _ = errors.write_all(line.as_slice());
     }
 }
 
 // Prints a help text on standard output.
 fn help(rt: &HostRuntime, fault: &ToolFault) -> ExitCode {
     let Ok(text) = fault_line(rt.alloc(), fault) else {
-        return refuse(rt, &ToolFault::Run(RunFault::NoMemory));
+        return refuse(rt, &ToolFault::Run(RunFault::NoMemory), None);
     };
     match rt.stdout().write_all(text.as_slice()) {
         Ok(()) => ExitCode::from(status(fault)),
-        Err(_) => refuse(rt, &ToolFault::Run(RunFault::Write)),
+        Err(error) => refuse(rt, &ToolFault::Run(RunFault::Write), error.raw_os_error()),
     }
 }
 
-// Does what the command line asks for.
-fn done(rt: &HostRuntime) -> Result<(), ToolFault> {
-    run(rt, all_words(rt)?, rt.stderr())
-}
-
 fn main(rt: HostRuntime) -> ExitCode {
-    match done(&rt) {
-        Ok(()) => ExitCode::SUCCESS,
+    let first = Cell::new(None);
+    let done = match all_arguments(&rt) {
+        Ok(arguments) => run(&Watched::new(&rt, &first), arguments, rt.stderr()),
+        Err(fault) => Err(fault),
+    };
+    match done {
+        Ok(outcome) => {
+            remark(&rt, outcome);
+            ExitCode::SUCCESS
+        }
         Err(fault) if matches!(&fault, ToolFault::Usage(UsageFault::Help(_))) => help(&rt, &fault),
-        Err(fault) => refuse(&rt, &fault),
+        Err(fault) => refuse(&rt, &fault, first.get()),
     }
 }

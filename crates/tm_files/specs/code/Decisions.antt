@@ -3,30 +3,31 @@ use Rattle.std.specs.Prelude.{◌≡◌, ℕ, Bool, true, false, List, Option, N
 use Rattle.tm_faults.specs.declared.fault.RunFault.TheVariants as run
 use Rattle.tm_files.specs.declared.decisions.Destination.{Destination}
 use Rattle.tm_files.specs.declared.decisions.Destination.TheVariants as destination
-use Rattle.tm_files.specs.declared.decisions.Opening.{Opening}
-use Rattle.tm_files.specs.declared.decisions.Opening.TheVariants as opening
+use Rattle.tm_files.specs.declared.decisions.ReportTarget.{ReportTarget}
+use Rattle.tm_files.specs.declared.decisions.ReportTarget.TheVariants as opening
 use Rattle.tm_files.specs.declared.decisions.Recording.{Recording}
 use Rattle.tm_files.specs.declared.decisions.Recording.TheVariants as recording
 use Rattle.tm_files.specs.declared.decisions.Stream.{Stream}
 use Rattle.tm_files.specs.declared.decisions.Stream.TheVariants as stream
 use Rattle.tm_files.specs.declared.fault.ToolFault.{ToolFault}
 use Rattle.tm_files.specs.declared.fault.ToolFault.TheVariants as tool
-use Rattle.tm_words.specs.declared.request.Action.{Action}
-use Rattle.tm_words.specs.declared.request.Action.TheVariants.{Frames, Split, Summary}
-use Rattle.tm_words.specs.declared.request.Plan.{Plan}
+use Rattle.tm_arguments.specs.declared.request.Action.{Action}
+use Rattle.tm_arguments.specs.declared.request.Action.TheVariants.{Frames, Split, Summary}
+use Rattle.tm_arguments.specs.declared.request.Plan.{Plan}
 
--- the recording comes from the file of exactly the name that the plan has, and from standard input exactly where it has none
+-- the recording comes from the file that the plan names, and from standard input if and only if it names none
 abbrev pub IsRecording : Plan → Recording → Type 0
 IsRecording p recording.Input = p.recording ≡ None
 IsRecording p (recording.File name) = p.recording ≡ Some name.now
 
--- the report's file begins empty exactly where a new job begins, and is gone on with where a job is; it goes to standard error exactly where it has no file
-abbrev pub IsOpening : Plan → Opening → Type 0
-IsOpening p (opening.New name) = (p.report ≡ Some name.now) × (p.resume ≡ None)
-IsOpening p (opening.Behind name) = (p.report ≡ Some name.now) × (is_some p.resume ≡ true)
-IsOpening p opening.Errors = p.report ≡ None
+-- the report's file begins empty if a new job begins, and is appended to if one is resumed; without a file the report goes to
+-- standard error
+abbrev pub IsReportTarget : Plan → ReportTarget → Type 0
+IsReportTarget p (opening.New name) = (p.report ≡ Some name.now) × (p.resume ≡ None)
+IsReportTarget p (opening.Append name) = (p.report ≡ Some name.now) × (is_some p.resume ≡ true)
+IsReportTarget p opening.Errors = p.report ≡ None
 
--- packets go to files of the plan's folder exactly where it splits, which are gone on with exactly where a job is
+-- packets go to files of the plan's folder if and only if it splits, and are appended to if and only if a job is resumed
 abbrev pub IsDestination : Plan → Destination → Type 0
 IsDestination p (destination.Folder dir goes_on) = (p.action ≡ Split) × (p.dir ≡ Some dir.now) × (goes_on ≡ is_some p.resume)
 IsDestination p destination.Output = p.action ≡ Split → p.dir ≡ None

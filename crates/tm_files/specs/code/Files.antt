@@ -4,7 +4,7 @@ use Rattle.tm_faults.specs.declared.fault.RunFault.TheVariants.{NoMemory}
 use Rattle.tm_files.specs.declared.fault.ToolFault.{ToolFault}
 use Rattle.tm_files.specs.declared.fault.ToolFault.TheVariants.{File, TooLong, Run}
 
--- the file of this name can't be opened, made, read or written, or memory is wanting
+-- the file of this name can't be opened, made, read or written, or memory ran out
 abbrev pub IsFileFault : List ℕ → ToolFault → Type 0
 IsFileFault name (File given) = given ≡ name
 IsFileFault name (Run NoMemory) = ⊤
@@ -25,7 +25,7 @@ abbrev pub IsNoMemory : ToolFault → Type 0
 IsNoMemory (Run NoMemory) = ⊤
 IsNoMemory _ = ⊥
 
--- a fault of a run, or want of memory
+-- a fault of a run, or out of memory
 abbrev pub IsRunFault : ToolFault → Type 0
 IsRunFault (Run fault) = ⊤
 IsRunFault _ = ⊥

@@ -12,8 +12,8 @@ remainder_from register bits =
 abbrev pub shifted : ℕ → List Bool → ℕ
 shifted n bits = remainder_from 0 (bits ++ replicate n false)
 
--- a 1 may be taken away where it is added 4, 11 and 16 times `width` bits further on: modulo the generator, x to the
--- power of 16 times `width` is the sum of x to the powers of 12 times `width`, 5 times `width`, and 0
+-- A 1 may be taken away if it is added 4, 11 and 16 times `width` bits further on. For modulo the generator, x to the power of 16
+-- times `width` is a sum: that of x to the powers of 12 times `width`, 5 times `width`, and 0.
 pub record Folds (width : ℕ) : Type 0 where
   pub sum : shifted (16 * width) (true ∷ []) ≡ bit_xor (shifted (12 * width) (true ∷ [])) (bit_xor (shifted (5 * width) (true ∷ [])) (shifted 0 (true ∷ [])))
 

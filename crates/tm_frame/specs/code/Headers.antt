@@ -1,10 +1,10 @@
 -- The primary header as a whole, for private contracts.
 use Rattle.std.specs.Prelude.{ℕ, List}
-use Rattle.tm_frame.specs.declared.header.Header.{Header}
+use Rattle.tm_frame.specs.declared.header.FrameHeader.{FrameHeader}
 use Rattle.tm_frame.specs.Header.{frame_version_of, spacecraft_of, channel_of, ocf_flag, master_count_of, channel_count_of, secondary_flag, synchronization_flag, order_flag_of, segment_of, pointer_of}
 
 -- the primary header
-abbrev pub frame_header_of : List ℕ → Header
+abbrev pub frame_header_of : List ℕ → FrameHeader
 frame_header_of frame = record {
   version = frame_version_of frame;
   spacecraft = spacecraft_of frame;

@@ -1,12 +1,12 @@
 -- Whole packets that lie end to end, so that a sink may take all of them in one step.
 use Rattle.std.specs.Prelude.{ℕ, suc, zero, pred, ◌+◌, List, [], ◌∷◌, length, take}
 use Rattle.tm_items.specs.Item.{Item, Packet}
-use Rattle.tm_items.specs.OnePacket.{IsOnePacket, reach}
+use Rattle.tm_items.specs.OnePacket.{IsOnePacket, packet_length}
 
 -- octets, cut where a packet ends by its header; the first `skip` octets are left out
 abbrev pub packets_behind : ℕ → List ℕ → List (List ℕ)
 packets_behind skip [] = []
-packets_behind zero (x ∷ xs) = take (reach (x ∷ xs)) (x ∷ xs) ∷ packets_behind (pred (reach (x ∷ xs))) xs
+packets_behind zero (x ∷ xs) = take (packet_length (x ∷ xs)) (x ∷ xs) ∷ packets_behind (pred (packet_length (x ∷ xs))) xs
 packets_behind (suc skip) (x ∷ xs) = packets_behind skip xs
 
 abbrev pub packets_in : List ℕ → List (List ℕ)

@@ -6,7 +6,7 @@ use Rattle.tm_frame.specs.Layout.{most_records, record_length_of}
 use Rattle.tm_faults.specs.declared.fault.RunFault.{RunFault}
 use Rattle.tm_faults.specs.declared.fault.RunFault.TheVariants.{NoMemory, Read, Report, ShortRecording, TooMany, Write}
 use Rattle.tm_output.specs.Listing.{record_line}
-use Rattle.tm_output.specs.Outputs.{Stopped, View, line_piece, octets_way}
+use Rattle.tm_output.specs.Outputs.{Stopped, View, line_piece, octets_buffering}
 use Rattle.tm_output.specs.code.Next.{FailsNext, ReadsNext}
 
 -- a read failed in it; it was read, and is one too many, or writing stopped in its line
@@ -15,7 +15,7 @@ NextListingStop layout seen left_old left_new old new Read = FailsNext (record_l
 NextListingStop layout seen left_old left_new old new TooMany =
     ReadsNext (record_length_of layout) left_old left_new (λ one. seen ≡ most_records) × (new ≡ old)
 NextListingStop layout seen left_old left_new old new Write =
-    ReadsNext (record_length_of layout) left_old left_new (λ one. Stopped Appends octets_way old new (line_piece (record_line layout seen one) ∷ []) Write)
+    ReadsNext (record_length_of layout) left_old left_new (λ one. Stopped Appends octets_buffering old new (line_piece (record_line layout seen one) ∷ []) Write)
 NextListingStop layout seen left_old left_new old new Report = ⊥
 NextListingStop layout seen left_old left_new old new ShortRecording = ⊥
 NextListingStop layout seen left_old left_new old new NoMemory = ⊥

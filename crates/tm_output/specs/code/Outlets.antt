@@ -8,22 +8,22 @@ use Rattle.tm_devices.specs.Devices.{raised}
 use Rattle.tm_output.specs.declared.command.Command.{Command}
 use Rattle.tm_output.specs.declared.command.Command.TheVariants.{Extract, Packets, Fields}
 use Rattle.tm_output.specs.FieldRows.{tabled, too_short}
-use Rattle.tm_output.specs.Outputs.{PutsPart, Way}
+use Rattle.tm_output.specs.Outputs.{PutsPart, Buffering}
 use Rattle.tm_output.specs.Pieces.{HasLine, Texts, listed, packet_octets, rows_text, text_of}
 use Rattle.tm_faults.specs.declared.fault.RunFault.{RunFault}
 use Rattle.tm_faults.specs.declared.fault.RunFault.TheVariants.{Read, Write, Report, ShortRecording, TooMany, NoMemory}
 
 -- writing stopped in what belongs there: a call of it failed after a part of that, or there was no memory to make it, where there is any
-abbrev pub PutStopped : {A K : Type 0} → (K → K → List A → Type 0) → Way → K → K → ℕ → ℕ → List A → RunFault → Type 0
-PutStopped grows way old new failures_old failures_new text Read = ⊥
-PutStopped grows way old new failures_old failures_new text Write = (failures_new ≡ raised failures_old) × PutsPart grows old new text
-PutStopped grows way old new failures_old failures_new text Report = ⊥
-PutStopped grows way old new failures_old failures_new text ShortRecording = ⊥
-PutStopped grows way old new failures_old failures_new text TooMany = ⊥
-PutStopped grows way old new failures_old failures_new text NoMemory =
-    (way.memory ≡ true) × (text ≢ []) × (failures_new ≡ failures_old) × grows old new []
+abbrev pub PutStopped : {A K : Type 0} → (K → K → List A → Type 0) → Buffering → K → K → ℕ → ℕ → List A → RunFault → Type 0
+PutStopped grows buffering old new failures_old failures_new text Read = ⊥
+PutStopped grows buffering old new failures_old failures_new text Write = (failures_new ≡ raised failures_old) × PutsPart grows old new text
+PutStopped grows buffering old new failures_old failures_new text Report = ⊥
+PutStopped grows buffering old new failures_old failures_new text ShortRecording = ⊥
+PutStopped grows buffering old new failures_old failures_new text TooMany = ⊥
+PutStopped grows buffering old new failures_old failures_new text NoMemory =
+    (buffering.memory ≡ true) × (text ≢ []) × (failures_new ≡ failures_old) × grows old new []
 
--- of an item that has a line nothing belongs to a drain, and nothing more to the report
+-- an item that has a line gives nothing to a drain, and nothing more to the report
 abbrev pub GivesNone : {A : Type 0} → Texts A → Item → Type 0
 GivesNone text x = (text.out x ≡ []) × (text.remark x ≡ [])
 

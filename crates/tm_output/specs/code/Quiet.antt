@@ -1,8 +1,8 @@
--- Packets that lie end to end, of which the report says nothing.
+-- Packets that lie end to end, and add nothing to the report.
 use Rattle.std.specs.Prelude.{◌≡◌, ◌≤◌, ℕ, List, [], ◌∷◌, ◌++◌, length, take, drop}
 use Rattle.std.specs.List.{flat_map}
 use Rattle.tm_items.specs.Item.{Item, Packet}
-use Rattle.tm_items.specs.OnePacket.{reach}
+use Rattle.tm_items.specs.OnePacket.{packet_length}
 use Rattle.tm_items.specs.Sinks.{TakesAll}
 use Rattle.tm_items.specs.code.Spans.{IsSpan, span_items}
 use Rattle.tm_lines.specs.declared.packet.Packet as lent
@@ -23,23 +23,23 @@ abbrev pub AreQuiet : {A : Type 0} → Texts A → Entries → List Item → Typ
 AreQuiet text entries [] = Unit {0}
 AreQuiet text entries (x ∷ xs) = IsQuiet text entries x × AreQuiet text (noted entries x) xs
 
--- of octets that are packets so many were noted: the packets in front, of which the report says nothing
+-- so many octets of packets were noted: those first packets that add nothing to the report
 pub record HasNoted {A : Type 0} (text : Texts A) (old new : Entries) (seen channel place : ℕ) (octets : List ℕ) (many : ℕ) : Type 0 where
   pub inside : many ≤ length octets
-  pub front : IsSpan (take many octets)
+  pub prefix : IsSpan (take many octets)
   pub rest : IsSpan (drop many octets)
   pub noted_is : new ≡ noted_all old (span_items seen channel place (take many octets))
   pub quiet : AreQuiet text old (span_items seen channel place (take many octets))
 
 -- the packet is the first of them
 pub record IsFirstPacket (seen channel place : ℕ) (octets : List ℕ) (packet : lent.Packet) : Type 0 where
-  pub item : item_with packet ≡ Packet seen channel seen place (take (reach octets) octets)
+  pub item : item_with packet ≡ Packet seen channel seen place (take (packet_length octets) octets)
   pub channel_is : packet.channel ≡ channel
   pub header : HasHeader packet
-  pub length_is : length packet.octets.now ≡ reach octets
+  pub length_is : length packet.octets.now ≡ packet_length octets
 
--- of octets that are packets, those in front that have so many octets were taken
-pub record IsTaken {S : Type 0} (takes : S → Item → S → Type 0) (old new : S) (seen channel place : ℕ) (octets : List ℕ) (many : ℕ) : Type 0 where
-  pub front : IsSpan (take many octets)
+-- the first packets, which have so many octets, were accepted
+pub record IsAccepted {S : Type 0} (takes : S → Item → S → Type 0) (old new : S) (seen channel place : ℕ) (octets : List ℕ) (many : ℕ) : Type 0 where
+  pub prefix : IsSpan (take many octets)
   pub rest : IsSpan (drop many octets)
-  pub taken : TakesAll takes old (span_items seen channel place (take many octets)) new
+  pub accepted : TakesAll takes old (span_items seen channel place (take many octets)) new

@@ -49,7 +49,7 @@ shelves_put (Some f) None application octets h = absurd h
 shelves_put (Some f) (Some g) application octets h = λ k.
     h k ∙ ap (λ (l : List ℕ). f k ++ l) (sym (of_shelved (application == k) k application octets refl))
 
--- of an item that has a line nothing belongs to the places
+-- an item that has a line gives nothing to the places
 shelved_none : (x : Item) → HasLine x → shelved_of x ≡ []
 unfolding shelved_of
 shelved_none (Bad seen fault) has = refl

@@ -7,7 +7,7 @@ use Rattle.tm_packet.specs.declared.notes.Note.TheVariants.{Gap, Broken}
 use Rattle.tm_packet.specs.declared.notes.Why.TheVariants as why
 use Rattle.tm_packet.specs.declared.tracker.PairEntry.{PairEntry}
 use Rattle.tm_packet.specs.Header.{Fields}
-use Rattle.tm_packet.specs.Sequence.{PairMember, next_packet_count, goes_on, rest_notes, head_notes, stray, differs, ended_by, first_in, group_in, opened}
+use Rattle.tm_packet.specs.Sequence.{PairMember, next_packet_count, goes_on, rest_notes, head_notes, stray, differs, end_notes, first_in, group_in, opened}
 
 abbrev pub expected_after : Option PairEntry → Option ℕ
 expected_after None = None
@@ -30,7 +30,7 @@ single_after entry h = record { count = h.count; first = member_first entry (mem
 
 abbrev pub without_gap : Option ℕ → ℕ → Flags → ℕ → List Note
 without_gap None last flags count = stray flags count
-without_gap (Some first) last flags count = ended_by (record { first = first; last = last }) flags count
+without_gap (Some first) last flags count = end_notes (record { first = first; last = last }) flags count
 
 abbrev pub lost : Option ℕ → ℕ → List Note
 lost None last = []

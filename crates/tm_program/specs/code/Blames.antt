@@ -6,35 +6,37 @@ use Rattle.tm_faults.specs.declared.fault.RunFault.{RunFault}
 use Rattle.tm_faults.specs.declared.fault.RunFault.TheVariants as run
 use Rattle.tm_files.specs.declared.fault.ToolFault.{ToolFault}
 use Rattle.tm_files.specs.declared.fault.ToolFault.TheVariants as tool
-use Rattle.tm_shelf.specs.declared.files.ShelfFault.{ShelfFault}
-use Rattle.tm_shelf.specs.declared.files.ShelfFault.TheVariants as shelf
+use Rattle.tm_split_files.specs.declared.files.ShelfFault.{ShelfFault}
+use Rattle.tm_split_files.specs.declared.files.ShelfFault.TheVariants as shelf
 
 -- A device is blamed only where a call of it failed: `Read` where the source's count of failures rose, `Write` where the drain's did, and no other count rises.
 abbrev pub IsBlamed : ℕ → ℕ → ℕ → ℕ → ToolFault → Type 0
 IsBlamed source_old source_new out_old out_new (tool.Run fault) = CausedByDevice source_old source_new out_old out_new fault
 IsBlamed source_old source_new out_old out_new _ = ⊥
 
--- Of a run into an output that it has itself: `Read` comes only where the count of failures of the source rose, and `Report` only where that of the report did.
+-- For a run into an output that it has itself: `Read` comes only where the count of failures of the source rose, and `Report`
+-- only where that of the report did.
 abbrev pub IsBlamedBeside : ℕ → ℕ → ℕ → ℕ → ToolFault → Type 0
 IsBlamedBeside source_old source_new report_old report_new (tool.Run run.Read) = source_new ≡ raised source_old
 IsBlamedBeside source_old source_new report_old report_new (tool.Run run.Report) = report_new ≡ raised report_old
 IsBlamedBeside source_old source_new report_old report_new _ = ⊤
 
--- the fault of a put that was refused: whether memory was wanting, and else the name of its file where that is another file of the run
+-- the fault of a put that was refused: whether memory ran out, and else the name of its file where that is another file of the
+-- run
 abbrev pub put_fault_of : Bool → Option (List ℕ) → ToolFault
-put_fault_of true taken = tool.Run run.NoMemory
+put_fault_of true clashing = tool.Run run.NoMemory
 put_fault_of false (Some name) = tool.File name
 put_fault_of false None = tool.Run run.Write
 
 -- what splitting ends with, of what its run says, of what writing says of that which was held, and of why the shelf last refused a put
 abbrev pub split_end_of : {D : Type 0} → Result D RunFault → Result ⊤ ShelfFault → Bool → Option (List ℕ) → Result D ToolFault
-split_end_of (Ok done) (Ok nothing) starved taken = Ok done
-split_end_of (Ok done) (Err shelf.NoMemory) starved taken = Err (tool.Run run.NoMemory)
-split_end_of (Ok done) (Err shelf.NotWritten) starved taken = Err (tool.Run run.Write)
-split_end_of (Ok done) (Err shelf.Taken) starved taken = Err (tool.Run run.Write)
-split_end_of (Err run.Write) written starved taken = Err (put_fault_of starved taken)
-split_end_of (Err run.Read) written starved taken = Err (tool.Run run.Read)
-split_end_of (Err run.Report) written starved taken = Err (tool.Run run.Report)
-split_end_of (Err run.ShortRecording) written starved taken = Err (tool.Run run.ShortRecording)
-split_end_of (Err run.TooMany) written starved taken = Err (tool.Run run.TooMany)
-split_end_of (Err run.NoMemory) written starved taken = Err (tool.Run run.NoMemory)
+split_end_of (Ok done) (Ok nothing) out_of_memory clashing = Ok done
+split_end_of (Ok done) (Err shelf.NoMemory) out_of_memory clashing = Err (tool.Run run.NoMemory)
+split_end_of (Ok done) (Err shelf.NotWritten) out_of_memory clashing = Err (tool.Run run.Write)
+split_end_of (Ok done) (Err shelf.Clashes) out_of_memory clashing = Err (tool.Run run.Write)
+split_end_of (Err run.Write) written out_of_memory clashing = Err (put_fault_of out_of_memory clashing)
+split_end_of (Err run.Read) written out_of_memory clashing = Err (tool.Run run.Read)
+split_end_of (Err run.Report) written out_of_memory clashing = Err (tool.Run run.Report)
+split_end_of (Err run.ShortRecording) written out_of_memory clashing = Err (tool.Run run.ShortRecording)
+split_end_of (Err run.TooMany) written out_of_memory clashing = Err (tool.Run run.TooMany)
+split_end_of (Err run.NoMemory) written out_of_memory clashing = Err (tool.Run run.NoMemory)

@@ -9,10 +9,10 @@ use Rattle.tm_program.specs.Program.{IsInFolder}
 use Rattle.tm_settings.specs.Settings.{Rules}
 use Rattle.tm_checkpoint.specs.Checkpoints.{resumed}
 use Rattle.tm_checkpoint.specs.Works.{JobState}
-use Rattle.tm_words.specs.declared.request.Action.TheVariants.{Split}
-use Rattle.tm_words.specs.declared.request.Plan.{Plan}
+use Rattle.tm_arguments.specs.declared.request.Action.TheVariants.{Split}
+use Rattle.tm_arguments.specs.declared.request.Plan.{Plan}
 
--- the folder of this name can't be written, an application's file in it is another file of the run, or memory is wanting
+-- the folder of this name can't be written, an application's file in it is another file of the run, or memory ran out
 abbrev pub IsFolderFault : List ℕ → ToolFault → Type 0
 IsFolderFault dir (tool.File given) = (given ≡ dir) ⊎ IsInFolder dir given
 IsFolderFault dir (tool.Run NoMemory) = ⊤
@@ -43,10 +43,10 @@ abbrev pub IsOfResumed : Plan → ToolFault → Type 0
 IsOfResumed p (tool.Checkpoint fault) = IsSome p.resume
 IsOfResumed p fault = HasReadFault p.resume fault
 
--- a fault of a run, want of memory, or the file of this name, which is another file of the run
+-- a fault of a run, out of memory, or the file of this name, which is another file of the run
 abbrev pub IsOfPut : Option (List ℕ) → ToolFault → Type 0
-IsOfPut taken (tool.File name) = taken ≡ Some name
-IsOfPut taken fault = IsRunFault fault
+IsOfPut clashing (tool.File name) = clashing ≡ Some name
+IsOfPut clashing fault = IsRunFault fault
 
 -- a standard stream is closed to which the plan writes: standard output, or standard error where that takes the report
 abbrev pub IsOfStreams : Plan → ToolFault → Type 0
@@ -54,7 +54,8 @@ IsOfStreams p (tool.Run Write) = p.action ≢ Split
 IsOfStreams p (tool.Run Report) = (is_job p.action ≡ true) × (p.report ≡ None)
 IsOfStreams p _ = ⊥
 
--- the run ended before its end, a file or the folder that it writes can't be opened, made or written, or one of these or a stream is another file of the run
+-- The run ended early. Or a file or folder that it writes can't be opened, made or written, or one of these or a stream is
+-- another file of the run.
 abbrev pub IsOfOutputs : Plan → ToolFault → Type 0
 IsOfOutputs p fault = IsRunFault fault ⊎ HasFault p.report fault ⊎ HasFault p.checkpoint fault ⊎ HasFolderFault p.dir fault
 

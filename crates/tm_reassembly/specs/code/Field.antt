@@ -1,14 +1,16 @@
 -- What one frame gives by itself, with no other frame in view. These stand in private contracts alone; that they agree with the
 -- definitions, which look at whole runs, is proved.
-use Rattle.std.specs.Prelude.{◌≡◌, ◌<◌, ◌≤◌, ℕ, suc, zero, pred, ◌+◌, ◌-◌, nat_le, Bool, true, false, Option, Some, None, List, [], ◌∷◌, ◌++◌, length, take, drop, if◌then◌else◌}
+use Rattle.std.specs.Prelude.{◌≡◌, ◌<◌, ◌≤◌, ℕ, suc, zero, pred, ◌+◌, ◌-◌, nat_le, Bool, true, false, Option, Some, None, Result, List, [], ◌∷◌, ◌++◌, length, take, drop, if◌then◌else◌}
 use Rattle.std.specs.List.{flat_map}
 use Rattle.tm_items.specs.declared.items.Reason.TheVariants as why
 use Rattle.tm_items.specs.declared.items.Reason.{Reason}
 use Rattle.tm_reassembly.specs.State.{Tail}
 use Rattle.tm_reassembly.specs.Chain.{ChainMember}
-use Rattle.tm_reassembly.specs.Parts.{Part, Given, Lost, begins_packet, agrees, reason_at, unread_reason, front_of, lead, lead_part}
+use Rattle.tm_reassembly.specs.Parts.{Part, Given, Lost, begins_packet, agrees, reason_at, unread_reason, front_lost, lead}
+use Rattle.tm_items.specs.declared.sink.Sink as sink
+use Rattle.tm_items.specs.Giving.{Gives}
 use Rattle.tm_items.specs.Item.{Item}
-use Rattle.tm_items.specs.OnePacket.{is_packet, reach}
+use Rattle.tm_items.specs.OnePacket.{is_packet, packet_length}
 use Rattle.tm_reassembly.specs.Items.{part_item}
 
 -- the tail that these last octets of a field are, if there are any
@@ -34,10 +36,10 @@ module _ (limit : ℕ) where
   field_parts number stop zero (x ∷ xs) =
       if begins_packet limit (x ∷ xs)
       then
-      (if nat_le (reach (x ∷ xs)) (length (x ∷ xs))
+      (if nat_le (packet_length (x ∷ xs)) (length (x ∷ xs))
       then
-      record { first = number; place = stop - length (x ∷ xs); octets = take (reach (x ∷ xs)) (x ∷ xs); fate = Given number }
-      ∷ field_parts number stop (pred (reach (x ∷ xs))) xs
+      record { first = number; place = stop - length (x ∷ xs); octets = take (packet_length (x ∷ xs)) (x ∷ xs); fate = Given number }
+      ∷ field_parts number stop (pred (packet_length (x ∷ xs))) xs
       else [])
       else record { first = number; place = stop - length (x ∷ xs); octets = x ∷ xs; fate = Lost (unread_reason (x ∷ xs)) number } ∷ []
   field_parts number stop (suc skip) (x ∷ xs) = field_parts number stop skip xs
@@ -47,7 +49,7 @@ module _ (limit : ℕ) where
   unfinished skip [] = []
   unfinished zero (x ∷ xs) =
       if begins_packet limit (x ∷ xs)
-      then (if nat_le (reach (x ∷ xs)) (length (x ∷ xs)) then unfinished (pred (reach (x ∷ xs))) xs else x ∷ xs)
+      then (if nat_le (packet_length (x ∷ xs)) (length (x ∷ xs)) then unfinished (pred (packet_length (x ∷ xs))) xs else x ∷ xs)
       else []
   unfinished (suc skip) (x ∷ xs) = unfinished skip xs
 
@@ -64,6 +66,14 @@ module _ (limit : ℕ) where
   abbrev pub frame_parts : ChainMember → List Part
   frame_parts m = parts_in m.number (end_place_of m) m.place m.field
 
+  -- likewise where no packet is open: what stands before its place is lost for this reason
+  abbrev pub begun_parts : Reason → ChainMember → List Part
+  begun_parts reason m = front_lost m reason ++ frame_parts m
+
+  -- where a frame breaks off a tail: that is lost for this reason, and so is what stands before the frame's place
+  abbrev pub broken_off_parts : Option Tail → Reason → ChainMember → List Part
+  broken_off_parts tail reason m = ended_parts tail reason m.number ++ begun_parts reason m
+
   abbrev pub frame_tail : ChainMember → Option Tail
   frame_tail m = tail_at m.number (end_place_of m) (left_in m.place m.field)
 
@@ -76,9 +86,7 @@ module _ (limit : ℕ) where
       record { first = t.first; place = t.place; octets = take far (t.octets ++ m.field); fate = Given m.number }
       ∷ frame_parts m
       else [])
-      else
-      record { first = t.first; place = t.place; octets = t.octets; fate = Lost (reason_at far (length t.octets) m) m.number }
-      ∷ (lead_part m (reason_at far (length t.octets) m) (front_of m.place m.field) ++ frame_parts m)
+      else broken_off_parts (Some t) (reason_at far (length t.octets) m) m
 
   abbrev pub tail_left : Tail → ChainMember → ℕ → Option Tail
   tail_left t m far =
@@ -91,11 +99,11 @@ module _ (limit : ℕ) where
 
   abbrev pub step_parts : Option Tail → ChainMember → List Part
   step_parts None m = lead limit [] m ++ frame_parts m
-  step_parts (Some t) m = tail_parts t m (reach (t.octets ++ m.field))
+  step_parts (Some t) m = tail_parts t m (packet_length (t.octets ++ m.field))
 
   abbrev pub step_tail : Option Tail → ChainMember → Option Tail
   step_tail None m = frame_tail m
-  step_tail (Some t) m = tail_left t m (reach (t.octets ++ m.field))
+  step_tail (Some t) m = tail_left t m (packet_length (t.octets ++ m.field))
 
   -- What a frame of a chain gives, and the tail that it leaves: it may have a gap and may be a VCA frame
   abbrev pub chain_parts_at : Bool → Bool → Option Tail → ChainMember → List Part
@@ -113,18 +121,26 @@ module _ (limit : ℕ) where
 abbrev pub part_items : ℕ → List Part → List Item
 part_items channel ps = flat_map (λ p. part_item channel p p.fate) ps
 
+-- a call gives the items of these parts to a sink
+abbrev pub GivesParts : {S F T : Type 0} (s : sink.Ghosts S F) → S → S → ℕ → List Part → Result T F → Type 0
+GivesParts s old new channel ps r = Gives s old new (part_items channel ps) r
+
 -- the items that a field gives from a place on
 abbrev pub items_from : ℕ → ℕ → ℕ → List ℕ → ℕ → List Item
 items_from limit seen channel field at = part_items channel (field_parts limit seen (length field) 0 (drop at field))
 
 -- a packet of so many octets begins with these, is read, and lies whole in them
-pub record IsWholeFront (limit : ℕ) (octets : List ℕ) (far : ℕ) : Type 0 where
+pub record IsWholePacketOf (limit : ℕ) (octets : List ℕ) (far : ℕ) : Type 0 where
   pub some : 0 < length octets
   pub version : is_packet octets ≡ true
   pub begins : begins_packet limit octets ≡ true
-  pub reaches : far ≡ reach octets
+  pub reaches : far ≡ packet_length octets
   pub whole : far ≤ length octets
 
 -- none does
-abbrev pub HasNoWholeFront : ℕ → List ℕ → Type 0
-HasNoWholeFront limit octets = begins_packet limit octets ≡ true → length octets < reach octets
+abbrev pub HasNoWholePacket : ℕ → List ℕ → Type 0
+HasNoWholePacket limit octets = begins_packet limit octets ≡ true → length octets < packet_length octets
+
+-- the octets of a field from `left` on are these, fewer than a packet may have
+abbrev pub IsLeft : ℕ → List ℕ → ℕ → List ℕ → Type 0
+IsLeft limit field left rest = (drop left field ≡ rest) × (left ≤ length field) × (length field < left + limit)

@@ -1,5 +1,11 @@
 -- What is written before all else, for a private contract.
-use Rattle.std.specs.Prelude.{ℕ, Bool, if◌then◌else◌, List, []}
+use Rattle.std.specs.Prelude.{◌≡◌, ◌⊎◌, ℕ, Bool, if◌then◌else◌, List, [], Option}
+use Rattle.std.specs.Io.KnownBytes.{Appends}
+use Rattle.tm_devices.specs.Devices.{raised}
+use Rattle.tm_faults.specs.declared.fault.RunFault.{RunFault}
+use Rattle.tm_faults.specs.declared.fault.RunFault.TheVariants.{Write}
+use Rattle.tm_output.specs.Outputs.{lines_buffering}
+use Rattle.tm_output.specs.code.Outlets.{PutStopped}
 use Rattle.tm_fields.specs.Rows.{head_of}
 use Rattle.tm_output.specs.declared.command.Command.{Command}
 use Rattle.tm_output.specs.declared.command.Command.TheVariants.{Extract, Packets, Fields}
@@ -9,3 +15,9 @@ abbrev pub head_text : Command → Bool → List ℕ
 head_text Extract fresh = []
 head_text Packets fresh = []
 head_text (Fields definition application) fresh = if fresh then head_of definition.now else []
+
+-- writing stopped in it, or it was written and the flush behind it failed
+abbrev pub HeadStopped : Option (List ℕ) → Option (List ℕ) → ℕ → ℕ → List ℕ → RunFault → Type 0
+HeadStopped old new failures_old failures_new text fault =
+    PutStopped Appends lines_buffering old new failures_old failures_new text fault
+    ⊎ ((fault ≡ Write) × Appends old new text × (failures_new ≡ raised failures_old))

@@ -3,21 +3,26 @@ use Rattle.std.specs.Prelude.{◌≡◌, ◌≤◌, ◌-◌, ◌^◌, ℕ, List,
 use Rattle.tm_faults.specs.declared.fault.RunFault.{RunFault}
 use Rattle.tm_faults.specs.declared.fault.RunFault.TheVariants.{Read, Write, Report, ShortRecording, TooMany, NoMemory}
 use Rattle.tm_output.specs.declared.command.Ending.{Ending}
-use Rattle.tm_output.specs.Outputs.{Piece, View, Way, Took, Stopped}
+use Rattle.tm_output.specs.Outputs.{Piece, View, Buffering, Took, Stopped}
 use Rattle.tm_output.specs.Pieces.{Texts}
+use Rattle.tm_output.specs.Seen.{outlet_both, output_both}
+use Rattle.tm_output.specs.declared.output.Output.{Output}
+use Rattle.tm_output.specs.declared.outlet.Outlet as outlet
+use Rattle.tm_devices.specs.declared.device.Drain as drain
+use Rattle.tm_devices.specs.declared.device.BufferedSource as source
 use Rattle.tm_checkpoint.specs.Works.{Work}
 use Rattle.tm_tool.specs.RecordingPieces.{worked, record_pieces, pieces_after}
-use Rattle.tm_tool.specs.Runs.{HasEnded, behind, kept_of}
+use Rattle.tm_tool.specs.Runs.{Devices, HasEnded, behind, devices_at, kept_of}
 
 module _ {A K : Type 0} (grows : K → K → List A → Type 0) where
   -- a step stopped: while writing, or before a record that is one too many
-  abbrev pub StepStopped : Way → ℕ → View K → View K → List (Piece A) → RunFault → Type 0
-  StepStopped way records old new pieces Read = ⊥
-  StepStopped way records old new pieces Write = Stopped grows way old new pieces Write
-  StepStopped way records old new pieces Report = Stopped grows way old new pieces Report
-  StepStopped way records old new pieces ShortRecording = ⊥
-  StepStopped way records old new pieces TooMany = (records ≡ 2 ^ 32 - 1) × (new ≡ old)
-  StepStopped way records old new pieces NoMemory = Stopped grows way old new pieces NoMemory
+  abbrev pub StepStopped : Buffering → ℕ → View K → View K → List (Piece A) → RunFault → Type 0
+  StepStopped buffering records old new pieces Read = ⊥
+  StepStopped buffering records old new pieces Write = Stopped grows buffering old new pieces Write
+  StepStopped buffering records old new pieces Report = Stopped grows buffering old new pieces Report
+  StepStopped buffering records old new pieces ShortRecording = ⊥
+  StepStopped buffering records old new pieces TooMany = (records ≡ 2 ^ 32 - 1) × (new ≡ old)
+  StepStopped buffering records old new pieces NoMemory = Stopped grows buffering old new pieces NoMemory
 
   -- the pieces of records were written
   abbrev pub TookRecords : Texts A → Work → List (List ℕ) → View K → View K → Type 0
@@ -28,16 +33,24 @@ module _ {A K : Type 0} (grows : K → K → List A → Type 0) where
   TakesRecord text w octets old new = TookRecords text w (octets ∷ []) old new
 
   -- and it refuses one
-  abbrev pub RefusesRecord : Texts A → Way → Work → List ℕ → View K → View K → RunFault → Type 0
-  RefusesRecord text way w octets old new fault = StepStopped way w.state.records old new (record_pieces text w (octets ∷ [])) fault
+  abbrev pub RefusesRecord : Texts A → Buffering → Work → List ℕ → View K → View K → RunFault → Type 0
+  RefusesRecord text buffering w octets old new fault = StepStopped buffering w.state.records old new (record_pieces text w (octets ∷ [])) fault
+
+-- what is known of the devices of a run into an outlet and a drain
+abbrev pub outlet_devices : {R O V : Type 0} → source.Ghosts R → (o : outlet.Ghosts O) → drain.Ghosts V → R → O → V → Devices o.Held
+outlet_devices r o v recording outlet report = devices_at (r.left recording) (r.failures recording) (outlet_both o v outlet report)
+
+-- and into an output
+abbrev pub output_devices : {R O V : Type 0} → source.Ghosts R → (o : outlet.Ghosts O) → drain.Ghosts V → R → Output O V → Devices o.Held
+output_devices r o v recording output = devices_at (r.left recording) (r.failures recording) (output_both o v output)
 
 -- all that the ending reads was read, and its pieces were written, the ending's too
-pub record IsRun {A K : Type 0} (grows : K → K → List A → Type 0) (way : Way) (text : Texts A) (ending : Ending) (w : Work)
-    (left_old left_new : Option (List ℕ)) (old new : View K) (count : ℕ) (kept : Option Work) : Type 0 where
+pub record IsRun {A K : Type 0} (grows : K → K → List A → Type 0) (buffering : Buffering) (text : Texts A) (ending : Ending) (w : Work)
+    (old new : Devices K) (count : ℕ) (kept : Option Work) : Type 0 where
   pub read : List (List ℕ)
   pub rest : List ℕ
   pub passed : w.state.records ≤ length read
-  pub ended : HasEnded ending w left_old left_new read rest
+  pub ended : HasEnded ending w old.left new.left read rest
   pub count_is : count ≡ length read
   pub kept_is : kept ≡ kept_of ending (worked w (behind w read))
-  pub took : Took grows old new (pieces_after text ending w (behind w read) (length rest))
+  pub took : Took grows old.outputs new.outputs (pieces_after text ending w (behind w read) (length rest))

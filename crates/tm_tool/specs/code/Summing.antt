@@ -8,7 +8,7 @@ use Rattle.tm_devices.specs.Devices.{raised}
 use Rattle.tm_faults.specs.declared.fault.RunFault.{RunFault}
 use Rattle.tm_faults.specs.declared.fault.RunFault.TheVariants.{Read, Write, Report, ShortRecording, TooMany, NoMemory}
 use Rattle.tm_output.specs.Pieces.{noted_all}
-use Rattle.tm_summary.specs.Numbers.{Numbers, Tally, numbers_of}
+use Rattle.tm_summary.specs.SummaryNumbers.{SummaryNumbers, Tally, numbers_of}
 use Rattle.tm_summary.specs.Tallies.{and_items, and_notes, notes_among, open_notes}
 use Rattle.tm_checkpoint.specs.Works.{Work}
 use Rattle.tm_tool.specs.RecordingPieces.{items_of}
@@ -29,14 +29,14 @@ and_end w t rest =
     and_notes (and_items t w.entries (closing w.state rest)) (open_notes (sequence.unclosed 0 (noted_all w.entries (closing w.state rest))))
 
 -- records were counted on top of all that was counted before
-abbrev pub CountedRecords : Work → List (List ℕ) → Numbers → Numbers → Type 0
+abbrev pub CountedRecords : Work → List (List ℕ) → SummaryNumbers → SummaryNumbers → Type 0
 CountedRecords w rs before now = (t : Tally) → before ≡ numbers_of t → now ≡ numbers_of (and_records w t rs)
 
 -- a record is counted, or refused because it is one too many
-abbrev pub CountsRecord : Work → List ℕ → Numbers → Numbers → Type 0
+abbrev pub CountsRecord : Work → List ℕ → SummaryNumbers → SummaryNumbers → Type 0
 CountsRecord w octets before now = CountedRecords w (octets ∷ []) before now
 
-abbrev pub RefusesCount : Work → List ℕ → Numbers → Numbers → RunFault → Type 0
+abbrev pub RefusesCount : Work → List ℕ → SummaryNumbers → SummaryNumbers → RunFault → Type 0
 RefusesCount w octets before now fault = (fault ≡ TooMany) × (w.state.records ≡ most_records)
 
 -- the references that a sink holds which counts
@@ -45,12 +45,12 @@ pub record CountingNames : Type 0 where
   pub counts : ℕ
 
 -- and a closed end, where there is a place for each channel and application
-abbrev pub CountsEnd : Work → Numbers → ℕ → Numbers → Type 0
+abbrev pub CountsEnd : Work → SummaryNumbers → ℕ → SummaryNumbers → Type 0
 CountsEnd w before rest now = (t : Tally) → before ≡ numbers_of t → length w.entries ≤ 16384 → now ≡ numbers_of (and_end w t rest)
 
 module _ (w : Work) (left_old left_new : Option (List ℕ)) where
   -- all was read and counted, down to the closed end; and so many records were read
-  pub record HasSummed (now : Numbers) (count : ℕ) : Type 0 where
+  pub record HasSummed (now : SummaryNumbers) (count : ℕ) : Type 0 where
     pub read : List (List ℕ)
     pub rest : List ℕ
     pub all : HasReadAll (record_length_of w.rules.layout) left_old left_new read rest

@@ -1,4 +1,4 @@
--- The front of the buffer has what was read, and no call failed yet.
+-- The beginning of the buffer has what was read, and no call failed yet.
 use Rattle.std.proofs.Common.{length, ◌-◌, ◌≡◌, ◌≤◌, take}
 use Rattle.std.specs.Io.KnownBytes.{Consumes}
 use Rattle.tm_devices.proofs.transfer.fill.Given as goal

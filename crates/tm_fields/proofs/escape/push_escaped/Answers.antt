@@ -4,7 +4,7 @@ use Rattle.tm_fields.specs.Escape.{octet_text}
 use Rattle.tm_fields.proofs.Escapes.{written_within}
 use Rattle.tm_fields.proofs.escape.push_escaped.Goals as goal
 
--- a front of a front
+-- a prefix of a front
 front_of : (old more new : List ℕ) → take (length (old ++ more)) new ≡ old ++ more → take (length old) new ≡ old
 front_of [] more new e = refl
 front_of (o ∷ os) more [] e = search (rules, e)
@@ -14,8 +14,8 @@ front_of (o ∷ os) more (n ∷ ns) e =
     let rest = front_of os more ns tail in
     search (rules, head, rest)
 
-pub returns-in_err-push_octet-clause-front : goal.returns-in_err-push_octet-clause-front
-returns-in_err-push_octet-clause-front c =
+pub returns-in_err-push_octet-clause-prefix : goal.returns-in_err-push_octet-clause-prefix
+returns-in_err-push_octet-clause-prefix c =
     let more : List ℕ = flat_map octet_text (take c.loop-octet.octet-index c.args.octets.now) in
     let is : c.loop-octet.text.items ≡ c.args.text.now.items ++ more = c.loop-octet.invariant.0 in
     let seam : take (length c.loop-octet.text.items) c.push_octet.new.text.items ≡ c.loop-octet.text.items = search rules in

@@ -17,4 +17,4 @@ returns-clause-value c =
     let whole : take (length octets - (last - 8)) from ≡ from = take_all (length octets - (last - 8)) from (omega (arith, length-drop (last - 8) octets)) in
     let word = c.read_u64-word.ensures ∙ ap (big_number 8) whole in
     let read = part_read octets last at (at + count) c.read_u64-word.result are (omega arith) (omega arith) (omega arith) (omega arith) (omega arith) word in
-    c.cut.ensures.value ∙ sym (rw width at read)
+    c.cut_bits.ensures.value ∙ sym (rw width at read)

@@ -14,7 +14,7 @@ returns-in_ok-push-clause-kept c =
     let size = length-append (map fields_of rows) (fields_of c.args.row ∷ []) in
     rw (items, more) (sym (kept_short (map fields_of rows ++ (fields_of c.args.row ∷ [])) (omega (arith, size, length-map rows fields_of))))
 
-pub returns-else-len-lt-KEPT-clause-kept : goal.returns-else-len-lt-KEPT-clause-kept
-returns-else-len-lt-KEPT-clause-kept c =
+pub returns-else-len-lt-MOST_ROWS-clause-kept : goal.returns-else-len-lt-MOST_ROWS-clause-kept
+returns-else-len-lt-MOST_ROWS-clause-kept c =
     let rows = c.args.rows.now.items in
     sym (kept_full (map fields_of rows) (fields_of c.args.row) (omega (arith, length-map rows fields_of)))

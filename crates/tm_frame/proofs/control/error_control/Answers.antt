@@ -22,13 +22,13 @@ loop-rest-init c =
 pub loop-rest-preserved : goal.loop-rest-preserved
 loop-rest-preserved c =
     let before : ℕ = words_remainder c.loop-rest.held in
-    let after : ℕ = words_remainder c.take_block.new.held in
+    let after : ℕ = words_remainder c.append_block.new.held in
     record {
       whole = omega (arith, c.split_at-in-loop-rest.ensures.back_len, c.loop-rest.invariant.whole);
       same =
           ap (λ l. remainder_from after (bits_of l)) c.split_at-in-loop-rest.ensures.back
           ∙ octets_apart before after 128 c.loop-rest.rest.now
-          (c.take_block.ensures ∙ ap (λ l. remainder_from before (bits_of l)) c.split_at-in-loop-rest.ensures.front)
+          (c.append_block.ensures ∙ ap (λ l. remainder_from before (bits_of l)) c.split_at-in-loop-rest.ensures.front)
           ∙ c.loop-rest.invariant.same;
     }
 

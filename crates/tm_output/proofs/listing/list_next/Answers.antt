@@ -10,13 +10,9 @@ filled_next : {left_old left_new : Option (List ℕ)} {Holds : List ℕ → Type
 filled_next {left_old} {left_new} size many buffer exact whole octets holds =
     record { one = buffer; exact = exact; octets = subst (Consumes left_old left_new) (take_all many buffer (omega arith)) octets; holds = holds }
 
-pub returns-in-Ok-put_record-clause-listed : goal.returns-in-Ok-put_record-clause-listed
-returns-in-Ok-put_record-clause-listed g c =
-    λ _. (omega arith, filled_next _ _ _ c.fill.auto.buffer c.if-octets-size.false c.in-Ok-fill.ensures.octets c.in-Ok-put_record.ensures.took)
-
-pub returns-in-Err-put_record-clause-stopped : goal.returns-in-Err-put_record-clause-stopped
-returns-in-Err-put_record-clause-stopped g c =
-    filled_next _ _ _ (c.fill.auto.buffer ∙ c.requires) (omega (arith, c.if-octets-size.false)) c.in-Ok-fill.ensures.octets c.in-Err-put_record.ensures.stopped
+pub returns-in-Err-write_record_line-clause-stopped : goal.returns-in-Err-write_record_line-clause-stopped
+returns-in-Err-write_record_line-clause-stopped g c =
+    filled_next _ _ _ (c.fill.auto.buffer ∙ c.requires) (omega (arith, c.if-octets-size.false)) c.in-Ok-fill.ensures.octets c.in-Err-write_record_line.ensures.stopped
 
 pub returns-then-seen-eq4294967295-clause-stopped : goal.returns-then-seen-eq4294967295-clause-stopped
 returns-then-seen-eq4294967295-clause-stopped g c =

@@ -5,4 +5,4 @@ pub returns-clause-quiet : goal.returns-clause-quiet
 returns-clause-quiet g c = λ yes.
     let packet = c.args.packet.now in
     no_report c.args.tracker.now packet.seen packet.channel packet.first packet.place packet.header packet.octets.now _
-    c.requires.header (c.take_without_notes.ensures.none.0 yes) (c.is_silent.ensures c.if-not-is_silent.false)
+    c.requires.header (c.add_without_notes.ensures.none.0 yes) (c.adds_nothing_to_report.ensures c.if-not-adds_nothing_to_report.false)

@@ -3,9 +3,9 @@ use Rattle.tm_reassembly.proofs.laws.nothing_is_lost.Goals as goal
 
 pub returns : goal.returns
 returns c = record {
-  in_time = seen-in_time;
-  told = channel-told;
-  in_order = channel-in_order;
+  in_time = λ o records. seen-in_time o.rules o.state records o.valid;
+  told = λ o records. channel-told o.rules o.state records o.valid;
+  in_order = λ o records. channel-in_order o.rules o.state records o.valid;
   nothing_added = told-channel;
-  masters = masters-told;
+  masters = λ o records. masters-told o.rules o.state records o.valid;
 }

@@ -1,23 +1,23 @@
 use Rattle.std.proofs.Common.{Option, Ok, refl, sym, ap, ◌∙◌, arith}
 use Rattle.std.proofs.lemmas.List.{length-set}
 use Rattle.tm_reassembly.specs.State.{Last}
-use Rattle.tm_reassembly.specs.code.Kept.{lasts}
+use Rattle.tm_reassembly.specs.code.Slots.{lasts}
 use Rattle.tm_reassembly.proofs.Blocks.{kept_more, kept_all}
 use Rattle.tm_reassembly.proofs.Slots.{lasts_set, lasts_length, limit_at, limit_set}
 use Rattle.tm_reassembly.proofs.reassembly.restore.Goals as goal
 
 pub loop-channel-preserved : goal.loop-channel-preserved
 loop-channel-preserved c =
-    let before = limit_at c.args.rules.now.max_packet c.loop-channel.kept c.loop-channel.channel c.index-kept-channel.result c.loop-channel.invariant.2 (omega (arith, c.loop-channel-test.true, c.loop-channel.invariant.1)) in (
-      rw (lasts_set c.loop-channel.kept c.loop-channel.channel _)
-          (kept_more c.args.rules.now c.args.records c.args.octets.now (lasts c.loop-channel.kept) _ _ _ _ _ c.loop-channel.invariant.0
-          (lasts_length c.loop-channel.kept ∙ c.loop-channel.invariant.1) c.loop-channel-test.true refl
+    let before = limit_at c.args.rules.now.max_packet c.loop-channel.states c.loop-channel.channel c.index-states-channel.result c.loop-channel.invariant.2 (omega (arith, c.loop-channel-test.true, c.loop-channel.invariant.1)) in (
+      rw (lasts_set c.loop-channel.states c.loop-channel.channel _)
+          (kept_more c.args.rules.now c.args.records c.args.octets.now (lasts c.loop-channel.states) _ _ _ _ _ c.loop-channel.invariant.0
+          (lasts_length c.loop-channel.states ∙ c.loop-channel.invariant.1) c.loop-channel-test.true refl
           (c.in-Ok.ensures.ok ∙ ap (λ (k : Option Last). Ok (record { kept = k; octets = c.in-Ok.used })) (sym c.restore.ensures.last)) c.in-Ok.ensures.inside),
       length-set _ _ _ ∙ c.loop-channel.invariant.1,
-      limit_set c.args.rules.now.max_packet c.loop-channel.kept c.loop-channel.channel _ c.loop-channel.invariant.2 (c.restore.ensures.limit ∙ before.0, omega (arith, c.restore.ensures.room, before.1)),
+      limit_set c.args.rules.now.max_packet c.loop-channel.states c.loop-channel.channel _ c.loop-channel.invariant.2 (c.restore.ensures.limit ∙ before.0, omega (arith, c.restore.ensures.room, before.1)),
     )
 
 pub returns-clause-ok : goal.returns-clause-ok
 returns-clause-ok c =
-    kept_all c.args.rules.now c.args.records c.args.octets.now (lasts c.loop-channel.kept) _ _ c.loop-channel.invariant.0
-    (lasts_length c.loop-channel.kept ∙ c.loop-channel.invariant.1) (omega (arith, c.loop-channel-test.false))
+    kept_all c.args.rules.now c.args.records c.args.octets.now (lasts c.loop-channel.states) _ _ c.loop-channel.invariant.0
+    (lasts_length c.loop-channel.states ∙ c.loop-channel.invariant.1) (omega (arith, c.loop-channel-test.false))

@@ -2,4 +2,4 @@ use Rattle.tm_output.proofs.LinePieces.{line_stopped}
 use Rattle.tm_summary.proofs.writing.write_line.Goals as goal
 
 pub returns-in-Err : goal.returns-in-Err
-returns-in-Err g c = line_stopped c.args.line.now c.in-Err.ensures.front c.in-Err.ensures.counts
+returns-in-Err g c = line_stopped c.args.line.now c.in-Err.ensures.prefix c.in-Err.ensures.counts

@@ -1,4 +1,4 @@
-use Rattle.std.proofs.Common.{refl, inl, inr}
+use Rattle.std.proofs.Common.{ℕ, ◌<◌, refl, inl, inr, subst}
 use Rattle.std.specs.Io.KnownBytes.{Appends}
 use Rattle.std.proofs.KnownBytes.{Appends-nil, Appends-trans}
 use Rattle.tm_tool.proofs.HeadLemmas.{head_stopped, head_took}
@@ -7,8 +7,8 @@ use Rattle.tm_tool.proofs.job.run.Goals as goal
 
 pub returns-in-Ok-clause-ran : goal.returns-in-Ok-clause-ran
 returns-in-Ok-clause-ran g c =
-    rw (← c.job.view_is, c.done_by.ensures.records, c.done_by.ensures.kept)
-    (ran_behind Appends Appends-nil Appends-trans _ _ _ _ c.in-Ok.ensures.sound.0 c.in-Ok.ensures.sound.1 _ _ _ _ _ _ _ _ _ _
+    rw (← c.job.view_is, c.make_done.ensures.records, c.make_done.ensures.kept)
+    (ran_behind Appends Appends-nil Appends-trans _ _ _ _ c.job.invariant.going.1 (subst (λ (n : ℕ). 0 < n) c.job.invariant.exact c.job.invariant.some) _ _ _ _ _ _ _ _ _ _
     (head_took _ c.args.command c.job.inside.fresh c.in_default.ensures.whole) c.in-Ok.ensures.run)
 
 pub returns-in-Err-clause-stopped : goal.returns-in-Err-clause-stopped
@@ -20,7 +20,7 @@ returns-in-Err-clause-stopped g c =
       stopped = head_stopped _ c.args.command c.job.inside.fresh c.in-Err.fault c.in-Err.ensures.stopped;
     }))
 
-pub returns-in-Err-run_by-clause-stopped : goal.returns-in-Err-run_by-clause-stopped
-returns-in-Err-run_by-clause-stopped g c =
+pub returns-in-Err-run_command-clause-stopped : goal.returns-in-Err-run_command-clause-stopped
+returns-in-Err-run_command-clause-stopped g c =
     rw (← c.job.view_is)
-    (inr (record { mid = _; headed = head_took _ c.args.command c.job.inside.fresh c.in_default.ensures.whole; stopped = c.in-Err-run_by.ensures.stopped }))
+    (inr (record { mid = _; headed = head_took _ c.args.command c.job.inside.fresh c.in_default.ensures.whole; stopped = c.in-Err-run_command.ensures.stopped }))

@@ -1,20 +1,19 @@
 use Rattle.std.proofs.Common.{◌∙◌, ap}
-use Rattle.tm_tool.specs.declared.job.Job.TheInside.{Inside}
 use Rattle.tm_checkpoint.specs.Works.{JobState}
 use Rattle.tm_tool.proofs.SummaryEnds.{flush_stopped, lines_stopped, summarized}
 use Rattle.tm_tool.proofs.summary.summarize.Goals as goal
 
-pub returns-in-Err-put_summary-clause-stopped : goal.returns-in-Err-put_summary-clause-stopped
-returns-in-Err-put_summary-clause-stopped g c =
-    let begun = ap (λ (i : Inside). i.work) c.job-inside.view_is ∙ ap (λ (j : JobState). j.work) (c.job.view_is ∙ c.in-Ok.ensures) in
-    lines_stopped c.args.settings.now _ _ _ begun _ _ c.in-Ok-count_into.ensures.counted _ c.channels.ensures _ _ _ _ c.in-Err-put_summary.fault c.in-Err-put_summary.ensures
+pub returns-in-Err-write_summary-clause-stopped : goal.returns-in-Err-write_summary-clause-stopped
+returns-in-Err-write_summary-clause-stopped g c =
+    let begun = ap (λ (j : JobState). j.work) (c.job.view_is ∙ c.in-Ok.ensures) in
+    lines_stopped c.args.settings.now _ _ _ begun _ _ c.in-Ok-count_into.ensures.counted _ c.channels.ensures _ _ _ _ c.in-Err-write_summary.fault c.in-Err-write_summary.ensures
 
 pub returns-in-Ok-flush-clause-summarized : goal.returns-in-Ok-flush-clause-summarized
 returns-in-Ok-flush-clause-summarized g c =
-    let begun = ap (λ (i : Inside). i.work) c.job-inside.view_is ∙ ap (λ (j : JobState). j.work) (c.job.view_is ∙ c.in-Ok.ensures) in
-    summarized c.args.settings.now _ _ _ begun _ _ c.in-Ok-count_into.ensures.counted _ c.channels.ensures _ _ _ _ _ c.in_default-put_summary.ensures c.flush.ensures.octets
+    let begun = ap (λ (j : JobState). j.work) (c.job.view_is ∙ c.in-Ok.ensures) in
+    summarized c.args.settings.now _ _ _ begun _ _ c.in-Ok-count_into.ensures.counted _ c.channels.ensures _ _ _ _ _ c.in_default-write_summary.ensures c.flush.ensures.octets
 
 pub returns-clause-stopped : goal.returns-clause-stopped
 returns-clause-stopped g c =
-    let begun = ap (λ (i : Inside). i.work) c.job-inside.view_is ∙ ap (λ (j : JobState). j.work) (c.job.view_is ∙ c.in-Ok.ensures) in
-    flush_stopped c.args.settings.now _ _ _ begun _ _ c.in-Ok-count_into.ensures.counted _ c.channels.ensures _ _ _ _ _ _ c.in_default-put_summary.ensures c.flush.ensures.octets c.in-Err-flush.ensures.counts
+    let begun = ap (λ (j : JobState). j.work) (c.job.view_is ∙ c.in-Ok.ensures) in
+    flush_stopped c.args.settings.now _ _ _ begun _ _ c.in-Ok-count_into.ensures.counted _ c.channels.ensures _ _ _ _ _ _ c.in_default-write_summary.ensures c.flush.ensures.octets c.in-Err-flush.ensures.counts

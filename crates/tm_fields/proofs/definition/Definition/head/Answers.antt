@@ -13,8 +13,8 @@ loop-field-preserved c =
     let is = rw same at c.field-item.is in
     let i : ℕ = c.loop-field.field-index in
     let more = texts_more named lead_names c.args.self.now i c.field-item.result inside is in
-    subst (λ (values : List (List ℕ)). HasValues (λ v. Some v.items) c.put_name.new.writer [] values) more
-    (c.in_ok-put_name.ensures [] (lead_names ++ flat_map named (take i c.args.self.now)) c.loop-field.invariant)
+    subst (λ (values : List (List ℕ)). HasValues (λ v. Some v.items) c.write_field_name.new.writer [] values) more
+    (c.in_ok-write_field_name.ensures [] (lead_names ++ flat_map named (take i c.args.self.now)) c.loop-field.invariant)
 
 pub returns : goal.returns
 returns c =

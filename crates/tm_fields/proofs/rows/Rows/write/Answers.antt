@@ -23,10 +23,10 @@ returns-clause-ok c =
       | then-len-gt-ENOUGH w ↦ rw w.self-inside-is (ap (λ (r : RowsState). r.fields) c.self.view_is)
       | else-len-gt-ENOUGH w ↦ rw w.self-inside-is (ap (λ (r : RowsState). r.fields) c.self.view_is)
     ] in
-    let put : is_err c.put_row-put.result ≡ false = search rules in
-    let written = on-ok c.put_row-put.result put c.put_row-put.ensures before.0 before.1 in
+    let write_value : is_err c.write_row-write_value.result ≡ false = search rules in
+    let written = on-ok c.write_row-write_value.result write_value c.write_row-write_value.ensures before.0 before.1 in
     let size : c.len-self-inside.result ≡ length (writer_under c.if-len-gt-ENOUGH.self-inside.writer).items = search rules in
     let long : bits_needed c.if-len-gt-ENOUGH.self-inside.definition.now ≤ bits_in c.args.packet.now = search rules in
-    let row : drop c.len-self-inside.result (writer_under c.put_row-put.new.writer).items ≡ row_of c.if-len-gt-ENOUGH.self-inside.definition.now c.args.lead c.args.packet.now =
+    let row : drop c.len-self-inside.result (writer_under c.write_row-write_value.new.writer).items ≡ row_of c.if-len-gt-ENOUGH.self-inside.definition.now c.args.lead c.args.packet.now =
     line_behind (writer_under c.if-len-gt-ENOUGH.self-inside.writer).items _ before.0 _ _ before.1.passed written.passed size in
     row_made c.args.self.now.fields c.args.lead c.args.packet.now _ (rw same at long) (row ∙ ap (λ (fields : List Field). row_of fields c.args.lead c.args.packet.now) same)

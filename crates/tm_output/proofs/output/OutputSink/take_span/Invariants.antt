@@ -7,7 +7,7 @@ use Rattle.tm_output.proofs.output.OutputSink.take_span.Given as goal
 
 abbrev pub invariant-loop-at : goal.invariant-loop-at
 invariant-loop-at g l =
-    Leads (Takes g.O.Outlet.grows g.O.Outlet.text g.O.Outlet.way) (Refuses g.O.Outlet.grows g.O.Outlet.text g.O.Outlet.way)
+    Leads (Takes g.O.Outlet.grows g.O.Outlet.text g.O.Outlet.buffering) (Refuses g.O.Outlet.grows g.O.Outlet.text g.O.Outlet.buffering)
     (output_state g.O.Outlet g.V.Drain l.initial.self) (output_state g.O.Outlet g.V.Drain l.self)
     (span_items l.seen l.channel l.place l.octets) (span_items l.seen l.channel (l.place + l.at) (drop l.at l.octets))
     × IsSpan (drop l.at l.octets)

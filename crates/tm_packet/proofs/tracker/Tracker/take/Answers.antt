@@ -1,5 +1,5 @@
-use Rattle.std.proofs.Common.{◌≡◌, ℕ, ◌+◌, ◌*◌, ◌<◌, None, length, get_or, sym, ◌∙◌, arith}
-use Rattle.tm_packet.specs.Merge.{Sent, key_of}
+use Rattle.std.proofs.Common.{◌≡◌, ℕ, ◌<◌, None, length, get_or, sym, ◌∙◌, arith}
+use Rattle.tm_packet.specs.Merge.{Sent}
 use Rattle.tm_packet.proofs.Merging.{after-idle, left_by, noted_by}
 use Rattle.tm_packet.proofs.States.{get_or-any}
 use Rattle.tm_packet.proofs.tracker.Tracker.take.Goals as goal
@@ -11,21 +11,19 @@ returns-then-is_idle-clause-left c =
 pub returns-clause-left : goal.returns-clause-left
 returns-clause-left c =
     let p : Sent = record { channel = c.args.channel; header = c.args.header } in
-    let k : ℕ = 2048 * c.from.result + c.from-2.result in
-    let at : k ≡ key_of p = omega arith in
+    let k : ℕ = c.key_of-key.result in
     let inside : k < length c.self.inside.entries.items = omega arith in
     let found : c.index-entry.result.now ≡ get_or c.self.inside.entries.items k None =
     c.index-entry.ensures ∙ get_or-any c.self.inside.entries.items k c.index-entry.result.now None inside in
-    left_by c.args.self.now c.self.inside.entries.items p k c.index-entry.result.now c.kept_after.result c.self.view_is at
+    left_by c.args.self.now c.self.inside.entries.items p k c.index-entry.result.now c.kept_after.result c.self.view_is c.key_of-key.ensures.value
     (sym c.is_idle.ensures ∙ c.if-is_idle.false) inside found c.kept_after.ensures
 
 pub returns-clause-notes : goal.returns-clause-notes
 returns-clause-notes c =
     let p : Sent = record { channel = c.args.channel; header = c.args.header } in
-    let k : ℕ = 2048 * c.from.result + c.from-2.result in
-    let at : k ≡ key_of p = omega arith in
+    let k : ℕ = c.key_of-key.result in
     let inside : k < length c.self.inside.entries.items = omega arith in
     let found : c.index-entry.result.now ≡ get_or c.self.inside.entries.items k None =
     c.index-entry.ensures ∙ get_or-any c.self.inside.entries.items k c.index-entry.result.now None inside in
-    noted_by c.args.self.now c.self.inside.entries.items p k c.index-entry.result.now c.notes_after.result c.self.view_is at
+    noted_by c.args.self.now c.self.inside.entries.items p k c.index-entry.result.now c.notes_after.result c.self.view_is c.key_of-key.ensures.value
     (sym c.is_idle.ensures ∙ c.if-is_idle.false) found c.notes_after.ensures

@@ -1,6 +1,6 @@
 use Rattle.std.proofs.Common.{◌≡◌, ◌+◌, ℕ, Bool, false, sym, ap, subst, ◌∙◌, arith, rules}
 use Rattle.tm_bits.specs.Bits.{AreOctets}
-use Rattle.tm_reassembly.specs.code.Kept.{lasts, rooms}
+use Rattle.tm_reassembly.specs.code.Slots.{lasts, rooms}
 use Rattle.tm_reassembly.specs.State.{State}
 use Rattle.tm_reassembly.specs.Steps.{Progress, stepped}
 use Rattle.tm_reassembly.specs.Valid.{IsValidState}
@@ -22,11 +22,11 @@ returns-in-Ok-clause-left g c =
     let old = c.self.invariant going in
     let octets : AreOctets c.args.octets.now = record { below = λ i. omega (arith, c.type_inv.octets i) } in
     let new = subst (IsValidState c.self.inside.rules) (sym c.in-Ok.ensures.left) (record-valid c.self.inside.rules _ c.args.octets.now old.0 octets (omega (arith, c.if-self.false))) in
-    let room : rooms c.take_record.new.kept ≡ rooms c.self.inside.kept =
-    rooms_of_eight c.self.inside.rules.max_packet c.take_record.new.kept c.in-Ok.ensures.limit new.shape.eight_channels
-    ∙ sym (rooms_of_eight c.self.inside.rules.max_packet c.self.inside.kept old.1 old.0.shape.eight_channels) in
-    let state : State = record { records = c.self.inside.records + 1; master = c.take_record.new.master; channels = lasts c.take_record.new.kept } in
-    ap (λ (b : Bool). record { rules = c.self.inside.rules; state = state; failed = b; room = rooms c.take_record.new.kept }) going
+    let room : rooms c.add_record.new.states ≡ rooms c.self.inside.states =
+    rooms_of_eight c.self.inside.rules.max_packet c.add_record.new.states c.in-Ok.ensures.limit new.shape.eight_channels
+    ∙ sym (rooms_of_eight c.self.inside.rules.max_packet c.self.inside.states old.1 old.0.shape.eight_channels) in
+    let state : State = record { records = c.self.inside.records + 1; master = c.add_record.new.master; channels = lasts c.add_record.new.states } in
+    ap (λ (b : Bool). record { rules = c.self.inside.rules; state = state; failed = b; room = rooms c.add_record.new.states }) going
     ∙ ap (λ (n : ℕ). record { rules = c.self.inside.rules; state = state; failed = false; room = n }) room
-    ∙ ap (λ (s : State). record { rules = c.self.inside.rules; state = s; failed = false; room = rooms c.self.inside.kept }) c.in-Ok.ensures.left
+    ∙ ap (λ (s : State). record { rules = c.self.inside.rules; state = s; failed = false; room = rooms c.self.inside.states }) c.in-Ok.ensures.left
     ∙ ap (λ (p : Progress). stepped p c.args.octets.now) c.self.view_is

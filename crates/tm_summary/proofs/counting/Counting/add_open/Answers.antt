@@ -3,7 +3,7 @@ use Rattle.tm_packet.specs.Merge.{Entries, next_unclosed_of}
 use Rattle.tm_output.proofs.OpenGroups.{next_open, parted_first, parted_more, parted_all}
 use Rattle.tm_summary.specs.Adding.{with_note}
 use Rattle.tm_summary.specs.Tallies.{with_open}
-use Rattle.tm_summary.specs.Numbers.{Numbers}
+use Rattle.tm_summary.specs.SummaryNumbers.{SummaryNumbers}
 use Rattle.tm_summary.proofs.OpenCounted.{open_more}
 use Rattle.tm_summary.proofs.counting.Counting.add_open.Goals as goal
 
@@ -37,7 +37,7 @@ loop-unclosed-preserved c =
       done = inv.done ++ c.in-Some.unclosed ∷ [];
       parted = parted_more c.args.self.now.tracker.now inv.done c.loop-unclosed.at c.in-Some.unclosed inv.parted is;
       counted = c.add_note.ensures
-          ∙ ap (λ (n : Numbers). with_note n c.in-Some.unclosed.key c.in-Some.unclosed.note) inv.counted
+          ∙ ap (λ (n : SummaryNumbers). with_note n c.in-Some.unclosed.key c.in-Some.unclosed.note) inv.counted
           ∙ sym (open_more c.args.self.now.counts.now inv.done c.in-Some.unclosed);
     }
 

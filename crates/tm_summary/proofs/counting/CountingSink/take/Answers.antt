@@ -3,9 +3,9 @@ use Rattle.tm_summary.specs.Adding.{with_item}
 use Rattle.tm_summary.specs.Tallies.{with_given}
 use Rattle.tm_summary.proofs.counting.CountingSink.take.Goals as goal
 
-pub returns-in-Packet-clause-taken : goal.returns-in-Packet-clause-taken
+pub returns-in-Packet-clause-accepted : goal.returns-in-Packet-clause-accepted
 unfolding noted with_given with_item
-returns-in-Packet-clause-taken c =
+returns-in-Packet-clause-accepted c =
     rw c.in-Packet.is (record {
       fits = rw c.in-Packet.is at c.requires.fits;
       same_tracker = c.add_packet.ensures.same.0;

@@ -1,0 +1,33 @@
+//! What crosses the border, and the numbers of a refusal.
+
+/// What a call reads. In C each slice is a `struct tmx_octets`.
+#[repr(C)]
+pub struct TmxRequest<'a> {
+    pub settings: &'a [u8],
+    pub checkpoint: &'a [u8],
+    pub octets: &'a [u8],
+    pub command: u32,
+    pub last: u32,
+}
+
+/// What a call answers.
+#[repr(C)]
+#[derive(Clone, Copy, Debug, PartialEq, Eq)]
+pub struct TmxAnswer {
+    pub status: u32,
+    pub fault: u32,
+    pub key: u32,
+    pub records: u32,
+    pub out_length: usize,
+    pub report_length: usize,
+    pub checkpoint_length: usize,
+    pub used: usize,
+}
+
+/// A status, and what of it is wrong: the number of the fault, and of the key that it is about. 0 where there is none.
+#[derive(Clone, Copy, Debug, PartialEq, Eq)]
+pub struct Numbers {
+    pub status: u32,
+    pub fault: u32,
+    pub key: u32,
+}

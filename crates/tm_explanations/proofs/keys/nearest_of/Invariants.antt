@@ -1,0 +1,8 @@
+use Rattle.std.proofs.Common.{take}
+use Rattle.tm_explanations.specs.Explanations.{edits_to}
+use Rattle.tm_explanations.proofs.Nearest.{IsNearest}
+use Rattle.tm_explanations.proofs.keys.nearest_of.Given as goal
+
+-- the nearest of the keys so far
+abbrev pub invariant-loop-key : goal.invariant-loop-key
+invariant-loop-key l = IsNearest (edits_to l.text) (take l.key-index l.keys) l.nearest l.least

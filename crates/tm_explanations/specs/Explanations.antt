@@ -1,0 +1,37 @@
+-- The line that says to a person why a run ended, and what to do.
+use Rattle.std.specs.Prelude.{◌≡◌, ◌++◌, ℕ, List, Option, Some, None, codes, length, nat_eq}
+use Rattle.std.specs.Fmt.{decimal}
+use Rattle.std.specs.Str.{chars}
+use Rattle.strsim.specs.Edits.{levenshtein_row}
+use Rattle.tm_fields.specs.Escape.{escaped}
+use Rattle.tm_settings.specs.Keys.{key_name, limits_of}
+use Rattle.tm_settings.specs.declared.key.Key.{Key}
+use Rattle.tm_settings.specs.declared.key.Key.TheVariants.{Channels, ErrorControl}
+use Rattle.tm_settings.specs.declared.key.Limits.{Limits}
+
+-- the line of a text: two spaces, the text as octets that may be anything are printed, and the end of the line
+abbrev pub line_of : List ℕ → List ℕ
+line_of text = codes "  " ++ (escaped text ++ codes "\n")
+
+-- the octets are the line of some text: so they are one line of visible characters and spaces, whatever files and words hold
+abbrev pub IsLine : List ℕ → Type 0
+IsLine octets = (text : List ℕ) × (octets ≡ line_of text)
+
+-- how many edits of a character lead from a text to the name of a key
+abbrev pub edits_to : List ℕ → Key → ℕ
+edits_to text key = levenshtein_row nat_eq (chars text) (chars (key_name key)) (length (chars (key_name key)))
+
+-- what the value of a key with these limits has to be, or of a key without
+abbrev pub wanted_in : Key → Option Limits → List ℕ
+wanted_in key (Some limits) = codes "an integer from " ++ (decimal limits.least ++ (codes " to " ++ decimal limits.most))
+wanted_in Channels None = codes "an array of distinct integers from 0 to 7, at least one"
+wanted_in ErrorControl None = codes "true or false"
+wanted_in _ None = codes "\"flag\", \"always\" or \"never\""
+
+-- what the value of a key has to be
+abbrev pub wanted_of : Key → List ℕ
+wanted_of key = wanted_in key (limits_of key)
+
+-- what is said of a run of so many records, none of them a good frame
+abbrev pub bad_frames_text : ℕ → List ℕ
+bad_frames_text records = codes "no good frame in " ++ (decimal records ++ codes " records: see tmx summary")

@@ -1,0 +1,127 @@
+//! The explanation of a fault.
+
+ghost use Rattle.std.specs.Prelude.{◌≡◌, IfOk, IfSome};
+ghost use Rattle.tm_explanations.specs.Explanations.{IsLine, bad_frames_text, line_of};
+
+use crate::checkpoint::checkpoint_text;
+use crate::definition::definition_text;
+use crate::files::{file_text, length_text};
+use crate::line::{NoMemory, fill_text, line_of};
+use crate::runs::{output_text, run_text, shorter_text};
+use crate::settings::settings_text;
+use crate::texts::NO_CHECKPOINT;
+use std::alloc::{AllocError, Global};
+use std::rt::Files;
+use tm_arguments::{Plan, UsageFault, plan};
+use tm_faults::RunFault;
+use tm_files::{ToolFault, read_file};
+use tm_octets::Octets;
+use tm_settings::Settings;
+
+// The octets of a file that the plan names, as they are now; none if it can't be read.
+fn octets_in<R: Files + AllocGlobal>(rt: &R, name: &Option<Octets>) -> Option<Vec<u8>> {
+    match read_file(rt, name.as_ref()?) {
+        Ok(octets) => Some(octets),
+        Err(_) => None,
+    }
+}
+
+// The settings of the plan, as its file says them now.
+fn settings_in<R: Files + AllocGlobal>(rt: &R, plan: &Plan) -> Option<Settings> {
+    let octets = octets_in(rt, &plan.settings)?;
+    match Settings::read(rt.alloc(), octets.as_slice()) {
+        Ok(settings) => Some(settings),
+        Err(_) => None,
+    }
+}
+
+// Why a fault came, of the checkpoint or of a recording that is shorter than it.
+fn resumed_text<R: Files + AllocGlobal>(
+    rt: &R,
+    plan: &Plan,
+    fault: &ToolFault,
+) -> Result<Option<Vec<u8>>, AllocError> {
+    let (Some(octets), Some(settings)) = (octets_in(rt, &plan.resume), settings_in(rt, plan)) else {
+        return Ok(None);
+    };
+    let octets = octets.as_slice();
+    match fault {
+        ToolFault::Checkpoint(fault) => {
+            checkpoint_text(rt.alloc(), plan, *fault, octets, &settings)
+        }
+        _ => Ok(Some(shorter_text(rt, plan, octets, &settings)?)),
+    }
+}
+
+// Why a fault of this plan came, and what to do. The number is that of the system's first error.
+fn plan_text<R: Files + AllocGlobal>(
+    rt: &R,
+    plan: &Plan,
+    fault: &ToolFault,
+    number: Option<i32>,
+) -> Result<Option<Vec<u8>>, AllocError> {
+    let alloc = rt.alloc();
+    match fault {
+        ToolFault::Settings(fault) => match octets_in(rt, &plan.settings) {
+            Some(octets) => settings_text(alloc, plan, fault, octets.as_slice()),
+            None => Ok(None),
+        },
+        ToolFault::Definition(fault) => match octets_in(rt, &plan.definition) {
+            Some(octets) => definition_text(alloc, plan, *fault, octets.as_slice()),
+            None => Ok(None),
+        },
+        ToolFault::Checkpoint(_) | ToolFault::Run(RunFault::ShortRecording) => {
+            resumed_text(rt, plan, fault)
+        }
+        ToolFault::File(name) => file_text(rt, plan, name, number),
+        ToolFault::TooLong(name) => Ok(Some(length_text(rt, plan, name)?)),
+        ToolFault::Run(fault) => run_text(rt, plan, *fault, number),
+        ToolFault::Usage(_) | ToolFault::Errors => Ok(None),
+    }
+}
+
+// Why a fault of these words came, and what to do.
+fn fault_text<R: Files + AllocGlobal>(
+    rt: &R,
+    words: Vec<String>,
+    fault: &ToolFault,
+    number: Option<i32>,
+) -> Result<Option<Vec<u8>>, AllocError> {
+    let alloc = rt.alloc();
+    if let ToolFault::Usage(UsageFault::StopAfter) = fault {
+        return Ok(Some(fill_text(alloc, NO_CHECKPOINT, &[])?));
+    }
+    match (plan(alloc, words), number) {
+        (Ok(plan), _) => plan_text(rt, &plan, fault, number),
+        (Err(UsageFault::Help(_)), Some(number)) => Ok(Some(output_text(alloc, number)?)),
+        (Err(_), _) => Ok(None),
+    }
+}
+
+/// Why a run by these words ended in a fault, and what to do: one line, if that can be told. The number is that of the system's first error.
+/// Files that the words name are looked at again, and none is changed.
+///
+/// # Errors
+///
+/// `NoMemory` where there is no room for the line, or for what is read again.
+pub fn explain<R: Files + AllocGlobal>(
+    rt: &R,
+    words: Vec<String>,
+    fault: &ToolFault,
+    number: Option<i32>,
+) -> Result<Option<Vec<u8>>, NoMemory>
+    ensures { IfOk result (λ found. IfSome found (λ line. IsLine line.items)) }
+{
+    match fault_text(rt, words, fault, number)? {
+        Some(text) => Ok(Some(line_of(rt.alloc(), text.as_slice())?)),
+        None => Ok(None),
+    }
+}
+
+/// That a run of so many records had no good frame, and what to do.
+pub fn explain_bad_frames(alloc: Global, records: u32) -> Result<Vec<u8>, NoMemory>
+    ensures { IfOk result (λ line. line.items ≡ line_of (bad_frames_text records)) }
+{
+    let text = format!(in alloc; "no good frame in {records} records: see tmx summary")?;
+    line_of(alloc, text.as_bytes())
+}

@@ -1,0 +1,250 @@
+//! Why a file can't be opened, made, read or written.
+
+use crate::line::{Value, fill_text};
+use crate::roles::{Role, has_name, phrase_in, phrase_of, role_of};
+use crate::texts::{
+    FOLDER, NO_FILE, NO_FOLDER, NO_NAME_GIVEN, NO_PERMISSION, OVER, SYSTEM, TOO_LONG,
+    TOO_LONG_DEVICE,
+};
+use std::alloc::{AllocError, Global};
+use std::fs;
+use std::io::{self, ErrorKind};
+use std::rt::Files;
+use tm_arguments::{Action, Plan};
+use tm_file_identity::{FileIdentities, FileIdentity, identity_of};
+use tm_files::identify_files;
+use tm_octets::Octets;
+
+/// The system's words for an error, by its number.
+pub(crate) fn system_words(alloc: Global, number: i32) -> Result<Vec<u8>, AllocError> {
+    let error = io::Error::from_raw_os_error(number);
+    Ok(format!(in alloc; "{error}")?.into_bytes())
+}
+
+/// A text of what a line calls a file or a stream, and the system's words for an error.
+pub(crate) fn with_system_words(
+    alloc: Global,
+    text: &str,
+    file: &[u8],
+    number: i32,
+) -> Result<Vec<u8>, AllocError> {
+    let words = system_words(alloc, number)?;
+    let values = [Value::Octets(file), Value::Octets(words.as_slice())];
+    fill_text(alloc, text, &values)
+}
+
+// The text of an error of the system.
+fn error_text(alloc: Global, role: Role, file: &[u8], number: i32) -> Result<Vec<u8>, AllocError> {
+    let text = match io::Error::from_raw_os_error(number).kind() {
+        ErrorKind::NotFound if role.is_written() || role == Role::Folder => NO_FOLDER,
+        ErrorKind::NotFound => NO_FILE,
+        ErrorKind::PermissionDenied => NO_PERMISSION,
+        ErrorKind::IsADirectory => FOLDER,
+        _ => return with_system_words(alloc, SYSTEM, file, number),
+    };
+    fill_text(alloc, text, &[Value::Octets(file)])
+}
+
+// A name that is written, and what it stands for.
+#[derive(Clone, Copy)]
+struct Written<'w> {
+    role: Role,
+    name: &'w Octets,
+    identity: &'w FileIdentity,
+}
+
+impl<'w> Written<'w> {
+    // The file would be written over the one of this role, which has this identity.
+    fn clashes_with(&self, plan: &Plan, role: Role, identity: &FileIdentity) -> bool {
+        self.role != role && (has_name(plan, role, self.name) || self.identity.is_same(identity))
+    }
+
+    // Over which file it would be written.
+    fn clash(&self, plan: &Plan, identities: &FileIdentities) -> Option<Role> {
+        let others = [
+            (Role::Recording, &identities.recording),
+            (Role::Settings, &identities.settings),
+            (Role::Definition, &identities.definition),
+            (Role::Output, &identities.output),
+            (Role::Errors, &identities.errors),
+            (Role::Resumed, &identities.resumed),
+            (Role::Report, &identities.report),
+            (Role::Checkpoint, &identities.checkpoint),
+            (Role::TemporaryCheckpoint, &identities.temporary_checkpoint),
+        ];
+        for (role, identity) in others {
+            let may_be = self.role == Role::Checkpoint && role == Role::Resumed;
+            if !may_be && self.clashes_with(plan, role, identity) {
+                return Some(role);
+            }
+        }
+        None
+    }
+}
+
+// What a file and one over which it would be written are called.
+fn over_text(alloc: Global, plan: &Plan, file: &[u8], over: Role) -> Result<Vec<u8>, AllocError> {
+    let other = phrase_in(alloc, plan, over)?;
+    let values = [Value::Octets(file), Value::Octets(other.as_slice())];
+    fill_text(alloc, OVER, &values)
+}
+
+// Over which file the file beside the checkpoint would be written.
+fn clash_of_temporary(
+    alloc: Global,
+    plan: &Plan,
+    name: &Octets,
+    identities: &FileIdentities,
+) -> Result<Option<(Octets, Role)>, AllocError> {
+    let mut octets = Vec::from_slice(alloc, name.as_slice())?;
+    octets.extend_from_slice(b".new")?;
+    let name = Octets::new(octets);
+    let written = Written {
+        role: Role::TemporaryCheckpoint,
+        name: &name,
+        identity: &identities.temporary_checkpoint,
+    };
+    match written.clash(plan, identities) {
+        Some(over) => Ok(Some((name, over))),
+        None => Ok(None),
+    }
+}
+
+// Why a file that is written is in the way of another file of the run; none if it isn't.
+fn clash_text<R: Files + AllocGlobal>(
+    rt: &R,
+    plan: &Plan,
+    role: Role,
+    name: &Octets,
+) -> Result<Option<Vec<u8>>, AllocError> {
+    let alloc = rt.alloc();
+    let Ok(identities) = identify_files(rt, plan) else {
+        return Err(AllocError);
+    };
+    let Ok(path) = std::str::from_utf8(name.as_slice()) else {
+        return Ok(None);
+    };
+    let identity = identity_of(rt, path)?;
+    let written = Written {
+        role,
+        name,
+        identity: &identity,
+    };
+    if let Some(over) = written.clash(plan, &identities) {
+        let file = phrase_of(alloc, role, name.as_slice())?;
+        return Ok(Some(over_text(alloc, plan, file.as_slice(), over)?));
+    }
+    if role == Role::Checkpoint
+        && let Some((name, over)) = clash_of_temporary(alloc, plan, name, &identities)?
+    {
+        let file = phrase_of(alloc, Role::TemporaryCheckpoint, name.as_slice())?;
+        return Ok(Some(over_text(alloc, plan, file.as_slice(), over)?));
+    }
+    Ok(None)
+}
+
+// The file of this name is a folder.
+fn is_folder<R: Files>(rt: &R, name: &Octets) -> bool {
+    match std::str::from_utf8(name.as_slice()) {
+        Ok(path) => match fs::metadata(rt, path) {
+            Ok(metadata) => metadata.is_dir(),
+            Err(_) => false,
+        },
+        Err(_) => false,
+    }
+}
+
+/// Over which file standard output would be written.
+pub(crate) fn output_clash_text<R: Files + AllocGlobal>(
+    rt: &R,
+    plan: &Plan,
+) -> Result<Option<Vec<u8>>, AllocError> {
+    let alloc = rt.alloc();
+    let Ok(identities) = identify_files(rt, plan) else {
+        return Err(AllocError);
+    };
+    let inputs = [
+        (Role::Recording, &identities.recording),
+        (Role::Settings, &identities.settings),
+        (Role::Definition, &identities.definition),
+        (Role::Resumed, &identities.resumed),
+    ];
+    for (role, identity) in inputs {
+        if identities.output.is_same(identity) {
+            let word = Role::Output.word().as_bytes();
+            return Ok(Some(over_text(alloc, plan, word, role)?));
+        }
+    }
+    Ok(None)
+}
+
+// What the file of this name is for, as far as it is written: the checkpoint is compared before the report, and a file of packets last.
+fn written_roles(plan: &Plan, name: &Octets) -> [Option<Role>; 3] {
+    let checkpoint = has_name(plan, Role::Checkpoint, name).then_some(Role::Checkpoint);
+    let report = has_name(plan, Role::Report, name).then_some(Role::Report);
+    let packets = (plan.action == Action::Split).then_some(Role::Packets);
+    [checkpoint, report, packets]
+}
+
+/// Why the file of this name failed. The number is that of the system's first error.
+pub(crate) fn file_text<R: Files + AllocGlobal>(
+    rt: &R,
+    plan: &Plan,
+    name: &Octets,
+    number: Option<i32>,
+) -> Result<Option<Vec<u8>>, AllocError> {
+    let alloc = rt.alloc();
+    let role = role_of(plan, name);
+    let file = phrase_of(alloc, role, name.as_slice())?;
+    let file = file.as_slice();
+    if name.as_slice().is_empty() {
+        return Ok(Some(fill_text(alloc, NO_NAME_GIVEN, &[Value::Octets(file)])?));
+    }
+    if let Some(number) = number {
+        return Ok(Some(error_text(alloc, role, file, number)?));
+    }
+    for role in written_roles(plan, name) {
+        if let Some(role) = role
+            && let Some(text) = clash_text(rt, plan, role, name)?
+        {
+            return Ok(Some(text));
+        }
+    }
+    if is_folder(rt, name) {
+        return Ok(Some(fill_text(alloc, FOLDER, &[Value::Octets(file)])?));
+    }
+    Ok(None)
+}
+
+/// How long the file of this name is, which is too long.
+pub(crate) fn length_text<R: Files + AllocGlobal>(
+    rt: &R,
+    plan: &Plan,
+    name: &Octets,
+) -> Result<Vec<u8>, AllocError> {
+    let alloc = rt.alloc();
+    let file = phrase_of(alloc, role_of(plan, name), name.as_slice())?;
+    match length_of(rt, name) {
+        Some(length) => {
+            let values = [Value::Octets(file.as_slice()), Value::Number(length)];
+            fill_text(alloc, TOO_LONG, &values)
+        }
+        None => fill_text(alloc, TOO_LONG_DEVICE, &[Value::Octets(file.as_slice())]),
+    }
+}
+
+/// The octets of the file of this name, as far as the system says: a device tells none.
+pub(crate) fn length_of<R: Files>(rt: &R, name: &Octets) -> Option<u64> {
+    match std::str::from_utf8(name.as_slice()) {
+        Ok(path) => length_at(rt, path),
+        Err(_) => None,
+    }
+}
+
+/// Likewise, of a path.
+pub(crate) fn length_at<R: Files>(rt: &R, path: &str) -> Option<u64> {
+    match fs::metadata(rt, path) {
+        Ok(metadata) if metadata.is_file() => Some(metadata.len()),
+        Ok(_) | Err(_) => None,
+    }
+}

@@ -1,0 +1,23 @@
+//! Why a run ended, and what to do: the line for a person behind the line of a fault.
+//!
+//! It is worked out afterwards from the arguments, the fault, and the first error of the system, and from what the files say when
+//! they are looked at again. The line of the fault and the status rest on none of this.
+#![tactic(auto)]
+
+mod checkpoint;
+mod definition;
+mod explanation;
+mod files;
+mod keys;
+mod line;
+mod roles;
+mod runs;
+mod settings;
+mod texts;
+mod watched;
+mod words;
+
+pub use explanation::{explain, explain_bad_frames};
+pub use line::NoMemory;
+pub use watched::{Watched, WatchedFile, WatchedReader};
+pub use words::explain_words;

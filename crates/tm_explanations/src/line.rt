@@ -1,0 +1,65 @@
+//! Texts with values in them, and their lines.
+
+ghost use Rattle.std.specs.Prelude.{◌≡◌, IfOk};
+ghost use Rattle.tm_explanations.specs.Explanations.{line_of};
+
+use std::alloc::{AllocError, Global};
+use tm_fields::push_escaped;
+
+/// Memory ran out.
+#[derive(Clone, Copy, Debug, PartialEq, Eq)]
+pub struct NoMemory;
+
+impl From<AllocError> for NoMemory {
+    fn from(_: AllocError) -> NoMemory {
+        NoMemory
+    }
+}
+
+/// What stands in a text for `{}`.
+#[derive(Clone, Copy)]
+pub(crate) enum Value<'v> {
+    Octets(&'v [u8]),
+    Word(&'v str),
+    Number(u64),
+}
+
+// Appends a value.
+fn push_value(alloc: Global, text: &mut Vec<u8>, value: Value<'_>) -> Result<(), AllocError> {
+    match value {
+        Value::Octets(octets) => text.extend_from_slice(octets),
+        Value::Word(word) => text.extend_from_slice(word.as_bytes()),
+        Value::Number(number) => {
+            text.extend_from_slice(format!(in alloc; "{number}")?.as_bytes())
+        }
+    }
+}
+
+/// The text with these values, in their order.
+pub(crate) fn fill_text(
+    alloc: Global,
+    text: &str,
+    values: &[Value<'_>],
+) -> Result<Vec<u8>, AllocError> {
+    let mut found = Vec::new(alloc);
+    let mut rest = values.iter();
+    for (at, part) in text.split("{}").enumerate() {
+        if at > 0
+            && let Some(value) = rest.next()
+        {
+            push_value(alloc, &mut found, *value)?;
+        }
+        found.extend_from_slice(part.as_bytes())?;
+    }
+    Ok(found)
+}
+
+/// The line of a text: two spaces before it, and each octet as it is printed.
+pub(crate) fn line_of(alloc: Global, text: &[u8]) -> Result<Vec<u8>, NoMemory>
+    ensures { IfOk result (λ line. line.items ≡ line_of text.now) }
+{
+    let mut line = Vec::from_slice(alloc, b"  ")?;
+    push_escaped(&mut line, text)?;
+    line.extend_from_slice(b"\n")?;
+    Ok(line)
+}

@@ -1,0 +1,115 @@
+//! What the files of a plan are for.
+
+use std::alloc::{AllocError, Global};
+use tm_arguments::Plan;
+use tm_octets::Octets;
+
+/// What a file or a stream is for.
+#[derive(Clone, Copy, PartialEq)]
+pub(crate) enum Role {
+    Settings,
+    Definition,
+    Resumed,
+    Recording,
+    Report,
+    Checkpoint,
+    TemporaryCheckpoint,
+    Folder,
+    Packets,
+    Output,
+    Errors,
+}
+
+impl Role {
+    // The roles of files that a plan names, in the order in which a run opens them.
+    pub(crate) const NAMED: [Role; 7] = [
+        Role::Settings,
+        Role::Definition,
+        Role::Resumed,
+        Role::Recording,
+        Role::Folder,
+        Role::Report,
+        Role::Checkpoint,
+    ];
+
+    /// What a line calls it.
+    pub(crate) fn word(self) -> &'static str {
+        match self {
+            Role::Settings => "the settings",
+            Role::Definition => "the definition",
+            Role::Resumed => "the checkpoint to go on from",
+            Role::Recording => "the recording",
+            Role::Report => "the report",
+            Role::Checkpoint => "the checkpoint",
+            Role::TemporaryCheckpoint => "the file beside the checkpoint",
+            Role::Folder => "the folder",
+            Role::Packets => "a file of packets",
+            Role::Output => "standard output",
+            Role::Errors => "standard error",
+        }
+    }
+
+    /// The file is written, and not read.
+    pub(crate) fn is_written(self) -> bool {
+        matches!(
+            self,
+            Role::Report | Role::Checkpoint | Role::TemporaryCheckpoint | Role::Packets
+        )
+    }
+}
+
+/// The name that a plan has for a role.
+pub(crate) fn name_in(plan: &Plan, role: Role) -> Option<&Octets> {
+    match role {
+        Role::Settings => plan.settings.as_ref(),
+        Role::Definition => plan.definition.as_ref(),
+        Role::Resumed => plan.resume.as_ref(),
+        Role::Recording => plan.recording.as_ref(),
+        Role::Folder => plan.dir.as_ref(),
+        Role::Report => plan.report.as_ref(),
+        Role::Checkpoint => plan.checkpoint.as_ref(),
+        Role::TemporaryCheckpoint | Role::Packets | Role::Output | Role::Errors => None,
+    }
+}
+
+/// The plan has this name for the role.
+pub(crate) fn has_name(plan: &Plan, role: Role, name: &Octets) -> bool {
+    match name_in(plan, role) {
+        Some(found) => found.as_slice() == name.as_slice(),
+        None => false,
+    }
+}
+
+/// What the file of this name is for: the first that a run opens.
+pub(crate) fn role_of(plan: &Plan, name: &Octets) -> Role {
+    match Role::NAMED.iter().find(|role| has_name(plan, **role, name)) {
+        Some(role) => *role,
+        None => Role::Packets,
+    }
+}
+
+/// What a line calls the file of this name, which may be empty.
+pub(crate) fn phrase_of(alloc: Global, role: Role, name: &[u8]) -> Result<Vec<u8>, AllocError> {
+    let mut text = Vec::from_slice(alloc, role.word().as_bytes())?;
+    if !name.is_empty() {
+        text.push(b' ')?;
+        text.extend_from_slice(name)?;
+    }
+    Ok(text)
+}
+
+/// What a line calls a file or a stream, and its name.
+pub(crate) fn phrase_in(alloc: Global, plan: &Plan, role: Role) -> Result<Vec<u8>, AllocError> {
+    match name_in(plan, role) {
+        Some(name) => phrase_of(alloc, role, name.as_slice()),
+        None => phrase_of(alloc, role, &[]),
+    }
+}
+
+/// What a line calls the recording: its file, or standard input.
+pub(crate) fn recording_phrase(alloc: Global, plan: &Plan) -> Result<Vec<u8>, AllocError> {
+    match plan.recording {
+        Some(_) => phrase_in(alloc, plan, Role::Recording),
+        None => Vec::from_slice(alloc, b"standard input"),
+    }
+}

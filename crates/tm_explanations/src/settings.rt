@@ -1,0 +1,127 @@
+//! Why a text is no settings.
+
+use crate::keys::{nearest_key, wanted_value};
+use crate::line::{Value, fill_text};
+use crate::roles::{Role, phrase_in};
+use crate::texts::{MISSING_KEY, NEAR_KEY, NOT_TEXT, TOML, UNKNOWN_KEY, VALUE};
+use std::alloc::{AllocError, Global};
+use tm_arguments::Plan;
+use tm_settings::{Key, SettingsFault};
+
+/// A place in a text, as an editor counts: lines from 1, and in a line characters from 1.
+#[derive(Clone, Copy)]
+struct Position {
+    line: u64,
+    column: u64,
+}
+
+// The octet begins a character of UTF-8.
+fn is_first(octet: u8) -> bool {
+    octet & 0xC0 != 0x80
+}
+
+// The place of the octet that comes behind these.
+fn position_behind(octets: &[u8]) -> Position {
+    let mut place = Position { line: 1, column: 1 };
+    for octet in octets {
+        if *octet == b'\n' {
+            place.line = place.line.saturating_add(1);
+            place.column = 1;
+        } else if is_first(*octet) {
+            place.column = place.column.saturating_add(1);
+        }
+    }
+    place
+}
+
+// The words of all keys.
+fn all_keys(alloc: Global) -> Result<Vec<u8>, AllocError> {
+    let mut text = Vec::new(alloc);
+    for key in Key::ALL {
+        if !text.is_empty() {
+            text.extend_from_slice(b", ")?;
+        }
+        text.extend_from_slice(key.word().as_bytes())?;
+    }
+    Ok(text)
+}
+
+// Why a text is no TOML document; none if it is one.
+fn toml_text(alloc: Global, file: &[u8], octets: &[u8]) -> Result<Option<Vec<u8>>, AllocError> {
+    let text = match std::str::from_utf8(octets) {
+        Ok(text) => text,
+        Err(error) => {
+            let place = position_behind(&octets[..error.valid_up_to()]);
+            let values = [
+                Value::Octets(file),
+                Value::Number(place.line),
+                Value::Number(place.column),
+            ];
+            return Ok(Some(fill_text(alloc, NOT_TEXT, &values)?));
+        }
+    };
+    let Err(error) = toml::table_from_str(alloc, text) else {
+        return Ok(None);
+    };
+    let Some(span) = error.span() else {
+        return Ok(None);
+    };
+    let place = position_behind(&octets[..span.start]);
+    let values = [
+        Value::Octets(file),
+        Value::Number(place.line),
+        Value::Number(place.column),
+        Value::Word(error.message()),
+    ];
+    Ok(Some(fill_text(alloc, TOML, &values)?))
+}
+
+// What an unknown key may be meant for.
+fn unknown_text(alloc: Global, file: &[u8], key: &[u8]) -> Result<Vec<u8>, AllocError> {
+    let nearest = match std::str::from_utf8(key) {
+        Ok(text) => nearest_key(alloc, text)?,
+        Err(_) => None,
+    };
+    match nearest {
+        Some(key) => {
+            let values = [Value::Octets(file), Value::Word(key.word())];
+            fill_text(alloc, NEAR_KEY, &values)
+        }
+        None => {
+            let keys = all_keys(alloc)?;
+            let values = [Value::Octets(file), Value::Octets(keys.as_slice())];
+            fill_text(alloc, UNKNOWN_KEY, &values)
+        }
+    }
+}
+
+// A text that says what the value of a key has to be.
+fn key_text(alloc: Global, text: &str, file: &[u8], key: Key) -> Result<Vec<u8>, AllocError> {
+    let wanted = wanted_value(alloc, key)?;
+    let values = [
+        Value::Octets(file),
+        Value::Word(key.word()),
+        Value::Octets(wanted.as_slice()),
+    ];
+    fill_text(alloc, text, &values)
+}
+
+/// Why the file of the settings, which has these octets, is refused.
+pub(crate) fn settings_text(
+    alloc: Global,
+    plan: &Plan,
+    fault: &SettingsFault,
+    octets: &[u8],
+) -> Result<Option<Vec<u8>>, AllocError> {
+    let file = phrase_in(alloc, plan, Role::Settings)?;
+    let file = file.as_slice();
+    match fault {
+        SettingsFault::Toml => toml_text(alloc, file, octets),
+        SettingsFault::Unknown(key) => Ok(Some(unknown_text(alloc, file, key.as_slice())?)),
+        SettingsFault::Missing(key) => Ok(Some(key_text(alloc, MISSING_KEY, file, *key)?)),
+        SettingsFault::Kind(key) | SettingsFault::Range(key) => {
+            Ok(Some(key_text(alloc, VALUE, file, *key)?))
+        }
+        SettingsFault::NoMemory => Ok(None),
+    }
+}

@@ -1,0 +1,11 @@
+//! Which names stand for one file, and which files of a run are in each other's way.
+#![tactic(auto)]
+
+mod identities;
+mod identity;
+mod links;
+
+pub use identities::FileIdentities;
+pub use identity::{
+    FileIdentity, FileKind, Namespace, Node, identity_of, identity_of_file, is_any,
+};

@@ -1,0 +1,4 @@
+mod Zeros
+mod ChunkLemmas
+mod CallLemmas
+mod RefusalLemmas

@@ -1,0 +1,3 @@
+pub mod Chunks
+pub mod Refusals
+pub mod Calls

@@ -1,0 +1,62 @@
+//! The octets that follow the records that are done, as a recording.
+
+ghost use Rattle.std.specs.Prelude.{◌==◌, false, Some, [], ◌++◌, replicate, if◌then◌else◌};
+
+use tm_tool::{BufferedSource, DeviceFailed};
+
+/// The recording that a run over a chunk reads: the octets that are done stand as zeros, and a run passes over them and reads none. Behind them
+/// come the octets of the chunk.
+#[derive(Drop)]
+pub struct Chunk<'a> {
+    /// So many octets are done and not passed over yet.
+    pub done: u64,
+    /// The octets behind them.
+    pub octets: &'a [u8],
+}
+
+impl BufferedSource for Chunk<'_> {
+    ghost failures = { λ _. 0 };
+
+    ghost left = { λ s. Some (replicate s.done 0 ++ s.octets.now) };
+
+    ghost at_hand = { λ s. if s.done == 0 then s.octets.now else [] };
+
+    ghost waits = { λ _. false };
+
+    fn at_hand(&self) -> &[u8] {
+        if self.done == 0 { self.octets } else { &[] }
+    }
+
+    fn consume(&mut self, octets: usize) {
+        if self.done == 0 {
+            self.octets = &self.octets[octets..];
+        }
+    }
+
+    fn read(&mut self, buffer: &mut [u8]) -> Result<usize, DeviceFailed> {
+        if self.done == 0 {
+            let n = self.octets.len().min(buffer.len());
+            buffer[..n].copy_from_slice(&self.octets[..n]);
+            self.octets = &self.octets[n..];
+            return Ok(n);
+        }
+        let Some(first) = buffer.first_mut() else {
+            return Ok(0);
+        };
+        *first = 0;
+        self.done -= 1;
+        Ok(1)
+    }
+
+    fn pass_over(&mut self, octets: u64) -> Result<bool, DeviceFailed> {
+        if self.done < octets {
+            return Ok(false);
+        }
+        self.done -= octets;
+        Ok(true)
+    }
+
+    fn may_wait(&self) -> bool {
+        false
+    }
+}

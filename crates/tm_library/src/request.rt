@@ -1,0 +1,127 @@
+//! A whole call: what is read, and what is answered.
+
+ghost use Rattle.std.specs.Prelude.{◌≡◌, ◌≤◌, ◌<◌, Ok, length, option_map, IfOk, IfErr};
+ghost use Rattle.tm_checkpoint.specs.Works.{JobState};
+ghost use Rattle.tm_rules.specs.Rules.{Rules};
+ghost use Rattle.tm_library.specs.Chunks.{Begins, Holds, IsAnswer, kept_octets, used_octets};
+ghost use Rattle.tm_library.specs.Refusals.{IsRequestRefused};
+
+use crate::Refusal;
+use crate::chunk::Chunk;
+use crate::running::{job_from, run_into_rooms};
+use std::alloc::Global;
+use tm_tool::{Command, Job, Settings};
+
+/// What a call reads.
+#[derive(Clone, Copy)]
+pub struct Request<'a> {
+    /// The text of the settings.
+    pub settings: &'a [u8],
+    /// The checkpoint that the call before wrote; none for a new job.
+    pub checkpoint: &'a [u8],
+    /// The octets of the recording that follow the records that are done.
+    pub octets: &'a [u8],
+    /// What of the packets is wanted.
+    pub command: Command<'a>,
+    /// The recording ends behind these octets.
+    pub last: bool,
+}
+
+/// What a call gave. A room that is large enough has the octets that belong there in front; another may hold anything.
+#[derive(Clone, Copy, Debug, PartialEq, Eq)]
+pub struct Answer {
+    /// The number of records that are done in all.
+    pub records: u32,
+    /// So many octets belong to `out`.
+    pub out: usize,
+    /// So many belong to the report.
+    pub report: usize,
+    /// So many octets has the checkpoint for the next call, none behind the last chunk.
+    pub checkpoint: usize,
+    /// So many of the octets were used: whole records, or all behind which the recording ends.
+    pub used: usize,
+}
+
+// Writes the checkpoint of a job into a room, if it is large enough, and answers how many octets it has.
+fn keep(alloc: Global, job: Option<Job>, room: &mut [u8]) -> Result<usize, Refusal>
+    ensures octets { IfOk result (λ n. Holds room.new n (kept_octets (option_map (λ j. j.work) job))) }
+    ensures length { length room.new ≡ length room.old }
+    ensures refused { IfErr result (λ refusal. refusal ≡ Refusal.NoMemory) }
+{
+    let Some(job) = job else {
+        return Ok(0);
+    };
+    let Ok(octets) = job.checkpoint(alloc) else {
+        return Err(Refusal::NoMemory);
+    };
+    if octets.len() <= room.len() {
+        room[..octets.len()].copy_from_slice(octets.as_slice());
+    }
+    Ok(octets.len())
+}
+
+// How many of so many octets are used, where a record has this size.
+fn used_octets(last: bool, size: usize, octets: usize) -> usize
+    requires { 0 < size }
+    ensures value { result ≡ used_octets last size octets }
+    ensures most { result ≤ octets }
+{
+    if last { octets } else { octets / size * size }
+}
+
+/// Runs over a chunk of a recording: the whole records that follow those that the checkpoint has done, or all octets down to the recording's
+/// end. No state stays behind but the octets of the checkpoint that is written.
+///
+/// # Errors
+///
+/// What is wrong first with the settings, and then with the checkpoint; `TooMany` where there are more than 2^32 - 1 records; `NoMemory`. A room
+/// that is too small is no error: its length tells it, and the call can be made again.
+pub fn run_chunk(
+    alloc: Global,
+    request: Request<'_>,
+    out: &mut [u8],
+    report: &mut [u8],
+    checkpoint: &mut [u8],
+) -> Result<Answer, Refusal>
+    // With Ok the settings and the job are those that their octets say, and the rooms hold just what the chunk's octets give from that job on.
+    ensures answer { IfOk result (λ answer. (rules : Rules) × (job : JobState)
+        × Begins request.entry.settings.now request.entry.checkpoint.now rules job
+        × IsAnswer request.entry.command request.entry.last job request.entry.octets.now answer
+        out.new report.new checkpoint.new) }
+    ensures used { IfOk result (λ answer. answer.used ≤ length request.entry.octets.now) }
+
+    // Else this is why.
+    ensures refused { IfErr result (IsRequestRefused request.entry.settings.now request.entry.checkpoint.now
+        request.entry.octets.now) }
+
+    // The rooms stay where they are.
+    ensures rooms { (length out.new ≡ length out.old) × (length report.new ≡ length report.old)
+        × (length checkpoint.new ≡ length checkpoint.old) }
+{
+    let settings = Settings::read(alloc, request.settings)?;
+    let job = job_from(alloc, &settings, request.checkpoint)?;
+    let size = settings.layout().record_length();
+    let chunk = Chunk {
+        done: u64::from(job.records()) * size as u64,
+        octets: request.octets,
+    };
+    let given = match run_into_rooms(
+        alloc,
+        job,
+        request.command,
+        chunk,
+        request.last,
+        out,
+        report,
+    ) {
+        Ok(given) => given,
+        Err(refusal) => return Err(refusal),
+    };
+    Ok(Answer {
+        records: given.records,
+        out: given.out,
+        report: given.report,
+        checkpoint: keep(alloc, given.kept, checkpoint)?,
+        used: used_octets(request.last, size, request.octets.len()),
+    })
+}

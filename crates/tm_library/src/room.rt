@@ -1,0 +1,59 @@
+//! Room for an output, which the caller gives.
+
+ghost use Rattle.std.specs.Prelude.{◌≡◌, ◌≤◌, ◌<◌, ◌+◌, ◌++◌, ◌∷◌, Some, length, take};
+
+use tm_tool::{DeviceFailed, Drain};
+
+/// A drain into a room. What doesn't fit goes into memory, so that in the end it is known how much is enough. A write fails only where memory
+/// runs out.
+#[derive(Drop)]
+pub struct Room<'a> {
+    /// The room.
+    pub octets: &'a mut [u8],
+    /// So many of its octets are written.
+    pub filled: usize,
+    /// What doesn't fit.
+    pub overflow: &'a mut Vec<u8>,
+    /// So many writes have failed.
+    pub failed: u64,
+    ghost within: { filled ≤ length octets.now },
+    ghost full: { 0 < length overflow.now.items → filled ≡ length octets.now },
+}
+
+impl Room<'_> {
+    /// How many octets were written.
+    pub fn length(&self) -> usize
+        ensures { result ≡ self.now.filled + length self.now.overflow.now.items }
+    {
+        self.filled + self.overflow.len()
+    }
+}
+
+impl Drain for Room<'_> {
+    ghost failures = { λ s. s.failed };
+
+    // In front stands which room it is.
+    ghost written = { λ s. Some (s.octets.ghost_name ∷ (take s.filled s.octets.now ++ s.overflow.now.items)) };
+
+    ghost flushed = { λ s. Some (s.octets.ghost_name ∷ (take s.filled s.octets.now ++ s.overflow.now.items)) };
+
+    fn write(&mut self, octets: &[u8]) -> Result<usize, DeviceFailed> {
+        let n = octets.len().min(self.octets.len() - self.filled);
+        if 0 < n || octets.is_empty() {
+            self.octets[self.filled..self.filled + n].copy_from_slice(&octets[..n]);
+            self.filled += n;
+            return Ok(n);
+        }
+        match self.overflow.extend_from_slice(octets) {
+            Ok(()) => Ok(octets.len()),
+            Err(_) => {
+                self.failed = self.failed.saturating_add(1);
+                Err(DeviceFailed)
+            }
+        }
+    }
+
+    fn flush(&mut self) -> Result<(), DeviceFailed> {
+        Ok(())
+    }
+}

@@ -1,0 +1,110 @@
+//! A run over a chunk, into two rooms.
+
+ghost use Rattle.std.specs.Prelude.{◌≡◌, ◌≢◌, ◌*◌, ◌+◌, Ok, Err, length, option_map, IfOk, IfErr};
+ghost use Rattle.tm_output.specs.Outputs.{outs, reports};
+ghost use Rattle.tm_output.specs.Records.{records};
+ghost use Rattle.tm_tool.specs.RecordingPieces.{worked};
+ghost use Rattle.tm_tool.specs.Runs.{kept_of};
+ghost use Rattle.tm_library.specs.Chunks.{Holds, chunk_pieces, chunk_ending, job_in, size_of};
+ghost use Rattle.tm_library.specs.Refusals.{IsRunRefused};
+
+use crate::Refusal;
+use crate::chunk::Chunk;
+use crate::room::Room;
+use std::alloc::Global;
+use tm_tool::{CheckpointFault, Command, Ending, Job, RunFault, Settings, run};
+
+/// The job that a checkpoint says, or a new one where the checkpoint has no octets.
+pub fn job_from(
+    alloc: Global,
+    settings: &Settings,
+    checkpoint: &[u8],
+) -> Result<Job, CheckpointFault>
+    ensures ok { IfOk result (λ job. job_in settings.now checkpoint.now ≡ Ok job) }
+    ensures refused { IfErr result (λ found. found ≢ CheckpointFault.NoMemory → job_in settings.now checkpoint.now ≡ Err found) }
+{
+    if !checkpoint.is_empty() {
+        return Job::resume(alloc, settings, checkpoint);
+    }
+    match Job::new(alloc, settings) {
+        Ok(job) => Ok(job),
+        Err(_) => Err(CheckpointFault::NoMemory),
+    }
+}
+
+// The last chunk closes the recording.
+fn chunk_ending(last: bool) -> Ending
+    ensures { result ≡ chunk_ending last }
+{
+    if last { Ending::Close } else { Ending::Keep }
+}
+
+/// What a run gave: so many octets for each room, and the job that is kept.
+#[derive(Drop)]
+pub struct Given {
+    pub records: u32,
+    pub kept: Option<Job>,
+    pub out: usize,
+    pub report: usize,
+}
+
+/// Runs over a chunk that follows what the job has done.
+pub fn run_into_rooms(
+    alloc: Global,
+    job: Job,
+    command: Command<'_>,
+    chunk: Chunk<'_>,
+    last: bool,
+    out: &mut [u8],
+    report: &mut [u8],
+) -> Result<Given, Refusal>
+    requires { chunk.done ≡ job.work.state.records * size_of job.work }
+
+    // Just the pieces of the chunk stand in the rooms, where these are large enough.
+    ensures out { IfOk result (λ given. Holds out.new given.out
+        (outs (chunk_pieces command.entry last job chunk.entry.octets.now))) }
+    ensures report { IfOk result (λ given. Holds report.new given.report
+        (reports (chunk_pieces command.entry last job chunk.entry.octets.now))) }
+    ensures records { IfOk result (λ given. given.records
+        ≡ job.work.state.records + length (records (size_of job.work) chunk.entry.octets.now)) }
+    ensures kept { IfOk result (λ given. option_map (λ j. j.work) given.kept
+        ≡ kept_of (chunk_ending last) (worked job.work (records (size_of job.work) chunk.entry.octets.now))) }
+
+    // Else there are too many records, or memory ran out.
+    ensures refused { IfErr result (IsRunRefused job chunk.entry.octets.now) }
+{
+    let mut recording = chunk;
+    let (mut more_out, mut more_report) = (Vec::new(alloc), Vec::new(alloc));
+    let mut out = Room {
+        octets: out,
+        filled: 0,
+        overflow: &mut more_out,
+        failed: 0,
+    };
+    let mut report = Room {
+        octets: report,
+        filled: 0,
+        overflow: &mut more_report,
+        failed: 0,
+    };
+    match run(
+        alloc,
+        job,
+        command,
+        &mut recording,
+        &mut out,
+        &mut report,
+        chunk_ending(last),
+    ) {
+        Ok(done) => Ok(Given {
+            records: done.records,
+            kept: done.kept,
+            out: out.length(),
+            report: report.length(),
+        }),
+        Err(RunFault::TooMany) => Err(Refusal::TooMany),
+        Err(RunFault::Write | RunFault::Report | RunFault::NoMemory) => Err(Refusal::NoMemory),
+        Err(RunFault::Read) => unreachable!(),
+        Err(RunFault::ShortRecording) => unreachable!(),
+    }
+}

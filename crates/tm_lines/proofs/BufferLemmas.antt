@@ -1,0 +1,63 @@
+-- How many octets numbers and words have, and what a buffer holds after it was written.
+use Rattle.std.proofs.Common.{◌≡◌, ℕ, ◌+◌, ◌<◌, ◌≤◌, ◌^◌, zero, suc, List, [], ◌∷◌, ◌++◌, length, take, drop, get_or, set, refl, sym, ap, ◌∙◌, arith, length-drop}
+use Rattle.std.specs.Fmt.{decimal}
+use Rattle.std.proofs.lemmas.Fmt.{length-decimal-le}
+use Rattle.std.proofs.lemmas.List.{drop-drop, drop-set-add}
+use Rattle.tm_frame.specs.declared.fault.FrameFault.{FrameFault}
+use Rattle.tm_frame.specs.declared.fault.FrameFault.TheVariants.{Crc, Version, Spacecraft, SecondaryFlag, OcfFlag, SecondaryVersion, Layout, Pointer}
+use Rattle.tm_frame.specs.FaultWords.{fault_word}
+use Rattle.tm_items.specs.declared.items.Reason.{Reason}
+use Rattle.tm_items.specs.declared.items.Reason.TheVariants as reason
+use Rattle.tm_items.specs.Reasons.{reason_word}
+
+pub ten_digits : (n : ℕ) → n < 2 ^ 32 → length (decimal n) ≤ 10
+ten_digits n small = length-decimal-le 10 n (omega arith) (omega arith) (omega arith)
+
+pub twenty_digits : (n : ℕ) → n < 2 ^ 64 → length (decimal n) ≤ 20
+twenty_digits n small = length-decimal-le 20 n (omega arith) (omega arith) (omega arith)
+
+pub short_fault_word : (fault : FrameFault) → length (fault_word fault) ≤ 17
+short_fault_word Crc = omega arith
+short_fault_word Version = omega arith
+short_fault_word Spacecraft = omega arith
+short_fault_word SecondaryFlag = omega arith
+short_fault_word OcfFlag = omega arith
+short_fault_word SecondaryVersion = omega arith
+short_fault_word Layout = omega arith
+short_fault_word Pointer = omega arith
+
+pub short_reason_word : (why : Reason) → length (reason_word why) ≤ 8
+short_reason_word reason.Pointer = omega arith
+short_reason_word reason.Gap = omega arith
+short_reason_word reason.Vca = omega arith
+short_reason_word reason.Close = omega arith
+short_reason_word reason.NoStart = omega arith
+short_reason_word reason.Version = omega arith
+short_reason_word reason.Length = omega arith
+
+-- the end of a buffer whose last octet was set
+pub last_set : (buffer : List ℕ) (last octet : ℕ) → length buffer ≡ last + 1 → drop last (set buffer last octet) ≡ octet ∷ []
+last_set [] last octet e = absurd (omega arith)
+last_set (x ∷ []) zero octet e = refl
+last_set (x ∷ y ∷ buffer) zero octet e = absurd (omega arith)
+last_set (x ∷ buffer) (suc last) octet e = last_set buffer last octet (omega arith)
+
+-- a further octet of a text in its place, before what was there
+prepend_step : (text old : List ℕ) (i : ℕ) → i < length text → i < length old
+    → set (take i text ++ drop i old) i (get_or text i 0) ≡ take (suc i) text ++ drop (suc i) old
+prepend_step [] old i h k = absurd (omega arith)
+prepend_step (t ∷ text) [] i h k = absurd (omega arith)
+prepend_step (t ∷ text) (o ∷ old) zero h k = refl
+prepend_step (t ∷ text) (o ∷ old) (suc i) h k = ap (λ (l : List ℕ). t ∷ l) (prepend_step text old i (omega arith) (omega arith))
+
+pub prepend_more : (buffer old text : List ℕ) (begin i : ℕ) → drop begin buffer ≡ take i text ++ drop (begin + i) old → i < length text → begin + i < length old
+    → drop begin (set buffer (begin + i) (get_or text i 0)) ≡ take (i + 1) text ++ drop (begin + (i + 1)) old
+prepend_more buffer old text begin i is h k =
+    let octet : ℕ = get_or text i 0 in
+    let long : i < length (drop begin old) = omega (arith, length-drop begin old) in
+    let next : i + 1 ≡ suc i = omega arith in
+    drop-set-add begin buffer i octet
+    ∙ ap (λ (l : List ℕ). set l i octet) (is ∙ ap (λ (l : List ℕ). take i text ++ l) (sym (drop-drop i begin old)))
+    ∙ prepend_step text (drop begin old) i h long
+    ∙ ap (λ (l : List ℕ). take (suc i) text ++ l) (drop-drop (suc i) begin old)
+    ∙ ap (λ (n : ℕ). take n text ++ drop (begin + n) old) (sym next)

@@ -1,6 +1,0 @@
-use Rattle.tm_lines.specs.Lines.{bad_line}
-use Rattle.tm_lines.proofs.lines.put_bad.Goals as goal
-
-pub returns-clause-line : goal.returns-clause-line
-unfolding bad_line
-returns-clause-line c = cc

@@ -1,0 +1,20 @@
+use Rattle.std.proofs.Common.{rules, ◌∙◌, subst, refl}
+use Rattle.tm_devices.specs.Devices.{AppendsPrefix}
+use Rattle.tm_output.specs.Outputs.{Took, line_pieces, octets_buffering}
+use Rattle.std.specs.Io.KnownBytes.{Appends}
+use Rattle.tm_output.specs.Listing.{rest_lines}
+use Rattle.tm_output.specs.Seen.{out_alone}
+use Rattle.tm_output.proofs.LinePieces.{flush_stopped_by, line_stopped}
+use Rattle.tm_output.proofs.listing.write_end.Goals as goal
+
+pub returns-in_err-write_all-clause-stopped : goal.returns-in_err-write_all-clause-stopped
+returns-in_err-write_all-clause-stopped g c =
+    let line = c.line_from.ensures ∙ c.format_short-begin.ensures.line in
+    let prefix = subst (AppendsPrefix (g.W.Drain.written c.args.out.now) (g.W.Drain.written c.write_all.new.out)) line c.in_err-write_all.ensures.prefix in
+    let stopped = line_stopped _ {buffering = octets_buffering} prefix c.in_err-write_all.ensures.counts in
+    search (rules, stopped)
+
+pub returns-clause-stopped : goal.returns-clause-stopped
+returns-clause-stopped g c =
+    let mid : Took Appends (out_alone g.W.Drain c.args.out.now) (out_alone g.W.Drain c.if-octets-gt0.out) (line_pieces (rest_lines c.args.seen c.args.octets)) = search rules in
+    flush_stopped_by _ _ mid c.flush.ensures.octets octets_buffering refl c.flush.result c.flush.ensures.counts

@@ -1,0 +1,16 @@
+use Rattle.std.proofs.Common.{refl, sym, subst}
+use Rattle.std.specs.Io.KnownBytes.{Appends}
+use Rattle.std.proofs.KnownBytes.{Appends-nil}
+use Rattle.tm_output.proofs.PieceLemmas.{stopped_put, took_piece}
+use Rattle.tm_output.proofs.output.Output.write_packet.Goals as goal
+
+pub returns-in-Err-clause-written : goal.returns-in-Err-clause-written
+returns-in-Err-clause-written g c =
+    stopped_put g.O.Outlet.grows g.met.O.Outlet.grows_nil g.met.O.Outlet.grows_trans g.O.Outlet.buffering _ _ _ c.in-Err.fault c.in-Err.ensures.stopped (Appends-nil _) refl
+
+pub returns-clause-written : goal.returns-clause-written
+returns-clause-written g c =
+    let report = g.V.Drain.written c.args.self.now.report.now in
+    let none = c.note_if_quiet.ensures.quiet c.if-not-note_if_quiet.false in
+    let whole = c.in_default.ensures.whole in
+    took_piece g.O.Outlet.grows _ _ _ whole.0 (subst (Appends report report) (sym none) (Appends-nil report)) (whole.1, refl)

@@ -1,0 +1,94 @@
+//! The job that a run goes on with, where the run ends, and the file that takes its checkpoint.
+
+ghost use Rattle.std.specs.Prelude.{◌≡◌, Ok, IfErr, IfOk, IfSome, MatchOption, option_map};
+ghost use Rattle.tm_checkpoint.specs.Works.{new_job};
+ghost use Rattle.tm_program.specs.code.Endings.{HasCheckpoint, ending_of, requested_checkpoint, work_from};
+ghost use Rattle.tm_files.specs.code.Files.{HasFault, IsNoMemory};
+ghost use Rattle.tm_files.specs.code.Replacements.{replaced_name, replacement_name};
+
+use crate::opening::no_memory;
+use std::rt::Files;
+use tm_arguments::Plan;
+use tm_files::{
+    Replaced, Replacement, ToolFault, abandon_replacement, begin_replacement, finish_replacement,
+};
+use tm_tool::{Done, Ending, Job, RunFault, Settings};
+
+/// Where the run of the plan ends: at the end of the recording, which is closed there unless a checkpoint is wanted, or after so many records.
+pub fn choose_ending(plan: &Plan) -> Ending
+    ensures { result ≡ ending_of plan.now }
+{
+    match (&plan.checkpoint, plan.stop_after) {
+        (Some(_), Some(records)) => Ending::StopAfter(records),
+        (Some(_), None) => Ending::Keep,
+        (None, _) => Ending::Close,
+    }
+}
+
+/// The job to go on with, or else a new one.
+pub fn make_job<R: AllocGlobal>(
+    rt: &R,
+    resumed: Option<Job>,
+    settings: &Settings,
+) -> Result<Job, ToolFault>
+    ensures job { MatchOption resumed (IfOk result (λ job. job ≡ new_job settings.now)) (λ job. result ≡ Ok job) }
+    ensures work { IfOk result (λ job. job.work ≡ work_from settings.now resumed) }
+    ensures refused { IfErr result IsNoMemory }
+{
+    match resumed {
+        Some(job) => Ok(job),
+        None => match Job::new(rt.alloc(), settings) {
+            Ok(job) => Ok(job),
+            Err(_) => Err(ToolFault::Run(RunFault::NoMemory)),
+        },
+    }
+}
+
+/// Makes the file beside that of the plan's checkpoint, where the plan has one. So a checkpoint that can't be written is refused before the run.
+pub fn begin_checkpoint<'p, R: Files + AllocGlobal>(
+    rt: &R,
+    plan: &'p Plan,
+) -> Result<Option<Replacement<'p, R::File>>, ToolFault>
+    ensures file { IfOk result (λ found. option_map replacement_name found ≡ plan.now.checkpoint) }
+    ensures refused { IfErr result (HasFault plan.now.checkpoint) }
+{
+    match &plan.checkpoint {
+        Some(name) => Ok(Some(begin_replacement(rt, name)?)),
+        None => Ok(None),
+    }
+}
+
+/// Takes that file away again, where the run ended with a fault.
+pub fn abandon_checkpoint<R: Files>(rt: &R, replacement: Option<Replacement<'_, R::File>>) {
+    if let Some(replacement) = replacement {
+        abandon_replacement(rt, replacement);
+    }
+}
+
+/// Writes the checkpoint of the job that a run kept, and answers which file it replaced. What the file then holds has no place in a contract.
+#[tactic(auto, using(tm_files::proofs::FaultLemmas::no_memory_there))]
+pub fn store_checkpoint<'p, R: Files + AllocGlobal>(
+    rt: &R,
+    replacement: Option<Replacement<'p, R::File>>,
+    done: &Done,
+) -> Result<Option<Replaced<'p>>, ToolFault>
+    ensures replaced { IfOk result (λ found. option_map replaced_name found
+        ≡ requested_checkpoint (option_map replacement_name replacement.entry) done.now.kept) }
+    ensures octets { IfOk result (λ found. IfSome found (HasCheckpoint done.now)) }
+    ensures refused { IfErr result (HasFault (option_map replacement_name replacement.entry)) }
+{
+    let Some(replacement) = replacement else {
+        return Ok(None);
+    };
+    let Some(job) = &done.kept else {
+        abandon_replacement(rt, replacement);
+        return Ok(None);
+    };
+    match job.checkpoint(rt.alloc()) {
+        Ok(octets) => Ok(Some(finish_replacement(rt, replacement, octets)?)),
+        Err(_) => {
+            abandon_replacement(rt, replacement);
+            Err(no_memory())
+        }
+    }
+}

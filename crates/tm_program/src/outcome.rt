@@ -1,0 +1,64 @@
+//! What a run that ended has seen.
+
+ghost use Rattle.std.specs.Prelude.{◌≡◌, ◌<◌, ◌≤◌, ◌↔◌, IsTrue};
+
+use tm_devices::{DeviceFailed, Drain};
+
+/// What a run that ended has seen of its recording.
+#[derive(Clone, Copy, Debug, PartialEq, Eq)]
+pub struct Outcome {
+    /// The records that it took.
+    pub records: u32,
+    /// How many of them have the line of a bad frame. A summary has none.
+    pub bad: u64,
+    /// The report went to standard error.
+    pub reports_to_errors: bool,
+}
+
+impl Outcome {
+    /// There were records, and all are bad frames.
+    pub fn has_no_good_frame(self) -> bool
+        ensures { IsTrue result ↔ ((0 < self.records) × (self.records ≤ self.bad)) }
+    {
+        0 < self.records && u64::from(self.records) <= self.bad
+    }
+}
+
+/// A drain that passes all on, and counts the lines of bad frames. Each line is written by a call of its own.
+#[derive(Drop)]
+pub(crate) struct Counted<W> {
+    drain: W,
+    bad: u64,
+}
+
+impl<W: Drain> Counted<W> {
+    pub(crate) fn new(drain: W) -> Self
+        ensures { result.drain ≡ drain }
+    {
+        Counted { drain, bad: 0 }
+    }
+
+    /// How many lines of bad frames there were.
+    pub(crate) fn bad(&self) -> u64 {
+        self.bad
+    }
+}
+
+impl<W: Drain> Drain for Counted<W> {
+    ghost failures = { λ s. W.failures s.drain };
+
+    ghost written = { λ s. W.written s.drain };
+
+    ghost flushed = { λ s. W.flushed s.drain };
+
+    fn write(&mut self, octets: &[u8]) -> Result<usize, DeviceFailed> {
+        if octets.starts_with(b"bad ") {
+            self.bad = self.bad.saturating_add(1);
+        }
+        self.drain.write(octets)
+    }
+
+    fn flush(&mut self) -> Result<(), DeviceFailed> {
+        self.drain.flush()
+    }
+}

@@ -1,0 +1,423 @@
+//! The files of a folder, and what is held of each before it is written.
+
+ghost use Rattle.std.specs.Prelude.{◌≡◌, ◌≢◌, ◌<◌, ◌+◌, ◌++◌, ◌∷◌, ◌⊎◌, ℕ, [], None, Some, true, false, length, vec_len, slice_get, string_bytes, replicate, Err, IfErr, IfOk, IfSome, MatchResult, OnErr, OnOk};
+ghost use Rattle.tm_devices.specs.Devices.{Counts};
+ghost use Rattle.tm_split_files.specs.code.Buffers.{AreEmpty, AreKept, AreKeptOrEmpty, AreLeft, IsDrained, IsExtended, IsKeptOrEmpty};
+ghost use Rattle.tm_split_files.specs.ShelfFaults.{is_out_of_memory, clashing_application};
+ghost use Rattle.tm_split_files.specs.Names.{file_in};
+ghost use Rattle.tm_split_files.specs.code.Files.{IsClear};
+
+use std::alloc::{AllocError, Global};
+use std::fs::{File, OpenOptions};
+use std::io::{self, Write};
+use std::rt::Files;
+use tm_file_identity::{FileIdentities, FileIdentity, identity_of, identity_of_file, is_any};
+
+// So many applications there are.
+const APPLICATIONS: usize = 2048;
+
+// So many octets come at the most before all that is held is written.
+const MOST_HELD: usize = 8_388_608;
+
+// So many octets of one application are written, and not held: so they are written while they are still in the processor's cache.
+const MANY_OF_ONE: usize = 65_536;
+
+/// Why octets don't come to their file.
+#[derive(Clone, Copy, Debug, PartialEq, Eq)]
+pub enum ShelfFault {
+    /// A file can't be made or written.
+    NotWritten,
+    /// The file is another file of the run.
+    Clashes,
+    /// Memory ran out.
+    NoMemory,
+}
+
+/// The name of an application's file in a folder.
+pub fn name_in(alloc: Global, dir: &str, application: usize) -> Result<String, AllocError>
+    ensures { IfOk result (λ name. string_bytes name ≡ file_in dir.now application) }
+{
+    format!(in alloc; "{dir}/apid-{application:04}.pkt")
+}
+
+// Remembers the identity of a file that was made, behind those of the others. It is refused only if memory runs out.
+fn remember(made: &mut Vec<FileIdentity>, identity: FileIdentity) -> Result<(), ShelfFault>
+    ensures made { OnOk result (made.new.items ≡ made.old.items ++ (identity ∷ [])) }
+    ensures unmade { OnErr result (made.new.items ≡ made.old.items) }
+    ensures out_of_memory { IfErr result (λ fault. is_out_of_memory fault ≡ true) }
+{
+    match made.push(identity) {
+        Ok(()) => Ok(()),
+        Err(_) => Err(ShelfFault::NoMemory),
+    }
+}
+
+// The folder of the files `apid-NNNN.pkt`, and how they are made and written there.
+#[derive(Drop)]
+struct Folder<'a, R> {
+    rt: &'a R,
+    alloc: Global,
+    dir: &'a str,
+    goes_on: bool,
+    // What the names of the run's other files stand for.
+    identities: &'a FileIdentities,
+}
+
+impl<R: Files + AllocGlobal> Folder<'_, R> {
+    // The name of an application's file. It is refused only if memory runs out.
+    fn name_of(&self, application: usize) -> Result<String, ShelfFault>
+        ensures name { IfOk result (λ name. string_bytes name ≡ file_in self.now.dir.now application) }
+        ensures out_of_memory { IfErr result (λ fault. is_out_of_memory fault ≡ true) }
+    {
+        match name_in(self.alloc, self.dir, application) {
+            Ok(name) => Ok(name),
+            Err(_) => Err(ShelfFault::NoMemory),
+        }
+    }
+
+    // What the name of a file stands for, unless that is another file of the run, or one of those that were made.
+    fn clear(&self, name: &str, made: &[FileIdentity]) -> Result<FileIdentity, ShelfFault>
+        ensures clear { IfOk result (IsClear self.now.identities.now made.now) }
+        ensures refused { IfErr result (λ fault. fault ≢ ShelfFault.NotWritten) }
+    {
+        let Ok(identity) = identity_of(self.rt, name) else {
+            return Err(ShelfFault::NoMemory);
+        };
+        if self.identities.has(&identity) || is_any(&identity, made) {
+            return Err(ShelfFault::Clashes);
+        }
+        Ok(identity)
+    }
+
+    // Opens the file of this name, which is empty from then on unless the run goes on. It has to be clear.
+    fn make(
+        &self,
+        name: &str,
+        made: &[FileIdentity],
+        identity: &FileIdentity,
+    ) -> io::Result<R::File>
+        requires { IsClear self.now.identities.now made.now identity.now }
+    {
+        if self.goes_on {
+            OpenOptions::new()
+                .append(true)
+                .create(true)
+                .open(self.rt, name)
+        } else {
+            File::create(self.rt, name)
+        }
+    }
+
+    // Makes the file of an application, and remembers its identity.
+    fn begin(&self, application: usize, made: &mut Vec<FileIdentity>) -> Result<(), ShelfFault>
+        ensures made { OnOk result (vec_len made.new ≡ vec_len made.old + 1) }
+        ensures unmade { OnErr result (made.new.items ≡ made.old.items) }
+    {
+        let name = self.name_of(application)?;
+        let identity = self.clear(name.as_str(), made.as_slice())?;
+        let Ok(file) = self.make(name.as_str(), made.as_slice(), &identity) else {
+            return Err(ShelfFault::NotWritten);
+        };
+        remember(made, identity_of_file(self.alloc, &file))
+    }
+
+    // Likewise, unless it was begun.
+    fn begin_once(
+        &self,
+        application: usize,
+        begun: &mut bool,
+        made: &mut Vec<FileIdentity>,
+    ) -> Result<(), ShelfFault>
+        ensures begun { OnOk result (begun.new ≡ true) }
+        ensures made { OnOk result (begun.old ≡ false → vec_len made.new ≡ vec_len made.old + 1) }
+        ensures before { begun.old ≡ true → made.new.items ≡ made.old.items }
+        ensures unmade { OnErr result ((begun.new ≡ begun.old) × (made.new.items ≡ made.old.items)) }
+    {
+        if !*begun {
+            self.begin(application, made)?;
+            *begun = true;
+        }
+        Ok(())
+    }
+
+    // Opens the file of an application, to write behind what it has.
+    fn open(&self, application: usize) -> Result<R::File, ShelfFault> {
+        let name = self.name_of(application)?;
+        match OpenOptions::new().append(true).open(self.rt, name.as_str()) {
+            Ok(file) => Ok(file),
+            Err(_) => Err(ShelfFault::NotWritten),
+        }
+    }
+
+    // Writes what is held of an application behind what its file has, and then these octets. None is held any more.
+    fn write_one(
+        &self,
+        application: usize,
+        held: &mut Vec<u8>,
+        octets: &[u8],
+    ) -> Result<(), ShelfFault>
+        ensures written { OnOk result (held.new.items ≡ []) }
+        ensures kept { IfErr result (λ fault. is_out_of_memory fault ≡ true → held.new.items ≡ held.old.items) }
+        ensures left { IsKeptOrEmpty held.old.items held.new.items }
+    {
+        let mut file = self.open(application)?;
+        let written = file.write_all(held.as_slice());
+        held.clear();
+        if written.is_err() || file.write_all(octets).is_err() {
+            return Err(ShelfFault::NotWritten);
+        }
+        Ok(())
+    }
+
+    // Writes what is held of an application, if anything is.
+    fn write_if_held(&self, application: usize, held: &mut Vec<u8>) -> Result<(), ShelfFault>
+        ensures written { OnOk result (held.new.items ≡ []) }
+        ensures left { IsKeptOrEmpty held.old.items held.new.items }
+    {
+        if held.is_empty() {
+            return Ok(());
+        }
+        self.write_one(application, held, &[])
+    }
+
+    // Holds octets of an application behind those that are held, or writes all of these where they are many.
+    fn add(&self, held: &mut [Vec<u8>], application: usize, octets: &[u8]) -> Result<(), ShelfFault>
+        requires { application < length held.now }
+        ensures held { OnOk result (IsExtended held.old held.new application octets.now
+            ⊎ IsDrained held.old held.new application) }
+        ensures kept { IfErr result (λ fault. is_out_of_memory fault ≡ true → AreKept held.old held.new) }
+        ensures left { OnErr result (AreKeptOrEmpty held.old held.new) }
+        ensures others { (other : ℕ) → other ≢ application → slice_get held.new other ≡ slice_get held.old other }
+    {
+        let own = &mut held[application];
+        if own.len().saturating_add(octets.len()) >= MANY_OF_ONE {
+            return self.write_one(application, own, octets);
+        }
+        match own.extend_from_slice(octets) {
+            Ok(()) => Ok(()),
+            Err(_) => Err(ShelfFault::NoMemory),
+        }
+    }
+
+    // Writes what is held of all applications. Where a file can't be written the others still are.
+    #[tactic(auto, using(crate::proofs::BufferLemmas::none_so_far, crate::proofs::LeftLemmas::left_so_far))]
+    fn write_all_held(&self, held: &mut [Vec<u8>]) -> Result<(), ShelfFault>
+        requires { length held.now ≡ 2048 }
+        ensures written { OnOk result (AreEmpty held.new) }
+        ensures left { AreKeptOrEmpty held.old held.new }
+    {
+        let mut done = Ok(());
+        for application in 0..APPLICATIONS {
+            if let Err(fault) = self.write_if_held(application, &mut held[application]) {
+                done = Err(fault);
+            }
+        }
+        done
+    }
+}
+
+// As many empty buffers as there are applications.
+#[tactic(auto, using(crate::proofs::BufferLemmas::none_of_next))]
+fn empty_buffers(alloc: Global) -> Result<Vec<Vec<u8>>, AllocError>
+    ensures count { IfOk result (λ held. vec_len held ≡ 2048) }
+    ensures none { IfOk result (λ held. AreEmpty held.items) }
+{
+    let mut held = Vec::with_capacity(alloc, APPLICATIONS)?;
+    for application in 0..APPLICATIONS {
+        held.push(Vec::new(alloc))?;
+    }
+    Ok(held)
+}
+
+/// The files of a folder, with what is not written yet. Octets are held in memory and written from time to time, with one file open at a time.
+#[derive(Drop)]
+pub struct HeldFiles<'a, R> {
+    folder: Folder<'a, R>,
+    // For each application what is not written yet, and whether its file was begun.
+    held: Vec<Vec<u8>>,
+    begun: Vec<bool>,
+    // The identities of the files that were made.
+    made: Vec<FileIdentity>,
+    octets: usize,
+    refused: u64,
+    // A put was refused because memory ran out.
+    out_of_memory: bool,
+    // The application of a put that was refused since its file is another file of the run.
+    clashing: Option<usize>,
+    // Why a file was not written out, until a call has told it.
+    unwritten: Option<ShelfFault>,
+    ghost all_held: { vec_len held ≡ 2048 },
+    ghost all_begun: { vec_len begun ≡ 2048 },
+}
+
+impl<'a, R: Files + AllocGlobal> HeldFiles<'a, R> {
+    /// Files in this folder, none begun. Files that are there are appended to where the run resumes a job, and else begin empty.
+    /// The identities are those of the run's other files.
+    pub fn new(
+        rt: &'a R,
+        dir: &'a str,
+        goes_on: bool,
+        identities: &'a FileIdentities,
+    ) -> Result<Self, AllocError>
+        ensures folder { IfOk result (λ s. (s.folder.dir ≡ dir.entry) × (s.folder.goes_on ≡ goes_on)
+            × (s.folder.identities ≡ identities.entry)) }
+        ensures counts { IfOk result (λ s. (s.octets ≡ 0) × (s.refused ≡ 0) × (s.out_of_memory ≡ false) × (s.clashing ≡ None)
+            × (s.unwritten ≡ None)) }
+        ensures begun { IfOk result (λ s. (s.begun.items ≡ replicate 2048 false) × (vec_len s.made ≡ 0)) }
+        ensures held { IfOk result (λ s. AreEmpty s.held.items) }
+    {
+        let alloc = rt.alloc();
+        let held = empty_buffers(alloc)?;
+        let begun = vec![in alloc; false; APPLICATIONS]?;
+        let folder = Folder {
+            rt,
+            alloc,
+            dir,
+            goes_on,
+            identities,
+        };
+        Ok(HeldFiles {
+            folder,
+            held,
+            begun,
+            made: Vec::new(alloc),
+            octets: 0,
+            refused: 0,
+            out_of_memory: false,
+            clashing: None,
+            unwritten: None,
+        })
+    }
+
+    /// A put was refused because memory ran out.
+    pub fn out_of_memory(&self) -> bool
+        ensures { result ≡ self.now.out_of_memory }
+    {
+        self.out_of_memory
+    }
+
+    /// The name of the files' folder.
+    pub fn dir(&self) -> &'a str
+        ensures { result ≡ self.now.folder.dir }
+    {
+        self.folder.dir
+    }
+
+    /// The application of the last put that was refused, where its file is another file of the run.
+    pub fn clashing(&self) -> Option<usize>
+        ensures { result ≡ self.now.clashing }
+    {
+        self.clashing
+    }
+
+    /// Writes all that is held. Where a file can't be written the others still are. A fault of `write_out` that no call has told is told first.
+    pub fn write_held(&mut self) -> Result<(), ShelfFault>
+        ensures held { OnOk result (AreEmpty self.new.held.items) }
+        ensures told { IfSome self.old.unwritten (λ fault. result ≡ Err fault) }
+        ensures none { self.new.unwritten ≡ None }
+        ensures left { AreKeptOrEmpty self.old.held.items self.new.held.items }
+        ensures octets { self.new.octets ≡ 0 }
+        ensures begun { self.new.begun ≡ self.old.begun }
+        ensures made { self.new.made ≡ self.old.made }
+        ensures same { (self.new.folder ≡ self.old.folder) × (self.new.refused ≡ self.old.refused)
+            × (self.new.out_of_memory ≡ self.old.out_of_memory) × (self.new.clashing ≡ self.old.clashing) }
+    {
+        self.octets = 0;
+        let unwritten = self.unwritten.take();
+        let written = self.folder.write_all_held(self.held.as_mut_slice());
+        match unwritten {
+            Some(fault) => Err(fault),
+            None => written,
+        }
+    }
+
+    /// Writes all that is held. Where a file can't be written the next call of `put` or `write_held` tells it.
+    pub fn write_out(&mut self)
+        ensures held { self.new.unwritten ≡ None → AreEmpty self.new.held.items }
+        ensures told { IfSome self.old.unwritten (λ fault. self.new.unwritten ≡ Some fault) }
+        ensures left { AreKeptOrEmpty self.old.held.items self.new.held.items }
+        ensures octets { self.new.octets ≡ 0 }
+        ensures begun { self.new.begun ≡ self.old.begun }
+        ensures made { self.new.made ≡ self.old.made }
+        ensures same { (self.new.folder ≡ self.old.folder) × (self.new.refused ≡ self.old.refused)
+            × (self.new.out_of_memory ≡ self.old.out_of_memory) × (self.new.clashing ≡ self.old.clashing) }
+    {
+        if let Err(fault) = self.write_held() {
+            self.unwritten = Some(fault);
+        }
+    }
+
+    // Holds octets of an application, or writes them. Its file is made at the first. All that is held is written where much came since it last was.
+    #[tactic(auto, using(crate::proofs::LeftLemmas::left_as_it_was, crate::proofs::LeftLemmas::left_of_one, crate::proofs::LeftLemmas::left_of_all, crate::proofs::LeftLemmas::kept_as_it_was))]
+    fn hold(&mut self, application: usize, octets: &[u8]) -> Result<(), ShelfFault>
+        requires { application < 2048 }
+        ensures begun { OnOk result (slice_get self.new.begun.items application ≡ Some true) }
+        ensures others { (other : ℕ) → other ≢ application
+            → slice_get self.new.begun.items other ≡ slice_get self.old.begun.items other }
+        ensures held { OnOk result (((IsExtended self.old.held.items self.new.held.items application octets.now
+            ⊎ IsDrained self.old.held.items self.new.held.items application)
+            × (self.new.octets ≡ self.old.octets + length octets.now)) ⊎ AreEmpty self.new.held.items) }
+        ensures made { OnOk result (slice_get self.old.begun.items application ≡ Some false
+            → vec_len self.new.made ≡ vec_len self.old.made + 1) }
+        ensures left { OnErr result (AreLeft self.old.held.items self.new.held.items application octets.now) }
+        ensures kept { IfErr result (λ fault. is_out_of_memory fault ≡ true → AreKept self.old.held.items self.new.held.items
+            ⊎ (self.new.octets ≡ 0)) }
+        ensures few { OnOk result (self.new.octets < 8388608) }
+        ensures told { IfSome self.old.unwritten (λ fault. result ≡ Err fault) }
+        ensures none { self.new.unwritten ≡ None }
+        ensures same { (self.new.folder ≡ self.old.folder) × (self.new.refused ≡ self.old.refused)
+            × (self.new.out_of_memory ≡ self.old.out_of_memory) × (self.new.clashing ≡ self.old.clashing) }
+    {
+        if let Some(fault) = self.unwritten.take() {
+            return Err(fault);
+        }
+        let begun = &mut self.begun[application];
+        self.folder.begin_once(application, begun, &mut self.made)?;
+        let held = self.held.as_mut_slice();
+        self.folder.add(held, application, octets)?;
+        self.octets = self.octets.saturating_add(octets.len());
+        if self.octets < MOST_HELD {
+            return Ok(());
+        }
+        self.write_held()
+    }
+
+    /// Holds octets of an application, and remembers a refusal and its cause.
+    pub fn put(&mut self, application: usize, octets: &[u8]) -> Result<(), ShelfFault>
+        ensures begun { OnOk result (slice_get self.new.begun.items application ≡ Some true) }
+        ensures others { (other : ℕ) → other ≢ application
+            → slice_get self.new.begun.items other ≡ slice_get self.old.begun.items other }
+        ensures held { OnOk result (((IsExtended self.old.held.items self.new.held.items application octets.now
+            ⊎ IsDrained self.old.held.items self.new.held.items application)
+            × (self.new.octets ≡ self.old.octets + length octets.now)) ⊎ AreEmpty self.new.held.items) }
+        ensures made { OnOk result (slice_get self.old.begun.items application ≡ Some false
+            → vec_len self.new.made ≡ vec_len self.old.made + 1) }
+        ensures left { OnErr result (AreLeft self.old.held.items self.new.held.items application octets.now) }
+        ensures kept { IfErr result (λ fault. is_out_of_memory fault ≡ true → AreKept self.old.held.items self.new.held.items
+            ⊎ (self.new.octets ≡ 0)) }
+        ensures few { OnOk result (self.new.octets < 8388608) }
+        ensures told { IfSome self.old.unwritten (λ fault. application < 2048 → result ≡ Err fault) }
+        ensures same { self.new.folder ≡ self.old.folder }
+        ensures counts { Counts self.old.refused self.new.refused result }
+        ensures out_of_memory { MatchResult result (λ _. self.new.out_of_memory ≡ self.old.out_of_memory)
+            (λ fault. self.new.out_of_memory ≡ is_out_of_memory fault) }
+        ensures clashing { MatchResult result (λ _. self.new.clashing ≡ self.old.clashing)
+            (λ fault. self.new.clashing ≡ clashing_application application fault) }
+    {
+        let put = if application < APPLICATIONS {
+            self.hold(application, octets)
+        } else {
+            Err(ShelfFault::NotWritten)
+        };
+        let Err(fault) = put else {
+            return Ok(());
+        };
+        self.out_of_memory = matches!(fault, ShelfFault::NoMemory);
+        self.clashing = match fault {
+            ShelfFault::Clashes => Some(application),
+            ShelfFault::NotWritten | ShelfFault::NoMemory => None,
+        };
+        self.refused = self.refused.saturating_add(1);
+        Err(fault)
+    }
+}

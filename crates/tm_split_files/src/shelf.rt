@@ -1,0 +1,154 @@
+//! A file for each application.
+
+ghost use Rattle.std.specs.Prelude.{◌≡◌, ◌≢◌, ◌<◌, ◌+◌, ◌⊎◌, ℕ, None, Some, true, false, length, slice_get, replicate, Err, IfErr, IfOk, IfSome, MatchResult, OnErr, OnOk};
+ghost use Rattle.tm_devices.specs.Devices.{Counts, Puts, PutsPrefix, PutsNone};
+ghost use Rattle.tm_split_files.specs.ShelfFaults.{is_out_of_memory, clashing_application};
+ghost use Rattle.tm_split_files.specs.Shelves.{HoldsNone, HoldsSame, IsAdded, IsEmptied, IsKeptOrEmptied, IsRefused};
+
+use crate::files::{HeldFiles, ShelfFault};
+use std::alloc::AllocError;
+use std::marker::Model;
+use std::rt::Files;
+use tm_devices::Shelf;
+use tm_file_identity::FileIdentities;
+
+/// The files `apid-NNNN.pkt` of a folder. A file is made at its application's first packet, or appended to where the run resumes
+/// a job. Octets are held in memory and written from time to time, with one file open at a time.
+#[derive(Drop)]
+pub struct FileShelf<'a, R> {
+    files: HeldFiles<'a, R>,
+}
+
+impl<'a, R> Model for FileShelf<'a, R> {
+    ghost use Rattle.std.specs.Prelude.{vec_len};
+    ghost use Rattle.tm_split_files.specs.Shelves.{ShelfState, buffer_octets};
+
+    ghost Value = { ShelfState };
+
+    ghost view = { λ s. record {
+      folder = s.files.folder.dir.now;
+      goes_on = s.files.folder.goes_on;
+      begun = s.files.begun.items;
+      made = vec_len s.files.made;
+      held = buffer_octets s.files.held.items;
+      octets = s.files.octets;
+      refused = s.files.refused;
+      out_of_memory = s.files.out_of_memory;
+      clashing = s.files.clashing;
+      unwritten = s.files.unwritten;
+      identities = s.files.folder.identities.now;
+    } };
+}
+
+impl<'a, R: Files + AllocGlobal> FileShelf<'a, R> {
+    /// Files in this folder, none begun. Files that are there are appended to where the run resumes a job, and else begin empty.
+    /// A file that is one of the run's other files, is not begun, and neither is one by another name of
+    /// one that was made.
+    #[tactic(auto, using(crate::proofs::ShelfLemmas::none_seen))]
+    pub fn new(
+        rt: &'a R,
+        dir: &'a str,
+        goes_on: bool,
+        identities: &'a FileIdentities,
+    ) -> Result<Self, AllocError>
+        ensures folder { IfOk result (λ s. (s.folder ≡ dir.entry.now) × (s.goes_on ≡ goes_on)
+            × (s.identities ≡ identities.entry.now)) }
+        ensures counts { IfOk result (λ s. (s.octets ≡ 0) × (s.refused ≡ 0) × (s.out_of_memory ≡ false) × (s.clashing ≡ None)
+            × (s.unwritten ≡ None)) }
+        ensures begun { IfOk result (λ s. (s.begun ≡ replicate 2048 false) × (s.made ≡ 0)) }
+        ensures held { IfOk result (λ s. HoldsNone s.held) }
+    {
+        let files = HeldFiles::new(rt, dir, goes_on, identities)?;
+        Ok(FileShelf { files })
+    }
+
+    /// The last put that was refused was refused because memory ran out.
+    pub fn out_of_memory(&self) -> bool
+        ensures { result ≡ self.now.out_of_memory }
+    {
+        self.files.out_of_memory()
+    }
+
+    /// The name of the files' folder.
+    pub fn dir(&self) -> &'a str
+        ensures { result.now ≡ self.now.folder }
+    {
+        self.files.dir()
+    }
+
+    /// The application of the last put that was refused, where it was so since its file is another file of the run.
+    pub fn clashing(&self) -> Option<usize>
+        ensures { result ≡ self.now.clashing }
+    {
+        self.files.clashing()
+    }
+
+    /// Writes all that is held. Where a file can't be written the others still are. A fault of `write_out` that no put has told is told first.
+    #[tactic(auto, using(crate::proofs::ShelfLemmas::none_of_call, crate::proofs::LeftLemmas::kept_seen))]
+    pub fn write_held(&mut self) -> Result<(), ShelfFault>
+        ensures held { OnOk result (HoldsNone self.new.held) }
+        ensures told { IfSome self.old.unwritten (λ fault. result ≡ Err fault) }
+        ensures none { self.new.unwritten ≡ None }
+        ensures left { (application : ℕ) → IsKeptOrEmptied self.old.held self.new.held application }
+        ensures octets { self.new.octets ≡ 0 }
+        ensures begun { self.new.begun ≡ self.old.begun }
+        ensures made { self.new.made ≡ self.old.made }
+        ensures same { (self.new.folder ≡ self.old.folder) × (self.new.goes_on ≡ self.old.goes_on)
+            × (self.new.identities ≡ self.old.identities) }
+        ensures refusals { (self.new.refused ≡ self.old.refused) × (self.new.out_of_memory ≡ self.old.out_of_memory)
+            × (self.new.clashing ≡ self.old.clashing) }
+    {
+        self.files.write_held()
+    }
+}
+
+impl<R: Files + AllocGlobal> Shelf for FileShelf<'_, R> {
+    type Fault = ShelfFault;
+
+    ghost refusals = { λ s. s.refused };
+
+    // Its files don't tell what they have: so the first two clauses say nothing of them. What is held before it is written is said by those behind.
+    #[tactic(auto, using(crate::proofs::ShelfLemmas::none_put, crate::proofs::ShelfLemmas::put_seen, crate::proofs::LeftLemmas::refused_seen, crate::proofs::LeftLemmas::no_memory_seen))]
+    fn put(&mut self, application: u16, octets: &[u8]) -> Result<(), ShelfFault>
+        ensures whole { OnOk result (Puts None None application octets.now) }
+        ensures prefix { OnErr result (PutsPrefix None None application octets.now) }
+        ensures counts { Counts self.old.refused self.new.refused result }
+        ensures out_of_memory { MatchResult result (λ _. self.new.out_of_memory ≡ self.old.out_of_memory)
+            (λ fault. self.new.out_of_memory ≡ is_out_of_memory fault) }
+        ensures clashing { MatchResult result (λ _. self.new.clashing ≡ self.old.clashing)
+            (λ fault. self.new.clashing ≡ clashing_application application fault) }
+        ensures begun { OnOk result (slice_get self.new.begun application ≡ Some true) }
+        ensures others { (other : ℕ) → other ≢ application → slice_get self.new.begun other ≡ slice_get self.old.begun other }
+        ensures held { OnOk result (((IsAdded self.old.held self.new.held application octets.now
+            ⊎ IsEmptied self.old.held self.new.held application)
+            × (self.new.octets ≡ self.old.octets + length octets.now)) ⊎ HoldsNone self.new.held) }
+        ensures made { OnOk result (slice_get self.old.begun application ≡ Some false → self.new.made ≡ self.old.made + 1) }
+        ensures left { OnErr result (IsRefused self.old.held self.new.held application octets.now) }
+        ensures kept { IfErr result (λ fault. is_out_of_memory fault ≡ true → HoldsSame self.old.held self.new.held
+            ⊎ (self.new.octets ≡ 0)) }
+        ensures few { OnOk result (self.new.octets < 8388608) }
+        ensures told { IfSome self.old.unwritten (λ fault. application < 2048 → result ≡ Err fault) }
+        ensures same { (self.new.folder ≡ self.old.folder) × (self.new.goes_on ≡ self.old.goes_on)
+            × (self.new.identities ≡ self.old.identities) }
+    {
+        self.files.put(usize::from(application), octets)
+    }
+
+    // Where a file can't be written, the next put or `write_held` tells it.
+    #[tactic(auto, using(crate::proofs::ShelfLemmas::none_of_call, crate::proofs::LeftLemmas::kept_seen))]
+    fn write_out(&mut self)
+        ensures kept { PutsNone None None }
+        ensures refusals { self.new.refused ≡ self.old.refused }
+        ensures held { self.new.unwritten ≡ None → HoldsNone self.new.held }
+        ensures told { IfSome self.old.unwritten (λ fault. self.new.unwritten ≡ Some fault) }
+        ensures left { (application : ℕ) → IsKeptOrEmptied self.old.held self.new.held application }
+        ensures octets { self.new.octets ≡ 0 }
+        ensures begun { self.new.begun ≡ self.old.begun }
+        ensures made { self.new.made ≡ self.old.made }
+        ensures same { (self.new.folder ≡ self.old.folder) × (self.new.goes_on ≡ self.old.goes_on)
+            × (self.new.identities ≡ self.old.identities) }
+        ensures cause { (self.new.out_of_memory ≡ self.old.out_of_memory) × (self.new.clashing ≡ self.old.clashing) }
+    {
+        self.files.write_out();
+    }
+}

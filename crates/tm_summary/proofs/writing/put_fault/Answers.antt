@@ -1,7 +1,0 @@
-use Rattle.std.proofs.Common.{◌<◌, ◌∙◌, arith, lt-ltb}
-use Rattle.tm_summary.proofs.writing.put_fault.Goals as goal
-
-pub returns : goal.returns
-returns g c =
-    let more : 0 < c.args.records = omega arith in
-    rw (lt-ltb 0 c.args.records more) (rw (c.line_in.ensures ∙ c.format_fault-begin.ensures.line) at c.write_line.ensures)

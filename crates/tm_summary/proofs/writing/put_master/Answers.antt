@@ -1,5 +1,0 @@
-use Rattle.std.proofs.Common.{◌∙◌}
-use Rattle.tm_summary.proofs.writing.put_master.Goals as goal
-
-pub returns : goal.returns
-returns g c = rw (c.line_in.ensures ∙ c.format_master-begin.ensures.line) at c.write_line.ensures

@@ -1,5 +1,0 @@
-use Rattle.std.proofs.Common.{◌∙◌}
-use Rattle.tm_summary.proofs.writing.put_recording.Goals as goal
-
-pub returns : goal.returns
-returns g c = rw (← c.counts.view_is) (rw (c.line_in.ensures ∙ c.format_recording-begin.ensures.line) at c.write_line.ensures)

@@ -1,0 +1,8 @@
+use Rattle.std.proofs.Common.{◌<◌, ◌∙◌, arith, lt-ltb}
+use Rattle.tm_summary.proofs.writing.write_application.Goals as goal
+
+pub returns : goal.returns
+returns g c =
+    let more : 0 < c.args.counts.now.packets = omega arith in
+    let line = rw c.of_key-pair.ensures at (c.line_from.ensures ∙ c.format_application-begin.ensures.line) in
+    rw (lt-ltb 0 c.args.counts.now.packets more) (rw line at c.write_line.ensures)

@@ -1,0 +1,5 @@
+use Rattle.std.proofs.Common.{◌∙◌}
+use Rattle.tm_summary.proofs.writing.write_counts.Goals as goal
+
+pub returns : goal.returns
+returns g c = rw (c.line_from.ensures ∙ c.format_channel-begin.ensures.line) at c.write_line.ensures

@@ -1,0 +1,119 @@
+//! A safe wrapper of `libtmx`: a job over a recording that comes in chunks.
+
+/// What of the packets is wanted.
+#[derive(Clone, Copy)]
+pub enum Command {
+    Extract = 0,
+    Packets = 1,
+}
+
+/// Why a call gave nothing: the numbers of `tmx.h`.
+#[derive(Clone, Copy, Debug, Default)]
+pub struct Refused {
+    pub status: u32,
+    pub fault: u32,
+    pub key: u32,
+}
+
+impl std::fmt::Display for Refused {
+    fn fmt(&self, f: &mut std::fmt::Formatter) -> std::fmt::Result {
+        write!(f, "{self:?}")
+    }
+}
+
+impl std::error::Error for Refused {}
+
+/// What a chunk gave.
+#[derive(Debug, Default)]
+pub struct Given {
+    pub out: Vec<u8>,
+    pub report: Vec<u8>,
+}
+
+/// The settings, the checkpoint of the call before, and the octets that it left.
+pub struct Job {
+    settings: Vec<u8>,
+    command: Command,
+    checkpoint: Vec<u8>,
+    left: Vec<u8>,
+}
+
+#[repr(C)]
+struct Octets(*const u8, usize);
+
+#[repr(C)]
+struct Request(Octets, Octets, Octets, u32, u32);
+
+#[repr(C)]
+#[derive(Default)]
+struct Answer {
+    refused: [u32; 3],
+    records: u32,
+    out: usize,
+    report: usize,
+    checkpoint: usize,
+    used: usize,
+}
+
+unsafe extern "C" {
+    fn tmx_run(
+        request: *const Request,
+        out: *mut u8,
+        out_room: usize,
+        report: *mut u8,
+        report_room: usize,
+        checkpoint: *mut u8,
+        checkpoint_room: usize,
+        answer: *mut Answer,
+    ) -> u32;
+}
+
+fn octets(of: &[u8]) -> Octets {
+    Octets(of.as_ptr(), of.len())
+}
+
+impl Job {
+    pub fn new(settings: &[u8], command: Command) -> Job {
+        Job { settings: settings.to_vec(), command, checkpoint: vec![], left: vec![] }
+    }
+
+    /// The next octets of the recording.
+    pub fn feed(&mut self, chunk: &[u8]) -> Result<Given, Refused> {
+        self.run(chunk, false)
+    }
+
+    /// The end of the recording.
+    pub fn close(mut self) -> Result<Given, Refused> {
+        self.run(&[], true)
+    }
+
+    // A refused call leaves the job as it was.
+    fn run(&mut self, chunk: &[u8], last: bool) -> Result<Given, Refused> {
+        let before = self.left.len();
+        self.left.extend_from_slice(chunk);
+        let (settings, kept, all) = (octets(&self.settings), octets(&self.checkpoint), octets(&self.left));
+        let request = Request(settings, kept, all, self.command as u32, u32::from(last));
+        let (mut out, mut report, mut next) = (vec![0; self.left.len()], vec![0; 4096], vec![0; 4096]);
+        let mut answer = Answer::default();
+        loop {
+            // No slice of Rust is NULL, and no two of these overlap.
+            let status = unsafe {
+                let (rooms, lengths) = ((out.as_mut_ptr(), report.as_mut_ptr(), next.as_mut_ptr()), (out.len(), report.len(), next.len()));
+                tmx_run(&request, rooms.0, lengths.0, rooms.1, lengths.1, rooms.2, lengths.2, &mut answer)
+            };
+            if status > 1 {
+                self.left.truncate(before);
+                let [status, fault, key] = answer.refused;
+                return Err(Refused { status, fault, key });
+            }
+            out.resize(answer.out, 0);
+            report.resize(answer.report, 0);
+            next.resize(answer.checkpoint, 0);
+            if status == 0 {
+                self.left.drain(..answer.used);
+                self.checkpoint = next;
+                return Ok(Given { out, report });
+            }
+        }
+    }
+}

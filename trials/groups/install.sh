@@ -1,0 +1,216 @@
+# shellcheck shell=bash disable=SC2154
+# Group `install`: what ./install and ./package put on a machine, and what ./install --remove takes away. Both work in a copy of what they need
+# of the repository, with the program that is tried.
+
+# The copy, without the program.
+copy_tree() {
+    mkdir -p tree/crates/tm_arguments/src tree/crates/tmx/out
+    cp -r "$here"/../{install,package,README.md,CHANGELOG.md,docs,completions,example,include,library} tree
+    cp "$here/../crates/tm_arguments/src/table.rt" tree/crates/tm_arguments/src
+}
+
+# All that stands in a folder: modes, names and sums of files.
+stands() {
+    (cd "$1" && find . -printf '%m %y %p\n' | sort -k 3 && find . -type f -exec sha256sum {} + | sort -k 2)
+}
+
+# What is wrong with the program below a prefix, on the example there.
+runs_there() {
+    local page=share/doc/tmx/example
+    (cd "$1" && ./bin/tmx packets --settings $page/settings.toml --report "$folder/r" $page/pass.rec) 2>&1 | cmp - expected/packets 2>&1
+}
+
+# The manual page as a reader shows it that is there, without bold and underlined letters; its source where none is.
+show_page() {
+    if command -v mandoc; then
+        mandoc -T ascii "$1"
+    elif man --version | grep -q '^man '; then
+        man -l "$1"
+    elif command -v groff; then
+        zcat -f "$1" | GROFF_NO_SGR=1 groff -mandoc -T ascii
+    else
+        zcat -f "$1"
+    fi 2>/dev/null | sed $'s/.\b//g'
+}
+
+# What is missing in a manual page.
+page_lacks() {
+    local word
+    show_page "$1" >page
+    for word in "EXIT STATUS" summary stop-after max_packet; do
+        grep -q -- "$word" page || echo "no $word"
+    done
+}
+
+# What is refused: status, and one line that says why; and nothing is made.
+refused_installs() {
+    local usage="usage: ./install [--remove] [--prefix DIR]" words
+    for words in all --prefi --prefix "--prefix ''" "--prefix --remove" "--prefix=~/p" "--remove now"; do
+        gives "install with the words $words" 2 "$usage" "tree/install $words"
+    done
+    gives "package with a word" 2 "usage: ./package" "tree/package all"
+    gives "install before the program is built" 1 "install: the program isn't built: run ./build first, in $PWD/tree" "tree/install --prefix p"
+    cp "$tmx" tree/crates/tmx/out/tmx
+    gives "removal of what wasn't installed" 1 "install: ./install put nothing below $PWD/p" "tree/install --remove --prefix p"
+    gives "install below a file" 1 "install: $PWD/page/p/bin can't be written" "touch page && tree/install --prefix page/p"
+    # It is known before or at the first folder, by who runs it.
+    tell "install where no folder can be made" \
+        "$(tree/install --prefix /proc/tmx 2>&1 | grep -vxE "install: /proc/tmx(/bin can't be written| can't be made)")"
+    tell "what is refused makes nothing" "$(ls -d p 2>/dev/null)"
+}
+
+# Installs below a prefix with a space, from another folder, twice, and takes all away.
+by_prefix() {
+    local to="a place/p"
+    mkdir -p "a place/p/share"
+    stands "a place" >before
+    gives "install below a prefix" 0 "" "umask 077; tree/install --prefix '$to'"
+    tell "the installed program runs on the installed example" "$(runs_there "$to")"
+    tell "the installed manual page can be read" "$(page_lacks "$to/share/man/man1/tmx.1")"
+    tell "the list names what was installed" "$(cd "$to" && sed -n 's/^file \S* //p' share/doc/tmx/installed-files |
+        sort | diff - <(find . -type f -printf '%P\n' | grep -v /installed-files | LC_ALL=C sort))"
+    tell "all may read what was installed, and run the program" \
+        "$(find "$to/bin" "$to/share/"* \( -type d -o -path "$to/bin/tmx" \) ! -perm 755 -o -type f ! -path "$to/bin/tmx" ! -perm 644)"
+    stands "$to" >first
+    gives "install once more" 0 "" "cd / && '$PWD/tree/install' --prefix='$PWD/$to'"
+    tell "install once more: all is the same" "$(stands "$to" | diff first - 2>&1)"
+    gives "removal" 0 "" "tree/install --remove --prefix '$to'"
+    tell "removal: all is as it was" "$(stands "a place" | diff before - 2>&1)"
+    gives "removal once more" 1 "install: ./install put nothing below $PWD/$to" "tree/install --remove --prefix '$to'"
+}
+
+# Files of somebody else: they are neither written over nor taken away.
+foreign_files() {
+    mkdir -p q/bin
+    echo foreign >q/bin/tmx
+    gives "install over a foreign file" 1 "install: $PWD/q/bin/tmx is there, and ./install didn't put it there" "tree/install --prefix q"
+    tell "install over a foreign file: it stays, and nothing else is made" "$(echo foreign | cmp - q/bin/tmx 2>&1; find q -mindepth 1 ! -path 'q/bin*')"
+    rm q/bin/tmx
+    gives "install where it stood" 0 "" "tree/install --prefix q"
+    echo foreign | tee q/share/doc/tmx/example/foreign >q/share/doc/tmx/README.md
+    gives "install over a file that was changed" 1 "install: $PWD/q/share/doc/tmx/README.md is there, and ./install didn't put it there" \
+        "tree/install --prefix q"
+    gives "removal beside foreign files" 0 "install: $PWD/q/share/doc/tmx/README.md stays: it was changed" "tree/install --remove --prefix q"
+    tell "removal beside foreign files: they stay, and nothing else" \
+        "$(find q ! -type d | sort | diff - <(printf '%s\n' q/share/doc/tmx/{README.md,example/foreign}))"
+}
+
+# A newer installation in the place of an older one, whose list knows a further sum: nothing of it stays.
+newer() {
+    tree/install --prefix n >/dev/null
+    echo "file 0 share/doc/tmx/README.md" >>n/share/doc/tmx/installed-files
+    mv tree/docs/FRAMES.md tree/docs/NEWER.md
+    echo newer >>tree/README.md
+    gives "install of newer files" 0 "" "tree/install --prefix n"
+    tree/install --prefix fresh >/dev/null
+    tell "install of newer files: all is as in a new place" "$(stands n | diff - <(stands fresh) | grep '^[<>]' | grep -v installed-files)"
+    mv tree/docs/NEWER.md tree/docs/FRAMES.md
+    gives "removal of newer files" 0 "" "tree/install --remove --prefix n"
+    tell "removal of newer files: nothing is left" "$(ls -d n 2>/dev/null)"
+}
+
+# Installations that are ended by a signal: what they put can be taken away, and nothing is left.
+ended() {
+    local seconds left=
+    for seconds in 0.05 0.1 0.15 0.2 0.25 0.3 0.4 0.5 0.6 0.8; do
+        timeout $seconds tree/install --prefix e >/dev/null 2>&1
+        [ ! -e e/share/doc/tmx/installed-files ] || tree/install --remove --prefix e >/dev/null 2>err || cat err
+        [ ! -e e ] || left="$left after $seconds s: $(find e)"
+        rm -rf e
+    done
+    tell "installations that are ended by a signal leave nothing" "$left"
+}
+
+# Installs below DESTDIR, and takes all away in another place. The folder of that place wasn't made by ./install.
+by_destdir() {
+    gives "install below DESTDIR" 0 "" "DESTDIR=$PWD/stage/s tree/install --prefix /opt/tmx"
+    tell "the program below DESTDIR runs" "$(runs_there stage/s/opt/tmx)"
+    mkdir moved
+    mv stage/s moved
+    gives "removal below another DESTDIR" 0 "" "DESTDIR=moved/s tree/install --remove --prefix /opt/tmx"
+    tell "removal below another DESTDIR: nothing is left" "$(find moved -mindepth 1)"
+}
+
+# The library goes along where it was made.
+with_library() {
+    mkdir tree/out
+    echo archive >tree/out/libtmx.a
+    echo shared >tree/out/libtmx.so
+    tree/install --prefix l >/dev/null
+    tell "the library is installed where it was made" \
+        "$(cd l && find lib include -type f | sort | diff - <(printf '%s\n' include/tmx.h lib/libtmx.a lib/libtmx.so lib/pkgconfig/tmx.pc))"
+    ! command -v pkg-config >/dev/null || tell "pkg-config finds it" \
+        "$(PKG_CONFIG_PATH=$PWD/l/lib/pkgconfig pkg-config --cflags --libs tmx 2>&1 | tr ' ' '\n' | grep -cx -- "-[IL]$PWD/l/.*" | grep -vx 2)"
+    tree/install --remove --prefix l >/dev/null
+    tell "removal of the library: nothing is left" "$(ls -d l 2>/dev/null)"
+    rm -r tree/out
+}
+
+# The words of the completions, and their syntax where their shells are there.
+completions() {
+    local line shell place=$1/share
+    local files=("$place/bash-completion/completions/tmx" "$place/zsh/site-functions/_tmx" "$place/fish/vendor_completions.d/tmx.fish")
+    while read -r line; do
+        case $line in
+        "ok "*) ok "${line#ok }" ;;
+        *) no "${line#FAILED: }" ;;
+        esac
+    done < <(python3 "$here/completions.py" "$tmx" "${files[@]}" 2>&1)
+    for shell in bash zsh fish; do
+        if command -v $shell >/dev/null; then
+            tell "$shell reads its completion" "$($shell -n "${files[0]}" 2>&1)"
+        else
+            echo "note without $shell its completion isn't read by it"
+        fi
+        files=("${files[@]:1}")
+    done
+}
+
+# The machine code of the program below a prefix, and its constants.
+code_of() {
+    objdump -s -j .text -j .rodata "$1/bin/tmx" | tail -n +4
+}
+
+# The package: what is in it, and that it runs.
+as_package() {
+    local file
+    file=tree/out/tmx_$version-1_$(dpkg --print-architecture).deb
+    gives "package" 0 "" "tree/package"
+    tell "the package's name" "$([ "$(cat out)" = "${file#tree/}" ] || cat out; ls "$file" 2>&1 >/dev/null)"
+    cp "$file" first.deb
+    gives "package once more" 0 "" "tree/package"
+    tell "package once more: the same octets" "$(cmp first.deb "$file" 2>&1)"
+    tell "the package's fields" "$(dpkg-deb -f "$file" Package Version Depends Maintainer |
+        grep -vE "^(Package: tmx|Version: $version-1|Depends: libc6 \(>= 2\.[0-9]+\)(, [a-z0-9.+-]+)*|Maintainer: .+ <.+>)$")"
+    dpkg-deb -x "$file" root
+    tell "the program of the package runs" "$(runs_there root/usr)"
+    tell "the manual page of the package can be read" "$(page_lacks root/usr/share/man/man1/tmx.1.gz)"
+    tell "the changelog of the package names its version" "$(zcat root/usr/share/doc/tmx/changelog.Debian.gz | head -n 1 | grep -vF "tmx ($version-1) ")"
+    tree/install --prefix plain >/dev/null
+    tell "the program of the package has the code that was built" "$(cmp <(code_of plain) <(code_of root/usr) 2>&1)"
+    tell "the package has what is installed" "$(diff -r plain root/usr 2>&1 | grep -vE "$differs")"
+}
+
+install() {
+    local version differs
+    names
+    version=$("$tmx" --version | sed -n '1s/^tmx //p')
+    # What Debian wants otherwise: no symbols, names of changelogs, what is compressed, zsh's folder; and it keeps lists itself.
+    differs="^Only in .*: (tmx\.1(\.gz)?|site-functions|vendor-completions|CHANGELOG\.md|changelog(\.Debian)?\.gz|copyright|installed-files)$"
+    differs="$differs|^Binary files plain/bin/tmx and root/usr/bin/tmx differ$"
+    copy_tree
+    refused_installs
+    by_prefix
+    foreign_files
+    newer
+    ended
+    by_destdir
+    with_library
+    tree/install --prefix for_shells >/dev/null
+    completions for_shells
+    if command -v dpkg-deb >/dev/null && command -v strip >/dev/null; then
+        as_package
+    else
+        echo "note without dpkg-deb and strip no package is made"
+    fi
+}

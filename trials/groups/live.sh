@@ -1,0 +1,18 @@
+# shellcheck shell=bash disable=SC2154
+# Group `live`: a recording that comes piece by piece through a pipe which stays open.
+
+live() {
+    live_trials waiting
+}
+
+# A part of live.py.
+live_trials() {
+    local line
+    while read -r line; do
+        case $line in
+        "ok "*) ok "${line#ok }" ;;
+        "note "*) echo "$line" ;;
+        *) no "${line#FAILED: }" ;;
+        esac
+    done < <(python3 "$here/live.py" "$tmx" "$here/fields.csv" "$example" "$1" 2>&1)
+}

@@ -1,0 +1,55 @@
+# shellcheck shell=bash disable=SC2154
+# Group `low_memory`: each request for memory refused, one in each run.
+
+# The calls for memory are those of a library of the trial's own, which refuse one and hand the others on to the C library, glibc.
+refusing_library() {
+    cat >refused.c <<'END'
+#include <errno.h>
+#include <fcntl.h>
+#include <stddef.h>
+#include <stdlib.h>
+#include <unistd.h>
+void *__libc_malloc(size_t);
+void *__libc_calloc(size_t, size_t);
+void *__libc_realloc(void *, size_t);
+void *__libc_memalign(size_t, size_t);
+static int is_refused(void) {
+    static long wanted = -1, asked;
+    if (wanted < 0) {
+        const char *number = getenv("REFUSED");
+        wanted = number ? atol(number) : 0;
+    }
+    if (++asked != wanted) return 0;
+    close(open("refused", O_CREAT | O_WRONLY, 0600));
+    errno = ENOMEM;
+    return 1;
+}
+void *malloc(size_t octets) { return is_refused() ? NULL : __libc_malloc(octets); }
+void *calloc(size_t count, size_t octets) { return is_refused() ? NULL : __libc_calloc(count, octets); }
+void *realloc(void *old, size_t octets) { return is_refused() ? NULL : __libc_realloc(old, octets); }
+void *aligned_alloc(size_t border, size_t octets) { return is_refused() ? NULL : __libc_memalign(border, octets); }
+int posix_memalign(void **found, size_t border, size_t octets) {
+    void *given = is_refused() ? NULL : __libc_memalign(border, octets);
+    if (!given) return ENOMEM;
+    *found = given;
+    return 0;
+}
+END
+    cc -O1 -fno-builtin -shared -fPIC -Wl,-z,defs -o refused.so refused.c 2>/dev/null
+}
+
+low_memory() {
+    local run said
+    if ! command -v cc >/dev/null || ! refusing_library; then
+        echo "note without a C compiler and glibc no trial has a request for memory refused"
+        return
+    fi
+    names
+    for run in frames packets extract split waiting fields summary help unknown missing; do
+        if said=$(python3 "$here/low_memory.py" "$tmx" "$PWD/refused.so" "$s" "$rec" "$here/fields.csv" $run 2>&1); then
+            ok "each request for memory of $run refused: $said"
+        else
+            no "each request for memory of $run refused: $said"
+        fi
+    done
+}

@@ -1,0 +1,102 @@
+#!/usr/bin/env python3
+"""The library libtmx beside the program: random recordings in random chunks give just what one run of the program gives.
+
+    library.py TMX LIBRARY ROUNDS
+
+TMX is the program, LIBRARY the shared library, and ROUNDS how many random recordings are tried, each in chunks of several kinds and by both
+commands. The lines are those of hostile.sh."""
+
+import ctypes
+import pathlib
+import random
+import subprocess
+import sys
+
+HERE = pathlib.Path(__file__).resolve().parent
+sys.path[:0] = [str(HERE), str(HERE.parent / "python")]
+sys.dont_write_bytecode = True
+
+import anything  # noqa: E402
+from tmx import engine  # noqa: E402
+
+COMMANDS = {engine.EXTRACT: "extract", engine.PACKETS: "packets"}
+
+
+def in_chunks(run, settings, recording, sizes, command):
+    """What the calls give in all: what belongs to `out`, the report, and the checkpoint before the last one. Each size is asked for in turn."""
+    out, report, checkpoint, kept, at, end = [], [], b"", b"", 0, 0
+    while True:
+        end = min(len(recording), end + sizes())
+        last = end == len(recording)
+        read = [engine.Octets(it, len(it)) for it in (settings, checkpoint, recording[at:end])]
+        request, answer, lengths = engine.Request(*read, command, last), engine.Answer(), [0, 0, 0]
+        while True:
+            rooms = [ctypes.create_string_buffer(it) for it in lengths]
+            words = [word for it in zip(rooms, lengths) for word in it]
+            status = run(ctypes.byref(request), *words, ctypes.byref(answer))
+            lengths = [answer.out_length, answer.report_length, answer.checkpoint_length]
+            if status != engine.ROOM:
+                break
+        if status != engine.DONE:
+            return f"status {status} fault {answer.fault} key {answer.key}", b"", b""
+        given = [it.raw[:length] for it, length in zip(rooms, lengths)]
+        out.append(given[0])
+        report.append(given[1])
+        kept, checkpoint = checkpoint, given[2]
+        at += answer.used
+        if last:
+            return b"".join(out), b"".join(report), kept
+
+
+def wanted(program, command):
+    """What one run of the program gives of the recording."""
+    ran = subprocess.run([program, COMMANDS[command], "--settings", "settings", "recording"], capture_output=True, check=False)
+    return (ran.stdout, ran.stderr) if ran.returncode == 0 else (f"status {ran.returncode}", ran.stderr)
+
+
+def differences(program, run, seed):
+    """How chunks of one random recording differ from one run."""
+    chance = random.Random(seed)
+    settings = anything.make_settings(chance, ".")
+    recording = anything.make_recording(chance, seed, settings, ".")
+    size, text = settings.record, pathlib.Path("settings").read_bytes()
+    kinds = {
+        "whole": lambda: len(recording) + 1,
+        "records and an octet": lambda: size + 1,
+        "halves": lambda: len(recording) // 2 + 1,
+        "any": lambda: chance.choice([0, 1, size - 1, size, size + 1, chance.randrange(6 * size), len(recording) // 3 + 1]),
+    }
+    for command in COMMANDS:
+        one = wanted(program, command)
+        for kind, sizes in kinds.items():
+            found = in_chunks(run, text, recording, sizes, command)
+            if found[:2] != one:
+                yield f"seed {seed}, {COMMANDS[command]}, chunks {kind}: {[it[:80] for it in found[:2]]}, not {[it[:80] for it in one]}"
+
+
+def checkpoints(program, run, example):
+    """How the library's checkpoint differs from the program's, and what goes on from either."""
+    settings, recording = (example / "settings.toml").read_bytes(), (example / "pass.rec").read_bytes()
+    words = [program, "extract", "--settings", str(example / "settings.toml"), "--report", "report", "--checkpoint", "checkpoint"]
+    subprocess.run([*words, "--stop-after", "100", str(example / "pass.rec")], stdout=subprocess.DEVNULL, check=True)
+    size = len(recording) // 300
+    sizes = iter([100 * size, len(recording)])
+    _, _, kept = in_chunks(run, settings, recording, lambda: next(sizes), engine.EXTRACT)
+    if kept != pathlib.Path("checkpoint").read_bytes():
+        yield "the library's checkpoint is not the program's"
+
+
+def main(program, library, rounds):
+    run = engine.load_library(library)
+    failed = 0
+    for name, found in (
+        (f"{rounds} random recordings in random chunks give what one run gives", [it for k in range(int(rounds)) for it in differences(program, run, 7000 + k)]),
+        ("the library's checkpoint is the program's", [*checkpoints(program, run, HERE.parent / "example")]),
+    ):
+        print(f"FAILED: {name}: {found[:3]}" if found else f"ok {name}", flush=True)
+        failed += bool(found)
+    return failed != 0
+
+
+if __name__ == "__main__":
+    sys.exit(main(*sys.argv[1:]))

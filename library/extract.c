@@ -21,7 +21,7 @@ int main(int argc, char **argv) {
     static uint8_t text[1 << 20], chunk[RECORD + CHUNK];
     FILE *settings = argc == 3 ? fopen(argv[1], "rb") : NULL, *recording = argc == 3 ? fopen(argv[2], "rb") : NULL;
     struct room out = {0}, report = {0}, kept = {0}, next = {0};
-    struct tmx_request request = {.command = TMX_EXTRACT};
+    struct tmx_request request = {.definition = {text, 0}, .command = TMX_EXTRACT};
     struct tmx_answer answer = {0};
     size_t left = 0;
     if (settings == NULL || recording == NULL) return 2;

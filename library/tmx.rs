@@ -1,10 +1,13 @@
 //! A safe wrapper of `libtmx`: a job over a recording that comes in chunks.
 
-/// What of the packets is wanted.
-#[derive(Clone, Copy)]
+/// What is wanted.
+#[derive(Clone)]
 pub enum Command {
-    Extract = 0,
-    Packets = 1,
+    Extract,
+    Packets,
+    /// The definition of the fields, and the application.
+    Fields(Vec<u8>, u16),
+    Frames,
 }
 
 /// Why a call gave nothing: the numbers of `tmx.h`.
@@ -13,6 +16,8 @@ pub struct Refused {
     pub status: u32,
     pub fault: u32,
     pub key: u32,
+    pub column: u32,
+    pub row: u32,
 }
 
 impl std::fmt::Display for Refused {
@@ -42,12 +47,12 @@ pub struct Job {
 struct Octets(*const u8, usize);
 
 #[repr(C)]
-struct Request(Octets, Octets, Octets, u32, u32);
+struct Request(Octets, Octets, Octets, Octets, u32, u32, u32);
 
 #[repr(C)]
 #[derive(Default)]
 struct Answer {
-    refused: [u32; 3],
+    refused: [u32; 5],
     records: u32,
     out: usize,
     report: usize,
@@ -92,7 +97,13 @@ impl Job {
         let before = self.left.len();
         self.left.extend_from_slice(chunk);
         let (settings, kept, all) = (octets(&self.settings), octets(&self.checkpoint), octets(&self.left));
-        let request = Request(settings, kept, all, self.command as u32, u32::from(last));
+        let (command, definition, application): (_, &[u8], _) = match &self.command {
+            Command::Extract => (0, &[], 0),
+            Command::Packets => (1, &[], 0),
+            Command::Fields(definition, application) => (2, definition, *application),
+            Command::Frames => (3, &[], 0),
+        };
+        let request = Request(settings, kept, all, octets(definition), command, application.into(), last.into());
         let (mut out, mut report, mut next) = (vec![0; self.left.len()], vec![0; 4096], vec![0; 4096]);
         let mut answer = Answer::default();
         loop {
@@ -103,8 +114,8 @@ impl Job {
             };
             if status > 1 {
                 self.left.truncate(before);
-                let [status, fault, key] = answer.refused;
-                return Err(Refused { status, fault, key });
+                let [status, fault, key, column, row] = answer.refused;
+                return Err(Refused { status, fault, key, column, row });
             }
             out.resize(answer.out, 0);
             report.resize(answer.report, 0);

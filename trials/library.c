@@ -56,15 +56,19 @@ static struct tmx_octets lent(struct octets it) {
     return (struct tmx_octets){it.at, it.length};
 }
 
+/* The application of all calls. */
+static uint32_t application = 100;
+
 /* A call over copies, into rooms of these lengths. */
 static struct given call(struct octets settings, struct octets checkpoint, const uint8_t *at, size_t length, uint32_t command, uint32_t last,
                          const size_t rooms[3]) {
-    struct octets texts[3] = {copy(settings.at, settings.length), copy(checkpoint.at, checkpoint.length), copy(at, length)};
+    const uint8_t rows[] = "name,data_type,bit_length\nfirst,uint,8\n";
+    struct octets texts[4] = {copy(settings.at, settings.length), copy(checkpoint.at, checkpoint.length), copy(at, length), copy(rows, sizeof rows - 1)};
     struct given given = {{0}, some(rooms[0]), some(rooms[1]), some(rooms[2])};
-    struct tmx_request request = {lent(texts[0]), lent(texts[1]), lent(texts[2]), command, last};
+    struct tmx_request request = {lent(texts[0]), lent(texts[1]), lent(texts[2]), lent(texts[3]), command, application, last};
     uint32_t status = tmx_run(&request, given.out.at, rooms[0], given.report.at, rooms[1], given.checkpoint.at, rooms[2], &given.answer);
     if (status != given.answer.status) exit(4);
-    for (int k = 0; k < 3; k++) free(texts[k].at);
+    for (int k = 0; k < 4; k++) free(texts[k].at);
     return given;
 }
 
@@ -119,7 +123,7 @@ static int hostile(struct octets settings, struct octets recording) {
     struct octets kept = first.checkpoint;
     const size_t rest = recording.length - first.answer.used;
     const uint8_t *next = recording.at + first.answer.used;
-    struct given whole = served(settings, kept, next, rest, TMX_EXTRACT, 1);
+    struct given whole = served(settings, kept, next, rest, TMX_EXTRACT, 1), whole_summary;
     for (size_t bit = 0; bit < 8 * kept.length; bit += bit < 800 ? 1 : 37) {
         kept.at[bit / 8] ^= (uint8_t)(1 << bit % 8);
         refused("a checkpoint with a bit changed", call(settings, kept, next, rest, TMX_EXTRACT, 1, none), TMX_CHECKPOINT);
@@ -130,7 +134,18 @@ static int hostile(struct octets settings, struct octets recording) {
     refused("random octets as a checkpoint", call(settings, (struct octets){recording.at, half}, next, rest, TMX_EXTRACT, 1, none), TMX_CHECKPOINT);
     refused("no settings", call(empty, kept, next, rest, TMX_EXTRACT, 1, none), TMX_SETTINGS);
     refused("octets that are no settings", call(recording, kept, next, rest, TMX_EXTRACT, 1, none), TMX_SETTINGS);
-    for (uint32_t command = 2; command != 0; command *= 2)
+    refused("a summary behind a checkpoint", call(settings, kept, next, rest, TMX_SUMMARY, 1, none), TMX_WHOLE);
+    refused("a summary of a part", call(settings, empty, next, rest, TMX_SUMMARY, 0, none), TMX_WHOLE);
+    application = 2048;
+    refused("an application that is none", call(settings, kept, next, rest, TMX_FIELDS, 1, none), TMX_APPLICATION);
+    application = 100;
+    for (uint32_t command = TMX_PACKETS; command <= TMX_FRAMES; command++) {
+        struct given given = served(settings, kept, next, rest, command, 1);
+        drop(&given);
+    }
+    whole_summary = served(settings, empty, recording.at, recording.length, TMX_SUMMARY, 1);
+    drop(&whole_summary);
+    for (uint32_t command = 5; command != 0; command += command)
         refused("a number of no command", call(settings, kept, next, rest, command, 1, none), TMX_COMMAND);
     refused("the greatest number as a command", call(settings, kept, next, rest, UINT32_MAX, 1, none), TMX_COMMAND);
     for (size_t length = 0; length < settings.length; length++) {

@@ -3,8 +3,8 @@
 
     library.py TMX LIBRARY ROUNDS
 
-TMX is the program, LIBRARY the shared library, and ROUNDS how many random recordings are tried, each in chunks of several kinds and by both
-commands. The lines are those of hostile.sh."""
+TMX is the program, LIBRARY the shared library, and ROUNDS how many random recordings are tried, each in chunks of several kinds and by each
+command. The lines are those of hostile.sh."""
 
 import ctypes
 import pathlib
@@ -19,17 +19,18 @@ sys.dont_write_bytecode = True
 import anything  # noqa: E402
 from tmx import engine  # noqa: E402
 
-COMMANDS = {engine.EXTRACT: "extract", engine.PACKETS: "packets"}
+COMMANDS = {engine.EXTRACT: "extract", engine.PACKETS: "packets", engine.FIELDS: "fields", engine.FRAMES: "frames", engine.SUMMARY: "summary"}
+DEFINITION = b"name,data_type,bit_length\nfirst,uint,5\nsecond,int,11\n"
 
 
-def in_chunks(run, settings, recording, sizes, command):
+def in_chunks(run, settings, recording, sizes, command, application):
     """What the calls give in all: what belongs to `out`, the report, and the checkpoint before the last one. Each size is asked for in turn."""
     out, report, checkpoint, kept, at, end = [], [], b"", b"", 0, 0
     while True:
         end = min(len(recording), end + sizes())
         last = end == len(recording)
-        read = [engine.Octets(it, len(it)) for it in (settings, checkpoint, recording[at:end])]
-        request, answer, lengths = engine.Request(*read, command, last), engine.Answer(), [0, 0, 0]
+        read = [engine.Octets(it, len(it)) for it in (settings, checkpoint, recording[at:end], DEFINITION)]
+        request, answer, lengths = engine.Request(*read, command, application, last), engine.Answer(), [0, 0, 0]
         while True:
             rooms = [ctypes.create_string_buffer(it) for it in lengths]
             words = [word for it in zip(rooms, lengths) for word in it]
@@ -48,9 +49,10 @@ def in_chunks(run, settings, recording, sizes, command):
             return b"".join(out), b"".join(report), kept
 
 
-def wanted(program, command):
+def wanted(program, command, application):
     """What one run of the program gives of the recording."""
-    ran = subprocess.run([program, COMMANDS[command], "--settings", "settings", "recording"], capture_output=True, check=False)
+    words = ["--definition", "definition", "--apid", str(application)] if command == engine.FIELDS else []
+    ran = subprocess.run([program, COMMANDS[command], "--settings", "settings", *words, "recording"], capture_output=True, check=False)
     return (ran.stdout, ran.stderr) if ran.returncode == 0 else (f"status {ran.returncode}", ran.stderr)
 
 
@@ -60,6 +62,7 @@ def differences(program, run, seed):
     settings = anything.make_settings(chance, ".")
     recording = anything.make_recording(chance, seed, settings, ".")
     size, text = settings.record, pathlib.Path("settings").read_bytes()
+    application = chance.choice((0, 5, 100, 2046, 2047))
     kinds = {
         "whole": lambda: len(recording) + 1,
         "records and an octet": lambda: size + 1,
@@ -67,9 +70,12 @@ def differences(program, run, seed):
         "any": lambda: chance.choice([0, 1, size - 1, size, size + 1, chance.randrange(6 * size), len(recording) // 3 + 1]),
     }
     for command in COMMANDS:
-        one = wanted(program, command)
+        one = wanted(program, command, application)
         for kind, sizes in kinds.items():
-            found = in_chunks(run, text, recording, sizes, command)
+            # A summary takes one call.
+            if command == engine.SUMMARY and kind != "whole":
+                continue
+            found = in_chunks(run, text, recording, sizes, command, application)
             if found[:2] != one:
                 yield f"seed {seed}, {COMMANDS[command]}, chunks {kind}: {[it[:80] for it in found[:2]]}, not {[it[:80] for it in one]}"
 
@@ -81,13 +87,14 @@ def checkpoints(program, run, example):
     subprocess.run([*words, "--stop-after", "100", str(example / "pass.rec")], stdout=subprocess.DEVNULL, check=True)
     size = len(recording) // 300
     sizes = iter([100 * size, len(recording)])
-    _, _, kept = in_chunks(run, settings, recording, lambda: next(sizes), engine.EXTRACT)
+    _, _, kept = in_chunks(run, settings, recording, lambda: next(sizes), engine.EXTRACT, 0)
     if kept != pathlib.Path("checkpoint").read_bytes():
         yield "the library's checkpoint is not the program's"
 
 
 def main(program, library, rounds):
     run = engine.load_library(library)
+    pathlib.Path("definition").write_bytes(DEFINITION)
     failed = 0
     for name, found in (
         (f"{rounds} random recordings in random chunks give what one run gives", [it for k in range(int(rounds)) for it in differences(program, run, 7000 + k)]),

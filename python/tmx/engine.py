@@ -13,8 +13,8 @@ from .recording import Item
 from .settings import Settings
 
 # The numbers of include/tmx.h.
-EXTRACT, PACKETS = 0, 1
-DONE, ROOM, COMMAND, SETTINGS, CHECKPOINT, TOO_MANY, MEMORY = range(7)
+EXTRACT, PACKETS, FIELDS, FRAMES, SUMMARY = range(5)
+DONE, ROOM, COMMAND, SETTINGS, CHECKPOINT, TOO_MANY, MEMORY, DEFINITION, APPLICATION, WHOLE = range(10)
 SETTINGS_FAULTS = ("", "toml", "unknown", "missing", "kind", "range")
 CHECKPOINT_FAULTS = ("", "short", "magic", "version", "check", "settings", "state", "trailing")
 KEYS = (
@@ -31,7 +31,9 @@ class Request(ctypes.Structure):
         ("settings", Octets),
         ("checkpoint", Octets),
         ("octets", Octets),
+        ("definition", Octets),
         ("command", ctypes.c_uint32),
+        ("application", ctypes.c_uint32),
         ("last", ctypes.c_uint32),
     ]
 
@@ -41,6 +43,8 @@ class Answer(ctypes.Structure):
         ("status", ctypes.c_uint32),
         ("fault", ctypes.c_uint32),
         ("key", ctypes.c_uint32),
+        ("column", ctypes.c_uint32),
+        ("row", ctypes.c_uint32),
         ("records", ctypes.c_uint32),
         ("out_length", ctypes.c_size_t),
         ("report_length", ctypes.c_size_t),
@@ -123,8 +127,8 @@ class Engine:
 
     def call(self, command: int, octets: bytes, last: bool) -> Called:
         """One call, made again with larger rooms where they were too small."""
-        read = [Octets(it, len(it)) for it in (self.settings, self.checkpoint, octets)]
-        request, answer, lengths = Request(*read, command, last), Answer(), [2 * len(octets), 4096, 4096]
+        read = [Octets(it, len(it)) for it in (self.settings, self.checkpoint, octets, b"")]
+        request, answer, lengths = Request(*read, command, 0, last), Answer(), [2 * len(octets), 4096, 4096]
         while True:
             rooms = [ctypes.create_string_buffer(it) for it in lengths]
             words = [word for it in zip(rooms, lengths) for word in it]

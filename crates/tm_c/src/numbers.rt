@@ -1,11 +1,26 @@
 //! The numbers that stand for refusals, as `include/tmx.h` has them.
 
 ghost use Rattle.std.specs.Prelude.{◌≡◌};
-ghost use Rattle.tm_c.specs.Numbers.{checkpoint_number, key_number, refusal_numbers, settings_numbers};
+ghost use Rattle.tm_c.specs.Numbers.{about_key, about_row, checkpoint_number, column_number, definition_numbers, key_number,
+    refusal_numbers, settings_numbers, with_status};
 
 use crate::structs::Numbers;
+use tm_fields::{Column, DefinitionFault};
 use tm_library::Refusal;
 use tm_tool::{CheckpointFault, Key, SettingsFault};
+
+/// A status and a fault, which is about nothing more.
+pub fn with_status(status: u32, fault: u32) -> Numbers
+    ensures { result ≡ with_status status fault }
+{
+    Numbers {
+        status,
+        fault,
+        key: 0,
+        column: 0,
+        row: 0,
+    }
+}
 
 // Keys are numbered in the order of the docs.
 fn key_number(key: Key) -> u32
@@ -24,18 +39,26 @@ fn key_number(key: Key) -> u32
     }
 }
 
+// A fault of the settings that is about a key.
+fn about_key(fault: u32, key: Key) -> Numbers
+    ensures { result ≡ about_key fault key }
+{
+    let mut numbers = with_status(3, fault);
+    numbers.key = key_number(key);
+    numbers
+}
+
 fn settings_numbers(fault: SettingsFault) -> Numbers
     ensures { result ≡ settings_numbers fault }
 {
-    let (status, fault, key) = match fault {
-        SettingsFault::Toml => (3, 1, 0),
-        SettingsFault::Unknown(_) => (3, 2, 0),
-        SettingsFault::Missing(key) => (3, 3, key_number(key)),
-        SettingsFault::Kind(key) => (3, 4, key_number(key)),
-        SettingsFault::Range(key) => (3, 5, key_number(key)),
-        SettingsFault::NoMemory => (6, 0, 0),
-    };
-    Numbers { status, fault, key }
+    match fault {
+        SettingsFault::Toml => with_status(3, 1),
+        SettingsFault::Unknown(_) => with_status(3, 2),
+        SettingsFault::Missing(key) => about_key(3, key),
+        SettingsFault::Kind(key) => about_key(4, key),
+        SettingsFault::Range(key) => about_key(5, key),
+        SettingsFault::NoMemory => with_status(6, 0),
+    }
 }
 
 fn checkpoint_number(fault: CheckpointFault) -> u32
@@ -53,26 +76,56 @@ fn checkpoint_number(fault: CheckpointFault) -> u32
     }
 }
 
+// Columns are numbered in the order of the docs.
+fn column_number(column: Column) -> u32
+    ensures { result ≡ column_number column }
+{
+    match column {
+        Column::Name => 1,
+        Column::DataType => 2,
+        Column::BitLength => 3,
+        Column::BitOffset => 4,
+    }
+}
+
+// A fault of a definition that is about a row.
+fn about_row(fault: u32, row: u32) -> Numbers
+    ensures { result ≡ about_row fault row }
+{
+    let mut numbers = with_status(7, fault);
+    numbers.row = row;
+    numbers
+}
+
+/// The numbers of a fault of a definition.
+pub fn definition_numbers(fault: DefinitionFault) -> Numbers
+    ensures { result ≡ definition_numbers fault }
+{
+    match fault {
+        DefinitionFault::Csv => with_status(7, 1),
+        DefinitionFault::Column(column) => {
+            let mut numbers = with_status(7, 2);
+            numbers.column = column_number(column);
+            numbers
+        }
+        DefinitionFault::Kind { row } => about_row(3, row),
+        DefinitionFault::Array { row } => about_row(4, row),
+        DefinitionFault::Bits { row } => about_row(5, row),
+        DefinitionFault::Offset { row } => about_row(6, row),
+        DefinitionFault::Name { row } => about_row(7, row),
+        DefinitionFault::TooMany => with_status(7, 8),
+        DefinitionFault::NoMemory => with_status(6, 0),
+    }
+}
+
 /// The numbers of a refusal.
 pub fn refusal_numbers(refusal: Refusal) -> Numbers
     ensures { result ≡ refusal_numbers refusal }
 {
     match refusal {
         Refusal::Settings(fault) => settings_numbers(fault),
-        Refusal::Checkpoint(fault) => Numbers {
-            status: 4,
-            fault: checkpoint_number(fault),
-            key: 0,
-        },
-        Refusal::TooMany => Numbers {
-            status: 5,
-            fault: 0,
-            key: 0,
-        },
-        Refusal::NoMemory => Numbers {
-            status: 6,
-            fault: 0,
-            key: 0,
-        },
+        Refusal::Checkpoint(fault) => with_status(4, checkpoint_number(fault)),
+        Refusal::TooMany => with_status(5, 0),
+        Refusal::NoMemory => with_status(6, 0),
     }
 }

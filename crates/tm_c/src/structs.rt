@@ -6,7 +6,9 @@ pub struct TmxRequest<'a> {
     pub settings: &'a [u8],
     pub checkpoint: &'a [u8],
     pub octets: &'a [u8],
+    pub definition: &'a [u8],
     pub command: u32,
+    pub application: u32,
     pub last: u32,
 }
 
@@ -17,6 +19,8 @@ pub struct TmxAnswer {
     pub status: u32,
     pub fault: u32,
     pub key: u32,
+    pub column: u32,
+    pub row: u32,
     pub records: u32,
     pub out_length: usize,
     pub report_length: usize,
@@ -24,10 +28,12 @@ pub struct TmxAnswer {
     pub used: usize,
 }
 
-/// A status, and what of it is wrong: the number of the fault, and of the key that it is about. 0 where there is none.
+/// A status, and what is wrong: the number of the fault, and the key, the column or the row that it is about. 0 where there is none.
 #[derive(Clone, Copy, Debug, PartialEq, Eq)]
 pub struct Numbers {
     pub status: u32,
     pub fault: u32,
     pub key: u32,
+    pub column: u32,
+    pub row: u32,
 }

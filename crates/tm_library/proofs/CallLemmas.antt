@@ -1,7 +1,9 @@
 -- Calls that follow one another give what one run gives.
-use Rattle.std.proofs.Common.{◌≡◌, ◌<◌, ◌^◌, ◌+◌, ℕ, Bool, false, List, [], ◌∷◌, ◌++◌, length, length-append, refl, sym, ap, subst, ◌∙◌, Ok, Result, append_assoc, append-nil, arith}
+use Rattle.std.proofs.Common.{◌≡◌, ◌<◌, ◌^◌, ◌+◌, ℕ, Bool, true, false, List, [], ◌∷◌, ◌++◌, length, length-append, refl, sym, ap, subst, ◌∙◌, Ok, Result, append_assoc, append-nil, arith}
 use Rattle.std.proofs.Math.Nat.{zero-mul}
+use Rattle.std.proofs.lemmas.List.{map-append}
 use Rattle.std.specs.List.{concat}
+use Rattle.tm_frame.specs.declared.layout.LayoutParts.{LayoutParts}
 use Rattle.tm_rules.specs.Rules.{IsLimit, Rules}
 use Rattle.tm_faults.specs.declared.fault.CheckpointFault.{CheckpointFault}
 use Rattle.tm_reassembly.specs.Valid.{AllOctets}
@@ -10,9 +12,11 @@ use Rattle.tm_checkpoint.specs.Checkpoints.{checkpoint_of, resumed, spelled_in}
 use Rattle.tm_checkpoint.proofs.CheckpointLemmas.{read_again}
 use Rattle.tm_output.specs.declared.command.Command.{Command}
 use Rattle.tm_output.specs.declared.command.Command.TheVariants.{Extract, Packets, Fields}
-use Rattle.tm_output.specs.Outputs.{Piece}
+use Rattle.tm_output.specs.Listing.{listing, record_lines}
+use Rattle.tm_output.specs.Outputs.{Piece, line_piece, line_pieces}
 use Rattle.tm_output.specs.Pieces.{text_of}
 use Rattle.tm_output.specs.Records.{records, rest_of}
+use Rattle.tm_output.proofs.ListingLemmas.{record_lines-append}
 use Rattle.tm_output.proofs.RecordLemmas.{records_front, records_sized, records_whole, rest_front}
 use Rattle.tm_tool.specs.HeadPieces.{head_pieces}
 use Rattle.tm_tool.specs.RecordingPieces.{end_pieces, pieces_after, record_pieces, worked}
@@ -21,7 +25,9 @@ use Rattle.tm_tool.specs.Runs.{IsSoundWork}
 use Rattle.tm_tool.proofs.Running.{records-append, records-counted, worked-append}
 use Rattle.tm_tool.proofs.WorkValid.{begun-work, worked-work}
 use Rattle.tm_library.specs.Calls.{left_behind, pieces_of_calls}
-use Rattle.tm_library.specs.Chunks.{checkpoint_behind, chunk_pieces, chunk_ending, job_behind, job_in, size_of}
+use Rattle.tm_library.specs.declared.request.Wanted.{Wanted}
+use Rattle.tm_library.specs.declared.request.Wanted.TheVariants as wants
+use Rattle.tm_library.specs.Chunks.{checkpoint_behind, chunk_pieces, chunk_ending, end_lines, frame_lines, given_pieces, job_behind, job_in, size_of}
 use Rattle.tm_library.proofs.ChunkLemmas.{pieces_are}
 
 -- a job that was kept has no head
@@ -106,6 +112,55 @@ module _ (command : Command) (last : Bool) (job : JobState) (first second : List
       ∙ append_assoc head (record_pieces (text_of command) w ones) tail
       ∙ ap (λ (ps : List (Piece ℕ)). head ++ ps) (sym body)
 
+-- ---- of frames
+
+module _ (last : Bool) (job : JobState) (first second : List ℕ) (sound : IsSoundWork job.work) where
+  abbrev size : ℕ
+  size = size_of job.work
+
+  abbrev seen : ℕ
+  seen = job.work.state.records
+
+  abbrev ones : List (List ℕ)
+  ones = records size first
+
+  abbrev rest : List ℕ
+  rest = rest_of size first ++ second
+
+  abbrev others : List (List ℕ)
+  others = records size rest
+
+  abbrev ends : ℕ → ℕ → List (List ℕ)
+  ends n left = end_lines last n left
+
+  -- the lines of both calls
+  lines : frame_lines false job first ++ frame_lines last (job_behind job first) rest ≡ frame_lines last job (first ++ second)
+  lines =
+      let layout : LayoutParts = job.work.rules.layout in
+      let counted : (worked job.work ones).state.records ≡ seen + length ones = records-counted job.work ones in
+      let all : length (ones ++ others) ≡ length ones + length others = length-append ones others in
+      let place : seen + length ones + length others ≡ seen + length (ones ++ others) = omega (arith, all) in
+      let left : ℕ = length (rest_of size rest) in
+      ap (λ (l : List (List ℕ)). l ++ frame_lines last (job_behind job first) rest) (append-nil (record_lines layout seen ones))
+      ∙ ap (λ (n : ℕ). record_lines layout seen ones ++ (record_lines layout n others ++ ends (n + length others) left)) counted
+      ∙ sym (append_assoc (record_lines layout seen ones) (record_lines layout (seen + length ones) others) (ends (seen + length ones + length others) left))
+      ∙ ap (λ (l : List (List ℕ)). l ++ ends (seen + length ones + length others) left) (sym (record_lines-append layout seen ones others))
+      ∙ ap (λ (n : ℕ). record_lines layout seen (ones ++ others) ++ ends n left) place
+      ∙ ap (λ (rs : List (List ℕ)). record_lines layout seen rs ++ ends (seen + length rs) left) (sym (its_records Extract last job first second sound))
+      ∙ ap (λ (l : List ℕ). record_lines layout seen (records size (first ++ second)) ++ ends (seen + length (records size (first ++ second))) (length l))
+      (sym (its_rest Extract last job first second sound))
+
+  pub two_lists : line_pieces (frame_lines false job first) ++ line_pieces (frame_lines last (job_behind job first) rest)
+      ≡ line_pieces (frame_lines last job (first ++ second))
+  two_lists = sym (map-append line_piece (frame_lines false job first) (frame_lines last (job_behind job first) rest)) ∙ ap line_pieces lines
+
+-- of either
+two_given : (wanted : Wanted) (last : Bool) (job : JobState) (first second : List ℕ) → IsSoundWork job.work
+    → given_pieces wanted false job first ++ given_pieces wanted last (job_behind job first) (rest_of (size_of job.work) first ++ second)
+    ≡ given_pieces wanted last job (first ++ second)
+two_given (wants.Packets command) last job first second sound = two command last job first second sound
+two_given wants.Frames last job first second sound = two_lists last job first second sound
+
 -- ---- any number
 
 -- a checkpoint has octets
@@ -117,23 +172,23 @@ has_octets s w = refl
 again : (job : JobState) (octets : List ℕ) → IsWork (job_behind job octets).work → job_in job.work.rules (checkpoint_behind false job octets) ≡ Ok (job_behind job octets)
 again job octets valid = has_octets job.work.rules (job_behind job octets).work ∙ read_again (job_behind job octets).work valid
 
-module _ (command : Command) (last : Bool) (rules : Rules) where
+module _ (wanted : Wanted) (last : Bool) (rules : Rules) where
   begin : (r : Result JobState CheckpointFault) (job : JobState) (more : JobState → List (Piece ℕ)) → r ≡ Ok job → then_pieces r more ≡ more job
   begin r job more is = ap (λ (x : Result JobState CheckpointFault). then_pieces x more) is
 
   joined : (chunks : List (List ℕ)) (job : JobState) (checkpoint octets : List ℕ) → job_in rules checkpoint ≡ Ok job → job.work.rules ≡ rules → IsWork job.work
       → 0 < size_of job.work → AllOctets (records (size_of job.work) (octets ++ concat chunks))
       → job.work.state.records + length (records (size_of job.work) (octets ++ concat chunks)) < 2 ^ 32
-      → pieces_of_calls command last rules checkpoint octets chunks ≡ chunk_pieces command last job (octets ++ concat chunks)
+      → pieces_of_calls wanted last rules checkpoint octets chunks ≡ given_pieces wanted last job (octets ++ concat chunks)
   joined [] job checkpoint octets begins own valid some are few =
-      begin _ job (λ (j : JobState). chunk_pieces command last j octets) begins
-      ∙ ap (chunk_pieces command last job) (sym (append-nil octets))
+      begin _ job (λ (j : JobState). given_pieces wanted last j octets) begins
+      ∙ ap (given_pieces wanted last job) (sym (append-nil octets))
   joined (chunk ∷ chunks) job checkpoint octets begins own valid some are few =
       let second : List ℕ = chunk ++ concat chunks in
       let size : ℕ = size_of job.work in
       let ones : List (List ℕ) = records size octets in
       let others : List (List ℕ) = records size (rest_of size octets ++ second) in
-      let cut : records size (octets ++ second) ≡ ones ++ others = its_records command last job octets second (valid.state, some) in
+      let cut : records size (octets ++ second) ≡ ones ++ others = its_records Extract last job octets second (valid.state, some) in
       let next : JobState = job_behind job octets in
       let here : AllOctets (ones ++ others) = subst AllOctets cut are in
       let count : length (ones ++ others) ≡ length ones + length others = length-append ones others in
@@ -147,22 +202,28 @@ module _ (command : Command) (last : Bool) (rules : Rules) where
       let fewer : next.work.state.records + length (records size ((rest_of size octets ++ chunk) ++ concat chunks)) < 2 ^ 32 =
       subst (λ (l : List ℕ). next.work.state.records + length (records size l) < 2 ^ 32) (sym seam)
       (omega (arith, most, count, records-counted job.work ones)) in
-      begin _ job (λ (j : JobState). chunk_pieces command false j octets
-      ++ pieces_of_calls command last rules (checkpoint_behind false j octets) (left_behind j octets ++ chunk) chunks) begins
-      ∙ ap (λ (l : List ℕ). chunk_pieces command false job octets ++ pieces_of_calls command last rules (checkpoint_behind false job octets) (l ++ chunk) chunks)
+      begin _ job (λ (j : JobState). given_pieces wanted false j octets
+      ++ pieces_of_calls wanted last rules (checkpoint_behind false j octets) (left_behind j octets ++ chunk) chunks) begins
+      ∙ ap (λ (l : List ℕ). given_pieces wanted false job octets ++ pieces_of_calls wanted last rules (checkpoint_behind false job octets) (l ++ chunk) chunks)
       (rest_left job octets)
-      ∙ ap (λ (ps : List (Piece ℕ)). chunk_pieces command false job octets ++ ps)
+      ∙ ap (λ (ps : List (Piece ℕ)). given_pieces wanted false job octets ++ ps)
       (joined chunks next (checkpoint_behind false job octets) (rest_of size octets ++ chunk) written own works some behind fewer
-      ∙ ap (chunk_pieces command last next) seam)
-      ∙ two command last job octets second (valid.state, some)
+      ∙ ap (given_pieces wanted last next) seam)
+      ∙ two_given wanted last job octets second (valid.state, some)
 
-  -- from a new job
-  pub in_one_run : (first : List ℕ) (chunks : List (List ℕ)) → length rules.channels ≡ 8 → IsLimit rules.max_packet → 0 < size_of (new_job rules).work
-      → AllOctets (records (size_of (new_job rules).work) (first ++ concat chunks))
-      → length (records (size_of (new_job rules).work) (first ++ concat chunks)) < 2 ^ 32
-      → pieces_of_calls command last rules [] first chunks
+-- from a new job
+module _ (rules : Rules) (first : List ℕ) (chunks : List (List ℕ)) (eight : length rules.channels ≡ 8) (limit : IsLimit rules.max_packet)
+    (some : 0 < size_of (new_job rules).work) (are : AllOctets (records (size_of (new_job rules).work) (first ++ concat chunks)))
+    (few : length (records (size_of (new_job rules).work) (first ++ concat chunks)) < 2 ^ 32) where
+  fewer : 0 + length (records (size_of (new_job rules).work) (first ++ concat chunks)) < 2 ^ 32
+  fewer = omega (arith, few)
+
+  pub in_one_run : (command : Command) (last : Bool) → pieces_of_calls (wants.Packets command) last rules [] first chunks
       ≡ run_pieces (head_pieces command) (text_of command) (chunk_ending last) (new_job rules) (first ++ concat chunks)
-  in_one_run first chunks eight limit some are few =
-      let fewer : 0 + length (records (size_of (new_job rules).work) (first ++ concat chunks)) < 2 ^ 32 = omega (arith, few) in
-      joined chunks (new_job rules) [] first refl refl (begun-work rules eight limit) some are fewer
+  in_one_run command last =
+      joined (wants.Packets command) last rules chunks (new_job rules) [] first refl refl (begun-work rules eight limit) some are fewer
       ∙ sym (pieces_are command last (new_job rules) (first ++ concat chunks) 0 (sym (zero-mul (size_of (new_job rules).work))) some)
+
+  pub in_one_list : pieces_of_calls wants.Frames true rules [] first chunks ≡ line_pieces (listing rules.layout (first ++ concat chunks))
+  unfolding listing
+  in_one_list = joined wants.Frames true rules chunks (new_job rules) [] first refl refl (begun-work rules eight limit) some are fewer

@@ -1,21 +1,11 @@
 -- A recording whose octets that are done are given as zeros.
-use Rattle.std.proofs.Common.{◌≡◌, ◌≤◌, ◌<◌, ℕ, ◌+◌, ◌*◌, Bool, true, false, List, [], ◌∷◌, ◌++◌, length, take, drop, replicate, subst, length-append, length-take-le, append-nil, refl, sym, ap, ◌∙◌, arith, Option, Some, Ok, IfOk, Result, Err, slice_index_or, if◌then◌else◌}
+use Rattle.std.proofs.Common.{◌≡◌, ◌≤◌, ◌<◌, ℕ, ◌+◌, ◌*◌, Bool, true, false, List, [], ◌∷◌, ◌++◌, length, take, drop, replicate, subst, length-append, length-take-le, append-nil, refl, sym, ap, ◌∙◌, arith, Option, Some, slice_index_or}
 use Rattle.std.proofs.lemmas.List.{length-replicate}
-use Rattle.std.proofs.lemmas.Result.{IfOk-at_ok}
 use Rattle.std.proofs.KnownBytes.{Appends-nil, Appends-trans}
 use Rattle.std.proofs.Math.Seq.{drop-append_seam}
 use Rattle.std.specs.Io.KnownBytes.{Appends}
 use Rattle.std.specs.List.{concat}
-use Rattle.tm_frame.specs.Layout.{most_records, record_length_of}
-use Rattle.tm_rules.specs.Rules.{Rules}
-use Rattle.tm_packet.specs.declared.tracker.TrackerFault.{TrackerFault}
-use Rattle.tm_packet.specs.Spelling as sequence
-use Rattle.tm_reassembly.specs.Checkpoint as reassembly
-use Rattle.tm_reassembly.specs.State.{State}
-use Rattle.tm_reassembly.specs.declared.fault.StateFault.{StateFault}
-use Rattle.tm_faults.specs.declared.fault.CheckpointFault.{CheckpointFault}
-use Rattle.tm_checkpoint.specs.declared.version.Version.{Version}
-use Rattle.tm_checkpoint.specs.Checkpoints.{version_in, inner, resumed, resumed_as, state_in, with_entries, with_state}
+use Rattle.tm_frame.specs.Layout.{most_records}
 use Rattle.tm_checkpoint.specs.Works.{JobState, Work}
 use Rattle.tm_output.specs.declared.command.Command.{Command}
 use Rattle.tm_output.specs.declared.command.Ending.{Ending}
@@ -33,39 +23,8 @@ use Rattle.tm_tool.proofs.HeadedRuns.{stop_told}
 use Rattle.tm_tool.proofs.Passing.{cut_records}
 use Rattle.tm_tool.proofs.RunPieces.{ran_told}
 use Rattle.tm_library.specs.declared.request.Answer.{Answer}
-use Rattle.tm_library.specs.Chunks.{Holds, IsAnswer, chunk_ending, chunk_pieces, job_in, kept_octets, size_of, used_octets}
-
--- ---- a job has the settings that it was resumed with
-
-abbrev HasRules : Rules → JobState → Type 0
-HasRules s job = job.work.rules ≡ s
-
-unless : (s : Rules) (b : Bool) (found : CheckpointFault) (job : JobState) → HasRules s job → IfOk (if b then Err found else Ok job) (HasRules s)
-unless s true found job h = tt
-unless s false found job h = h
-
-with_entries_rules : (s : Rules) (state : State) (n : ℕ) (r : Result sequence.DecodedEntries TrackerFault) → IfOk (with_entries s state n r) (HasRules s)
-with_entries_rules s state n (Ok read) = unless s _ _ _ refl
-with_entries_rules s state n (Err found) = tt
-
-with_state_rules : (s : Rules) (octets : List ℕ) (r : Result reassembly.DecodedState StateFault) → IfOk (with_state s octets r) (HasRules s)
-with_state_rules s octets (Ok read) = with_entries_rules s read.state (length (drop read.octets octets)) (sequence.entries_decoding_of (drop read.octets octets))
-with_state_rules s octets (Err found) = tt
-
-resumed_as_rules : (s : Rules) (octets : List ℕ) (r : Result Version CheckpointFault) → IfOk (resumed_as s octets r) (HasRules s)
-resumed_as_rules s octets (Ok v) = with_state_rules s (inner v octets) (state_in v s (inner v octets))
-resumed_as_rules s octets (Err found) = tt
-
-resumed_rules : (s : Rules) (octets : List ℕ) → IfOk (resumed s octets) (HasRules s)
-unfolding resumed
-resumed_rules s octets = resumed_as_rules s octets (version_in s octets)
-
-job_in_rules : (s : Rules) (octets : List ℕ) → IfOk (job_in s octets) (HasRules s)
-job_in_rules s [] = refl
-job_in_rules s (o ∷ os) = resumed_rules s (o ∷ os)
-
-pub has_rules : (s : Rules) (octets : List ℕ) (job : JobState) → job_in s octets ≡ Ok job → job.work.rules ≡ s
-has_rules s octets job is = IfOk-at_ok (HasRules s) is (job_in_rules s octets)
+use Rattle.tm_library.specs.declared.request.Wanted.{Wanted}
+use Rattle.tm_library.specs.Chunks.{Holds, IsAnswer, chunk_ending, chunk_pieces, given_pieces, kept_octets, size_of, used_octets}
 
 -- ---- a room
 
@@ -131,36 +90,42 @@ module _ (command : Command) (last : Bool) (job : JobState) (octets : List ℕ) 
       ++ pieces_after (text_of command) (chunk_ending last) job.work (records (size_of job.work) octets) (length l))
       (rest_is job.work octets done is some)
 
-  -- what was in the rooms before is none
-  module _ (a a' b b' : ℕ) (front back out report : List ℕ) (none_out : front ≡ []) (none_report : back ≡ []) (f f' g g' : ℕ) (left : Option (List ℕ))
-      (failures failures' count : ℕ) (kept : Option Work) (ending : Ending) (ends : ending ≡ chunk_ending last) (sound : IsSoundWork job.work)
+  module _ (left : Option (List ℕ)) (failures failures' : ℕ) (old new : View (Option (List ℕ))) (count : ℕ) (kept : Option Work) (ending : Ending)
+      (ends : ending ≡ chunk_ending last) (sound : IsSoundWork job.work)
       (h : Ran Appends (buffering_of command) (text_of command) ending job.work (head_pieces command job.fresh)
-      (devices_at (Some (replicate done 0 ++ octets)) failures (view (Some (a ∷ front)) (Some (b ∷ back)) f g))
-      (devices_at left failures' (view (Some (a' ∷ out)) (Some (b' ∷ report)) f' g')) count kept) where
-    outcome : Outcome Appends (buffering_of command) (text_of command) (chunk_ending last) job.work (head_pieces command job.fresh) (replicate done 0 ++ octets)
-        (view (Some (a ∷ front)) (Some (b ∷ back)) f g) (view (Some (a' ∷ out)) (Some (b' ∷ report)) f' g') count kept
-    outcome = ran_told Appends Appends-nil Appends-trans _ _ (chunk_ending last) job.work sound.0 sound.1 _ left _ _ failures failures' _ count kept
+      (devices_at (Some (replicate done 0 ++ octets)) failures old) (devices_at left failures' new) count kept) where
+    outcome : Outcome Appends (buffering_of command) (text_of command) (chunk_ending last) job.work (head_pieces command job.fresh) (replicate done 0 ++ octets) old new count kept
+    outcome = ran_told Appends Appends-nil Appends-trans _ _ (chunk_ending last) job.work sound.0 sound.1 _ left old new failures failures' _ count kept
         (subst (λ (e : Ending). Ran Appends (buffering_of command) (text_of command) e job.work (head_pieces command job.fresh)
-        (devices_at (Some (replicate done 0 ++ octets)) failures (view (Some (a ∷ front)) (Some (b ∷ back)) f g))
-        (devices_at left failures' (view (Some (a' ∷ out)) (Some (b' ∷ report)) f' g')) count kept) ends h)
-
-    pub same_out : a ≡ a'
-    same_out = sym (behind_mark a a' out _ outcome.took.whole.0).0
-
-    pub same_report : b ≡ b'
-    same_report = sym (behind_mark b b' report _ outcome.took.whole.1).0
-
-    pub out_is : out ≡ outs (chunk_pieces command last job octets)
-    out_is = (behind_mark a a' out _ outcome.took.whole.0).1 ∙ ap (λ (l : List ℕ). l ++ outs its_pieces) none_out ∙ ap outs pieces_are
-
-    pub report_is : report ≡ reports (chunk_pieces command last job octets)
-    report_is = (behind_mark b b' report _ outcome.took.whole.1).1 ∙ ap (λ (l : List ℕ). l ++ reports its_pieces) none_report ∙ ap reports pieces_are
+        (devices_at (Some (replicate done 0 ++ octets)) failures old) (devices_at left failures' new) count kept) ends h)
 
     pub records_are : count ≡ job.work.state.records + length (records (size_of job.work) octets)
     records_are = outcome.count_is ∙ ap (λ (rs : List (List ℕ)). job.work.state.records + length rs) (taken_is job.work octets done is some last)
 
     pub kept_is : kept ≡ kept_of (chunk_ending last) (worked job.work (records (size_of job.work) octets))
     kept_is = outcome.kept_is ∙ ap (λ (rs : List (List ℕ)). kept_of (chunk_ending last) (worked job.work rs)) (taken_is job.work octets done is some last)
+
+  -- what was in the rooms before is none
+  module _ (a a' b b' : ℕ) (front back out report : List ℕ) (none_out : front ≡ []) (none_report : back ≡ []) (f f' g g' : ℕ) (left : Option (List ℕ))
+      (failures failures' count : ℕ) (kept : Option Work) (ending : Ending) (ends : ending ≡ chunk_ending last) (sound : IsSoundWork job.work)
+      (h : Ran Appends (buffering_of command) (text_of command) ending job.work (head_pieces command job.fresh)
+      (devices_at (Some (replicate done 0 ++ octets)) failures (view (Some (a ∷ front)) (Some (b ∷ back)) f g))
+      (devices_at left failures' (view (Some (a' ∷ out)) (Some (b' ∷ report)) f' g')) count kept) where
+    marked : Outcome Appends (buffering_of command) (text_of command) (chunk_ending last) job.work (head_pieces command job.fresh) (replicate done 0 ++ octets)
+        (view (Some (a ∷ front)) (Some (b ∷ back)) f g) (view (Some (a' ∷ out)) (Some (b' ∷ report)) f' g') count kept
+    marked = outcome left failures failures' _ _ count kept ending ends sound h
+
+    pub same_out : a ≡ a'
+    same_out = sym (behind_mark a a' out _ marked.took.whole.0).0
+
+    pub same_report : b ≡ b'
+    same_report = sym (behind_mark b b' report _ marked.took.whole.1).0
+
+    pub out_is : out ≡ outs (chunk_pieces command last job octets)
+    out_is = (behind_mark a a' out _ marked.took.whole.0).1 ∙ ap (λ (l : List ℕ). l ++ outs its_pieces) none_out ∙ ap outs pieces_are
+
+    pub report_is : report ≡ reports (chunk_pieces command last job octets)
+    report_is = (behind_mark b b' report _ marked.took.whole.1).1 ∙ ap (λ (l : List ℕ). l ++ reports its_pieces) none_report ∙ ap reports pieces_are
 
   module _ (left : Option (List ℕ)) (failures failures' : ℕ) (old new : View (Option (List ℕ))) (ending : Ending) (sound : IsSoundWork job.work) (fault : RunFault)
       (h : IsHeadedStop Appends (buffering_of command) (text_of command) ending job.work (head_pieces command job.fresh)
@@ -183,17 +148,13 @@ never_read old new fault e h = let caused : RunCaused 0 0 old new Read = subst (
 
 -- ---- an answer
 
--- records are of the size that the settings say
-pub size_is : (rules : Rules) (checkpoint : List ℕ) (job : JobState) → job_in rules checkpoint ≡ Ok job → record_length_of rules.layout ≡ size_of job.work
-size_is rules checkpoint job is = ap (λ (r : Rules). record_length_of r.layout) (sym (has_rules rules checkpoint job is))
-
 -- it is of a run's parts
-pub answered : (command : Command) (last : Bool) (job : JobState) (octets : List ℕ) (answer : Answer) (out report checkpoint : List ℕ) (kept : Option Work) (size : ℕ)
-    → Holds out answer.out (outs (chunk_pieces command last job octets)) → Holds report answer.report (reports (chunk_pieces command last job octets))
+pub answered : (wanted : Wanted) (last : Bool) (job : JobState) (octets : List ℕ) (answer : Answer) (out report checkpoint : List ℕ) (kept : Option Work) (size : ℕ)
+    → Holds out answer.out (outs (given_pieces wanted last job octets)) → Holds report answer.report (reports (given_pieces wanted last job octets))
     → Holds checkpoint answer.checkpoint (kept_octets kept) → kept ≡ kept_of (chunk_ending last) (worked job.work (records (size_of job.work) octets))
     → answer.records ≡ job.work.state.records + length (records (size_of job.work) octets)
-    → answer.used ≡ used_octets last size (length octets) → size ≡ size_of job.work → IsAnswer command last job octets answer out report checkpoint
-answered command last job octets answer out report checkpoint kept size out_holds report_holds checkpoint_holds is records_are used exact = record {
+    → answer.used ≡ used_octets last size (length octets) → size ≡ size_of job.work → IsAnswer wanted last job octets answer out report checkpoint
+answered wanted last job octets answer out report checkpoint kept size out_holds report_holds checkpoint_holds is records_are used exact = record {
   out_holds = out_holds;
   report_holds = report_holds;
   checkpoint_holds = subst (λ (w : Option Work). Holds checkpoint answer.checkpoint (kept_octets w)) is checkpoint_holds;

@@ -2,3 +2,4 @@ mod Zeros
 mod ChunkLemmas
 mod CallLemmas
 mod RefusalLemmas
+mod ListLemmas

@@ -1,6 +1,8 @@
 -- What a call gives of a chunk of a recording: of the octets that follow the records that its job has done.
 use Rattle.std.specs.Prelude.{◌≡◌, ◌≤◌, ◌+◌, ◌*◌, ◌/◌, ℕ, Bool, true, false, List, [], ◌∷◌, ◌++◌, length, take, Option, None, Some, Result, Ok, IsUtf8}
 use Rattle.toml.specs.Parse.{parse_document}
+use Rattle.std.specs.List.{concat}
+use Rattle.tm_frame.specs.declared.layout.LayoutParts.{LayoutParts}
 use Rattle.tm_frame.specs.Layout.{record_length_of}
 use Rattle.tm_rules.specs.Rules.{Rules}
 use Rattle.tm_settings.specs.Settings.{settings_from}
@@ -10,13 +12,17 @@ use Rattle.tm_checkpoint.specs.Works.{JobState, Work, new_job}
 use Rattle.tm_output.specs.declared.command.Command.{Command}
 use Rattle.tm_output.specs.declared.command.Ending.{Ending}
 use Rattle.tm_output.specs.declared.command.Ending.TheVariants.{Close, Keep}
-use Rattle.tm_output.specs.Outputs.{Piece, outs, reports}
+use Rattle.tm_output.specs.Listing.{record_lines, rest_lines}
+use Rattle.tm_output.specs.Outputs.{Piece, line_pieces, outs, reports}
 use Rattle.tm_output.specs.Pieces.{text_of}
-use Rattle.tm_output.specs.Records.{records, rest_of}
+use Rattle.tm_output.specs.Records.{record_count, records, rest_of}
 use Rattle.tm_tool.specs.HeadPieces.{head_pieces}
 use Rattle.tm_tool.specs.RecordingPieces.{pieces_after, worked}
 use Rattle.tm_tool.specs.Runs.{kept_of}
+use Rattle.tm_tool.specs.Summaries.{summary}
 use Rattle.tm_library.specs.declared.request.Answer.{Answer}
+use Rattle.tm_library.specs.declared.request.Wanted.{Wanted}
+use Rattle.tm_library.specs.declared.request.Wanted.TheVariants.{Packets, Frames}
 
 -- ---- where a call begins
 
@@ -47,6 +53,25 @@ chunk_pieces command last job octets =
     head_pieces command job.fresh
     ++ pieces_after (text_of command) (chunk_ending last) job.work (records (size_of job.work) octets) (length (rest_of (size_of job.work) octets))
 
+-- the lines of the whole records of octets, the first being record `first`, and behind the last chunk that of a rest
+abbrev pub end_lines : Bool → ℕ → ℕ → List (List ℕ)
+end_lines true seen rest = rest_lines seen rest
+end_lines false seen rest = []
+
+abbrev pub lines_from : LayoutParts → ℕ → Bool → List ℕ → List (List ℕ)
+lines_from layout first last octets =
+    record_lines layout first (records (record_length_of layout) octets)
+    ++ end_lines last (first + length (records (record_length_of layout) octets)) (length (rest_of (record_length_of layout) octets))
+
+-- the lines of a chunk's frames, numbered behind the records that are done
+abbrev pub frame_lines : Bool → JobState → List ℕ → List (List ℕ)
+frame_lines last job octets = lines_from job.work.rules.layout job.work.state.records last octets
+
+-- what is wanted of a chunk
+abbrev pub given_pieces : Wanted → Bool → JobState → List ℕ → List (Piece ℕ)
+given_pieces (Packets command) last job octets = chunk_pieces command last job octets
+given_pieces Frames last job octets = line_pieces (frame_lines last job octets)
+
 -- the job behind the whole records of a chunk
 abbrev pub job_behind : JobState → List ℕ → JobState
 job_behind job octets = record { work = worked job.work (records (size_of job.work) octets); fresh = false }
@@ -70,9 +95,17 @@ abbrev pub Holds : List ℕ → ℕ → List ℕ → Type 0
 Holds room n octets = (n ≡ length octets) × (n ≤ length room → take n room ≡ octets)
 
 -- what a call gives of a chunk, from a job on, into three rooms
-pub record IsAnswer (command : Command) (last : Bool) (job : JobState) (octets : List ℕ) (answer : Answer) (out report checkpoint : List ℕ) : Type 0 where
-  pub out_holds : Holds out answer.out (outs (chunk_pieces command last job octets))
-  pub report_holds : Holds report answer.report (reports (chunk_pieces command last job octets))
+pub record IsAnswer (wanted : Wanted) (last : Bool) (job : JobState) (octets : List ℕ) (answer : Answer) (out report checkpoint : List ℕ) : Type 0 where
+  pub out_holds : Holds out answer.out (outs (given_pieces wanted last job octets))
+  pub report_holds : Holds report answer.report (reports (given_pieces wanted last job octets))
   pub checkpoint_holds : Holds checkpoint answer.checkpoint (checkpoint_behind last job octets)
   pub records_are : answer.records ≡ job.work.state.records + length (records (size_of job.work) octets)
   pub used_are : answer.used ≡ used_octets last (size_of job.work) (length octets)
+
+-- what a call gives of the summary of a whole recording
+pub record IsSummary (rules : Rules) (octets : List ℕ) (answer : Answer) (out : List ℕ) : Type 0 where
+  pub out_holds : Holds out answer.out (concat (summary rules octets))
+  pub report_is : answer.report ≡ 0
+  pub checkpoint_is : answer.checkpoint ≡ 0
+  pub records_are : answer.records ≡ record_count (record_length_of rules.layout) octets
+  pub used_are : answer.used ≡ length octets

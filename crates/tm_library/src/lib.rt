@@ -3,10 +3,14 @@
 
 mod chunk;
 pub mod laws;
+mod listing;
+mod nowhere;
 mod refusal;
 mod request;
 mod room;
 mod running;
+mod summary;
 
 pub use refusal::Refusal;
-pub use request::{Answer, Request, run_chunk};
+pub use request::{Answer, Request, Wanted, run_chunk};
+pub use summary::summarize_recording;

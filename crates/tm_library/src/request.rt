@@ -1,16 +1,30 @@
 //! A whole call: what is read, and what is answered.
 
-ghost use Rattle.std.specs.Prelude.{◌≡◌, ◌≤◌, ◌<◌, Ok, length, option_map, IfOk, IfErr};
+ghost use Rattle.std.specs.Prelude.{◌≡◌, ◌≤◌, ◌<◌, ◌+◌, Ok, length, option_map, IfOk, IfErr};
 ghost use Rattle.tm_checkpoint.specs.Works.{JobState};
 ghost use Rattle.tm_rules.specs.Rules.{Rules};
-ghost use Rattle.tm_library.specs.Chunks.{Begins, Holds, IsAnswer, kept_octets, used_octets};
-ghost use Rattle.tm_library.specs.Refusals.{IsRequestRefused};
+ghost use Rattle.tm_output.specs.Outputs.{outs, reports};
+ghost use Rattle.tm_output.specs.Records.{records};
+ghost use Rattle.tm_tool.specs.RecordingPieces.{worked};
+ghost use Rattle.tm_tool.specs.Runs.{kept_of};
+ghost use Rattle.tm_library.specs.Chunks.{Begins, Holds, IsAnswer, chunk_ending, given_pieces, kept_octets, size_of, used_octets};
+ghost use Rattle.tm_library.specs.Refusals.{IsRequestRefused, IsRunRefused};
 
 use crate::Refusal;
 use crate::chunk::Chunk;
-use crate::running::{job_from, run_into_rooms};
+use crate::listing::list_into_room;
+use crate::running::{Given, job_from, run_into_rooms};
 use std::alloc::Global;
 use tm_tool::{Command, Job, Settings};
+
+/// What is wanted of the records.
+#[derive(Clone, Copy)]
+pub enum Wanted<'a> {
+    /// What a command gives of the packets, and the report.
+    Packets(Command<'a>),
+    /// A line for each frame, and no report.
+    Frames,
+}
 
 /// What a call reads.
 #[derive(Clone, Copy)]
@@ -21,8 +35,8 @@ pub struct Request<'a> {
     pub checkpoint: &'a [u8],
     /// The octets of the recording that follow the records that are done.
     pub octets: &'a [u8],
-    /// What of the packets is wanted.
-    pub command: Command<'a>,
+    /// What is wanted of them.
+    pub wanted: Wanted<'a>,
     /// The recording ends behind these octets.
     pub last: bool,
 }
@@ -69,6 +83,35 @@ fn used_octets(last: bool, size: usize, octets: usize) -> usize
     if last { octets } else { octets / size * size }
 }
 
+// Gives what is wanted of a chunk that follows what the job has done.
+fn give(
+    alloc: Global,
+    job: Job,
+    request: Request<'_>,
+    out: &mut [u8],
+    report: &mut [u8],
+) -> Result<Given, Refusal>
+    ensures out { IfOk result (λ given. Holds out.new given.out
+        (outs (given_pieces request.entry.wanted request.entry.last job request.entry.octets.now))) }
+    ensures report { IfOk result (λ given. Holds report.new given.report
+        (reports (given_pieces request.entry.wanted request.entry.last job request.entry.octets.now))) }
+    ensures records { IfOk result (λ given. given.records
+        ≡ job.work.state.records + length (records (size_of job.work) request.entry.octets.now)) }
+    ensures kept { IfOk result (λ given. option_map (λ j. j.work) given.kept
+        ≡ kept_of (chunk_ending request.entry.last) (worked job.work (records (size_of job.work) request.entry.octets.now))) }
+    ensures refused { IfErr result (IsRunRefused job request.entry.octets.now) }
+{
+    let size = job.layout().record_length();
+    let chunk = Chunk {
+        done: u64::from(job.records()) * size as u64,
+        octets: request.octets,
+    };
+    match request.wanted {
+        Wanted::Packets(command) => run_into_rooms(alloc, job, command, chunk, request.last, out, report),
+        Wanted::Frames => list_into_room(alloc, job, chunk, request.last, out),
+    }
+}
+
 /// Runs over a chunk of a recording: the whole records that follow those that the checkpoint has done, or all octets down to the recording's
 /// end. No state stays behind but the octets of the checkpoint that is written.
 ///
@@ -86,7 +129,7 @@ pub fn run_chunk(
     // With Ok the settings and the job are those that their octets say, and the rooms hold just what the chunk's octets give from that job on.
     ensures answer { IfOk result (λ answer. (rules : Rules) × (job : JobState)
         × Begins request.entry.settings.now request.entry.checkpoint.now rules job
-        × IsAnswer request.entry.command request.entry.last job request.entry.octets.now answer
+        × IsAnswer request.entry.wanted request.entry.last job request.entry.octets.now answer
         out.new report.new checkpoint.new) }
     ensures used { IfOk result (λ answer. answer.used ≤ length request.entry.octets.now) }
 
@@ -100,20 +143,8 @@ pub fn run_chunk(
 {
     let settings = Settings::read(alloc, request.settings)?;
     let job = job_from(alloc, &settings, request.checkpoint)?;
-    let size = settings.layout().record_length();
-    let chunk = Chunk {
-        done: u64::from(job.records()) * size as u64,
-        octets: request.octets,
-    };
-    let given = match run_into_rooms(
-        alloc,
-        job,
-        request.command,
-        chunk,
-        request.last,
-        out,
-        report,
-    ) {
+    let size = job.layout().record_length();
+    let given = match give(alloc, job, request, out, report) {
         Ok(given) => given,
         Err(refusal) => return Err(refusal),
     };

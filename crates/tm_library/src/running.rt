@@ -32,8 +32,8 @@ pub fn job_from(
     }
 }
 
-// The last chunk closes the recording.
-fn chunk_ending(last: bool) -> Ending
+/// The last chunk closes the recording.
+pub fn chunk_ending(last: bool) -> Ending
     ensures { result ≡ chunk_ending last }
 {
     if last { Ending::Close } else { Ending::Keep }

@@ -8,7 +8,7 @@ mod outlet;
 mod output;
 
 pub use command::{Command, Ending};
-pub use listing::list_frames;
+pub use listing::{list_frames, write_record_line, write_rest_line};
 pub use outlet::{Outlet, PacketLines, PacketOctets, PacketRows, PacketShelf};
 pub use output::{Output, header_in};
 pub use tm_lines::Packet;

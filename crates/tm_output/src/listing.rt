@@ -36,8 +36,12 @@ fn make_record_line(
     }
 }
 
-// Writes the line of a record.
-fn write_record_line<W: Drain>(
+/// Writes the line of a record, of any channel.
+///
+/// # Errors
+///
+/// Where a write failed: a prefix of the line is written.
+pub fn write_record_line<W: Drain>(
     line_buffer: &mut LineBuffer,
     layout: &Layout,
     seen: u32,
@@ -72,8 +76,12 @@ fn flush_before_waiting<R: BufferedSource, W: Drain>(
     Ok(())
 }
 
-// Writes the line of a rest, if there is one, and flushes.
-fn write_end<W: Drain>(
+/// Writes the line of octets that are left behind the records, if there are any, and flushes.
+///
+/// # Errors
+///
+/// Where a write or the flush failed: a prefix of the line is written.
+pub fn write_rest_line<W: Drain>(
     line_buffer: &mut LineBuffer,
     seen: u32,
     octets: usize,
@@ -170,7 +178,7 @@ fn list_records<R: BufferedSource, W: Drain>(
         match list_next(&mut line_buffer, layout, seen, buffer, recording, out) {
             Ok(None) => seen += 1,
             Ok(Some(octets)) => {
-                if let Err(_) = write_end(&mut line_buffer, seen, octets, out) {
+                if let Err(_) = write_rest_line(&mut line_buffer, seen, octets, out) {
                     return Err(RunFault::Write);
                 }
                 return Ok(seen);

@@ -1,16 +1,9 @@
-use Rattle.std.proofs.Common.{◌≡◌, ◌*◌, ℕ, ap, ◌∙◌}
+use Rattle.std.proofs.Common.{◌≡◌, ℕ, ap, ◌∙◌}
 use Rattle.tm_frame.specs.Layout.{record_length_of}
 use Rattle.tm_library.specs.Chunks.{size_of}
-use Rattle.tm_library.proofs.ChunkLemmas.{answered, size_is}
+use Rattle.tm_library.proofs.ChunkLemmas.{answered}
 use Rattle.tm_library.proofs.RefusalLemmas.{run_told}
 use Rattle.tm_library.proofs.request.run_chunk.Goals as goal
-
-pub run_into_rooms-requires : goal.run_into_rooms-requires
-run_into_rooms-requires c =
-    let size : c.record_length-size.result ≡ size_of c.in_ok-job.job.work =
-    c.record_length-size.ensures.value ∙ ap record_length_of c.layout.ensures ∙ size_is c.in_ok-settings.settings c.args.request.checkpoint.now c.in_ok-job.job c.in_ok-job.ensures.ok in
-    let records : c.from.result ≡ c.in_ok-job.job.work.state.records = cc in
-    ap (λ (n : ℕ). n * c.record_length-size.result) records ∙ ap (λ (n : ℕ). c.in_ok-job.job.work.state.records * n) size
 
 pub returns-in-Err-clause-refused : goal.returns-in-Err-clause-refused
 returns-in-Err-clause-refused c =
@@ -19,11 +12,10 @@ returns-in-Err-clause-refused c =
 
 pub returns-clause-answer : goal.returns-clause-answer
 returns-clause-answer c =
-    let size : c.record_length-size.result ≡ size_of c.in_ok-job.job.work =
-    c.record_length-size.ensures.value ∙ ap record_length_of c.layout.ensures ∙ size_is c.in_ok-settings.settings c.args.request.checkpoint.now c.in_ok-job.job c.in_ok-job.ensures.ok in (
+    let size : c.record_length-size.result ≡ size_of c.in_ok-job.job.work = c.record_length-size.ensures.value ∙ ap record_length_of c.layout.ensures in (
       c.in_ok-settings.settings,
       c.in_ok-job.job,
       (c.in_ok-settings.ensures.ok.0, c.in_ok-settings.ensures.ok.1, c.in_ok-job.ensures.ok),
-      answered c.args.request.command c.args.request.last c.in_ok-job.job c.args.request.octets.now _ _ _ _ _ c.record_length-size.result
+      answered c.args.request.wanted c.args.request.last c.in_ok-job.job c.args.request.octets.now _ _ _ _ _ c.record_length-size.result
           c.in-Ok.ensures.out c.in-Ok.ensures.report c.in_ok-keep.ensures.octets c.in-Ok.ensures.kept c.in-Ok.ensures.records c.used_octets.ensures.value size,
     )

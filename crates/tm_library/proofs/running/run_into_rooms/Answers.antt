@@ -23,16 +23,12 @@ returns-in-Ok-clause-report c =
 pub returns-in-Ok-clause-records : goal.returns-in-Ok-clause-records
 returns-in-Ok-clause-records c =
     let sound = c.in-Ok.ensures.sound in
-    let none = nothing_written c.args.out.now c.new-more_out.result.items 0 refl c.new-more_out.ensures.items in
-    let nothing = nothing_written c.args.report.now c.new-more_report.result.items 0 refl c.new-more_report.ensures.items in
-    records_are c.args.command c.args.last c.args.job c.args.chunk.octets.now _ c.requires sound.1 _ _ _ _ _ _ _ _ none nothing _ _ _ _ _ _ _ _ _ _ c.chunk_ending.ensures sound c.in-Ok.ensures.ran
+    records_are c.args.command c.args.last c.args.job c.args.chunk.octets.now _ c.requires sound.1 _ _ _ _ _ _ _ _ c.chunk_ending.ensures sound c.in-Ok.ensures.ran
 
 pub returns-in-Ok-clause-kept : goal.returns-in-Ok-clause-kept
 returns-in-Ok-clause-kept c =
     let sound = c.in-Ok.ensures.sound in
-    let none = nothing_written c.args.out.now c.new-more_out.result.items 0 refl c.new-more_out.ensures.items in
-    let nothing = nothing_written c.args.report.now c.new-more_report.result.items 0 refl c.new-more_report.ensures.items in
-    kept_is c.args.command c.args.last c.args.job c.args.chunk.octets.now _ c.requires sound.1 _ _ _ _ _ _ _ _ none nothing _ _ _ _ _ _ _ _ _ _ c.chunk_ending.ensures sound c.in-Ok.ensures.ran
+    kept_is c.args.command c.args.last c.args.job c.args.chunk.octets.now _ c.requires sound.1 _ _ _ _ _ _ _ _ c.chunk_ending.ensures sound c.in-Ok.ensures.ran
 
 pub returns-in-Err-TooMany-clause-refused : goal.returns-in-Err-TooMany-clause-refused
 returns-in-Err-TooMany-clause-refused c =

@@ -5,7 +5,7 @@ use Rattle.std.specs.Io.KnownBytes.{Appends}
 use Rattle.tm_output.specs.Listing.{rest_lines}
 use Rattle.tm_output.specs.Seen.{out_alone}
 use Rattle.tm_output.proofs.LinePieces.{flush_stopped_by, line_stopped}
-use Rattle.tm_output.proofs.listing.write_end.Goals as goal
+use Rattle.tm_output.proofs.listing.write_rest_line.Goals as goal
 
 pub returns-in_err-write_all-clause-stopped : goal.returns-in_err-write_all-clause-stopped
 returns-in_err-write_all-clause-stopped g c =

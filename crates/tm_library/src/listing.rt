@@ -1,0 +1,124 @@
+//! The frames of a chunk, into a room.
+
+ghost use Rattle.std.specs.Prelude.{◌≡◌, ◌<◌, ◌+◌, ◌*◌, ◌^◌, length, option_map, IfOk, IfErr, OnOk};
+ghost use Rattle.std.specs.List.{concat};
+ghost use Rattle.std.specs.Io.KnownBytes.{Appends};
+ghost use Rattle.tm_frame.specs.Layout.{record_length_of};
+ghost use Rattle.tm_output.specs.Records.{records};
+ghost use Rattle.tm_tool.specs.RecordingPieces.{worked};
+ghost use Rattle.tm_tool.specs.Runs.{kept_of};
+ghost use Rattle.tm_library.specs.Chunks.{Holds, chunk_ending, frame_lines, lines_from, size_of};
+ghost use Rattle.tm_library.specs.Refusals.{IsRunRefused};
+
+use crate::Refusal;
+use crate::chunk::Chunk;
+use crate::nowhere::Nowhere;
+use crate::room::Room;
+use crate::running::{Given, chunk_ending};
+use std::alloc::Global;
+use tm_frame::Layout;
+use tm_lines::LINE_CAPACITY;
+use tm_output::{write_record_line, write_rest_line};
+use tm_tool::{Command, DeviceFailed, Done, Drain, Job, RunFault, run};
+
+// Runs over a chunk for the job alone: what is given goes nowhere.
+fn pass_chunk(alloc: Global, job: Job, chunk: Chunk<'_>, last: bool) -> Result<Done, Refusal>
+    requires { chunk.done ≡ job.work.state.records * size_of job.work }
+    ensures records { IfOk result (λ done. done.records
+        ≡ job.work.state.records + length (records (size_of job.work) chunk.entry.octets.now)) }
+    ensures kept { IfOk result (λ done. option_map (λ j. j.work) done.kept
+        ≡ kept_of (chunk_ending last) (worked job.work (records (size_of job.work) chunk.entry.octets.now))) }
+    ensures refused { IfErr result (IsRunRefused job chunk.entry.octets.now) }
+{
+    let mut recording = chunk;
+    let (mut out, mut report) = (Nowhere, Nowhere);
+    match run(
+        alloc,
+        job,
+        Command::Extract,
+        &mut recording,
+        &mut out,
+        &mut report,
+        chunk_ending(last),
+    ) {
+        Ok(done) => Ok(done),
+        Err(RunFault::TooMany) => Err(Refusal::TooMany),
+        Err(RunFault::NoMemory) => Err(Refusal::NoMemory),
+        Err(RunFault::Write | RunFault::Report) => unreachable!(),
+        Err(RunFault::Read) => unreachable!(),
+        Err(RunFault::ShortRecording) => unreachable!(),
+    }
+}
+
+// Writes a line for each whole record, the first being record `first`, and one for octets that are left where the recording ends behind them.
+fn write_lines<W: Drain>(
+    layout: &Layout,
+    first: u32,
+    octets: &[u8],
+    last: bool,
+    out: &mut W,
+) -> Result<(), DeviceFailed>
+    requires { first + length (records (record_length_of layout.now) octets.now) < 2 ^ 32 }
+    ensures { OnOk result (Appends (W.written out.old) (W.written out.new)
+        (concat (lines_from layout.now first last octets.now))) }
+{
+    let size = layout.record_length();
+    let mut line_buffer = [0; LINE_CAPACITY];
+    let mut seen = first;
+    let mut left = octets;
+    while size <= left.len() {
+        write_record_line(&mut line_buffer, layout, seen, &left[..size], out)?;
+        left = &left[size..];
+        seen += 1;
+    }
+    if last {
+        return write_rest_line(&mut line_buffer, seen, left.len(), out);
+    }
+    Ok(())
+}
+
+/// Lists the frames of a chunk that follows what the job has done. The job that is kept is the one that a run over the chunk keeps.
+pub fn list_into_room(
+    alloc: Global,
+    job: Job,
+    chunk: Chunk<'_>,
+    last: bool,
+    out: &mut [u8],
+) -> Result<Given, Refusal>
+    requires { chunk.done ≡ job.work.state.records * size_of job.work }
+
+    // Just the lines of the chunk stand in the room, where it is large enough.
+    ensures out { IfOk result (λ given. Holds out.new given.out (concat (frame_lines last job chunk.entry.octets.now))) }
+    ensures report { IfOk result (λ given. given.report ≡ 0) }
+    ensures records { IfOk result (λ given. given.records
+        ≡ job.work.state.records + length (records (size_of job.work) chunk.entry.octets.now)) }
+    ensures kept { IfOk result (λ given. option_map (λ j. j.work) given.kept
+        ≡ kept_of (chunk_ending last) (worked job.work (records (size_of job.work) chunk.entry.octets.now))) }
+
+    // Else there are too many records, or memory ran out.
+    ensures refused { IfErr result (IsRunRefused job chunk.entry.octets.now) }
+{
+    let layout = job.layout();
+    let first = job.records();
+    let octets = chunk.octets;
+    let done = match pass_chunk(alloc, job, chunk, last) {
+        Ok(done) => done,
+        Err(refusal) => return Err(refusal),
+    };
+    let mut more = Vec::new(alloc);
+    let mut room = Room {
+        octets: out,
+        filled: 0,
+        overflow: &mut more,
+        failed: 0,
+    };
+    match write_lines(&layout, first, octets, last, &mut room) {
+        Ok(()) => Ok(Given {
+            records: done.records,
+            kept: done.kept,
+            out: room.length(),
+            report: 0,
+        }),
+        Err(_) => Err(Refusal::NoMemory),
+    }
+}

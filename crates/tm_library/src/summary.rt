@@ -1,0 +1,61 @@
+//! The summary of a whole recording, into a room.
+
+ghost use Rattle.std.specs.Prelude.{◌≡◌, ◌×◌, [], length, Ok, IfOk, IfErr, IsUtf8};
+ghost use Rattle.toml.specs.Parse.{parse_document};
+ghost use Rattle.tm_rules.specs.Rules.{Rules};
+ghost use Rattle.tm_settings.specs.Settings.{settings_from};
+ghost use Rattle.tm_library.specs.Chunks.{IsSummary};
+ghost use Rattle.tm_library.specs.Refusals.{IsRequestRefused};
+
+use crate::chunk::Chunk;
+use crate::room::Room;
+use crate::{Answer, Refusal};
+use std::alloc::Global;
+use tm_tool::{RunFault, Settings, summarize};
+
+/// Writes the lines of the summary of a whole recording into a room. What a summary counts stands in no checkpoint, so it takes one call.
+///
+/// # Errors
+///
+/// What is wrong first with the settings; `TooMany` where there are more than 2^32 - 1 records; `NoMemory`. A room that is too small is no
+/// error: its length tells it, and the call can be made again.
+pub fn summarize_recording(
+    alloc: Global,
+    settings: &[u8],
+    octets: &[u8],
+    out: &mut [u8],
+) -> Result<Answer, Refusal>
+    // With Ok the room holds just the summary of the recording by the settings that their octets say.
+    ensures answer { IfOk result (λ answer. (rules : Rules) × IsUtf8 settings.now
+        × (settings_from (parse_document settings.now) ≡ Ok rules) × IsSummary rules octets.now answer out.new) }
+
+    // Else this is why.
+    ensures refused { IfErr result (IsRequestRefused settings.now [] octets.now) }
+
+    // The room stays where it is.
+    ensures room { length out.new ≡ length out.old }
+{
+    let settings = Settings::read(alloc, settings)?;
+    let mut recording = Chunk { done: 0, octets };
+    let mut more = Vec::new(alloc);
+    let mut room = Room {
+        octets: out,
+        filled: 0,
+        overflow: &mut more,
+        failed: 0,
+    };
+    match summarize(alloc, &settings, &mut recording, &mut room) {
+        Ok(records) => Ok(Answer {
+            records,
+            out: room.length(),
+            report: 0,
+            checkpoint: 0,
+            used: octets.len(),
+        }),
+        Err(RunFault::TooMany) => Err(Refusal::TooMany),
+        Err(RunFault::Write | RunFault::NoMemory) => Err(Refusal::NoMemory),
+        Err(RunFault::Read) => unreachable!(),
+        Err(RunFault::Report) => unreachable!(),
+        Err(RunFault::ShortRecording) => unreachable!(),
+    }
+}

@@ -5,7 +5,7 @@ A promise is an entry: a heading, what it promises, and the parts **Means:**, **
 The entries stand before the section on what is only tested, each in the section of a crate.
 
 What the page names has to be there: the files and headings that it links to; the definitions, in the file of specs/ that is linked; the
-functions, in the file of src/ that is linked, and the clauses at them, or the one without a name; the planted bugs, in their crate's
+functions, in the file of src/ that is linked, and the clauses at them, at least one if none is named; the planted bugs, in their crate's
 must-fail/; the tests, in their file; and the groups of trials, in theirs. The same goes for the functions, planted bugs and trials of the section on what the contracts
 let through.
 
@@ -38,7 +38,6 @@ FOR_TESTS = ("tm_tests", "tm_program_tests")
 
 LINK = re.compile(r"\[([^\]]*)\]\(([^)\s]*)\)")
 QUOTED = re.compile(r"`([^`]+)`")
-ONLY_NAMES = re.compile(r"(?:(?:, | and )?`[^`]+`)+")
 NAMES = re.compile(r"[^`]*: ((?:(?:, | and )?`[^`]+`)+)")
 NAMES_OF_FILE = re.compile(r"\]\(([^)]*\.(?:rt|antt))\): ((?:(?:, | and )?`[^`]+`)+)")
 ONLY_TESTED = "\n## What is only tested\n"
@@ -227,37 +226,29 @@ def named_functions(functions, path, name):
 
 
 def read_clauses(text):
-    """What a piece on clauses says: the functions, the kind of their clauses, and the names of these. Functions alone have the one without a
-    name, ``""``."""
+    """What a piece on clauses says: the functions, the kind of their clauses, and the names of these, if any."""
     before, colon, behind = text.partition("`: ")
     if colon:
         kind = "requires" if "the `requires` clause" in behind else "ensures"
         return QUOTED.findall(before + "`"), kind, QUOTED.findall(behind.replace("the `requires` clause", ""))
     if "what it requires" in text:
-        return QUOTED.findall(text), "requires", [""]
-    return QUOTED.findall(text), "ensures", [""]
+        return QUOTED.findall(text), "requires", []
+    return QUOTED.findall(text), "ensures", []
 
 
 def has_them(function, kind, clauses, text):
-    """A function has these clauses; or they are those of its trait, or all that it has."""
+    """A function has these clauses, or some if none is named; or they are those of its trait."""
     if "of its trait" in text:
         return function.kind == "of a trait"
-    if "its clauses" in text:
-        return any(function.clauses.values())
-    return all(it in function.clauses[kind] for it in clauses)
+    return bool(function.clauses[kind]) and all(it in function.clauses[kind] for it in clauses)
 
 
 def clauses_of(entry, functions):
     """For each function that the entry's clauses are of: what is wrong, if anything, and the functions that have them."""
-    before = []
-    for path, linked, text in pieces_of(entry["Clauses"]):
+    for path, _, text in pieces_of(entry["Clauses"]):
         named, kind, clauses = read_clauses(text)
         if path is None or not named:
             yield f"no function of a file is named by {text}", []
-        if before and not linked and ONLY_NAMES.fullmatch(text) and not any(named_functions(functions, path, it) for it in named):
-            # Behind a semicolon further clauses of the same functions may stand.
-            named, clauses = before, named
-        before = named
         for name in named:
             found = named_functions(functions, path, name)
             able = [it for it in found if has_them(it, kind, clauses, text)]

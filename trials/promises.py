@@ -6,8 +6,8 @@ The entries stand before the section on what is only tested, each in the section
 
 What the page names has to be there: the files and headings that it links to; the definitions, in the file of specs/ that is linked; the
 functions, in the file of src/ that is linked, and the clauses at them, at least one if none is named; the planted bugs, in their crate's
-must-fail/; the tests, in their file; and the groups of trials, in theirs. The same goes for the functions, planted bugs and trials of the section on what the contracts
-let through.
+must-fail/; the tests, in their file; and the groups of trials, in theirs. The same goes for the functions, planted bugs and trials of the
+section on what the contracts let through.
 
 An entry has to name each file of must-fail/, each test, and each public function that has a contract. Each heading has an anchor of its
 own, and no line is over 160 columns.

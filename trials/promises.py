@@ -1,13 +1,13 @@
 #!/usr/bin/env python3
 """docs/PROVED.md and the tree agree.
 
-A promise is an entry: a heading, what it promises, and the parts **Means:**, **Carried by:** and **Guarded by:**. The entries stand before
-the section on what is only tested.
+A promise is an entry: a heading, what it promises, and the parts **Means:**, **Clauses:** and **Guards:**. The first part may be missing.
+The entries stand before the section on what is only tested, each in the section of a crate.
 
 What the page names has to be there: the files and headings that it links to; the definitions, in the file of specs/ that is linked; the
-functions, in the file of src/ that is linked, and the clauses at them; the planted bugs, in their crate's must-fail/; the tests, in their
-file; and the groups of trials, in theirs. The same goes for the functions, planted bugs and trials of the section on what the contracts
-let through.
+functions, in the file of src/ that is linked, and the clauses at them, at least one if none is named; the planted bugs, in their crate's
+must-fail/; the tests, in their file; and the groups of trials, in theirs. The same goes for the functions, planted bugs and trials of the
+section on what the contracts let through.
 
 An entry has to name each file of must-fail/, each test, and each public function that has a contract. Each heading has an anchor of its
 own, and no line is over 160 columns.
@@ -36,12 +36,8 @@ DERIVED = "Display"
 # These have the tests, and devices for them.
 FOR_TESTS = ("tm_tests", "tm_program_tests")
 
-# Planted bugs with no crate's name are of the section's crate, and in the section on the whole of this one.
-CRATE_OF_THE_WHOLE = "tm_tool"
-
 LINK = re.compile(r"\[([^\]]*)\]\(([^)\s]*)\)")
 QUOTED = re.compile(r"`([^`]+)`")
-ONLY_NAMES = re.compile(r"(?:(?:, | and )?`[^`]+`)+")
 NAMES = re.compile(r"[^`]*: ((?:(?:, | and )?`[^`]+`)+)")
 NAMES_OF_FILE = re.compile(r"\]\(([^)]*\.(?:rt|antt))\): ((?:(?:, | and )?`[^`]+`)+)")
 ONLY_TESTED = "\n## What is only tested\n"
@@ -49,7 +45,7 @@ LET_THROUGH = "\n## What the contracts let through\n"
 REFUSALS = "\n### How planted bugs are refused\n"
 
 # The parts of an entry, in their order, and the columns that a line may have.
-PARTS = ("Means", "Carried by", "Guarded by")
+PARTS = ("Means", "Clauses", "Guards")
 PART = re.compile(r"- \*\*([^*]*):\*\* (.*)")
 COLUMNS = 160
 
@@ -101,8 +97,8 @@ class Entry:
         return dict(self.parts).get(name, "")
 
     def is_whole(self):
-        has_all = tuple(name for name, _ in self.parts) == PARTS and all(text.strip() for _, text in self.parts)
-        return bool(self.heading and self.promise and has_all and not self.stray)
+        has_all = tuple(name for name, _ in self.parts) in (PARTS, PARTS[1:]) and all(text.strip() for _, text in self.parts)
+        return bool(self.crate and self.heading and self.promise and has_all and not self.stray)
 
 
 def block_of(line):
@@ -154,11 +150,11 @@ def public_functions(functions):
 
 def entries_of(text):
     """The entries of the page: each heading of the third level before what is only tested begins one, and any heading ends it."""
-    crate, found, entry = CRATE_OF_THE_WHOLE, [], None
+    crate, found, entry = "", [], None
     for number, line in enumerate(text.partition(ONLY_TESTED)[0].splitlines(), 1):
         part = PART.fullmatch(line)
         if line.startswith("## "):
-            crate, entry = (QUOTED.findall(line) or [CRATE_OF_THE_WHOLE])[0], None
+            crate, entry = (QUOTED.findall(line) or [""])[0], None
         elif line.startswith("### "):
             entry = Entry(number, crate, line[4:].strip())
             found.append(entry)
@@ -230,36 +226,29 @@ def named_functions(functions, path, name):
 
 
 def read_clauses(text):
-    """What a piece on clauses says: the functions, the kind of their clauses, and the names of these; ``""`` is the one without a name."""
+    """What a piece on clauses says: the functions, the kind of their clauses, and the names of these, if any."""
     before, colon, behind = text.partition("`: ")
     if colon:
         kind = "requires" if "the `requires` clause" in behind else "ensures"
         return QUOTED.findall(before + "`"), kind, QUOTED.findall(behind.replace("the `requires` clause", ""))
     if "what it requires" in text:
-        return QUOTED.findall(text), "requires", [""]
-    return QUOTED.findall(text), "ensures", [""] if re.search(r"its clause\b", text) else []
+        return QUOTED.findall(text), "requires", []
+    return QUOTED.findall(text), "ensures", []
 
 
 def has_them(function, kind, clauses, text):
-    """A function has these clauses; or they are those of its trait, or all that it has."""
+    """A function has these clauses, or some if none is named; or they are those of its trait."""
     if "of its trait" in text:
         return function.kind == "of a trait"
-    if "its clauses" in text:
-        return any(function.clauses.values())
-    return all(it in function.clauses[kind] for it in clauses)
+    return bool(function.clauses[kind]) and all(it in function.clauses[kind] for it in clauses)
 
 
 def clauses_of(entry, functions):
     """For each function that the entry's clauses are of: what is wrong, if anything, and the functions that have them."""
-    before = []
-    for path, linked, text in pieces_of(entry["Carried by"]):
+    for path, _, text in pieces_of(entry["Clauses"]):
         named, kind, clauses = read_clauses(text)
         if path is None or not named:
             yield f"no function of a file is named by {text}", []
-        if before and not linked and ONLY_NAMES.fullmatch(text) and not any(named_functions(functions, path, it) for it in named):
-            # Behind a semicolon further clauses of the same functions may stand.
-            named, clauses = before, named
-        before = named
         for name in named:
             found = named_functions(functions, path, name)
             able = [it for it in found if has_them(it, kind, clauses, text)]
@@ -273,7 +262,7 @@ def clauses_of(entry, functions):
 
 def planted(entry):
     """The planted bugs that an entry names, as files."""
-    for bugs in filter(None, map(BUGS.fullmatch, entry["Guarded by"].split("; "))):
+    for bugs in filter(None, map(BUGS.fullmatch, entry["Guards"].split("; "))):
         for it in QUOTED.findall(bugs.group(1)):
             crate, _, name = it.rpartition("/")
             yield CRATES / (crate or entry.crate) / "must-fail" / f"{name}.edit"
@@ -281,8 +270,8 @@ def planted(entry):
 
 def wrong_guards(entry):
     """What stands among an entry's guards and is none of them."""
-    if entry["Guarded by"] != UNGUARDED:
-        yield from (f"{it} is no guard" for it in entry["Guarded by"].split("; ") if not any(form.fullmatch(it) for form in GUARDS))
+    if entry["Guards"] != UNGUARDED:
+        yield from (f"{it} is no guard" for it in entry["Guards"].split("; ") if not any(form.fullmatch(it) for form in GUARDS))
 
 
 def groups_of_trials():
@@ -349,14 +338,14 @@ def judge(text):
     functions = {path: functions_in(path) for path in sorted(CRATES.glob("*/src/*.rt"))}
     groups = groups_of_trials()
     clauses = [(entry, it) for entry in entries for it in clauses_of(entry, functions)]
-    tests = [(f"line {entry.line}", it) for entry in entries for it in tests_of(entry["Guarded by"], functions)]
+    tests = [(f"line {entry.line}", it) for entry in entries for it in tests_of(entry["Guards"], functions)]
     tests += [("what is only tested", it) for it in tests_of(only_tested(text), functions)]
     edits = {it for entry in entries for it in planted(entry)}
     named = {id(it) for _, (_, able) in clauses for it in able}
     tested = {id(it) for _, (_, found) in tests for it in found}
     every = [it for those in functions.values() for it in those]
     return {
-        "each entry has its four parts": [f"line {entry.line} begins no whole entry" for entry in entries if not entry.is_whole()],
+        "each entry has its parts": [f"line {entry.line} begins no whole entry" for entry in entries if not entry.is_whole()],
         "each line is short, and each heading has an anchor": list(wrong_lines(text)),
         "each link leads somewhere": list(wrong_links(text)),
         "each definition is in its file": [f"line {entry.line}: {it}" for entry in entries for it in wrong_definitions(entry)],

@@ -4,6 +4,7 @@ use Rattle.std.proofs.Math.Nat.{zero-mul}
 use Rattle.std.proofs.lemmas.List.{map-append}
 use Rattle.std.specs.List.{concat}
 use Rattle.tm_frame.specs.declared.layout.LayoutParts.{LayoutParts}
+use Rattle.tm_frame.specs.Layout.{record_length_of}
 use Rattle.tm_rules.specs.Rules.{IsLimit, Rules}
 use Rattle.tm_faults.specs.declared.fault.CheckpointFault.{CheckpointFault}
 use Rattle.tm_reassembly.specs.Valid.{AllOctets}
@@ -12,7 +13,7 @@ use Rattle.tm_checkpoint.specs.Checkpoints.{checkpoint_of, resumed, spelled_in}
 use Rattle.tm_checkpoint.proofs.CheckpointLemmas.{read_again}
 use Rattle.tm_output.specs.declared.command.Command.{Command}
 use Rattle.tm_output.specs.declared.command.Command.TheVariants.{Extract, Packets, Fields}
-use Rattle.tm_output.specs.Listing.{listing, record_lines}
+use Rattle.tm_output.specs.Listing.{listing, record_lines, rest_lines}
 use Rattle.tm_output.specs.Outputs.{Piece, line_piece, line_pieces}
 use Rattle.tm_output.specs.Pieces.{text_of}
 use Rattle.tm_output.specs.Records.{records, rest_of}
@@ -115,44 +116,44 @@ module _ (command : Command) (last : Bool) (job : JobState) (first second : List
 -- ---- of frames
 
 module _ (last : Bool) (job : JobState) (first second : List ℕ) (sound : IsSoundWork job.work) where
-  abbrev size : ℕ
-  size = size_of job.work
+  abbrev record_size : ℕ
+  record_size = size_of job.work
 
-  abbrev seen : ℕ
-  seen = job.work.state.records
+  abbrev records_done : ℕ
+  records_done = job.work.state.records
 
-  abbrev ones : List (List ℕ)
-  ones = records size first
+  abbrev first_records : List (List ℕ)
+  first_records = records record_size first
 
-  abbrev rest : List ℕ
-  rest = rest_of size first ++ second
+  abbrev octets_then : List ℕ
+  octets_then = rest_of record_size first ++ second
 
-  abbrev others : List (List ℕ)
-  others = records size rest
+  abbrev further_records : List (List ℕ)
+  further_records = records record_size octets_then
 
-  abbrev ends : ℕ → ℕ → List (List ℕ)
-  ends n left = end_lines last n left
+  abbrev lines_at_end : ℕ → ℕ → List (List ℕ)
+  lines_at_end n left = end_lines last n left
 
   -- the lines of both calls
-  lines : frame_lines false job first ++ frame_lines last (job_behind job first) rest ≡ frame_lines last job (first ++ second)
+  lines : frame_lines false job first ++ frame_lines last (job_behind job first) octets_then ≡ frame_lines last job (first ++ second)
   lines =
       let layout : LayoutParts = job.work.rules.layout in
-      let counted : (worked job.work ones).state.records ≡ seen + length ones = records-counted job.work ones in
-      let all : length (ones ++ others) ≡ length ones + length others = length-append ones others in
-      let place : seen + length ones + length others ≡ seen + length (ones ++ others) = omega (arith, all) in
-      let left : ℕ = length (rest_of size rest) in
-      ap (λ (l : List (List ℕ)). l ++ frame_lines last (job_behind job first) rest) (append-nil (record_lines layout seen ones))
-      ∙ ap (λ (n : ℕ). record_lines layout seen ones ++ (record_lines layout n others ++ ends (n + length others) left)) counted
-      ∙ sym (append_assoc (record_lines layout seen ones) (record_lines layout (seen + length ones) others) (ends (seen + length ones + length others) left))
-      ∙ ap (λ (l : List (List ℕ)). l ++ ends (seen + length ones + length others) left) (sym (record_lines-append layout seen ones others))
-      ∙ ap (λ (n : ℕ). record_lines layout seen (ones ++ others) ++ ends n left) place
-      ∙ ap (λ (rs : List (List ℕ)). record_lines layout seen rs ++ ends (seen + length rs) left) (sym (its_records Extract last job first second sound))
-      ∙ ap (λ (l : List ℕ). record_lines layout seen (records size (first ++ second)) ++ ends (seen + length (records size (first ++ second))) (length l))
+      let counted : (worked job.work first_records).state.records ≡ records_done + length first_records = records-counted job.work first_records in
+      let all : length (first_records ++ further_records) ≡ length first_records + length further_records = length-append first_records further_records in
+      let place : records_done + length first_records + length further_records ≡ records_done + length (first_records ++ further_records) = omega (arith, all) in
+      let left : ℕ = length (rest_of record_size octets_then) in
+      ap (λ (l : List (List ℕ)). l ++ frame_lines last (job_behind job first) octets_then) (append-nil (record_lines layout records_done first_records))
+      ∙ ap (λ (n : ℕ). record_lines layout records_done first_records ++ (record_lines layout n further_records ++ lines_at_end (n + length further_records) left)) counted
+      ∙ sym (append_assoc (record_lines layout records_done first_records) (record_lines layout (records_done + length first_records) further_records) (lines_at_end (records_done + length first_records + length further_records) left))
+      ∙ ap (λ (l : List (List ℕ)). l ++ lines_at_end (records_done + length first_records + length further_records) left) (sym (record_lines-append layout records_done first_records further_records))
+      ∙ ap (λ (n : ℕ). record_lines layout records_done (first_records ++ further_records) ++ lines_at_end n left) place
+      ∙ ap (λ (rs : List (List ℕ)). record_lines layout records_done rs ++ lines_at_end (records_done + length rs) left) (sym (its_records Extract last job first second sound))
+      ∙ ap (λ (l : List ℕ). record_lines layout records_done (records record_size (first ++ second)) ++ lines_at_end (records_done + length (records record_size (first ++ second))) (length l))
       (sym (its_rest Extract last job first second sound))
 
-  pub two_lists : line_pieces (frame_lines false job first) ++ line_pieces (frame_lines last (job_behind job first) rest)
+  pub two_lists : line_pieces (frame_lines false job first) ++ line_pieces (frame_lines last (job_behind job first) octets_then)
       ≡ line_pieces (frame_lines last job (first ++ second))
-  two_lists = sym (map-append line_piece (frame_lines false job first) (frame_lines last (job_behind job first) rest)) ∙ ap line_pieces lines
+  two_lists = sym (map-append line_piece (frame_lines false job first) (frame_lines last (job_behind job first) octets_then)) ∙ ap line_pieces lines
 
 -- of either
 two_given : (wanted : Wanted) (last : Bool) (job : JobState) (first second : List ℕ) → IsSoundWork job.work
@@ -224,6 +225,14 @@ module _ (rules : Rules) (first : List ℕ) (chunks : List (List ℕ)) (eight : 
       joined (wants.Packets command) last rules chunks (new_job rules) [] first refl refl (begun-work rules eight limit) some are fewer
       ∙ sym (pieces_are command last (new_job rules) (first ++ concat chunks) 0 (sym (zero-mul (size_of (new_job rules).work))) some)
 
-  pub in_one_list : pieces_of_calls wants.Frames true rules [] first chunks ≡ line_pieces (listing rules.layout (first ++ concat chunks))
+  listing_is : (octets : List ℕ) → frame_lines true (new_job rules) octets ≡ listing rules.layout octets
   unfolding listing
-  in_one_list = joined wants.Frames true rules chunks (new_job rules) [] first refl refl (begun-work rules eight limit) some are fewer
+  listing_is octets =
+      let rs : List (List ℕ) = records (record_length_of rules.layout) octets in
+      let count : 0 + length rs ≡ length rs = omega arith in
+      ap (λ (n : ℕ). record_lines rules.layout 0 rs ++ rest_lines n (length (rest_of (record_length_of rules.layout) octets))) count
+
+  pub in_one_list : pieces_of_calls wants.Frames true rules [] first chunks ≡ line_pieces (listing rules.layout (first ++ concat chunks))
+  in_one_list =
+      joined wants.Frames true rules chunks (new_job rules) [] first refl refl (begun-work rules eight limit) some are fewer
+      ∙ ap line_pieces (listing_is (first ++ concat chunks))

@@ -12,7 +12,7 @@ use Rattle.tm_output.specs.declared.command.Ending.{Ending}
 use Rattle.tm_output.specs.Faults.{RunCaused}
 use Rattle.tm_faults.specs.declared.fault.RunFault.{RunFault}
 use Rattle.tm_faults.specs.declared.fault.RunFault.TheVariants.{Read, ShortRecording, TooMany}
-use Rattle.tm_output.specs.Outputs.{Piece, View, outs, reports, view}
+use Rattle.tm_output.specs.Outputs.{Piece, View, line_pieces, outs, reports, view}
 use Rattle.tm_output.specs.Pieces.{text_of, buffering_of}
 use Rattle.tm_output.specs.Records.{AreRecords, record_count, records, rest_of}
 use Rattle.tm_output.proofs.RecordLemmas.{count_front, records_counted, records_front, rest_front}
@@ -161,3 +161,12 @@ answered wanted last job octets answer out report checkpoint kept size out_holds
   records_are = records_are;
   used_are = used ∙ ap (λ (n : ℕ). used_octets last n (length octets)) exact;
 }
+
+-- ---- lines have no report
+
+reports_none : (lines : List (List ℕ)) → reports (line_pieces lines) ≡ []
+reports_none [] = refl
+reports_none (line ∷ lines) = reports_none lines
+
+pub holds_no_report : (room : List ℕ) (n : ℕ) (lines : List (List ℕ)) → n ≡ 0 → Holds room n (reports (line_pieces lines))
+holds_no_report room n lines e = rw (e, reports_none lines) (refl, λ few. refl)

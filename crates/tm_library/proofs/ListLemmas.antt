@@ -8,6 +8,8 @@ use Rattle.tm_frame.specs.declared.layout.LayoutParts.{LayoutParts}
 use Rattle.tm_frame.specs.Layout.{record_length_of}
 use Rattle.tm_output.specs.Listing.{record_line, record_lines, rest_lines}
 use Rattle.tm_output.specs.Records.{AreRecords, records, rest_of}
+use Rattle.tm_output.specs.Outputs.{line_piece, line_pieces, outs}
+use Rattle.tm_output.proofs.LinePieces.{lines_out}
 use Rattle.tm_output.proofs.ListingLemmas.{record_lines-append}
 use Rattle.tm_output.proofs.RecordLemmas.{AreRecords-append, concat-append, concat-one, records_all, records_front, rest_all}
 use Rattle.tm_library.specs.Chunks.{end_lines, lines_from}
@@ -42,8 +44,9 @@ module _ (layout : LayoutParts) (first : ℕ) (octets : List ℕ) (old : Option 
         h.cut ∙ ap (λ (l : List ℕ). concat h.done ++ l) (sym (take-append-drop size left))
         ∙ sym (append_assoc (concat h.done) one (drop size left)) ∙ ap (λ (l : List ℕ). l ++ drop size left) (sym (concat-one h.done one))
 
-    pub listed_more : {next : Option (List ℕ)} → Appends now next (record_line layout seen one) → Listed (seen + 1) (drop size left) next
-    listed_more {next} line =
+    pub listed_more : (next : Option (List ℕ)) → Appends now next (outs (line_piece (record_line layout seen one) ∷ [])) → Listed (seen + 1) (drop size left) next
+    listed_more next written =
+        let line : Appends now next (record_line layout seen one) = subst (Appends now next) (append-nil (record_line layout seen one)) written in
         let text : concat (record_lines layout first h.done) ++ record_line layout seen one ≡ concat (record_lines layout first (h.done ++ one ∷ [])) =
         ap (λ (n : ℕ). concat (record_lines layout first h.done) ++ record_line layout n one) h.count_is
         ∙ sym (concat-one (record_lines layout first h.done) (record_line layout (first + length h.done) one))
@@ -67,10 +70,10 @@ module _ (layout : LayoutParts) (first : ℕ) (octets : List ℕ) (old : Option 
 
   module _ {seen : ℕ} {left : List ℕ} {now : Option (List ℕ)} (h : Listed seen left now) (short : length left < size) where
     records_are : records size octets ≡ h.done
-    records_are = ap (records size) h.cut ∙ records_all size some h.done left h.sized short
+    records_are = ap (records size) h.cut ∙ records_all size h.done left h.sized short
 
     rest_is : rest_of size octets ≡ left
-    rest_is = ap (rest_of size) h.cut ∙ rest_all size some h.done left h.sized short
+    rest_is = ap (rest_of size) h.cut ∙ rest_all size h.done left h.sized short
 
     lines_are : (last : Bool) → lines_from layout first last octets ≡ record_lines layout first h.done ++ end_lines last seen (length left)
     lines_are last = rw (records_are, rest_is, ← h.count_is) refl
@@ -80,9 +83,10 @@ module _ (layout : LayoutParts) (first : ℕ) (octets : List ℕ) (old : Option 
     listed_kept = subst (Appends old now) (ap concat (sym (append-nil (record_lines layout first h.done)) ∙ sym (lines_are false))) h.written
 
     -- it ends behind these octets
-    pub listed_closed : {next : Option (List ℕ)} → Appends now next (concat (rest_lines seen (length left)))
+    pub listed_closed : (next : Option (List ℕ)) → Appends now next (outs (line_pieces (rest_lines seen (length left))))
         → Appends old next (concat (lines_from layout first true octets))
-    listed_closed {next} line =
+    listed_closed next written =
+        let line : Appends now next (concat (rest_lines seen (length left))) = subst (Appends now next) (lines_out (rest_lines seen (length left))) written in
         subst (Appends old next)
         (sym (concat-append (record_lines layout first h.done) (rest_lines seen (length left))) ∙ ap concat (sym (lines_are true)))
         (Appends-trans old now next (concat (record_lines layout first h.done)) (concat (rest_lines seen (length left))) h.written line)

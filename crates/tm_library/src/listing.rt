@@ -67,8 +67,9 @@ fn write_lines<W: Drain>(
     let mut seen = first;
     let mut left = octets;
     while size <= left.len() {
-        write_record_line(&mut line_buffer, layout, seen, &left[..size], out)?;
-        left = &left[size..];
+        let (record, behind) = left.split_at(size);
+        write_record_line(&mut line_buffer, layout, seen, record, out)?;
+        left = behind;
         seen += 1;
     }
     if last {

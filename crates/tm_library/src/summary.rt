@@ -1,6 +1,6 @@
 //! The summary of a whole recording, into a room.
 
-ghost use Rattle.std.specs.Prelude.{◌≡◌, ◌×◌, [], length, Ok, IfOk, IfErr, IsUtf8};
+ghost use Rattle.std.specs.Prelude.{◌≡◌, [], length, Ok, IfOk, IfErr, IsUtf8};
 ghost use Rattle.toml.specs.Parse.{parse_document};
 ghost use Rattle.tm_rules.specs.Rules.{Rules};
 ghost use Rattle.tm_settings.specs.Settings.{settings_from};
@@ -36,6 +36,7 @@ pub fn summarize_recording(
     ensures room { length out.new ≡ length out.old }
 {
     let settings = Settings::read(alloc, settings)?;
+    prove!(0 < settings.layout().record_length());
     let mut recording = Chunk { done: 0, octets };
     let mut more = Vec::new(alloc);
     let mut room = Room {

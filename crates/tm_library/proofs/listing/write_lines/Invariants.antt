@@ -3,8 +3,8 @@ use Rattle.std.proofs.Common.{◌≡◌, length}
 use Rattle.tm_library.proofs.ListLemmas.{Listed}
 use Rattle.tm_library.proofs.listing.write_lines.Given as goal
 
-abbrev pub invariant-loop-seen : goal.invariant-loop-seen
-invariant-loop-seen g l = Listed l.layout.now l.first l.octets.now (g.W.Drain.written l.initial.out) l.seen l.left.now (g.W.Drain.written l.out)
+abbrev pub invariant-loop-left : goal.invariant-loop-left
+invariant-loop-left g l = Listed l.layout l.first l.octets (g.W.Drain.written l.initial.out) l.seen l.left (g.W.Drain.written l.out)
 
-abbrev pub decreases-loop-seen : goal.decreases-loop-seen
-decreases-loop-seen g l = length l.left.now
+abbrev pub decreases-loop-left : goal.decreases-loop-left
+decreases-loop-left g l = length l.left

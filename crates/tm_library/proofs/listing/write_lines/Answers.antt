@@ -1,0 +1,29 @@
+use Rattle.std.proofs.Common.{◌≡◌, ◌≤◌, ◌<◌, ◌+◌, ◌^◌, ◌∙◌, ℕ, List, length, arith, true, false}
+use Rattle.std.proofs.lemmas.Result.{on_ok_weaker}
+use Rattle.tm_frame.specs.Layout.{record_length_of}
+use Rattle.tm_library.proofs.ListLemmas.{listed_closed, listed_few, listed_kept, listed_more}
+use Rattle.tm_library.proofs.listing.write_lines.Goals as goal
+
+pub overflow_add-seen : goal.overflow_add-seen
+overflow_add-seen g c =
+    let whole : record_length_of c.args.layout.now ≤ length c.loop-left.left.now = omega (arith, c.loop-left-test.true, c.record_length-size.ensures.value) in
+    let some : 0 < record_length_of c.args.layout.now = omega (arith, c.record_length-size.ensures.some, c.record_length-size.ensures.value) in
+    let few : c.loop-left.seen + 1 < 2 ^ 32 = listed_few _ _ _ _ c.loop-left.invariant whole some c.requires in
+    omega (arith, few)
+
+pub loop-left-preserved : goal.loop-left-preserved
+loop-left-preserved g c =
+    let whole : record_length_of c.args.layout.now ≤ length c.loop-left.left.now = omega (arith, c.loop-left-test.true, c.record_length-size.ensures.value) in
+    let took = (c.in_ok-write_record_line.ensures.took).whole.0 in
+    rw (c.split_at.ensures.back, c.record_length-size.ensures.value)
+    (listed_more _ _ _ _ c.loop-left.invariant whole _ (rw (c.split_at.ensures.front, c.record_length-size.ensures.value) at took))
+
+pub returns-then-last : goal.returns-then-last
+returns-then-last g c =
+    let short : length c.loop-left.left.now < record_length_of c.args.layout.now = omega (arith, c.loop-left-test.false, c.record_length-size.ensures.value) in
+    rw c.if-last.true (on_ok_weaker c.write_rest_line.result (λ took. listed_closed _ _ _ _ c.loop-left.invariant short _ took.whole.0) c.write_rest_line.ensures.took)
+
+pub returns : goal.returns
+returns g c =
+    let short : length c.loop-left.left.now < record_length_of c.args.layout.now = omega (arith, c.loop-left-test.false, c.record_length-size.ensures.value) in
+    rw c.if-last.false (listed_kept _ _ _ _ c.loop-left.invariant short)

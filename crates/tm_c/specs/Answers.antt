@@ -1,9 +1,11 @@
 -- What the export answers.
 use Rattle.std.specs.Prelude.{◌≡◌, ◌≢◌, ◌⊎◌, ◌==◌, ◌≤◌, ◌<◌, ◌&&◌, nat_le, not, ℕ, Bool, if◌then◌else◌, List, [], length, Ok, Err, IsUtf8}
+use Rattle.std.specs.Borrow.{Bor}
 use Rattle.toml.specs.Parse.{parse_document}
 use Rattle.tm_rules.specs.Rules.{Rules}
 use Rattle.tm_fields.specs.Columns.{ReadOrFault}
 use Rattle.tm_fields.specs.Reading.{definition_of}
+use Rattle.tm_fields.specs.declared.definition.Definition.{Definition}
 use Rattle.tm_fields.specs.declared.field.Field.{Field}
 use Rattle.tm_settings.specs.Settings.{settings_from}
 use Rattle.tm_checkpoint.specs.Works.{JobState}
@@ -74,7 +76,8 @@ IsGiven wanted request out report checkpoint result = WasDone wanted request out
 -- the rows of an application, by what the definition's text reads as
 abbrev pub RowsGiven : ReadOrFault (List Field) → TmxRequest → List ℕ → List ℕ → List ℕ → TmxAnswer → Type 0
 RowsGiven (Ok fields) request out report checkpoint result =
-    IsGiven (Packets (Fields fields request.application)) request out report checkpoint result
+    (definition : Bor Definition) × (definition.now ≡ fields)
+    × IsGiven (Packets (Fields definition request.application)) request out report checkpoint result
 RowsGiven (Err fault) request out report checkpoint result = result ≡ refused_with (definition_numbers fault)
 
 -- applications have numbers up to 2047; and memory may run out while the definition is read

@@ -80,7 +80,7 @@ module _ {A K : Type 0} (grows : K → K → List A → Type 0) where
   abbrev pub AppendsPieces : View K → View K → List (Piece A) → Type 0
   AppendsPieces old new pieces = grows old.out new.out (outs pieces) × Appends old.report new.report (reports pieces)
 
-  -- a part of what belongs to `out` was written: a front, a proper one if there is any
+  -- a part of what belongs to `out` was written: a prefix, a proper one if there is any
   abbrev pub PutsPart : K → K → List A → Type 0
   PutsPart old new all = (prefix rest : List A) × (all ≡ prefix ++ rest) × (all ≢ [] → rest ≢ []) × grows old new prefix
 

@@ -94,7 +94,14 @@ fn answer_fields(
     match Definition::read(alloc, request.definition) {
         Ok(definition) => {
             let rows = Command::Fields(&definition, request.application as u16);
-            answer_chunk(alloc, Wanted::Packets(rows), request, out, report, checkpoint)
+            answer_chunk(
+                alloc,
+                Wanted::Packets(rows),
+                request,
+                out,
+                report,
+                checkpoint,
+            )
         }
         Err(fault) => refused_with(definition_numbers(fault)),
     }

@@ -1,8 +1,17 @@
 //! The numbers that stand for refusals, as `include/tmx.h` has them.
 
 ghost use Rattle.std.specs.Prelude.{◌≡◌};
-ghost use Rattle.tm_c.specs.Numbers.{about_key, about_row, checkpoint_number, column_number, definition_numbers, key_number,
-    refusal_numbers, settings_numbers, with_status};
+ghost use Rattle.tm_c.specs.Numbers.{
+  about_key,
+  about_row,
+  checkpoint_number,
+  column_number,
+  definition_numbers,
+  key_number,
+  refusal_numbers,
+  settings_numbers,
+  with_status,
+};
 
 use crate::structs::Numbers;
 use tm_fields::{Column, DefinitionFault};

@@ -107,7 +107,15 @@ fn give(
         octets: request.octets,
     };
     match request.wanted {
-        Wanted::Packets(command) => run_into_rooms(alloc, job, command, chunk, request.last, out, report),
+        Wanted::Packets(command) => run_into_rooms(
+            alloc,
+            job,
+            command,
+            chunk,
+            request.last,
+            out,
+            report,
+        ),
         Wanted::Frames => list_into_room(alloc, job, chunk, request.last, out),
     }
 }

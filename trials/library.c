@@ -3,12 +3,14 @@
    library chunks SIZE SETTINGS RECORDING    `extract` in chunks of so many octets, each call first without room, and then with just enough
    library hostile 0 SETTINGS RECORDING      checkpoints with bits changed and cut after octets, rooms one octet too small, settings cut after
                                              each octet, numbers that stand for nothing
-   library many CALLS SETTINGS RECORDING     so many calls over a chunk of one octet: no memory may stay behind */
+   library many CALLS SETTINGS RECORDING     so many calls over a chunk of one octet: no memory may stay behind
+   library speed SIZE SETTINGS RECORDING     how long a call takes by `extract`, in chunks of so many octets: the least of 20 rounds */
 #include "tmx.h"
 #include <malloc.h>
 #include <stdio.h>
 #include <stdlib.h>
 #include <string.h>
+#include <time.h>
 
 struct octets {
     uint8_t *at;
@@ -182,6 +184,39 @@ static int many(struct octets settings, struct octets recording, long calls) {
     return 0;
 }
 
+/* The whole recording, once: seconds, and how many calls it took. Rooms are large enough, and stay. */
+static double round_of(struct octets settings, struct octets recording, size_t size, struct octets rooms[4], size_t *calls) {
+    struct tmx_answer answer = {0};
+    struct timespec begin, end;
+    size_t at = 0;
+    *calls = 0;
+    clock_gettime(CLOCK_MONOTONIC, &begin);
+    for (;;) {
+        size_t length = recording.length - at < size ? recording.length - at : size;
+        struct tmx_request request = {lent(settings), {rooms[2 + *calls % 2].at, answer.checkpoint_length}, {recording.at + at, length}, {settings.at, 0},
+                                      TMX_EXTRACT, 0, length < size};
+        const struct octets *kept = &rooms[2 + ++*calls % 2];
+        if (tmx_run(&request, rooms[0].at, rooms[0].length, rooms[1].at, rooms[1].length, kept->at, kept->length, &answer) != TMX_DONE) exit(7);
+        at += answer.used;
+        if (request.last) break;
+    }
+    clock_gettime(CLOCK_MONOTONIC, &end);
+    return (double)(end.tv_sec - begin.tv_sec) + 1e-9 * (double)(end.tv_nsec - begin.tv_nsec);
+}
+
+static int speed(struct octets settings, struct octets recording, size_t size) {
+    struct octets rooms[4] = {some(2 * size + 100000), some(8 * size + 100000), some(TMX_CHECKPOINT_MOST), some(TMX_CHECKPOINT_MOST)};
+    double least = 1e9;
+    size_t calls = 0;
+    for (int k = 0; k < 20; k++) {
+        double seconds = round_of(settings, recording, size, rooms, &calls);
+        if (seconds < least) least = seconds;
+    }
+    printf("%zu calls of %zu octets: %.1f microseconds a call, %.0f MB/s\n", calls, size, 1e6 * least / (double)calls, 1e-6 * (double)recording.length / least);
+    for (int k = 0; k < 4; k++) free(rooms[k].at);
+    return 0;
+}
+
 int main(int argc, char **argv) {
     struct octets settings, recording;
     int status = 2;
@@ -191,6 +226,7 @@ int main(int argc, char **argv) {
     if (strcmp(argv[1], "chunks") == 0) status = chunks(settings, recording, (size_t)atol(argv[2]));
     if (strcmp(argv[1], "hostile") == 0) status = hostile(settings, recording);
     if (strcmp(argv[1], "many") == 0) status = many(settings, recording, atol(argv[2]));
+    if (strcmp(argv[1], "speed") == 0) status = speed(settings, recording, (size_t)atol(argv[2]));
     free(settings.at);
     free(recording.at);
     return status;

@@ -1,11 +1,21 @@
 -- A recording whose octets that are done are given as zeros.
-use Rattle.std.proofs.Common.{◌≡◌, ◌≤◌, ◌<◌, ℕ, ◌+◌, ◌*◌, Bool, true, false, List, [], ◌∷◌, ◌++◌, length, take, drop, replicate, subst, length-append, length-take-le, append-nil, refl, sym, ap, ◌∙◌, arith, Option, Some, slice_index_or}
+use Rattle.std.proofs.Common.{◌≡◌, ◌≤◌, ◌<◌, ℕ, ◌+◌, ◌*◌, Bool, true, false, List, [], ◌∷◌, ◌++◌, length, take, drop, replicate, subst, length-append, length-take-le, append-nil, refl, sym, ap, ◌∙◌, arith, Option, Some, Ok, IfOk, Result, Err, slice_index_or, if◌then◌else◌}
 use Rattle.std.proofs.lemmas.List.{length-replicate}
+use Rattle.std.proofs.lemmas.Result.{IfOk-at_ok}
 use Rattle.std.proofs.KnownBytes.{Appends-nil, Appends-trans}
 use Rattle.std.proofs.Math.Seq.{drop-append_seam}
 use Rattle.std.specs.Io.KnownBytes.{Appends}
 use Rattle.std.specs.List.{concat}
 use Rattle.tm_frame.specs.Layout.{most_records}
+use Rattle.tm_rules.specs.Rules.{Rules}
+use Rattle.tm_packet.specs.declared.tracker.TrackerFault.{TrackerFault}
+use Rattle.tm_packet.specs.Spelling as sequence
+use Rattle.tm_reassembly.specs.Checkpoint as reassembly
+use Rattle.tm_reassembly.specs.State.{State}
+use Rattle.tm_reassembly.specs.declared.fault.StateFault.{StateFault}
+use Rattle.tm_faults.specs.declared.fault.CheckpointFault.{CheckpointFault}
+use Rattle.tm_checkpoint.specs.declared.version.Version.{Version}
+use Rattle.tm_checkpoint.specs.Checkpoints.{version_in, inner, resumed, resumed_as, state_in, with_entries, with_state}
 use Rattle.tm_checkpoint.specs.Works.{JobState, Work}
 use Rattle.tm_output.specs.declared.command.Command.{Command}
 use Rattle.tm_output.specs.declared.command.Ending.{Ending}
@@ -24,7 +34,39 @@ use Rattle.tm_tool.proofs.Passing.{cut_records}
 use Rattle.tm_tool.proofs.RunPieces.{ran_told}
 use Rattle.tm_library.specs.declared.request.Answer.{Answer}
 use Rattle.tm_library.specs.declared.request.Wanted.{Wanted}
-use Rattle.tm_library.specs.Chunks.{Holds, IsAnswer, chunk_ending, chunk_pieces, given_pieces, kept_octets, size_of, used_octets}
+use Rattle.tm_library.specs.Chunks.{Holds, IsAnswer, chunk_ending, chunk_pieces, given_pieces, job_in, kept_octets, size_of, used_octets}
+
+-- ---- a job has the settings that it was resumed with
+
+abbrev HasRules : Rules → JobState → Type 0
+HasRules s job = job.work.rules ≡ s
+
+unless : (s : Rules) (b : Bool) (found : CheckpointFault) (job : JobState) → HasRules s job → IfOk (if b then Err found else Ok job) (HasRules s)
+unless s true found job h = tt
+unless s false found job h = h
+
+with_entries_rules : (s : Rules) (state : State) (n : ℕ) (r : Result sequence.DecodedEntries TrackerFault) → IfOk (with_entries s state n r) (HasRules s)
+with_entries_rules s state n (Ok read) = unless s _ _ _ refl
+with_entries_rules s state n (Err found) = tt
+
+with_state_rules : (s : Rules) (octets : List ℕ) (r : Result reassembly.DecodedState StateFault) → IfOk (with_state s octets r) (HasRules s)
+with_state_rules s octets (Ok read) = with_entries_rules s read.state (length (drop read.octets octets)) (sequence.entries_decoding_of (drop read.octets octets))
+with_state_rules s octets (Err found) = tt
+
+resumed_as_rules : (s : Rules) (octets : List ℕ) (r : Result Version CheckpointFault) → IfOk (resumed_as s octets r) (HasRules s)
+resumed_as_rules s octets (Ok v) = with_state_rules s (inner v octets) (state_in v s (inner v octets))
+resumed_as_rules s octets (Err found) = tt
+
+resumed_rules : (s : Rules) (octets : List ℕ) → IfOk (resumed s octets) (HasRules s)
+unfolding resumed
+resumed_rules s octets = resumed_as_rules s octets (version_in s octets)
+
+job_in_rules : (s : Rules) (octets : List ℕ) → IfOk (job_in s octets) (HasRules s)
+job_in_rules s [] = refl
+job_in_rules s (o ∷ os) = resumed_rules s (o ∷ os)
+
+pub has_rules : (s : Rules) (octets : List ℕ) (job : JobState) → job_in s octets ≡ Ok job → job.work.rules ≡ s
+has_rules s octets job is = IfOk-at_ok (HasRules s) is (job_in_rules s octets)
 
 -- ---- a room
 

@@ -81,12 +81,14 @@ fn write_lines<W: Drain>(
 /// Lists the frames of a chunk that follows what the job has done. The job that is kept is the one that a run over the chunk keeps.
 pub fn list_into_room(
     alloc: Global,
+    layout: &Layout,
     job: Job,
     chunk: Chunk<'_>,
     last: bool,
     out: &mut [u8],
 ) -> Result<Given, Refusal>
-    requires { chunk.done ≡ job.work.state.records * size_of job.work }
+    requires layout { layout.now ≡ job.work.rules.layout }
+    requires done { chunk.done ≡ job.work.state.records * size_of job.work }
 
     // Just the lines of the chunk stand in the room, where it is large enough.
     ensures out { IfOk result (λ given. Holds out.new given.out (concat (frame_lines last job chunk.entry.octets.now))) }
@@ -99,7 +101,6 @@ pub fn list_into_room(
     // Else there are too many records, or memory ran out.
     ensures refused { IfErr result (IsRunRefused job chunk.entry.octets.now) }
 {
-    let layout = job.layout();
     let first = job.records();
     let octets = chunk.octets;
     let done = match pass_chunk(alloc, job, chunk, last) {
@@ -113,7 +114,7 @@ pub fn list_into_room(
         overflow: &mut more,
         failed: 0,
     };
-    match write_lines(&layout, first, octets, last, &mut room) {
+    match write_lines(layout, first, octets, last, &mut room) {
         Ok(()) => Ok(Given {
             records: done.records,
             kept: done.kept,

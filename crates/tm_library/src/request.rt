@@ -15,6 +15,7 @@ use crate::chunk::Chunk;
 use crate::listing::list_into_room;
 use crate::running::{Given, job_from, run_into_rooms};
 use std::alloc::Global;
+use tm_frame::Layout;
 use tm_tool::{Command, Job, Settings};
 
 /// What is wanted of the records.
@@ -86,11 +87,13 @@ fn used_octets(last: bool, size: usize, octets: usize) -> usize
 // Gives what is wanted of a chunk that follows what the job has done.
 fn give(
     alloc: Global,
+    layout: &Layout,
     job: Job,
     request: Request<'_>,
     out: &mut [u8],
     report: &mut [u8],
 ) -> Result<Given, Refusal>
+    requires { layout.now ≡ job.work.rules.layout }
     ensures out { IfOk result (λ given. Holds out.new given.out
         (outs (given_pieces request.entry.wanted request.entry.last job request.entry.octets.now))) }
     ensures report { IfOk result (λ given. Holds report.new given.report
@@ -101,7 +104,7 @@ fn give(
         ≡ kept_of (chunk_ending request.entry.last) (worked job.work (records (size_of job.work) request.entry.octets.now))) }
     ensures refused { IfErr result (IsRunRefused job request.entry.octets.now) }
 {
-    let size = job.layout().record_length();
+    let size = layout.record_length();
     let chunk = Chunk {
         done: u64::from(job.records()) * size as u64,
         octets: request.octets,
@@ -116,7 +119,7 @@ fn give(
             out,
             report,
         ),
-        Wanted::Frames => list_into_room(alloc, job, chunk, request.last, out),
+        Wanted::Frames => list_into_room(alloc, layout, job, chunk, request.last, out),
     }
 }
 
@@ -151,8 +154,9 @@ pub fn run_chunk(
 {
     let settings = Settings::read(alloc, request.settings)?;
     let job = job_from(alloc, &settings, request.checkpoint)?;
-    let size = job.layout().record_length();
-    let given = match give(alloc, job, request, out, report) {
+    let layout = settings.layout();
+    let size = layout.record_length();
+    let given = match give(alloc, &layout, job, request, out, report) {
         Ok(given) => given,
         Err(refusal) => return Err(refusal),
     };

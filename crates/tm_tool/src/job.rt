@@ -15,7 +15,6 @@ use crate::recording::run_into;
 use crate::{BufferedSource, Command, Drain, Ending, NoMemory, RunFault, Settings, Shelf};
 use std::alloc::Global;
 use std::marker::Model;
-use tm_frame::Layout;
 use tm_output::PacketShelf;
 use tm_packet::Tracker;
 use tm_reassembly::Reassembly;
@@ -83,13 +82,6 @@ impl Job {
         ensures { result ≡ self.now.work.state.records }
     {
         self.extractor.reassembly.records()
-    }
-
-    /// Where the parts of a record stand.
-    pub fn layout(&self) -> Layout
-        ensures { result ≡ self.now.work.rules.layout }
-    {
-        self.extractor.reassembly.layout()
     }
 }
 

@@ -1,9 +1,15 @@
-use Rattle.std.proofs.Common.{◌≡◌, ℕ, ap, ◌∙◌}
+use Rattle.std.proofs.Common.{◌≡◌, ℕ, ap, sym, ◌∙◌}
+use Rattle.tm_frame.specs.declared.layout.LayoutParts.{LayoutParts}
 use Rattle.tm_frame.specs.Layout.{record_length_of}
+use Rattle.tm_rules.specs.Rules.{Rules}
 use Rattle.tm_library.specs.Chunks.{size_of}
-use Rattle.tm_library.proofs.ChunkLemmas.{answered}
+use Rattle.tm_library.proofs.ChunkLemmas.{answered, has_rules}
 use Rattle.tm_library.proofs.RefusalLemmas.{run_told}
 use Rattle.tm_library.proofs.request.run_chunk.Goals as goal
+
+pub give-requires : goal.give-requires
+give-requires c =
+    c.layout-layout.ensures ∙ ap (λ (r : Rules). r.layout) (sym (has_rules c.in_ok-settings.settings c.args.request.checkpoint.now c.in_ok-job.job c.in_ok-job.ensures.ok))
 
 pub returns-in-Err-clause-refused : goal.returns-in-Err-clause-refused
 returns-in-Err-clause-refused c =
@@ -12,7 +18,10 @@ returns-in-Err-clause-refused c =
 
 pub returns-clause-answer : goal.returns-clause-answer
 returns-clause-answer c =
-    let size : c.record_length-size.result ≡ size_of c.in_ok-job.job.work = c.record_length-size.ensures.value ∙ ap record_length_of c.layout.ensures in (
+    let rules : c.in_ok-job.job.work.rules ≡ c.in_ok-settings.settings =
+    has_rules c.in_ok-settings.settings c.args.request.checkpoint.now c.in_ok-job.job c.in_ok-job.ensures.ok in
+    let size : c.record_length-size.result ≡ size_of c.in_ok-job.job.work =
+    c.record_length-size.ensures.value ∙ ap record_length_of (c.layout-layout.ensures ∙ ap (λ (r : Rules). r.layout) (sym rules)) in (
       c.in_ok-settings.settings,
       c.in_ok-job.job,
       (c.in_ok-settings.ensures.ok.0, c.in_ok-settings.ensures.ok.1, c.in_ok-job.ensures.ok),

@@ -1,5 +1,5 @@
 -- The lines of the records that are passed are written.
-use Rattle.std.proofs.Common.{◌≡◌, length}
+use Rattle.std.proofs.Common.{length}
 use Rattle.tm_library.proofs.ListLemmas.{Listed}
 use Rattle.tm_library.proofs.listing.write_lines.Given as goal
 

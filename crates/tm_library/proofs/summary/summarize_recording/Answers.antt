@@ -1,4 +1,4 @@
-use Rattle.std.proofs.Common.{◌≡◌, ◌<◌, ◌+◌, ◌∙◌, ℕ, length, arith, ap, refl, Some}
+use Rattle.std.proofs.Common.{◌≡◌, ◌<◌, ◌∙◌, ℕ, length, arith, ap, refl, Some}
 use Rattle.tm_frame.specs.Layout.{most_records, record_length_of}
 use Rattle.tm_rules.specs.Rules.{Rules}
 use Rattle.tm_checkpoint.specs.Works.{new_job}

@@ -3,7 +3,7 @@
    library chunks SIZE SETTINGS RECORDING    `extract` in chunks of so many octets, each call first without room, and then with just enough
    library hostile 0 SETTINGS RECORDING      checkpoints with bits changed and cut after octets, rooms one octet too small, settings cut after
                                              each octet, numbers that stand for nothing
-   library many CALLS SETTINGS RECORDING     so many calls over a chunk of one octet: no memory may stay behind
+   library many TIMES SETTINGS RECORDING     so often two calls over a chunk of one octet: no memory may stay behind
    library speed SIZE SETTINGS RECORDING     how long a call takes by `extract`, in chunks of so many octets: the least of 20 rounds */
 #include "tmx.h"
 #include <malloc.h>

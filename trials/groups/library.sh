@@ -62,7 +62,7 @@ library_calls() {
     done
     tell "hostile calls" "$(./calls_seen hostile 0 "$s" "$rec" 2>&1 | head -c 1000)"
     printf 'spacecraft = 42\nframe_length = 24\nerror_control = false\nmax_packet = 7\n' >small.toml
-    tell "100,000 calls leave no memory behind" "$(./calls many 100000 small.toml "$rec" 2>&1 | head -c 1000)"
+    tell "1,000,000 calls leave no memory behind" "$(./calls many 500000 small.toml "$rec" 2>&1 | head -c 1000)"
 }
 
 library() {

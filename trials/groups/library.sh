@@ -3,7 +3,7 @@
 # `rt` has proved; where there is no `rt` either, the group is left out.
 
 # Makes libtmx.a and libtmx.so. Behind `rt ci` the crates below stand proved, without a stamp of `rt lib`: then only tm_c itself is checked once
-# more, and compiled.
+# more, and compiled, with those of the kit that it names.
 make_library() {
     local crates kit crate made words=()
     crates=$(realpath "$here/../crates")
@@ -15,6 +15,9 @@ make_library() {
     for crate in "$crates"/*; do
         made=$crate/out/rlib/${crate##*/}.rlib
         [ ! -e "$made/format" ] || words+=(--extern "${crate##*/}=$made")
+    done
+    for crate in $(sed -n 's/^tm_c staticlib: //p' "$here/../crates.txt"); do
+        [ -e "$crates/$crate" ] || words+=(--extern "$crate=$kit/rlibs/$crate.rlib")
     done
     (cd "$crates/tm_c" && "$kit/bin/rattle" build --crate-name tm_c src/lib.rt --crate-type staticlib --extern "std=$kit/rlibs/std.rlib" \
         -L "dependency=$kit/rlibs" "${words[@]}" --antt-project "$kit/rattle/logic/antt-project.json" --logic-built "$kit/logic_built" \

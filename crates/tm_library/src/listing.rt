@@ -17,7 +17,7 @@ use crate::room::Room;
 use crate::running::{Given, chunk_ending};
 use std::alloc::Global;
 use tm_frame::Layout;
-use tm_lines::LINE_CAPACITY;
+use tm_lines::LineBuffer;
 use tm_output::{write_record_line, write_rest_line};
 use tm_tool::{Command, DeviceFailed, Done, Drain, Job, RunFault, run};
 
@@ -63,17 +63,17 @@ fn write_lines<W: Drain>(
         (concat (lines_from layout.now first last octets.now))) }
 {
     let size = layout.record_length();
-    let mut line_buffer = [0; LINE_CAPACITY];
+    let mut line = LineBuffer::new();
     let mut seen = first;
     let mut left = octets;
     while size <= left.len() {
         let (record, behind) = left.split_at(size);
-        write_record_line(&mut line_buffer, layout, seen, record, out)?;
+        write_record_line(&mut line, layout, seen, record, out)?;
         left = behind;
         seen += 1;
     }
     if last {
-        return write_rest_line(&mut line_buffer, seen, left.len(), out);
+        return write_rest_line(&mut line, seen, left.len(), out);
     }
     Ok(())
 }

@@ -1,8 +1,8 @@
 -- How many octets numbers and words have, and what a buffer holds after it was written.
-use Rattle.std.proofs.Common.{◌≡◌, ℕ, ◌+◌, ◌<◌, ◌≤◌, ◌^◌, zero, suc, List, [], ◌∷◌, ◌++◌, length, take, drop, get_or, set, refl, sym, ap, ◌∙◌, arith, length-drop}
+use Rattle.std.proofs.Common.{◌≡◌, ℕ, ◌+◌, ◌-◌, ◌<◌, ◌≤◌, ◌^◌, zero, suc, List, [], ◌∷◌, ◌++◌, length, take, drop, get_or, set, refl, sym, ap, ◌∙◌, arith, length-drop}
 use Rattle.std.specs.Fmt.{decimal}
 use Rattle.std.proofs.lemmas.Fmt.{length-decimal-le}
-use Rattle.std.proofs.lemmas.List.{drop-drop, drop-set-add}
+use Rattle.std.proofs.lemmas.List.{drop-drop, drop-set-add, drop_all}
 use Rattle.tm_frame.specs.declared.fault.FrameFault.{FrameFault}
 use Rattle.tm_frame.specs.declared.fault.FrameFault.TheVariants.{Crc, Version, Spacecraft, SecondaryFlag, OcfFlag, SecondaryVersion, Layout, Pointer}
 use Rattle.tm_frame.specs.FaultWords.{fault_word}
@@ -34,6 +34,14 @@ short_reason_word reason.Close = omega arith
 short_reason_word reason.NoStart = omega arith
 short_reason_word reason.Version = omega arith
 short_reason_word reason.Length = omega arith
+
+-- behind the last octet of a buffer there is none
+pub nothing_behind : (buffer : List ℕ) → length buffer ≡ 320 → drop 320 buffer ≡ []
+nothing_behind buffer e = drop_all 320 buffer (omega arith)
+
+-- how many octets stand behind a place of a buffer
+pub behind_begin : (begin : ℕ) (buffer : List ℕ) → length buffer ≡ 320 → length (drop begin buffer) ≡ 320 - begin
+behind_begin begin buffer e = omega (arith, length-drop begin buffer)
 
 -- the end of a buffer whose last octet was set
 pub last_set : (buffer : List ℕ) (last octet : ℕ) → length buffer ≡ last + 1 → drop last (set buffer last octet) ≡ octet ∷ []

@@ -4,59 +4,50 @@ ghost use Rattle.std.specs.Prelude.{◌≡◌, ◌+◌, ◌≤◌, ◌++◌, cod
 ghost use Rattle.std.specs.Fmt.{decimal};
 ghost use Rattle.tm_lines.specs.Lines.{bad_line, bit_text, drop_line, flags_word, frame_line, gap_line, kind_word, master_gap_line, note_line, packet_line, place_text, short_line, short_packet_line, type_word, vca_line, why_word, yes_or_no};
 
-use crate::buffer::{
-    LineBuffer, end_line, prepend_long_number, prepend_number, prepend_text, prepend_word,
-};
-use crate::{DroppedPart, Packet};
+use crate::{DroppedPart, LineBuffer, Packet};
 use tm_frame::{Frame, FrameFault, Kind};
 use tm_packet::{Flags, Note, Why};
 
 // The word of what a data field holds.
 #[inline(always)]
-fn format_kind(buffer: &mut LineBuffer, end: usize, kind: Kind) -> usize
-    requires enough { 7 ≤ end }
-    requires within { end ≤ 320 }
-    ensures before { result ≤ end }
-    ensures most { end ≤ result + 7 }
-    ensures text { drop result buffer.new ≡ kind_word kind ++ drop end buffer.old }
+fn format_kind(line: &mut LineBuffer, kind: Kind)
+    requires { 7 + length line.old ≤ 320 }
+    ensures most { length line.new ≤ 7 + length line.old }
+    ensures text { line.new ≡ kind_word kind ++ line.old }
 {
     match kind {
-        Kind::Packets(_) => prepend_text(buffer, end, b"packets"),
-        Kind::NoStart => prepend_text(buffer, end, b"nostart"),
-        Kind::Idle => prepend_text(buffer, end, b"idle"),
-        Kind::Vca => prepend_text(buffer, end, b"vca"),
+        Kind::Packets(_) => line.prepend_text(b"packets"),
+        Kind::NoStart => line.prepend_text(b"nostart"),
+        Kind::Idle => line.prepend_text(b"idle"),
+        Kind::Vca => line.prepend_text(b"vca"),
     }
 }
 
 // The place of the first packet, or a dash.
 #[inline(always)]
-fn format_place(buffer: &mut LineBuffer, end: usize, kind: Kind) -> usize
-    requires enough { 10 ≤ end }
-    requires within { end ≤ 320 }
-    ensures before { result ≤ end }
-    ensures most { end ≤ result + 10 }
-    ensures text { drop result buffer.new ≡ place_text kind ++ drop end buffer.old }
+fn format_place(line: &mut LineBuffer, kind: Kind)
+    requires { 10 + length line.old ≤ 320 }
+    ensures most { length line.new ≤ 10 + length line.old }
+    ensures text { line.new ≡ place_text kind ++ line.old }
 {
     match kind {
-        Kind::Packets(place) => prepend_number(buffer, end, u32::from(place)),
-        Kind::NoStart => prepend_text(buffer, end, b"-"),
-        Kind::Idle => prepend_text(buffer, end, b"-"),
-        Kind::Vca => prepend_text(buffer, end, b"-"),
+        Kind::Packets(place) => line.prepend_number(u32::from(place)),
+        Kind::NoStart => line.prepend_text(b"-"),
+        Kind::Idle => line.prepend_text(b"-"),
+        Kind::Vca => line.prepend_text(b"-"),
     }
 }
 
 #[inline(always)]
-fn format_yes_or_no(buffer: &mut LineBuffer, end: usize, b: bool) -> usize
-    requires enough { 3 ≤ end }
-    requires within { end ≤ 320 }
-    ensures before { result ≤ end }
-    ensures most { end ≤ result + 3 }
-    ensures text { drop result buffer.new ≡ yes_or_no b ++ drop end buffer.old }
+fn format_yes_or_no(line: &mut LineBuffer, b: bool)
+    requires { 3 + length line.old ≤ 320 }
+    ensures most { length line.new ≤ 3 + length line.old }
+    ensures text { line.new ≡ yes_or_no b ++ line.old }
 {
     if b {
-        prepend_text(buffer, end, b"yes")
+        line.prepend_text(b"yes")
     } else {
-        prepend_text(buffer, end, b"no")
+        line.prepend_text(b"no")
     }
 }
 
@@ -67,58 +58,55 @@ fn bit_text(b: bool) -> &'static [u8; 1]
 }
 
 /// The line of a good frame.
-pub fn format_frame(buffer: &mut LineBuffer, seen: u32, frame: &Frame<'_>) -> usize
-    ensures within { result ≤ 320 }
-    ensures line { drop result buffer.new ≡ frame_line seen frame.now }
+pub fn format_frame(line: &mut LineBuffer, seen: u32, frame: &Frame<'_>)
+    ensures { line.new ≡ frame_line seen frame.now }
 {
-    let at = end_line(buffer);
-    let at = prepend_long_number(buffer, at, frame.field().len() as u64);
-    let at = prepend_text(buffer, at, b" octets=");
-    let at = prepend_number(buffer, at, u32::from(frame.segment()));
-    let at = prepend_text(buffer, at, b" segment=");
-    let at = prepend_text(buffer, at, bit_text(frame.order_flag()));
-    let at = prepend_text(buffer, at, b" order=");
-    let at = format_yes_or_no(buffer, at, frame.has_ocf());
-    let at = prepend_text(buffer, at, b" ocf=");
-    let at = prepend_number(buffer, at, u32::from(frame.secondary_length()));
-    let at = prepend_text(buffer, at, b" secondary=");
-    let at = format_place(buffer, at, frame.kind());
-    let at = prepend_text(buffer, at, b" place=");
-    let at = format_kind(buffer, at, frame.kind());
-    let at = prepend_text(buffer, at, b" kind=");
-    let at = prepend_number(buffer, at, u32::from(frame.count()));
-    let at = prepend_text(buffer, at, b" count=");
-    let at = prepend_number(buffer, at, u32::from(frame.master_count()));
-    let at = prepend_text(buffer, at, b" master=");
-    let at = prepend_number(buffer, at, u32::from(frame.channel()));
-    let at = prepend_text(buffer, at, b" channel=");
-    let at = prepend_number(buffer, at, seen);
-    prepend_text(buffer, at, b"frame record=")
+    line.start();
+    line.prepend_long_number(frame.field().len() as u64);
+    line.prepend_text(b" octets=");
+    line.prepend_number(u32::from(frame.segment()));
+    line.prepend_text(b" segment=");
+    line.prepend_text(bit_text(frame.order_flag()));
+    line.prepend_text(b" order=");
+    format_yes_or_no(line, frame.has_ocf());
+    line.prepend_text(b" ocf=");
+    line.prepend_number(u32::from(frame.secondary_length()));
+    line.prepend_text(b" secondary=");
+    format_place(line, frame.kind());
+    line.prepend_text(b" place=");
+    format_kind(line, frame.kind());
+    line.prepend_text(b" kind=");
+    line.prepend_number(u32::from(frame.count()));
+    line.prepend_text(b" count=");
+    line.prepend_number(u32::from(frame.master_count()));
+    line.prepend_text(b" master=");
+    line.prepend_number(u32::from(frame.channel()));
+    line.prepend_text(b" channel=");
+    line.prepend_number(seen);
+    line.prepend_text(b"frame record=");
 }
 
 /// The line of a bad frame.
 #[tactic(auto, using(crate::proofs::BufferLemmas::short_fault_word))]
-pub fn format_bad(buffer: &mut LineBuffer, seen: u32, fault: FrameFault) -> usize
-    ensures within { result ≤ 320 }
-    ensures line { drop result buffer.new ≡ bad_line seen fault }
+pub fn format_bad(line: &mut LineBuffer, seen: u32, fault: FrameFault)
+    ensures { line.new ≡ bad_line seen fault }
 {
-    let at = end_line(buffer);
-    let at = prepend_word(buffer, at, fault.word());
-    let at = prepend_text(buffer, at, b" fault=");
-    let at = prepend_number(buffer, at, seen);
-    prepend_text(buffer, at, b"bad record=")
+    line.start();
+    line.prepend_word(fault.word());
+    line.prepend_text(b" fault=");
+    line.prepend_number(seen);
+    line.prepend_text(b"bad record=");
 }
 
 /// The line of octets that are left after `seen` records.
-pub fn format_short(buffer: &mut LineBuffer, seen: u32, octets: usize) -> usize
-    ensures within { result ≤ 320 }
-    ensures line { drop result buffer.new ≡ short_line seen octets }
+pub fn format_short(line: &mut LineBuffer, seen: u32, octets: usize)
+    ensures { line.new ≡ short_line seen octets }
 {
-    let at = end_line(buffer);
-    let at = prepend_long_number(buffer, at, octets as u64);
-    let at = prepend_text(buffer, at, b" octets=");
-    let at = prepend_number(buffer, at, seen);
-    prepend_text(buffer, at, b"short record=")
+    line.start();
+    line.prepend_long_number(octets as u64);
+    line.prepend_text(b" octets=");
+    line.prepend_number(seen);
+    line.prepend_text(b"short record=");
 }
 
 // ---- packets
@@ -130,143 +118,124 @@ fn type_word(telecommand: bool) -> &'static [u8; 2]
 }
 
 #[inline(always)]
-fn format_flags(buffer: &mut LineBuffer, end: usize, flags: Flags) -> usize
-    requires enough { 12 ≤ end }
-    requires within { end ≤ 320 }
-    ensures before { result ≤ end }
-    ensures most { end ≤ result + 12 }
-    ensures text { drop result buffer.new ≡ flags_word flags ++ drop end buffer.old }
+fn format_flags(line: &mut LineBuffer, flags: Flags)
+    requires { 12 + length line.old ≤ 320 }
+    ensures most { length line.new ≤ 12 + length line.old }
+    ensures text { line.new ≡ flags_word flags ++ line.old }
 {
     match flags {
-        Flags::Continuation => prepend_text(buffer, end, b"continuation"),
-        Flags::First => prepend_text(buffer, end, b"first"),
-        Flags::Last => prepend_text(buffer, end, b"last"),
-        Flags::Unsegmented => prepend_text(buffer, end, b"unsegmented"),
+        Flags::Continuation => line.prepend_text(b"continuation"),
+        Flags::First => line.prepend_text(b"first"),
+        Flags::Last => line.prepend_text(b"last"),
+        Flags::Unsegmented => line.prepend_text(b"unsegmented"),
     }
 }
 
 /// The line of a packet.
-pub fn format_packet(buffer: &mut LineBuffer, packet: &Packet<'_>) -> usize
-    ensures within { result ≤ 320 }
-    ensures line { drop result buffer.new
+pub fn format_packet(line: &mut LineBuffer, packet: &Packet<'_>)
+    ensures { line.new
         ≡ packet_line packet.now.seen packet.now.channel packet.now.first packet.now.place packet.now.header
         (length packet.now.octets.now) }
 {
     let header = packet.header;
-    let at = end_line(buffer);
-    let at = prepend_long_number(buffer, at, packet.octets.len() as u64);
-    let at = prepend_text(buffer, at, b" octets=");
-    let at = prepend_number(buffer, at, u32::from(header.count()));
-    let at = prepend_text(buffer, at, b" count=");
-    let at = format_flags(buffer, at, header.flags());
-    let at = prepend_text(buffer, at, b" flags=");
-    let at = prepend_number(buffer, at, u32::from(header.application()));
-    let at = prepend_text(buffer, at, b" apid=");
-    let at = format_yes_or_no(buffer, at, header.secondary());
-    let at = prepend_text(buffer, at, b" secondary=");
-    let at = prepend_text(buffer, at, type_word(header.telecommand()));
-    let at = prepend_text(buffer, at, b" type=");
-    let at = prepend_number(buffer, at, u32::from(packet.place));
-    let at = prepend_text(buffer, at, b" at=");
-    let at = prepend_number(buffer, at, packet.first);
-    let at = prepend_text(buffer, at, b" from=");
-    let at = prepend_number(buffer, at, u32::from(packet.channel));
-    let at = prepend_text(buffer, at, b" channel=");
-    let at = prepend_number(buffer, at, packet.seen);
-    prepend_text(buffer, at, b"packet record=")
+    line.start();
+    line.prepend_long_number(packet.octets.len() as u64);
+    line.prepend_text(b" octets=");
+    line.prepend_number(u32::from(header.count()));
+    line.prepend_text(b" count=");
+    format_flags(line, header.flags());
+    line.prepend_text(b" flags=");
+    line.prepend_number(u32::from(header.application()));
+    line.prepend_text(b" apid=");
+    format_yes_or_no(line, header.secondary());
+    line.prepend_text(b" secondary=");
+    line.prepend_text(type_word(header.telecommand()));
+    line.prepend_text(b" type=");
+    line.prepend_number(u32::from(packet.place));
+    line.prepend_text(b" at=");
+    line.prepend_number(packet.first);
+    line.prepend_text(b" from=");
+    line.prepend_number(u32::from(packet.channel));
+    line.prepend_text(b" channel=");
+    line.prepend_number(packet.seen);
+    line.prepend_text(b"packet record=");
 }
 
 // ---- the report
 
 /// The line of a gap in the counts of a channel's frames.
 pub fn format_gap(
-    buffer: &mut LineBuffer,
+    line: &mut LineBuffer,
     seen: u32,
     channel: u8,
     expected: u8,
     found: u8,
     missing: u8,
-) -> usize
-    ensures within { result ≤ 320 }
-    ensures line { drop result buffer.new ≡ gap_line seen channel expected found missing }
+)
+    ensures { line.new ≡ gap_line seen channel expected found missing }
 {
-    let at = end_line(buffer);
-    let at = prepend_number(buffer, at, u32::from(missing));
-    let at = prepend_text(buffer, at, b" missing=");
-    let at = prepend_number(buffer, at, u32::from(found));
-    let at = prepend_text(buffer, at, b" found=");
-    let at = prepend_number(buffer, at, u32::from(expected));
-    let at = prepend_text(buffer, at, b" expected=");
-    let at = prepend_number(buffer, at, u32::from(channel));
-    let at = prepend_text(buffer, at, b" channel=");
-    let at = prepend_number(buffer, at, seen);
-    prepend_text(buffer, at, b"gap record=")
+    line.start();
+    line.prepend_number(u32::from(missing));
+    line.prepend_text(b" missing=");
+    line.prepend_number(u32::from(found));
+    line.prepend_text(b" found=");
+    line.prepend_number(u32::from(expected));
+    line.prepend_text(b" expected=");
+    line.prepend_number(u32::from(channel));
+    line.prepend_text(b" channel=");
+    line.prepend_number(seen);
+    line.prepend_text(b"gap record=");
 }
 
 /// The line of a gap in the counts of the master channel, over the good frames of all channels.
-pub fn format_master_gap(
-    buffer: &mut LineBuffer,
-    seen: u32,
-    expected: u8,
-    found: u8,
-    missing: u8,
-) -> usize
-    ensures within { result ≤ 320 }
-    ensures line { drop result buffer.new ≡ master_gap_line seen expected found missing }
+pub fn format_master_gap(line: &mut LineBuffer, seen: u32, expected: u8, found: u8, missing: u8)
+    ensures { line.new ≡ master_gap_line seen expected found missing }
 {
-    let at = end_line(buffer);
-    let at = prepend_number(buffer, at, u32::from(missing));
-    let at = prepend_text(buffer, at, b" missing=");
-    let at = prepend_number(buffer, at, u32::from(found));
-    let at = prepend_text(buffer, at, b" found=");
-    let at = prepend_number(buffer, at, u32::from(expected));
-    let at = prepend_text(buffer, at, b" expected=");
-    let at = prepend_number(buffer, at, seen);
-    prepend_text(buffer, at, b"mastergap record=")
+    line.start();
+    line.prepend_number(u32::from(missing));
+    line.prepend_text(b" missing=");
+    line.prepend_number(u32::from(found));
+    line.prepend_text(b" found=");
+    line.prepend_number(u32::from(expected));
+    line.prepend_text(b" expected=");
+    line.prepend_number(seen);
+    line.prepend_text(b"mastergap record=");
 }
 
 /// The line of a VCA frame.
-pub fn format_vca(buffer: &mut LineBuffer, seen: u32, channel: u8) -> usize
-    ensures within { result ≤ 320 }
-    ensures line { drop result buffer.new ≡ vca_line seen channel }
+pub fn format_vca(line: &mut LineBuffer, seen: u32, channel: u8)
+    ensures { line.new ≡ vca_line seen channel }
 {
-    let at = end_line(buffer);
-    let at = prepend_number(buffer, at, u32::from(channel));
-    let at = prepend_text(buffer, at, b" channel=");
-    let at = prepend_number(buffer, at, seen);
-    prepend_text(buffer, at, b"vca record=")
+    line.start();
+    line.prepend_number(u32::from(channel));
+    line.prepend_text(b" channel=");
+    line.prepend_number(seen);
+    line.prepend_text(b"vca record=");
 }
 
 /// The line of a dropped part.
 #[tactic(auto, using(crate::proofs::BufferLemmas::short_reason_word))]
-pub fn format_drop(buffer: &mut LineBuffer, part: DroppedPart) -> usize
-    ensures within { result ≤ 320 }
-    ensures line { drop result buffer.new ≡ drop_line part.seen part.channel part.first part.place part.octets part.reason }
+pub fn format_drop(line: &mut LineBuffer, part: DroppedPart)
+    ensures { line.new ≡ drop_line part.seen part.channel part.first part.place part.octets part.reason }
 {
-    let at = end_line(buffer);
-    let at = prepend_word(buffer, at, part.reason.word());
-    let at = prepend_text(buffer, at, b" reason=");
-    let at = prepend_number(buffer, at, part.octets);
-    let at = prepend_text(buffer, at, b" octets=");
-    let at = prepend_number(buffer, at, u32::from(part.place));
-    let at = prepend_text(buffer, at, b" at=");
-    let at = prepend_number(buffer, at, part.first);
-    let at = prepend_text(buffer, at, b" from=");
-    let at = prepend_number(buffer, at, u32::from(part.channel));
-    let at = prepend_text(buffer, at, b" channel=");
-    let at = prepend_number(buffer, at, part.seen);
-    prepend_text(buffer, at, b"drop record=")
+    line.start();
+    line.prepend_word(part.reason.word());
+    line.prepend_text(b" reason=");
+    line.prepend_number(part.octets);
+    line.prepend_text(b" octets=");
+    line.prepend_number(u32::from(part.place));
+    line.prepend_text(b" at=");
+    line.prepend_number(part.first);
+    line.prepend_text(b" from=");
+    line.prepend_number(u32::from(part.channel));
+    line.prepend_text(b" channel=");
+    line.prepend_number(part.seen);
+    line.prepend_text(b"drop record=");
 }
 
 /// The line of a packet of too few bits for its fields.
-pub fn format_short_packet(
-    buffer: &mut LineBuffer,
-    packet: &Packet<'_>,
-    needed: u64,
-    found: u64,
-) -> usize
-    ensures within { result ≤ 320 }
-    ensures line { drop result buffer.new ≡ short_packet_line packet.now.seen packet.now.channel packet.now.first packet.now.place needed found }
+pub fn format_short_packet(line: &mut LineBuffer, packet: &Packet<'_>, needed: u64, found: u64)
+    ensures { line.new ≡ short_packet_line packet.now.seen packet.now.channel packet.now.first packet.now.place needed found }
 {
     let Packet {
         seen,
@@ -275,107 +244,96 @@ pub fn format_short_packet(
         place,
         ..
     } = packet;
-    let at = end_line(buffer);
-    let at = prepend_long_number(buffer, at, found);
-    let at = prepend_text(buffer, at, b" found=");
-    let at = prepend_long_number(buffer, at, needed);
-    let at = prepend_text(buffer, at, b" needed=");
-    let at = prepend_number(buffer, at, u32::from(*place));
-    let at = prepend_text(buffer, at, b" at=");
-    let at = prepend_number(buffer, at, *first);
-    let at = prepend_text(buffer, at, b" from=");
-    let at = prepend_number(buffer, at, u32::from(*channel));
-    let at = prepend_text(buffer, at, b" channel=");
-    let at = prepend_number(buffer, at, *seen);
-    prepend_text(buffer, at, b"shortpacket record=")
+    line.start();
+    line.prepend_long_number(found);
+    line.prepend_text(b" found=");
+    line.prepend_long_number(needed);
+    line.prepend_text(b" needed=");
+    line.prepend_number(u32::from(*place));
+    line.prepend_text(b" at=");
+    line.prepend_number(*first);
+    line.prepend_text(b" from=");
+    line.prepend_number(u32::from(*channel));
+    line.prepend_text(b" channel=");
+    line.prepend_number(*seen);
+    line.prepend_text(b"shortpacket record=");
 }
 
 // ---- notes on sequence counts
 
 // Why a group is broken.
-fn format_why(buffer: &mut LineBuffer, end: usize, why: Why) -> usize
-    requires enough { 11 ≤ end }
-    requires within { end ≤ 320 }
-    ensures before { result ≤ end }
-    ensures most { end ≤ result + 11 }
-    ensures text { drop result buffer.new ≡ why_word why ++ drop end buffer.old }
+fn format_why(line: &mut LineBuffer, why: Why)
+    requires { 11 + length line.old ≤ 320 }
+    ensures most { length line.new ≤ 11 + length line.old }
+    ensures text { line.new ≡ why_word why ++ line.old }
 {
     match why {
-        Why::Gap => prepend_text(buffer, end, b"gap"),
-        Why::First => prepend_text(buffer, end, b"first"),
-        Why::Unsegmented => prepend_text(buffer, end, b"unsegmented"),
-        Why::Close => prepend_text(buffer, end, b"end"),
+        Why::Gap => line.prepend_text(b"gap"),
+        Why::First => line.prepend_text(b"first"),
+        Why::Unsegmented => line.prepend_text(b"unsegmented"),
+        Why::Close => line.prepend_text(b"end"),
     }
 }
 
 // The channel and application of a note, before what the note says of them, and the record.
-fn format_place_of_note(
-    buffer: &mut LineBuffer,
-    end: usize,
-    seen: u32,
-    channel: u8,
-    apid: u16,
-) -> usize
-    requires enough { 45 ≤ end }
-    requires within { end ≤ 320 }
-    ensures before { result ≤ end }
-    ensures most { end ≤ result + 45 }
-    ensures text { drop result buffer.new
-        ≡ decimal seen ++ (codes " channel=" ++ (decimal channel ++ (codes " apid=" ++ (decimal apid ++ drop end buffer.old)))) }
+fn format_place_of_note(line: &mut LineBuffer, seen: u32, channel: u8, apid: u16)
+    requires { 45 + length line.old ≤ 320 }
+    ensures most { length line.new ≤ 45 + length line.old }
+    ensures text { line.new
+        ≡ decimal seen ++ (codes " channel=" ++ (decimal channel ++ (codes " apid=" ++ (decimal apid ++ line.old)))) }
 {
-    let at = prepend_number(buffer, end, u32::from(apid));
-    let at = prepend_text(buffer, at, b" apid=");
-    let at = prepend_number(buffer, at, u32::from(channel));
-    let at = prepend_text(buffer, at, b" channel=");
-    prepend_number(buffer, at, seen)
+    line.prepend_number(u32::from(apid));
+    line.prepend_text(b" apid=");
+    line.prepend_number(u32::from(channel));
+    line.prepend_text(b" channel=");
+    line.prepend_number(seen);
 }
 
 /// The line of a note on the sequence counts of a channel and application.
-pub fn format_note(buffer: &mut LineBuffer, seen: u32, channel: u8, apid: u16, note: Note) -> usize
-    ensures within { result ≤ 320 }
-    ensures line { drop result buffer.new ≡ note_line seen channel apid note }
+pub fn format_note(line: &mut LineBuffer, seen: u32, channel: u8, apid: u16, note: Note)
+    ensures { line.new ≡ note_line seen channel apid note }
 {
-    let at = end_line(buffer);
+    line.start();
     match note {
         Note::Gap {
             expected,
             found,
             missing,
         } => {
-            let at = prepend_number(buffer, at, u32::from(missing));
-            let at = prepend_text(buffer, at, b" missing=");
-            let at = prepend_number(buffer, at, u32::from(found));
-            let at = prepend_text(buffer, at, b" found=");
-            let at = prepend_number(buffer, at, u32::from(expected));
-            let at = prepend_text(buffer, at, b" expected=");
-            let at = format_place_of_note(buffer, at, seen, channel, apid);
-            prepend_text(buffer, at, b"seqgap record=")
+            line.prepend_number(u32::from(missing));
+            line.prepend_text(b" missing=");
+            line.prepend_number(u32::from(found));
+            line.prepend_text(b" found=");
+            line.prepend_number(u32::from(expected));
+            line.prepend_text(b" expected=");
+            format_place_of_note(line, seen, channel, apid);
+            line.prepend_text(b"seqgap record=");
         }
         Note::Broken { first, last, why } => {
-            let at = format_why(buffer, at, why);
-            let at = prepend_text(buffer, at, b" reason=");
-            let at = prepend_number(buffer, at, u32::from(last));
-            let at = prepend_text(buffer, at, b" last=");
-            let at = prepend_number(buffer, at, u32::from(first));
-            let at = prepend_text(buffer, at, b" first=");
-            let at = format_place_of_note(buffer, at, seen, channel, apid);
-            prepend_text(buffer, at, b"broken record=")
+            format_why(line, why);
+            line.prepend_text(b" reason=");
+            line.prepend_number(u32::from(last));
+            line.prepend_text(b" last=");
+            line.prepend_number(u32::from(first));
+            line.prepend_text(b" first=");
+            format_place_of_note(line, seen, channel, apid);
+            line.prepend_text(b"broken record=");
         }
         Note::Whole { first, last } => {
-            let at = prepend_number(buffer, at, u32::from(last));
-            let at = prepend_text(buffer, at, b" last=");
-            let at = prepend_number(buffer, at, u32::from(first));
-            let at = prepend_text(buffer, at, b" first=");
-            let at = format_place_of_note(buffer, at, seen, channel, apid);
-            prepend_text(buffer, at, b"group record=")
+            line.prepend_number(u32::from(last));
+            line.prepend_text(b" last=");
+            line.prepend_number(u32::from(first));
+            line.prepend_text(b" first=");
+            format_place_of_note(line, seen, channel, apid);
+            line.prepend_text(b"group record=");
         }
         Note::Stray { count, flags } => {
-            let at = format_flags(buffer, at, flags);
-            let at = prepend_text(buffer, at, b" flag=");
-            let at = prepend_number(buffer, at, u32::from(count));
-            let at = prepend_text(buffer, at, b" count=");
-            let at = format_place_of_note(buffer, at, seen, channel, apid);
-            prepend_text(buffer, at, b"stray record=")
+            format_flags(line, flags);
+            line.prepend_text(b" flag=");
+            line.prepend_number(u32::from(count));
+            line.prepend_text(b" count=");
+            format_place_of_note(line, seen, channel, apid);
+            line.prepend_text(b"stray record=");
         }
     }
 }

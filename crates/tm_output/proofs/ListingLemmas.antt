@@ -1,14 +1,16 @@
 -- How a listing stands while it goes on, and what follows at its end.
-use Rattle.std.proofs.Common.{◌≡◌, ◌<◌, ◌+◌, ◌-◌, ◌^◌, ℕ, List, [], ◌∷◌, ◌++◌, length, refl, sym, ap, subst, ◌∙◌, length-append, add-zero, arith, Option}
+use Rattle.std.proofs.Common.{◌≡◌, ◌<◌, ◌+◌, ◌-◌, ◌^◌, ℕ, List, [], ◌∷◌, ◌++◌, length, refl, sym, ap, subst, ◌∙◌, length-append, add-zero, arith, inl, Option}
 use Rattle.std.specs.List.{concat}
 use Rattle.std.specs.Io.KnownBytes.{Appends, Consumes, IsAtEnd}
 use Rattle.std.proofs.KnownBytes.{Consumes-trans}
 use Rattle.tm_frame.specs.declared.layout.LayoutParts.{LayoutParts}
 use Rattle.tm_frame.specs.Layout.{record_length_of}
-use Rattle.tm_faults.specs.declared.fault.RunFault.TheVariants.{Write}
+use Rattle.tm_faults.specs.declared.fault.RunFault.{RunFault}
+use Rattle.tm_faults.specs.declared.fault.RunFault.TheVariants.{NoMemory, Read, Report, ShortRecording, TooMany, Write}
 use Rattle.tm_output.specs.Outputs.{Stopped, Took, View, line_piece, line_pieces, octets_buffering, outs}
 use Rattle.tm_output.specs.Records.{AreRecords, HasRead}
-use Rattle.tm_output.specs.Listing.{IsListed, StopsAtOneMore, StopsInRecordLine, StopsInRestLine, lines_of, listing, record_line, record_lines, rest_lines}
+use Rattle.tm_output.specs.code.Listed.{NextListingStop}
+use Rattle.tm_output.specs.Listing.{IsListed, IsListingStop, StopsAtOneMore, StopsInRecordLine, StopsInRestLine, lines_of, listing, record_line, record_lines, rest_lines}
 use Rattle.tm_output.proofs.LinePieces.{lines_lines, lines_out}
 use Rattle.tm_output.proofs.RecordLemmas.{AreRecords-append, concat-one, count_all, records_all, rest_all}
 
@@ -102,3 +104,14 @@ module _ (layout : LayoutParts) where
         took = stands.took;
         stopped = rw (← stands.count_is, size) stopped;
       }
+
+  -- where listing the next record stops, the listing stops
+  pub stands_stopped : {first left : Option (List ℕ)} {old now : View (Option (List ℕ))} {seen : ℕ} (next : Option (List ℕ)) (new : View (Option (List ℕ))) (fault : RunFault)
+      → Stands first left old now seen → NextListingStop layout seen left next now new fault → IsListingStop layout first next old new fault
+  stands_stopped next new Read stands (fails, same) =
+      record { read = stands.read; part = fails.part; octets = has_read fails.part stands fails.octets; short = fails.short; took = rw same stands.took }
+  stands_stopped next new TooMany stands (reads, same) = rw same (stands_too_many reads.one stands reads.octets reads.exact reads.holds)
+  stands_stopped next new Write stands reads = inl (stands_record reads.one stands reads.octets reads.exact reads.holds)
+  stands_stopped next new Report stands impossible = absurd impossible
+  stands_stopped next new ShortRecording stands impossible = absurd impossible
+  stands_stopped next new NoMemory stands impossible = absurd impossible

@@ -1,6 +1,6 @@
 //! A line for each frame of a recording.
 
-ghost use Rattle.std.specs.Prelude.{◌≡◌, ◌≢◌, ◌<◌, ◌≤◌, ◌∷◌, [], true, drop, length, None, IfOk, IfErr, IfSome, OnOk, OnErr};
+ghost use Rattle.std.specs.Prelude.{◌≡◌, ◌≢◌, ◌<◌, ◌≤◌, ◌∷◌, [], true, length, None, IfOk, IfErr, IfSome, OnOk, OnErr};
 ghost use Rattle.std.specs.Io.KnownBytes.{Appends, Keeps};
 ghost use Rattle.tm_frame.specs.Layout.{most_records, record_length_of};
 ghost use Rattle.tm_output.specs.Faults.{FaultsCounted};
@@ -15,24 +15,18 @@ use std::alloc::Global;
 use tm_devices::{BufferedSource, DeviceFailed, Drain, fill, may_wait_for, write_all};
 use tm_faults::RunFault;
 use tm_frame::{Layout, read};
-use tm_lines::{LINE_CAPACITY, LineBuffer, format_bad, format_frame, format_short, line_from};
+use tm_lines::{LineBuffer, format_bad, format_frame, format_short};
 use tm_settings::Settings;
 
-// Makes the line of a record at the end of the buffer, and answers where it begins.
+// Makes the line of a record.
 #[tactic(auto, unfolding(crate::specs::Listing::record_line))]
-fn make_record_line(
-    line_buffer: &mut LineBuffer,
-    layout: &Layout,
-    seen: u32,
-    octets: &[u8],
-) -> usize
+fn make_record_line(line: &mut LineBuffer, layout: &Layout, seen: u32, octets: &[u8])
     requires { length octets.now ≡ record_length_of layout.now }
-    ensures within { result ≤ 320 }
-    ensures line { drop result line_buffer.new ≡ record_line layout.now seen octets.now }
+    ensures { line.new ≡ record_line layout.now seen octets.now }
 {
     match read(layout, octets) {
-        Ok(frame) => format_frame(line_buffer, seen, &frame),
-        Err(fault) => format_bad(line_buffer, seen, fault),
+        Ok(frame) => format_frame(line, seen, &frame),
+        Err(fault) => format_bad(line, seen, fault),
     }
 }
 
@@ -42,7 +36,7 @@ fn make_record_line(
 ///
 /// Where a write failed: a prefix of the line is written.
 pub fn write_record_line<W: Drain>(
-    line_buffer: &mut LineBuffer,
+    line: &mut LineBuffer,
     layout: &Layout,
     seen: u32,
     octets: &[u8],
@@ -54,8 +48,8 @@ pub fn write_record_line<W: Drain>(
     ensures stopped { OnErr result (Stopped Appends octets_buffering (out_alone W.Drain out.old) (out_alone W.Drain out.new)
         (line_piece (record_line layout.now seen octets.now) ∷ []) Write) }
 {
-    let begin = make_record_line(line_buffer, layout, seen, octets);
-    write_all(out, line_from(line_buffer, begin))
+    make_record_line(line, layout, seen, octets);
+    write_all(out, line.as_slice())
 }
 
 // Flushes what was written, where the recording may wait for the next record.
@@ -82,7 +76,7 @@ fn flush_before_waiting<R: BufferedSource, W: Drain>(
 ///
 /// Where a write or the flush failed: a prefix of the line is written.
 pub fn write_rest_line<W: Drain>(
-    line_buffer: &mut LineBuffer,
+    line: &mut LineBuffer,
     seen: u32,
     octets: usize,
     out: &mut W,
@@ -94,8 +88,8 @@ pub fn write_rest_line<W: Drain>(
         (line_pieces (rest_lines seen octets)) Write) }
 {
     if octets > 0 {
-        let begin = format_short(line_buffer, seen, octets);
-        write_all(out, line_from(line_buffer, begin))?;
+        format_short(line, seen, octets);
+        write_all(out, line.as_slice())?;
     }
     out.flush()
 }
@@ -103,7 +97,7 @@ pub fn write_rest_line<W: Drain>(
 // Lists the next record: where it is at hand as it stands there, else through this buffer. What was written is flushed where the recording may
 // wait for the record behind it. Answers how many octets are left where it is no whole one.
 fn list_next<R: BufferedSource, W: Drain>(
-    line_buffer: &mut LineBuffer,
+    line: &mut LineBuffer,
     layout: &Layout,
     seen: u32,
     buffer: &mut [u8],
@@ -127,7 +121,7 @@ fn list_next<R: BufferedSource, W: Drain>(
 {
     let size = buffer.len();
     if seen < u32::MAX && size <= recording.at_hand().len() {
-        let put = write_record_line(line_buffer, layout, seen, &recording.at_hand()[..size], out);
+        let put = write_record_line(line, layout, seen, &recording.at_hand()[..size], out);
         recording.consume(size);
         if let Err(_) = put {
             return Err(RunFault::Write);
@@ -146,7 +140,7 @@ fn list_next<R: BufferedSource, W: Drain>(
     if seen == u32::MAX {
         return Err(RunFault::TooMany);
     }
-    if let Err(_) = write_record_line(line_buffer, layout, seen, buffer, out) {
+    if let Err(_) = write_record_line(line, layout, seen, buffer, out) {
         return Err(RunFault::Write);
     }
     match flush_before_waiting(recording, size, out) {
@@ -172,13 +166,13 @@ fn list_records<R: BufferedSource, W: Drain>(
     ensures counts { FaultsCounted (R.failures recording.old) (R.failures recording.new) (W.failures out.old)
         (W.failures out.new) result }
 {
-    let mut line_buffer = [0; LINE_CAPACITY];
+    let mut line = LineBuffer::new();
     let mut seen = 0u32;
     loop {
-        match list_next(&mut line_buffer, layout, seen, buffer, recording, out) {
+        match list_next(&mut line, layout, seen, buffer, recording, out) {
             Ok(None) => seen += 1,
             Ok(Some(octets)) => {
-                if let Err(_) = write_rest_line(&mut line_buffer, seen, octets, out) {
+                if let Err(_) = write_rest_line(&mut line, seen, octets, out) {
                     return Err(RunFault::Write);
                 }
                 return Ok(seen);

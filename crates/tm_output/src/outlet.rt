@@ -19,7 +19,7 @@ use std::alloc::AllocError;
 use tm_devices::{DeviceFailed, Drain, Shelf, write_all};
 use tm_faults::RunFault;
 use tm_fields::{Lead, RowFault, Rows};
-use tm_lines::{LINE_CAPACITY, format_packet, format_short_packet, line_from};
+use tm_lines::{LineBuffer, format_packet, format_short_packet};
 use tm_packet::Header;
 
 /// Where packets go.
@@ -201,7 +201,10 @@ impl<W: Drain> Outlet for PacketOctets<'_, W> {
 /// A line for each packet into a drain.
 #[derive(Drop)]
 pub struct PacketLines<'a, W> {
+    /// Where the lines go.
     pub out: &'a mut W,
+    /// The memory in which each is made.
+    pub line: LineBuffer,
 }
 
 impl<W: Drain> Outlet for PacketLines<'_, W> {
@@ -245,9 +248,8 @@ impl<W: Drain> Outlet for PacketLines<'_, W> {
 
     #[tactic(auto, unfolding(crate::specs::Pieces::listed))]
     fn write(&mut self, packet: &Packet<'_>) -> Result<(), RunFault> {
-        let mut line_buffer = [0; LINE_CAPACITY];
-        let begin = format_packet(&mut line_buffer, packet);
-        match write_all(self.out, line_from(&line_buffer, begin)) {
+        format_packet(&mut self.line, packet);
+        match write_all(self.out, self.line.as_slice()) {
             Ok(()) => Ok(()),
             Err(_) => Err(RunFault::Write),
         }
@@ -412,9 +414,9 @@ impl<W: Drain> Outlet for PacketRows<'_, '_, '_, W> {
             return Ok(());
         }
         let found = 8 * octets as u64;
-        let mut line_buffer = [0; LINE_CAPACITY];
-        let begin = format_short_packet(&mut line_buffer, packet, u64::from(needed), found);
-        lines.extend_from_slice(line_from(&line_buffer, begin))
+        let mut line = LineBuffer::new();
+        format_short_packet(&mut line, packet, u64::from(needed), found);
+        lines.extend_from_slice(line.as_slice())
     }
 
     #[tactic(auto, unfolding(crate::specs::FieldRows::tabled))]

@@ -22,8 +22,8 @@ use tm_devices::{Drain, write_all};
 use tm_faults::RunFault;
 use tm_items::{Item, Sink};
 use tm_lines::{
-    DroppedPart, LINE_CAPACITY, LineBuffer, format_bad, format_drop, format_gap, format_master_gap,
-    format_note, format_short, format_vca, line_from,
+    DroppedPart, LineBuffer, format_bad, format_drop, format_gap, format_master_gap, format_note,
+    format_short, format_vca,
 };
 use tm_packet::{Header, Note, Notes, Pair, Tracker, Unclosed, read_header};
 
@@ -46,9 +46,9 @@ fn push_note(
 ) -> Result<(), AllocError>
     ensures { OnOk result (lines.new.items ≡ lines.old.items ++ note_line seen channel apid note) }
 {
-    let mut line_buffer = [0; LINE_CAPACITY];
-    let begin = format_note(&mut line_buffer, seen, channel, apid, note);
-    lines.extend_from_slice(line_from(&line_buffer, begin))
+    let mut line = LineBuffer::new();
+    format_note(&mut line, seen, channel, apid, note);
+    lines.extend_from_slice(line.as_slice())
 }
 
 // Makes the lines of notes, one after the other.
@@ -73,28 +73,27 @@ fn push_notes(
     Ok(())
 }
 
-// Makes the line of an item at the end of the buffer, none of a packet, and answers where it begins.
+// Makes the line of an item; of a packet none.
 #[tactic(auto, unfolding(crate::specs::Pieces::item_line))]
-fn make_line(line_buffer: &mut LineBuffer, item: Item<'_>) -> usize
-    ensures within { result ≤ 320 }
-    ensures line { drop result line_buffer.new ≡ item_line (item_of item.entry) }
+fn make_line(line: &mut LineBuffer, item: Item<'_>)
+    ensures { line.new ≡ item_line (item_of item.entry) }
 {
     match item {
-        Item::Bad { seen, fault } => format_bad(line_buffer, seen, fault),
+        Item::Bad { seen, fault } => format_bad(line, seen, fault),
         Item::MasterGap {
             seen,
             expected,
             found,
             missing,
-        } => format_master_gap(line_buffer, seen, expected, found, missing),
+        } => format_master_gap(line, seen, expected, found, missing),
         Item::Gap {
             seen,
             channel,
             expected,
             found,
             missing,
-        } => format_gap(line_buffer, seen, channel, expected, found, missing),
-        Item::Vca { seen, channel } => format_vca(line_buffer, seen, channel),
+        } => format_gap(line, seen, channel, expected, found, missing),
+        Item::Vca { seen, channel } => format_vca(line, seen, channel),
         Item::Dropped {
             seen,
             channel,
@@ -103,7 +102,7 @@ fn make_line(line_buffer: &mut LineBuffer, item: Item<'_>) -> usize
             octets,
             reason,
         } => format_drop(
-            line_buffer,
+            line,
             DroppedPart {
                 seen,
                 channel,
@@ -113,8 +112,8 @@ fn make_line(line_buffer: &mut LineBuffer, item: Item<'_>) -> usize
                 reason,
             },
         ),
-        Item::Packet { .. } => LINE_CAPACITY,
-        Item::Short { seen, octets } => format_short(line_buffer, seen, octets as usize),
+        Item::Packet { .. } => line.clear(),
+        Item::Short { seen, octets } => format_short(line, seen, octets as usize),
     }
 }
 
@@ -322,9 +321,9 @@ impl<O: Outlet, V: Drain> Output<'_, O, V> {
             (output_state O.Outlet V.Drain self.new)
             (item_of item.entry) result }
     {
-        let mut line_buffer = [0; LINE_CAPACITY];
-        let begin = make_line(&mut line_buffer, item);
-        if let Err(_) = write_all(self.report, line_from(&line_buffer, begin)) {
+        let mut line = LineBuffer::new();
+        make_line(&mut line, item);
+        if let Err(_) = write_all(self.report, line.as_slice()) {
             return Err(RunFault::Report);
         }
         Ok(())
@@ -341,15 +340,15 @@ impl<O: Outlet, V: Drain> Output<'_, O, V> {
             (unclosed_piece seen unclosed ∷ []) result }
     {
         let pair = Pair::of_key(unclosed.key);
-        let mut line_buffer = [0; LINE_CAPACITY];
-        let begin = format_note(
-            &mut line_buffer,
+        let mut line = LineBuffer::new();
+        format_note(
+            &mut line,
             seen,
             pair.channel,
             pair.application,
             unclosed.note,
         );
-        if let Err(_) = write_all(self.report, line_from(&line_buffer, begin)) {
+        if let Err(_) = write_all(self.report, line.as_slice()) {
             return Err(RunFault::Report);
         }
         Ok(())

@@ -16,7 +16,7 @@ use tm_devices::{Drain, write_all};
 use tm_faults::RunFault;
 use tm_frame::FrameFault;
 use tm_items::Reason;
-use tm_lines::{LINE_CAPACITY, line_from};
+use tm_lines::LineBuffer;
 use tm_packet::Pair;
 use tm_rules::Channels;
 
@@ -36,9 +36,9 @@ fn write_recording<W: Drain>(records: u32, counts: &Counts, out: &mut W) -> Resu
     ensures { Written Appends octets_buffering (out_alone W.Drain out.old) (out_alone W.Drain out.new)
         (line_piece (recording_line records counts.now.good counts.now.bad counts.now.rest) ∷ []) result }
 {
-    let mut buffer = [0; LINE_CAPACITY];
-    let begin = format_recording(&mut buffer, records, counts.good, counts.bad, counts.rest);
-    write_line(line_from(&buffer, begin), out)
+    let mut line = LineBuffer::new();
+    format_recording(&mut line, records, counts.good, counts.bad, counts.rest);
+    write_line(line.as_slice(), out)
 }
 
 // Writes the line of a fault that so many records have, if any has it.
@@ -49,9 +49,9 @@ fn write_fault<W: Drain>(fault: FrameFault, records: u64, out: &mut W) -> Result
     if records == 0 {
         return Ok(());
     }
-    let mut buffer = [0; LINE_CAPACITY];
-    let begin = format_fault(&mut buffer, fault, records);
-    write_line(line_from(&buffer, begin), out)
+    let mut line = LineBuffer::new();
+    format_fault(&mut line, fault, records);
+    write_line(line.as_slice(), out)
 }
 
 // Writes the lines of the faults that came.
@@ -72,9 +72,9 @@ fn write_master<W: Drain>(gaps: u64, missing: u64, out: &mut W) -> Result<(), Ru
     ensures { Written Appends octets_buffering (out_alone W.Drain out.old) (out_alone W.Drain out.new)
         (line_piece (master_line gaps missing) ∷ []) result }
 {
-    let mut buffer = [0; LINE_CAPACITY];
-    let begin = format_master(&mut buffer, gaps, missing);
-    write_line(line_from(&buffer, begin), out)
+    let mut line = LineBuffer::new();
+    format_master(&mut line, gaps, missing);
+    write_line(line.as_slice(), out)
 }
 
 // Writes the line of what is lost of a channel for a reason, if there is something.
@@ -90,9 +90,9 @@ fn write_loss<W: Drain>(
     if loss.parts == 0 {
         return Ok(());
     }
-    let mut buffer = [0; LINE_CAPACITY];
-    let begin = format_loss(&mut buffer, channel, reason, loss);
-    write_line(line_from(&buffer, begin), out)
+    let mut line = LineBuffer::new();
+    format_loss(&mut line, channel, reason, loss);
+    write_line(line.as_slice(), out)
 }
 
 // Writes the lines of what is lost of a channel, for each reason that came.
@@ -113,9 +113,9 @@ fn write_counts<W: Drain>(channel: u8, counts: &ChannelCounts, out: &mut W) -> R
     ensures { Written Appends octets_buffering (out_alone W.Drain out.old) (out_alone W.Drain out.new)
         (line_piece (channel_line channel counts.now) ∷ []) result }
 {
-    let mut buffer = [0; LINE_CAPACITY];
-    let begin = format_channel(&mut buffer, channel, counts);
-    write_line(line_from(&buffer, begin), out)
+    let mut line = LineBuffer::new();
+    format_channel(&mut line, channel, counts);
+    write_line(line.as_slice(), out)
 }
 
 // Writes the lines of a channel, if it is chosen and had a good frame.
@@ -170,10 +170,10 @@ fn write_application<W: Drain>(
     if counts.packets == 0 {
         return Ok(());
     }
-    let mut buffer = [0; LINE_CAPACITY];
+    let mut line = LineBuffer::new();
     let pair = Pair::of_key(key);
-    let begin = format_application(&mut buffer, pair.channel, pair.application, counts);
-    write_line(line_from(&buffer, begin), out)
+    format_application(&mut line, pair.channel, pair.application, counts);
+    write_line(line.as_slice(), out)
 }
 
 // Writes the lines of the channels and applications.

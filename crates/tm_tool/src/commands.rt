@@ -16,6 +16,7 @@ use crate::{BufferedSource, Command, Drain, Ending, RunFault};
 use std::alloc::Global;
 use tm_devices::write_all;
 use tm_fields::Rows;
+use tm_lines::LineBuffer;
 use tm_output::{PacketLines, PacketOctets, PacketRows};
 
 /// Writes what the command has before all else, where that is due: the head of its rows. It is flushed where the recording may wait.
@@ -87,7 +88,10 @@ pub(crate) fn run_command<R: BufferedSource, W: Drain, V: Drain>(
             run_into(extractor, recording, &mut outlet, report, ending)
         }
         Command::Packets => {
-            let mut outlet = PacketLines { out };
+            let mut outlet = PacketLines {
+                out,
+                line: LineBuffer::new(),
+            };
             run_into(extractor, recording, &mut outlet, report, ending)
         }
         Command::Fields(definition, application) => {

@@ -1,6 +1,6 @@
 use Rattle.tm_lines.specs.Lines.{master_gap_line}
 use Rattle.tm_lines.proofs.lines.format_master_gap.Goals as goal
 
-pub returns-clause-line : goal.returns-clause-line
+pub returns : goal.returns
 unfolding master_gap_line
-returns-clause-line c = cc
+returns c = cc

@@ -1,6 +1,6 @@
 use Rattle.tm_lines.specs.Lines.{short_packet_line}
 use Rattle.tm_lines.proofs.lines.format_short_packet.Goals as goal
 
-pub returns-clause-line : goal.returns-clause-line
+pub returns : goal.returns
 unfolding short_packet_line
-returns-clause-line c = cc
+returns c = cc

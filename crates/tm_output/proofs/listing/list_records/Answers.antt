@@ -1,5 +1,5 @@
 use Rattle.std.proofs.Common.{◌∙◌, arith}
-use Rattle.tm_output.proofs.ListingLemmas.{stands_end, stands_more}
+use Rattle.tm_output.proofs.ListingLemmas.{stands_end, stands_more, stands_stopped}
 use Rattle.tm_output.proofs.listing.list_records.Goals as goal
 
 pub loop-seen-preserved : goal.loop-seen-preserved
@@ -19,3 +19,6 @@ returns-in-Ok-Some-clause-listed g c =
     let stands = c.loop-seen.invariant.stands in
     let took = rw same at c.in_default.ensures.took in
     stands_end c.args.layout.now ended.rest stands ended.octets _ ended.left (omega (arith, ended.short, c.loop-seen.invariant.exact)) ended.end took
+
+pub returns-in-Err-clause-stopped : goal.returns-in-Err-clause-stopped
+returns-in-Err-clause-stopped g c = stands_stopped c.args.layout.now _ _ c.in-Err.fault c.loop-seen.invariant.stands c.in-Err.ensures.stopped

@@ -9,7 +9,7 @@ use Rattle.tm_output.proofs.listing.write_rest_line.Goals as goal
 
 pub returns-in_err-write_all-clause-stopped : goal.returns-in_err-write_all-clause-stopped
 returns-in_err-write_all-clause-stopped g c =
-    let line = c.line_from.ensures ∙ c.format_short-begin.ensures.line in
+    let line = c.as_slice.ensures ∙ c.format_short.ensures in
     let prefix = subst (AppendsPrefix (g.W.Drain.written c.args.out.now) (g.W.Drain.written c.write_all.new.out)) line c.in_err-write_all.ensures.prefix in
     let stopped = line_stopped _ {buffering = octets_buffering} prefix c.in_err-write_all.ensures.counts in
     search (rules, stopped)

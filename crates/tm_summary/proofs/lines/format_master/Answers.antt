@@ -1,6 +1,6 @@
 use Rattle.tm_summary.specs.Lines.{master_line}
 use Rattle.tm_summary.proofs.lines.format_master.Goals as goal
 
-pub returns-clause-line : goal.returns-clause-line
+pub returns : goal.returns
 unfolding master_line
-returns-clause-line c = cc
+returns c = cc

@@ -4,4 +4,4 @@ use Rattle.tm_summary.proofs.writing.write_fault.Goals as goal
 pub returns : goal.returns
 returns g c =
     let more : 0 < c.args.records = omega arith in
-    rw (lt-ltb 0 c.args.records more) (rw (c.line_from.ensures ∙ c.format_fault-begin.ensures.line) at c.write_line.ensures)
+    rw (lt-ltb 0 c.args.records more) (rw (c.as_slice.ensures ∙ c.format_fault.ensures) at c.write_line.ensures)

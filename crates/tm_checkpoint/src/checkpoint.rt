@@ -23,9 +23,9 @@ use tm_settings::Settings;
 // The letters TMXC, with which a checkpoint begins.
 const MAGIC: [u8; 4] = [0x54, 0x4D, 0x58, 0x43];
 
-/// The checkpoint of a job that has got so far. First come the letters TMXC, the version 3, and the settings in fifteen octets.
-/// Then come the state of the channels and the sequence counts, as `Reassembly::encode` and `Tracker::encode` write them. Last
-/// comes the error control of all these. No step of the reassembly was refused.
+/// The checkpoint of a job. First come the letters TMXC, the version 3, and the settings in fifteen octets. Then come the state
+/// of the channels and the sequence counts, as `Reassembly::encode` and `Tracker::encode` write them. Last comes the error
+/// control of all these. No step of the reassembly was refused.
 ///
 /// # Errors
 ///
@@ -58,7 +58,7 @@ pub fn write_checkpoint(
     }
 }
 
-/// How far the job has got that these octets say, which were written with the same settings, in version 3 or in one of the older
+/// The work of the job that these octets say. They were written with the same settings, in version 3 or in one of the older
 /// versions 1 and 2. Version 1 has no limit on packets in its settings: it stands for the greatest, 65,542. A job from an older
 /// version has no last master channel count, so its first good frame has no gap of the master channel. Room is reserved as
 /// `Reassembly::new` and `Tracker::new` do.

@@ -26,8 +26,8 @@ pub trait Source {
         ensures octets { ReadConsumes (left self.old) (left self.new) result buffer.new }
         ensures counts { Counts (failures self.old) (failures self.new) result };
 
-    /// Passes over so many octets in one step, where there are so many and the device can, and answers whether it did. If it did not, or the
-    /// call failed, none was passed over. A device that can't says so, and its octets are read.
+    /// Passes over this many octets in one step, if there are as many and the device can, and answers whether it did. If it did not, or the
+    /// call failed, none was passed over, and the octets are read.
     fn pass_over(&mut self, _octets: u64) -> Result<bool, DeviceFailed>
         ensures octets { PassesOver (left self.old) (left self.new) _octets result }
         ensures counts { Counts (failures self.old) (failures self.new) result }
@@ -44,7 +44,7 @@ pub trait Source {
     }
 }
 
-/// Where octets come from, with a loan of those at hand. The loops over recordings ask for this. Each `Source` is one, which has none at hand.
+/// Where octets come from, which shows those at hand. The loops over recordings ask for this. Each `Source` is one that has none at hand.
 pub trait BufferedSource {
     /// How many calls have failed, up to 2^64 - 1.
     ghost failures: { Self → ℕ };
@@ -58,11 +58,11 @@ pub trait BufferedSource {
     /// A read may wait until octets come.
     ghost waits: { Self → Bool } = { λ _. true };
 
-    /// Lends the octets at hand.
+    /// The octets at hand.
     fn at_hand(&self) -> &[u8]
         ensures { result.now ≡ at_hand self.now };
 
-    /// Takes so many of the octets at hand. No call fails.
+    /// Takes this many of the octets at hand. It never fails.
     fn consume(&mut self, octets: usize)
         requires { octets ≤ length (at_hand self.old) }
         ensures octets { Consumes (left self.old) (left self.new) (take octets (at_hand self.old)) }

@@ -80,8 +80,9 @@ fn read_records(alloc: Global, table: &[ByteRecord]) -> Result<Definition, Defin
 
 impl Definition {
     /// Reads a definition: a text of comma-separated values whose first record has the headings `name`, `data_type`, `bit_length`
-    /// and perhaps `bit_offset`, each further record being a field. Spaces and tabs round a value are taken off, and other columns
-    /// are passed over. A field without an offset begins where the one before it ends, and the first behind the packet's header.
+    /// and perhaps `bit_offset`, each further record being a field. Spaces and tabs around a value are taken off, and other
+    /// columns are ignored. A field without an offset begins where the one before it ends, and the first behind the packet's
+    /// header.
     ///
     /// # Errors
     ///

@@ -21,8 +21,8 @@ pub fn end_line(buffer: &mut LineBuffer) -> usize
     LINE_CAPACITY - 1
 }
 
-/// Puts a text before what begins at `end`, and answers where it begins. It goes octet by octet: of a text that is known the compiler makes a
-/// few stores of words.
+/// Puts a text before what begins at `end`, and answers where it begins. It goes octet by octet: for a constant text the compiler makes a few
+/// stores of words.
 #[inline(always)]
 pub fn prepend_text<const N: usize>(buffer: &mut LineBuffer, end: usize, text: &[u8; N]) -> usize
     requires enough { N ≤ end }

@@ -64,7 +64,7 @@ pub trait Outlet {
             ≡ lines.old.items ++ (Self.text (Self.fixed self.now)).remark (item_with packet.now)) }
         ensures memory { OnErr result ((Self.text (Self.fixed self.now)).remark (item_with packet.now) ≢ []) };
 
-    /// Writes what of a packet belongs here.
+    /// Writes what belongs here for a packet.
     fn write(&mut self, packet: &Packet<'_>) -> Result<(), RunFault>
         requires { HasHeader packet.now }
         ensures same { Self.fixed self.new ≡ Self.fixed self.old }
@@ -81,7 +81,8 @@ pub trait Outlet {
     fn can_join(&self) -> bool
         ensures { result ≡ can_join };
 
-    /// Writes at once what of packets that lie end to end belongs here, if these are joined, and answers whether it did. If not, nothing changes.
+    /// Writes at once what belongs here for packets that lie end to end, if the outlet joins them, and answers whether it did. If not, nothing
+    /// changes.
     fn write_span(
         &mut self,
         seen: u32,

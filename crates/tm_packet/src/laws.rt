@@ -17,7 +17,7 @@ pub fn joining()
         sequence.entries_after s (a ++ b) ≡ sequence.entries_after (sequence.entries_after s a) b }
 {}
 
-/// Round trip: the bits that are written of a header that was read are those of its six octets, and octets are told by their bits.
+/// Round trip: a header that is read and written again has the bits of its six octets, and octets are told by their bits.
 pub fn round_trip()
     ensures written_again { (octets : List ℕ) → AreOctets octets → 6 ≤ length octets → packet_version_of octets ≡ 0 →
         header_bits (packet_header_of octets) ≡ bits_of (take 6 octets) }

@@ -33,7 +33,7 @@ pub fn format_recording(
     prepend_text(buffer, at, b"recording records=")
 }
 
-/// The line of a fault that so many records have.
+/// The line of a fault, and of how many records have it.
 #[tactic(auto, using(tm_lines::proofs::BufferLemmas::short_fault_word))]
 pub fn format_fault(buffer: &mut LineBuffer, fault: FrameFault, records: u64) -> usize
     ensures within { result ≤ 320 }

@@ -68,7 +68,7 @@ pub fn write_checkpoint(
 /// What is wrong first, in this order. `Short` where there are fewer than 33 octets. `Magic` where they don't begin with TMXC. `Version`
 /// where the fifth is none of 1, 2 and 3. `Short` where there are fewer than 36 in version 2, or 37 in version 3. `Check` where the last two
 /// aren't the error control of those before. `Settings` where they were written with other settings. `State` where `Reassembly::decode`
-/// refuses them, or `Reassembly::decode_old` in an older version, or `Tracker::decode` the octets behind those. `Trailing` where octets are
+/// refuses them, or `Reassembly::decode_old` in an older version, or `Tracker::decode` the octets after those. `Trailing` where octets are
 /// left over. `NoMemory` comes at the earliest after the checks of the state.
 pub fn read_checkpoint(
     alloc: Global,

@@ -153,7 +153,7 @@ pub trait Shelf {
     /// For each application the octets that were put there, of a shelf that tells it; none where nothing was put.
     ghost kept: { Self → Option (ℕ → List ℕ) } = { λ _. None };
 
-    /// Puts octets behind those of the application. A put that is refused may have put some of them, not all, from the first on.
+    /// Puts octets after those of the application. A put that is refused may have put some of them, not all, from the first on.
     /// Nothing is changed for other applications.
     fn put(&mut self, application: u16, octets: &[u8]) -> Result<(), Self::Fault>
         ensures whole { OnOk result (Puts (kept self.old) (kept self.new) application octets.now) }

@@ -63,7 +63,7 @@ pub(crate) fn number_from(octets: &[u8], at: u32, count: u32) -> u64
 }
 
 /// The number in `bits` bits from the bit `offset` on, the most significant first: bit 0 is the most significant bit of the
-/// first octet. `None` if and only if `bits` is 0 or over 64, or the last of them would lie behind the octets.
+/// first octet. `None` if and only if `bits` is 0 or over 64, or the last of them would lie after the octets.
 pub fn number_at(octets: &[u8], offset: u32, bits: u32) -> Option<u64>
     ensures { result ≡ number_within octets.now offset bits }
 {

@@ -83,7 +83,7 @@ pub fn create<R: Files + AllocGlobal>(rt: &R, name: &Octets) -> Result<R::File, 
     }
 }
 
-/// Opens a file for writing behind what it has, made where it is not there. A fault names the file as it was given.
+/// Opens a file for appending, made where it is not there. A fault names the file as it was given.
 pub fn append<R: Files + AllocGlobal>(rt: &R, name: &Octets) -> Result<R::File, ToolFault>
     ensures { IfErr result (IsFileFault name.now) }
 {

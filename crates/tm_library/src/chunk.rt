@@ -10,7 +10,7 @@ use tm_tool::{BufferedSource, DeviceFailed};
 pub struct Chunk<'a> {
     /// How many octets are done and not passed over yet.
     pub done: u64,
-    /// The octets behind them.
+    /// The octets after them.
     pub octets: &'a [u8],
 }
 

@@ -38,7 +38,7 @@ pub struct Request<'a> {
     pub octets: &'a [u8],
     /// What to give of them.
     pub wanted: Wanted<'a>,
-    /// The recording ends behind these octets.
+    /// The recording ends after these octets.
     pub last: bool,
 }
 
@@ -51,9 +51,9 @@ pub struct Answer {
     pub out: usize,
     /// How many belong to the report.
     pub report: usize,
-    /// How many octets the checkpoint for the next call has: none behind the last chunk.
+    /// How many octets the checkpoint for the next call has: none after the last chunk.
     pub checkpoint: usize,
-    /// How many of the octets were used: those of whole records, or all if the recording ends behind them.
+    /// How many of the octets were used: those of whole records, or all if the recording ends after them.
     pub used: usize,
 }
 
@@ -124,7 +124,7 @@ fn give(
 }
 
 /// Runs over a chunk of a recording: the whole records that follow those that the checkpoint has done, or all octets down to the recording's
-/// end. No state stays behind but the octets of the checkpoint that is written.
+/// end. Nothing is kept but the octets of the checkpoint that is written.
 ///
 /// # Errors
 ///

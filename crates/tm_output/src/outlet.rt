@@ -52,12 +52,12 @@ pub trait Outlet {
     /// All that is held was passed on.
     ghost passed: { Self → Type 0 };
 
-    /// The report says nothing of a packet behind the lines of its notes. Where it may, this is false.
+    /// The report says nothing of a packet after the lines of its notes. Where it may, this is false.
     fn adds_nothing_to_report(&self, packet: &Packet<'_>) -> bool
         requires { HasHeader packet.now }
         ensures { result ≡ true → (Self.text (Self.fixed self.now)).remark (item_with packet.now) ≡ [] };
 
-    /// Writes what the report says of a packet, behind the lines of its notes.
+    /// Writes what the report says of a packet, after the lines of its notes.
     fn remark(&self, lines: &mut Vec<u8>, packet: &Packet<'_>) -> Result<(), AllocError>
         requires { HasHeader packet.now }
         ensures line { OnOk result (lines.new.items

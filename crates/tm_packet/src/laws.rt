@@ -8,7 +8,7 @@ ghost use Rattle.tm_packet.specs.Merge as sequence;
 ghost use Rattle.tm_packet.specs.Merge.{Entries, Sent};
 ghost use Rattle.tm_packet.specs.Valid.{AreValidEntries, AllHeadersFit};
 
-/// Joining, from every state. The notes of two lists of headers, one behind the other, are those of the first, and then those of
+/// Joining, from every state. The notes of two lists of headers, one after the other, are those of the first, and then those of
 /// the second from the entries that it leaves. So are the entries.
 pub fn joining()
     ensures notes_join { (s : Entries) (a b : List Sent) → AreValidEntries s → AllHeadersFit b →

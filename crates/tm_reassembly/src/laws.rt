@@ -22,7 +22,7 @@ ghost use Rattle.tm_reassembly.specs.Absolute.{start_in_text, frame_begin, frame
 ghost use Rattle.tm_reassembly.specs.Tiles.{Spot, channel_spots, parts_of, held_tail, Tile, IsHeld};
 ghost use Rattle.tm_reassembly.specs.Verdict.{completed_at_once, Grow, IsSettledIn, is_whole};
 
-/// Joining: the items of two lists of records, one behind the other, are those of the first, and then those of the second from
+/// Joining: the items of two lists of records, one after the other, are those of the first, and then those of the second from
 /// the state that the first leaves. So are the states.
 pub fn joining()
     ensures items_join { (o : Origin) (a b : Records)
@@ -41,7 +41,7 @@ pub fn valid_states()
 
 /// Spellings: what is spelled is read again as the same state, whatever follows, and no spelling is a proper prefix of another.
 /// Octets that are read as a state begin with its spelling, which is the octets that were read. In the older form this holds too,
-/// but that the last master channel count is lost. With a 0 put in behind the number of records the newer form reads what the
+/// except that the last master channel count is lost. With a 0 put after the number of records the newer form reads what the
 /// older one reads without it.
 pub fn spellings()
     ensures read_again { (o : Origin) (rest : List ℕ) →

@@ -30,7 +30,7 @@ pub fn is_packet(octets: &[u8]) -> bool
     packet_version(octets[0]) == 0
 }
 
-/// Whether a packet of `length` octets is long at a frame that ends `end` octets behind its start. It is if it has more
+/// Whether a packet of `length` octets is long at a frame that ends `end` octets after its start. It is if it has more
 /// octets than the limit, and its whole header is there.
 pub fn is_long(limit: usize, length: usize, end: usize) -> bool
     ensures { result ≡ model.is_long limit length end }

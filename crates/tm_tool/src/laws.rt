@@ -56,7 +56,7 @@ pub fn whole_recordings()
         IfSome old.left (StoppedIn Shelves shelf_buffering shelf_text ending w [] old.outputs new.outputs fault) }
 {}
 
-/// Joining: the pieces of two lists of records, one behind the other, are those of the first, and then those of the second from
+/// Joining: the pieces of two lists of records, one after the other, are those of the first, and then those of the second from
 /// the work that the first leaves. So is the work that they leave.
 pub fn joining()
     ensures pieces { (text : Texts ℕ) (w : Work) (a b : List (List ℕ)) → IsValidState w.rules w.state →
@@ -68,7 +68,7 @@ pub fn joining()
 
 /// Notes: for each packet the report has the notes that its header has in the whole list of the records' headers, in their
 /// order. What is kept of the sequence counts after the records is what that list leaves. The groups that are open at a closed
-/// end are those that are open behind the list.
+/// end are those that are open after the list.
 pub fn notes()
     ensures pieces { (text : Texts ℕ) (w : Work) (rs : List (List ℕ)) → IsWork w →
         record_pieces text w rs ≡ pieces_with text (sequence.notes w.entries (sent_among (items_of w rs))) (items_of w rs) }
@@ -105,7 +105,7 @@ pub fn resumption()
 {}
 
 /// Resumption across versions: the same if each checkpoint is of any version that can tell the settings, except for lines of gaps of the master
-/// channel. A stop of version 1 or 2 loses the line of the gap that the first good frame behind it has, if such a frame comes and has one. Nothing
+/// channel. A stop of version 1 or 2 loses the line of the gap that the first good frame after it has, if such a frame comes and has one. Nothing
 /// else is lost. So each of these stops loses at most one line.
 pub fn resumption_across_versions()
     ensures run { (command : Command) (ending : Ending) (last : List ℕ) (settings : Rules) (stops : List Stop) →

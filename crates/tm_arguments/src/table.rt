@@ -3,7 +3,7 @@
 /// The version of the program, and on a second line the kit that proved it, as `rt version` prints it: what `--version` prints.
 pub(crate) const VERSION: &str = "0.1.0\nrattle-kit-13b logic dac8208d650f15bf";
 
-/// What help says behind all commands.
+/// What help says after all commands.
 pub(crate) const PAGES: &str =
     "tmx COMMAND --help says what a command takes, and has an example.\n\nPages, in the folder docs:\n  tmx.1       the manual page: man -l docs/tmx.1\n  FORMATS.md  settings, lines, definitions, faults and statuses\n  FRAMES.md   how frames are read\n  RUNS.md     which packets are whole, and what is lost\n  PACKETS.md  headers of packets, counts and groups\n  RECIPES.md  how other tools take over\n  PYTHON.md   the package for Python";
 

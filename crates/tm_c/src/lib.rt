@@ -1,4 +1,4 @@
-//! `libtmx`, for callers in C and all that calls as C does. `include/tmx.h` says how.
+//! `libtmx`, for callers in C and in languages that call C. `include/tmx.h` says how.
 #![tactic(auto)]
 
 mod export;

@@ -23,9 +23,9 @@ use tm_settings::Settings;
 // The letters TMXC, with which a checkpoint begins.
 const MAGIC: [u8; 4] = [0x54, 0x4D, 0x58, 0x43];
 
-/// The checkpoint of a job that has got so far. First come the letters TMXC, the version 3, and the settings in fifteen octets.
-/// Then come the state of the channels and the sequence counts, as `Reassembly::encode` and `Tracker::encode` write them. Last
-/// comes the error control of all these. No step of the reassembly was refused.
+/// The checkpoint of a job. First come the letters TMXC, the version 3, and the settings in fifteen octets. Then come the state
+/// of the channels and the sequence counts, as `Reassembly::encode` and `Tracker::encode` write them. Last comes the error
+/// control of all these. No step of the reassembly was refused.
 ///
 /// # Errors
 ///
@@ -58,7 +58,7 @@ pub fn write_checkpoint(
     }
 }
 
-/// How far the job has got that these octets say, which were written with the same settings, in version 3 or in one of the older
+/// The work of the job that these octets say. They were written with the same settings, in version 3 or in one of the older
 /// versions 1 and 2. Version 1 has no limit on packets in its settings: it stands for the greatest, 65,542. A job from an older
 /// version has no last master channel count, so its first good frame has no gap of the master channel. Room is reserved as
 /// `Reassembly::new` and `Tracker::new` do.
@@ -68,7 +68,7 @@ pub fn write_checkpoint(
 /// What is wrong first, in this order. `Short` where there are fewer than 33 octets. `Magic` where they don't begin with TMXC. `Version`
 /// where the fifth is none of 1, 2 and 3. `Short` where there are fewer than 36 in version 2, or 37 in version 3. `Check` where the last two
 /// aren't the error control of those before. `Settings` where they were written with other settings. `State` where `Reassembly::decode`
-/// refuses them, or `Reassembly::decode_old` in an older version, or `Tracker::decode` the octets behind those. `Trailing` where octets are
+/// refuses them, or `Reassembly::decode_old` in an older version, or `Tracker::decode` the octets after those. `Trailing` where octets are
 /// left over. `NoMemory` comes at the earliest after the checks of the state.
 pub fn read_checkpoint(
     alloc: Global,

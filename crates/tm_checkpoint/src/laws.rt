@@ -7,12 +7,12 @@ ghost use Rattle.tm_checkpoint.specs.Checkpoints.{checkpoint_of, kept_in, resume
 ghost use Rattle.tm_checkpoint.specs.Works.{IsWork, JobState, Work};
 ghost use Rattle.tm_checkpoint.specs.declared.version.Version.{Version};
 
-/// Checkpoints: what is written is read again, with the same settings, as the same work, and the job isn't fresh. So it is for
-/// the older versions, as far as they can tell the settings, but that the last master channel count is lost. And octets that are
+/// Checkpoints: what is written is read again, with the same settings, as the same work, and the job isn't fresh. The same holds
+/// for the older versions, if they can tell the settings, except that the last master channel count is lost. Octets that are
 /// read are a checkpoint, in some version, of the work that they are read as. That work has these settings, is valid, and has
-/// what that version keeps. So with settings of eight channels just the checkpoints of valid works with these settings are read.
-/// No checkpoint is a proper prefix of another, whatever their versions and settings are. What is written has at most 98,374
-/// octets and eight times as many as a packet may have, so at most 622,710.
+/// what that version keeps. So with settings of eight channels exactly the checkpoints of valid works with these settings are
+/// read. No checkpoint is a proper prefix of another, whatever their versions and settings are. What is written has at most
+/// 98,374 octets and eight times as many as a packet may have, so at most 622,710.
 pub fn checkpoints()
     ensures read_again { (w : Work) → IsWork w → resumed w.rules (checkpoint_of w) ≡ Ok (record { work = w; fresh = false }) }
     ensures older_again { (v : Version) (w : Work) → IsWork w → tells v w.rules ≡ true →

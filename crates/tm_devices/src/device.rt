@@ -26,8 +26,8 @@ pub trait Source {
         ensures octets { ReadConsumes (left self.old) (left self.new) result buffer.new }
         ensures counts { Counts (failures self.old) (failures self.new) result };
 
-    /// Passes over so many octets in one step, where there are so many and the device can, and answers whether it did. If it did not, or the
-    /// call failed, none was passed over. A device that can't says so, and its octets are read.
+    /// Passes over this many octets in one step, if there are as many and the device can, and answers whether it did. If it did not, or the
+    /// call failed, none was passed over, and the octets are read.
     fn pass_over(&mut self, _octets: u64) -> Result<bool, DeviceFailed>
         ensures octets { PassesOver (left self.old) (left self.new) _octets result }
         ensures counts { Counts (failures self.old) (failures self.new) result }
@@ -44,7 +44,7 @@ pub trait Source {
     }
 }
 
-/// Where octets come from, with a loan of those at hand. The loops over recordings ask for this. Each `Source` is one, which has none at hand.
+/// Where octets come from, which shows those at hand. The loops over recordings ask for this. Each `Source` is one that has none at hand.
 pub trait BufferedSource {
     /// How many calls have failed, up to 2^64 - 1.
     ghost failures: { Self → ℕ };
@@ -58,11 +58,11 @@ pub trait BufferedSource {
     /// A read may wait until octets come.
     ghost waits: { Self → Bool } = { λ _. true };
 
-    /// Lends the octets at hand.
+    /// The octets at hand.
     fn at_hand(&self) -> &[u8]
         ensures { result.now ≡ at_hand self.now };
 
-    /// Takes so many of the octets at hand. No call fails.
+    /// Takes this many of the octets at hand. It never fails.
     fn consume(&mut self, octets: usize)
         requires { octets ≤ length (at_hand self.old) }
         ensures octets { Consumes (left self.old) (left self.new) (take octets (at_hand self.old)) }
@@ -153,7 +153,7 @@ pub trait Shelf {
     /// For each application the octets that were put there, of a shelf that tells it; none where nothing was put.
     ghost kept: { Self → Option (ℕ → List ℕ) } = { λ _. None };
 
-    /// Puts octets behind those of the application. A put that is refused may have put some of them, not all, from the first on.
+    /// Puts octets after those of the application. A put that is refused may have put some of them, not all, from the first on.
     /// Nothing is changed for other applications.
     fn put(&mut self, application: u16, octets: &[u8]) -> Result<(), Self::Fault>
         ensures whole { OnOk result (Puts (kept self.old) (kept self.new) application octets.now) }

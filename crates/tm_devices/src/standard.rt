@@ -41,7 +41,7 @@ impl<R: Read> Source for Reading<R> {
     }
 }
 
-/// A reader of std behind a buffer, which lends what it holds. Each error of it is a failure.
+/// A reader of std behind a buffer, which shows what it holds. Each error of it is a failure.
 #[derive(Drop)]
 pub struct Buffered<R> {
     reading: Reading<BufReader<R>>,
@@ -80,7 +80,7 @@ impl<R: Read> BufferedSource for Buffered<R> {
     }
 }
 
-/// A reader of std behind a buffer, which can be moved, as a file: what lies ahead is passed over by a seek.
+/// A reader of std that can seek, as a file can, behind a buffer: octets are passed over by a seek.
 #[derive(Drop)]
 pub struct Seeking<R> {
     buffered: Buffered<R>,

@@ -20,7 +20,7 @@ pub fn write_all<W: Drain>(out: &mut W, octets: &[u8]) -> Result<(), DeviceFaile
     Ok(())
 }
 
-/// Whether the next so many octets are not all at hand, and the source may wait for them.
+/// Whether the next `octets` octets are not all at hand, and the source may wait for them.
 pub fn may_wait_for<R: BufferedSource>(source: &R, octets: usize) -> bool
     ensures short { result ≡ true → length (R.at_hand source.now) < octets }
     ensures asked { R.waits source.now ≡ true → length (R.at_hand source.now) < octets → result ≡ true }

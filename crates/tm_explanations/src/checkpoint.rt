@@ -131,7 +131,7 @@ fn difference_text(
     Ok(None)
 }
 
-/// How many records are done that a checkpoint of these octets has. They are those of a checkpoint that was read.
+/// How many records are done, by the octets of a checkpoint that was read.
 pub(crate) fn records_in(octets: &[u8]) -> u64 {
     let first = match octets.get(4) {
         Some(&OLDEST) => 17,

@@ -118,7 +118,7 @@ pub fn explain<R: Files + AllocGlobal>(
     }
 }
 
-/// That a run of so many records had no good frame, and what to do.
+/// Says that a run of this many records had no good frame, and what to do.
 pub fn explain_bad_frames(alloc: Global, records: u32) -> Result<Vec<u8>, NoMemory>
     ensures { IfOk result (λ line. line.items ≡ line_of (bad_frames_text records)) }
 {

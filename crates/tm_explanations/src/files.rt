@@ -233,7 +233,7 @@ pub(crate) fn length_text<R: Files + AllocGlobal>(
     }
 }
 
-/// The octets of the file of this name, as far as the system says: a device tells none.
+/// How many octets the file of this name has, if the system says. For a device it doesn't.
 pub(crate) fn length_of<R: Files>(rt: &R, name: &Octets) -> Option<u64> {
     match std::str::from_utf8(name.as_slice()) {
         Ok(path) => length_at(rt, path),
@@ -241,7 +241,7 @@ pub(crate) fn length_of<R: Files>(rt: &R, name: &Octets) -> Option<u64> {
     }
 }
 
-/// Likewise, of a path.
+/// The same for a path.
 pub(crate) fn length_at<R: Files>(rt: &R, path: &str) -> Option<u64> {
     match fs::metadata(rt, path) {
         Ok(metadata) if metadata.is_file() => Some(metadata.len()),

@@ -1,4 +1,4 @@
-//! Why a run ended, and what to do: the line for a person behind the line of a fault.
+//! Why a run ended, and what to do: the line for a person after the line of a fault.
 //!
 //! It is worked out afterwards from the arguments, the fault, and the first error of the system, and from what the files say when
 //! they are looked at again. The line of the fault and the status rest on none of this.

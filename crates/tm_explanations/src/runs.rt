@@ -158,7 +158,7 @@ pub(crate) fn shorter_text<R: Files + AllocGlobal>(
     }
 }
 
-/// Why a run ended before its end; a recording that is too short is told by `shorter_text`.
+/// Why a run ended before its end. `shorter_text` tells of a recording that is too short.
 pub(crate) fn run_text<R: Files + AllocGlobal>(
     rt: &R,
     plan: &Plan,

@@ -14,7 +14,7 @@ const LONGEST: usize = 4096;
 // So many words are looked at.
 const MOST: usize = 65536;
 
-/// Which word of the command line is not UTF-8, and what to do; none if it can't be told. Words are counted behind the program's name, from 1.
+/// Which word of the command line is not UTF-8, and what to do; none if it can't be told. Words are counted after the program's name, from 1.
 pub fn explain_words<R: Env + AllocGlobal>(rt: &R) -> Result<Option<Vec<u8>>, NoMemory>
     ensures { IfOk result (λ found. IfSome found (λ line. IsLine line.items)) }
 {

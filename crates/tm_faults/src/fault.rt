@@ -67,6 +67,6 @@ pub enum CheckpointFault {
     NoMemory,
 }
 
-/// Memory was wanted and not found.
+/// Memory ran out.
 #[derive(Clone, Copy, Debug, PartialEq, Eq)]
 pub struct NoMemory;

@@ -80,8 +80,9 @@ fn read_records(alloc: Global, table: &[ByteRecord]) -> Result<Definition, Defin
 
 impl Definition {
     /// Reads a definition: a text of comma-separated values whose first record has the headings `name`, `data_type`, `bit_length`
-    /// and perhaps `bit_offset`, each further record being a field. Spaces and tabs round a value are taken off, and other columns
-    /// are passed over. A field without an offset begins where the one before it ends, and the first behind the packet's header.
+    /// and perhaps `bit_offset`, each further record being a field. Spaces and tabs around a value are taken off, and other
+    /// columns are ignored. A field without an offset begins where the one before it ends, and the first after the packet's
+    /// header.
     ///
     /// # Errors
     ///
@@ -138,7 +139,7 @@ impl Definition {
         Ok(())
     }
 
-    /// Writes the row of a packet that is long enough behind whole lines, and passes it on. The text of each value is made in `text`, whatever that holds.
+    /// Writes the row of a packet that is long enough after whole lines, and passes it on. The text of each value is made in `text`, whatever that holds.
     pub(crate) fn write_row(
         &self,
         alloc: Global,
@@ -171,7 +172,7 @@ impl Definition {
     }
 
     /// The row of a packet, a line of comma-separated values: the lead's numbers, and the values of all fields but those of type
-    /// `fill`. Octets of the packet behind the last field are passed over. `Rows` makes many rows in less time.
+    /// `fill`. Octets of the packet after the last field are passed over. `Rows` makes many rows in less time.
     ///
     /// # Errors
     ///

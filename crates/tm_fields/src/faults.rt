@@ -42,11 +42,11 @@ pub enum DefinitionFault {
     Column(Column),
     /// The row's `data_type` is no type.
     Kind { row: u32 },
-    /// The row's `data_type` is a type with brackets behind it.
+    /// The row's `data_type` is a type with brackets after it.
     Array { row: u32 },
     /// The row's `bit_length` is no length that its type may have.
     Bits { row: u32 },
-    /// The row's `bit_offset` is no offset, or the field ends behind the longest packet.
+    /// The row's `bit_offset` is no offset, or the field ends after the longest packet.
     Offset { row: u32 },
     /// The row's `name` is empty, or the name of an earlier field.
     Name { row: u32 },

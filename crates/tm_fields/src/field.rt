@@ -48,7 +48,7 @@ impl DataType {
 /// A field: its name, and which bits of a packet it has.
 #[derive(Debug, Drop)]
 pub struct Field {
-    /// The name, without the spaces and tabs round it.
+    /// The name, without the spaces and tabs around it.
     pub name: Octets,
     /// How its bits are read and printed.
     pub data_type: DataType,

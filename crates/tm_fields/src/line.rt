@@ -16,7 +16,7 @@ pub(crate) fn begin(alloc: Global) -> Writer<Vec<u8>>
     WriterBuilder::new().from_writer(Vec::new(alloc))
 }
 
-/// Makes a writer one without a line, whatever it has written.
+/// Takes away what a writer has written: it has no line then.
 #[cold]
 pub(crate) fn begin_again(alloc: Global, writer: &mut Writer<Vec<u8>>)
     ensures { HasPassedOn (λ v. Some v.items) writer.new [] }

@@ -62,8 +62,8 @@ pub(crate) fn number_from(octets: &[u8], at: u32, count: u32) -> u64
     cut_bits(word, (8 * last - end) as u32, count)
 }
 
-/// The number in so many bits from the bit `offset` on, the most significant first: bit 0 is the most significant bit of the
-/// first octet. `None` if and only if `bits` is 0 or over 64, or the last of them would lie behind the octets.
+/// The number in `bits` bits from the bit `offset` on, the most significant first: bit 0 is the most significant bit of the
+/// first octet. `None` if and only if `bits` is 0 or over 64, or the last of them would lie after the octets.
 pub fn number_at(octets: &[u8], offset: u32, bits: u32) -> Option<u64>
     ensures { result ≡ number_within octets.now offset bits }
 {

@@ -1,4 +1,4 @@
-//! The rows of a definition, written one behind another by one writer.
+//! The rows of a definition, written one after another by one writer.
 
 ghost use Rattle.std.specs.Prelude.{◌≡◌, [], IfErr, OnErr, OnOk};
 ghost use Rattle.tm_fields.specs.Rows.{IsRow, RefusesRow, RefusesShort, bits_needed};

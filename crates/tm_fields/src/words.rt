@@ -1,4 +1,4 @@
-//! Values without the blanks round them, and the numbers and types that they name.
+//! Values without the spaces and tabs around them, and the numbers and types that they name.
 
 ghost use Rattle.std.specs.Prelude.{◌≡◌, ◌<◌, ◌≤◌, ◌^◌, ◌&&◌, true, length, codes, nat_eq};
 ghost use Rattle.std.specs.Char.{is_ascii_digit};

@@ -1,4 +1,4 @@
-//! The files of a run, and which of them are in each other's way.
+//! The files of a run, and which of them clash.
 
 ghost use Rattle.std.specs.Prelude.{◌≡◌};
 ghost use Rattle.tm_file_identity.specs.FileIdentities.{temporary_clashes, checkpoint_clashes, faults_clash, has, is_input, is_streamed, output_clashes, report_clashes};
@@ -83,7 +83,7 @@ impl FileIdentities {
         self.is_input(&self.faults) || self.faults.is_same(&self.resumed)
     }
 
-    /// It is the identity of one of these files.
+    /// Whether the identity is that of one of these files.
     pub fn has(&self, identity: &FileIdentity) -> bool
         ensures { result ≡ has self.now identity.now }
     {

@@ -33,7 +33,7 @@ pub enum FileKind {
     File,
     /// No file yet: one of this name would be made in a folder.
     Unmade,
-    /// Nothing that a run can destroy by writing to it, as a device, a pipe or a folder; or nothing that can be told.
+    /// What no run destroys by writing to it, such as a device, a pipe or a folder; or what can't be told.
     Other,
 }
 
@@ -76,7 +76,7 @@ impl FileIdentity {
     }
 }
 
-/// The identity is one of these.
+/// Whether the identity is one of these.
 pub fn is_any(identity: &FileIdentity, others: &[FileIdentity]) -> bool
     ensures { result ≡ list_any (is_same identity.now) others.now }
 {
@@ -126,7 +126,7 @@ fn identity_of_metadata(alloc: Global, metadata: &Metadata) -> FileIdentity {
     }
 }
 
-/// What a name stands for now, by way of the links in it. What the system says of a name has no place in a contract.
+/// What a name stands for now, over all links in it. No contract can say what the system finds for a name.
 pub fn identity_of<R: Files + AllocGlobal>(rt: &R, name: &str) -> Result<FileIdentity, AllocError> {
     match fs::metadata(rt, name) {
         Ok(metadata) => Ok(identity_of_metadata(rt.alloc(), &metadata)),
@@ -142,7 +142,7 @@ pub fn identity_of_file<F: OpenFile>(alloc: Global, file: &F) -> FileIdentity {
     }
 }
 
-/// Tells what names stand for: the system's files, and for proofs any names whatever.
+/// Says what names stand for: the system's files, and in proofs anything.
 pub trait Namespace {
     ghost use Rattle.tm_file_identity.specs.declared.identity.FileIdentity.{FileIdentity};
 

@@ -1,4 +1,4 @@
-//! Which names stand for one file, and which files of a run are in each other's way.
+//! Which names stand for one file, and which files of a run clash.
 #![tactic(auto)]
 
 mod identities;

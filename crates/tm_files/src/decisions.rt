@@ -20,7 +20,7 @@ pub enum Recording<'p> {
 pub enum ReportTarget<'p> {
     /// The file of this name begins empty.
     New(&'p Octets),
-    /// It is written behind what the file of this name has.
+    /// The file of this name is appended to.
     Append(&'p Octets),
     /// It goes to standard error.
     Errors,

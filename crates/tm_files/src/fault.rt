@@ -40,6 +40,6 @@ pub enum ToolFault {
     TooLong(Octets),
     /// Standard error is a file that is read, whatever the run writes there. So no line is printed.
     Errors,
-    /// The run ended before its end. So is running out of memory where no other fault says it.
+    /// The run ended before its end. It also says that memory ran out, where no other fault does.
     Run(RunFault),
 }

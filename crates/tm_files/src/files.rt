@@ -83,7 +83,7 @@ pub fn create<R: Files + AllocGlobal>(rt: &R, name: &Octets) -> Result<R::File, 
     }
 }
 
-/// Opens a file for writing behind what it has, made where it is not there. A fault names the file as it was given.
+/// Opens a file for appending, made where it is not there. A fault names the file as it was given.
 pub fn append<R: Files + AllocGlobal>(rt: &R, name: &Octets) -> Result<R::File, ToolFault>
     ensures { IfErr result (IsFileFault name.now) }
 {
@@ -118,7 +118,7 @@ fn is_folder<R: Files>(rt: &R, path: &str) -> bool {
     }
 }
 
-/// Makes the file beside a file, empty also where one was there. A folder in place of the file is refused. A fault names the file as it was given.
+/// Makes the file `NAME.new` beside a file, or empties it. A folder in place of the file is refused. A fault names the file as it was given.
 pub fn begin_replacement<'n, R: Files + AllocGlobal>(
     rt: &R,
     name: &'n Octets,
@@ -152,8 +152,8 @@ fn write_through<F: OpenFile + Write>(file: &mut F, octets: &[u8]) -> io::Result
     file.sync_all()
 }
 
-/// Writes these octets, and gives the file the other's name. Where that fails it is taken away, and the other is as it was. A fault names the
-/// other file as it was given.
+/// Writes these octets, and gives the file the other's name. If that fails, the file is removed, and the other stays as it was. A fault names
+/// the other file as it was given.
 pub fn finish_replacement<'n, R: Files + AllocGlobal>(
     rt: &R,
     replacement: Replacement<'n, R::File>,
@@ -180,7 +180,7 @@ pub fn finish_replacement<'n, R: Files + AllocGlobal>(
     Err(file_fault(rt.alloc(), name))
 }
 
-/// Takes the file away again, where there is nothing to write to it.
+/// Removes the file again: there is nothing to write to it.
 pub fn abandon_replacement<R: Files>(rt: &R, replacement: Replacement<'_, R::File>) {
     let _ = fs::remove_file(rt, replacement.temporary.as_str());
 }

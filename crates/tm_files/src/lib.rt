@@ -1,4 +1,4 @@
-//! The files that a plan names: which are in each other's way, how they are opened and read, and the faults that end the program.
+//! The files that a plan names: which clash, how they are opened and read, and the faults that end the program.
 #![tactic(auto)]
 
 mod decisions;

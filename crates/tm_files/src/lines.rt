@@ -117,7 +117,8 @@ fn run_line(fault: RunFault) -> &'static str
     }
 }
 
-/// The line of a fault, as it is printed. A usage fault's is the text that it carries; where standard error must not be written there is none.
+/// The line of a fault, as it is printed. That of a usage fault is the text that it carries. There is none where standard error must not be
+/// written.
 pub fn fault_line(alloc: Global, fault: &ToolFault) -> Result<Vec<u8>, NoMemory>
     ensures { IfOk result (λ v. v.items ≡ fault_line_of fault.now) }
 {

@@ -1,4 +1,4 @@
-//! Which files of a plan are in each other's way, by their names and by what these stand for.
+//! Which files of a plan clash, by their names and by what these stand for.
 
 ghost use Rattle.std.specs.Prelude.{◌≡◌, ◌⊎◌, None, Some, false, true, IfErr, IfOk, IfSome, OnOk};
 ghost use Rattle.tm_file_identity.specs.FileIdentities.{faults_clash};
@@ -15,7 +15,8 @@ use tm_faults::RunFault;
 use tm_file_identity::FileIdentities;
 use tm_octets::Octets;
 
-/// The names of a plan were checked. Only `check_names` says so, and the report is opened by this alone: so not before.
+/// The names of a plan were checked. Only `check_names` says so, and `open_report` asks for it: so no report is opened
+/// before.
 #[derive(Clone, Copy)]
 pub struct Checked(());
 
@@ -138,8 +139,8 @@ pub fn check_errors(identities: &FileIdentities) -> Result<(), ToolFault>
     Ok(())
 }
 
-/// What the run writes must not take the place of what is read, nor of one another: first the checkpoint, then the report, then standard output.
-/// Two names are one file where they are the same, and where they have the same identity.
+/// No file that the run writes may be one that it reads, or another that it writes. The checkpoint is looked at first, then the report, then
+/// standard output. Two names are one file if they are spelled alike, or have the same identity.
 #[tactic(auto, using(crate::proofs::FaultLemmas::first_none, crate::proofs::FaultLemmas::first_then, crate::proofs::FaultLemmas::first_here))]
 pub fn check_names(
     alloc: Global,

@@ -31,8 +31,8 @@ pub fn error_control(octets: &[u8]) -> u16
     finish(held)
 }
 
-/// The same as `error_control`, octet by octet through the table of 256 entries (CCSDS 132.0-B-3, 4.1.6): the
-/// plain program. It is slower, but for few octets.
+/// The same as `error_control`, octet by octet through the table of 256 entries (CCSDS 132.0-B-3, 4.1.6): the plain
+/// program. It is slower, except for few octets.
 // Apart from its callers, since its loop would take registers from the folding there.
 #[inline(never)]
 pub fn error_control_by_table(octets: &[u8]) -> u16

@@ -24,7 +24,7 @@ pub enum Kind {
     Vca,
 }
 
-/// A good frame. It lends its data field from the record.
+/// A good frame. Its data field is borrowed from the record.
 #[derive(Debug, Drop)]
 pub struct Frame<'r> {
     field: &'r [u8],
@@ -69,7 +69,7 @@ impl<'r> Model for Frame<'r> {
 }
 
 impl<'r> Frame<'r> {
-    /// The data field, 1 to 2042 octets, lent from the record.
+    /// The data field, 1 to 2042 octets, borrowed from the record.
     pub fn field(&self) -> &'r [u8]
         ensures value { result.now ≡ self.now.field }
         ensures some { 0 < length result.now }
@@ -149,8 +149,7 @@ fn frame_in<'r>(parts: &LayoutParts, octets: &'r [u8]) -> &'r [u8]
     &octets[start..start + parts.frame_length as usize]
 }
 
-/// Reads a record of one record's length: the good frame, or the first fault that applies. Nothing of
-/// a bad frame is given.
+/// Reads the octets of one record: the good frame, or the first fault that applies. Nothing of a bad frame is given.
 pub fn read<'r>(layout: &Layout, octets: &'r [u8]) -> Result<Frame<'r>, FrameFault>
     requires { length octets.now ≡ record_length_of layout.now }
     ensures { result ≡ frame_reading_of layout.now octets.now }

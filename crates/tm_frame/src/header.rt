@@ -97,7 +97,7 @@ fn secondary_length_code(frame: &[u8]) -> u8
     frame[6] & 0x3F
 }
 
-/// Where the data field begins, behind the headers.
+/// Where the data field begins, after the headers.
 pub fn field_start(frame: &[u8], header: &FrameHeader) -> usize
     requires long { 9 ≤ length frame.now }
     requires header { header.now ≡ frame_header_of frame.now }

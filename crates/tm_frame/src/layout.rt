@@ -16,8 +16,8 @@ pub enum Presence {
     Never,
 }
 
-/// The parts of a layout. A record is `skip_before` octets, the frame, and `skip_after` octets;
-/// skipped octets are never read.
+/// The parts of a layout. A record is `skip_before` octets, the frame, and `skip_after` octets; skipped octets are
+/// never looked at.
 #[derive(Clone, Copy, Debug, PartialEq, Eq)]
 pub struct LayoutParts {
     /// Octets of a frame, 9 to 2048.

@@ -83,7 +83,7 @@ pub enum Item<'a> {
         seen: u32,
         channel: u8,
     },
-    /// So many octets of the channel are lost.
+    /// Octets of the channel that are lost.
     Dropped {
         seen: u32,
         channel: u8,
@@ -100,7 +100,7 @@ pub enum Item<'a> {
         place: u16,
         octets: &'a [u8],
     },
-    /// So many octets are left at the end, fewer than a record.
+    /// Octets that are left at the end, fewer than a record.
     Short {
         seen: u32,
         octets: u32,

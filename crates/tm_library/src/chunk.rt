@@ -8,9 +8,9 @@ use tm_tool::{BufferedSource, DeviceFailed};
 /// come the octets of the chunk.
 #[derive(Drop)]
 pub struct Chunk<'a> {
-    /// So many octets are done and not passed over yet.
+    /// How many octets are done and not passed over yet.
     pub done: u64,
-    /// The octets behind them.
+    /// The octets after them.
     pub octets: &'a [u8],
 }
 

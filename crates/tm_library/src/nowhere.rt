@@ -1,4 +1,4 @@
-//! Where octets go that nobody wants.
+//! Where octets go that are not kept.
 
 use tm_tool::{DeviceFailed, Drain};
 

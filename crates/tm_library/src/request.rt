@@ -18,7 +18,7 @@ use std::alloc::Global;
 use tm_frame::Layout;
 use tm_tool::{Command, Job, Settings};
 
-/// What is wanted of the records.
+/// What to give of the records.
 #[derive(Clone, Copy)]
 pub enum Wanted<'a> {
     /// What a command gives of the packets, and the report.
@@ -36,9 +36,9 @@ pub struct Request<'a> {
     pub checkpoint: &'a [u8],
     /// The octets of the recording that follow the records that are done.
     pub octets: &'a [u8],
-    /// What is wanted of them.
+    /// What to give of them.
     pub wanted: Wanted<'a>,
-    /// The recording ends behind these octets.
+    /// The recording ends after these octets.
     pub last: bool,
 }
 
@@ -47,13 +47,13 @@ pub struct Request<'a> {
 pub struct Answer {
     /// The number of records that are done in all.
     pub records: u32,
-    /// So many octets belong to `out`.
+    /// How many octets belong to `out`.
     pub out: usize,
-    /// So many belong to the report.
+    /// How many belong to the report.
     pub report: usize,
-    /// So many octets has the checkpoint for the next call, none behind the last chunk.
+    /// How many octets the checkpoint for the next call has: none after the last chunk.
     pub checkpoint: usize,
-    /// So many of the octets were used: whole records, or all behind which the recording ends.
+    /// How many of the octets were used: those of whole records, or all if the recording ends after them.
     pub used: usize,
 }
 
@@ -124,7 +124,7 @@ fn give(
 }
 
 /// Runs over a chunk of a recording: the whole records that follow those that the checkpoint has done, or all octets down to the recording's
-/// end. No state stays behind but the octets of the checkpoint that is written.
+/// end. Nothing is kept but the octets of the checkpoint that is written.
 ///
 /// # Errors
 ///

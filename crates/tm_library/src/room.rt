@@ -4,17 +4,17 @@ ghost use Rattle.std.specs.Prelude.{◌≡◌, ◌≤◌, ◌<◌, ◌+◌, ◌+
 
 use tm_tool::{DeviceFailed, Drain};
 
-/// A drain into a room. What doesn't fit goes into memory, so that in the end it is known how much is enough. A write fails only where memory
-/// runs out.
+/// A drain into a room. What doesn't fit goes into memory, so in the end it is known how much is enough. A write fails only where memory runs
+/// out.
 #[derive(Drop)]
 pub struct Room<'a> {
     /// The room.
     pub octets: &'a mut [u8],
-    /// So many of its octets are written.
+    /// How many of its octets are written.
     pub filled: usize,
     /// What doesn't fit.
     pub overflow: &'a mut Vec<u8>,
-    /// So many writes have failed.
+    /// How many writes have failed.
     pub failed: u64,
     ghost within: { filled ≤ length octets.now },
     ghost full: { 0 < length overflow.now.items → filled ≡ length octets.now },

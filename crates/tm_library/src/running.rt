@@ -39,7 +39,7 @@ pub fn chunk_ending(last: bool) -> Ending
     if last { Ending::Close } else { Ending::Keep }
 }
 
-/// What a run gave: so many octets for each room, and the job that is kept.
+/// What a run gave: how many octets for each room, and the job that is kept.
 #[derive(Drop)]
 pub struct Given {
     pub records: u32,

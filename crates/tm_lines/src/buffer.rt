@@ -13,6 +13,7 @@ pub struct LineBuffer {
     begin: usize,
 }
 
+<<<<<<< HEAD
 impl Model for LineBuffer {
     ghost use Rattle.std.specs.Prelude.{◌≤◌, ℕ, List, drop};
 
@@ -36,6 +37,20 @@ impl LineBuffer {
             octets: [0; LINE_CAPACITY],
             begin: LINE_CAPACITY,
         }
+=======
+/// Puts a text before what begins at `end`, and answers where it begins. It goes octet by octet: for a constant text the compiler makes a few
+/// stores of words.
+#[inline(always)]
+pub fn prepend_text<const N: usize>(buffer: &mut LineBuffer, end: usize, text: &[u8; N]) -> usize
+    requires enough { N ≤ end }
+    requires within { end ≤ 320 }
+    ensures begin { result + N ≡ end }
+    ensures text { drop result buffer.new ≡ text.now ++ drop end buffer.old }
+{
+    let begin = end - N;
+    for i in 0..N {
+        buffer[begin + i] = text[i];
+>>>>>>> 22e206a05e8c5b2e7355ccafe63dc73215baa1c9
     }
 
     /// The line.

@@ -3,8 +3,8 @@
 use tm_items::Reason;
 use tm_packet::Header;
 
-/// A dropped part of a channel, of so many octets. `seen` is the record that shows the loss, `first` and `place` are the record in which the part
-/// begins and its place in that record's data field.
+/// A dropped part of a channel. `seen` is the record that shows the loss, `first` and `place` are the record in which the part begins and its
+/// place in that record's data field.
 #[derive(Clone, Copy)]
 pub struct DroppedPart {
     pub seen: u32,

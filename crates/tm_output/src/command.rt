@@ -1,4 +1,4 @@
-//! What is asked of a run.
+//! What a run gives, and where it ends.
 
 use tm_fields::Definition;
 
@@ -20,6 +20,6 @@ pub enum Ending {
     Close,
     /// At the end of a recording that may grow: a rest of less than a record is left to the job's next run.
     Keep,
-    /// After so many further records, or at the end as `Keep` where there are fewer.
+    /// After this many further records, or as `Keep` at the end if there are fewer.
     StopAfter(u32),
 }

@@ -10,8 +10,8 @@ ghost use Rattle.tm_output.specs.Listing.{IsListed, IsListingStop, ListingStoppe
 ghost use Rattle.tm_output.specs.Outputs.{View};
 ghost use Rattle.tm_output.specs.Records.{record_count};
 
-/// Recordings that tell their octets: what `list_frames` says of the octets that were read holds of the whole recording. With `Ok` just its lines were
-/// written, and the answer is the number of its whole records. After a fault there is one place up to which its lines were written.
+/// Recordings that tell their octets: what `list_frames` promises of the octets that were read holds for the whole recording. With `Ok` exactly its
+/// lines were written, and the answer is the number of its whole records. After a fault there is one place up to which its lines were written.
 pub fn whole_recordings()
     ensures listed { (layout : LayoutParts) (left_old left_new out_old out_new : Option (List ℕ)) (count : ℕ)
         → 0 < record_length_of layout →

@@ -70,7 +70,7 @@ fn flush_before_waiting<R: BufferedSource, W: Drain>(
     Ok(())
 }
 
-/// Writes the line of octets that are left behind the records, if there are any, and flushes.
+/// Writes the line of octets that are left after the records, if there are any, and flushes.
 ///
 /// # Errors
 ///

@@ -52,19 +52,19 @@ pub trait Outlet {
     /// All that is held was passed on.
     ghost passed: { Self → Type 0 };
 
-    /// The report says nothing of a packet behind the lines of its notes. Where it may, this is false.
+    /// The report says nothing of a packet after the lines of its notes. Where it may, this is false.
     fn adds_nothing_to_report(&self, packet: &Packet<'_>) -> bool
         requires { HasHeader packet.now }
         ensures { result ≡ true → (Self.text (Self.fixed self.now)).remark (item_with packet.now) ≡ [] };
 
-    /// Writes what the report says of a packet, behind the lines of its notes.
+    /// Writes what the report says of a packet, after the lines of its notes.
     fn remark(&self, lines: &mut Vec<u8>, packet: &Packet<'_>) -> Result<(), AllocError>
         requires { HasHeader packet.now }
         ensures line { OnOk result (lines.new.items
             ≡ lines.old.items ++ (Self.text (Self.fixed self.now)).remark (item_with packet.now)) }
         ensures memory { OnErr result ((Self.text (Self.fixed self.now)).remark (item_with packet.now) ≢ []) };
 
-    /// Writes what of a packet belongs here.
+    /// Writes what belongs here for a packet.
     fn write(&mut self, packet: &Packet<'_>) -> Result<(), RunFault>
         requires { HasHeader packet.now }
         ensures same { Self.fixed self.new ≡ Self.fixed self.old }
@@ -81,7 +81,8 @@ pub trait Outlet {
     fn can_join(&self) -> bool
         ensures { result ≡ can_join };
 
-    /// Writes at once what of packets that lie end to end belongs here, if these are joined, and answers whether it did. If not, nothing changes.
+    /// Writes at once what belongs here for packets that lie end to end, if the outlet joins them, and answers whether it did. If not, nothing
+    /// changes.
     fn write_span(
         &mut self,
         seen: u32,

@@ -354,7 +354,7 @@ impl<O: Outlet, V: Drain> Output<'_, O, V> {
         Ok(())
     }
 
-    /// Writes the lines of the groups that are open at a closed end of so many records, by rising key.
+    /// Writes the lines of the groups that are open at a closed end after `seen` records, by rising key.
     pub fn write_all_unclosed(&mut self, seen: u32) -> Result<(), RunFault>
         ensures same { fixture O.Outlet self.new ≡ fixture O.Outlet self.old }
         ensures written { Written O.grows O.buffering (output_both O.Outlet V.Drain self.old)

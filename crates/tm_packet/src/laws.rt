@@ -8,7 +8,7 @@ ghost use Rattle.tm_packet.specs.Merge as sequence;
 ghost use Rattle.tm_packet.specs.Merge.{Entries, Sent};
 ghost use Rattle.tm_packet.specs.Valid.{AreValidEntries, AllHeadersFit};
 
-/// Joining, from every state. The notes of two lists of headers, one behind the other, are those of the first, and then those of
+/// Joining, from every state. The notes of two lists of headers, one after the other, are those of the first, and then those of
 /// the second from the entries that it leaves. So are the entries.
 pub fn joining()
     ensures notes_join { (s : Entries) (a b : List Sent) → AreValidEntries s → AllHeadersFit b →
@@ -17,7 +17,7 @@ pub fn joining()
         sequence.entries_after s (a ++ b) ≡ sequence.entries_after (sequence.entries_after s a) b }
 {}
 
-/// Round trip: the bits that are written of a header that was read are those of its six octets, and octets are told by their bits.
+/// Round trip: a header that is read and written again has the bits of its six octets, and octets are told by their bits.
 pub fn round_trip()
     ensures written_again { (octets : List ℕ) → AreOctets octets → 6 ≤ length octets → packet_version_of octets ≡ 0 →
         header_bits (packet_header_of octets) ≡ bits_of (take 6 octets) }

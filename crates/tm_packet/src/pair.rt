@@ -11,7 +11,7 @@ pub struct Pair {
 }
 
 impl Pair {
-    /// The key of the pair, by which pairs are told and ordered: `2048 * channel + application`.
+    /// The key of the pair, by which pairs are told apart and ordered: `2048 * channel + application`.
     pub fn key(self) -> u16
         requires channel { self.channel < 8 }
         requires application { self.application < 2048 }

@@ -8,7 +8,7 @@ use std::alloc::{AllocError, Global};
 use std::marker::Model;
 use tm_bits::{push_two, two_at};
 
-/// Memory was wanted and not found.
+/// Memory ran out.
 #[derive(Clone, Copy, Debug, PartialEq, Eq)]
 pub struct NoMemory;
 
@@ -35,7 +35,7 @@ pub enum TrackerFault {
     Order,
     /// A key is over 16383 or that of idle packets, a last count is over 16383, or a first count is over 16383 and not FFFF.
     Value,
-    /// Memory was wanted and not found.
+    /// Memory ran out.
     NoMemory,
 }
 

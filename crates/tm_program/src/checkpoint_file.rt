@@ -14,7 +14,8 @@ use tm_files::{
 };
 use tm_tool::{Done, Ending, Job, RunFault, Settings};
 
-/// Where the run of the plan ends: at the end of the recording, which is closed there unless a checkpoint is wanted, or after so many records.
+/// Where the run of the plan ends: after its number of records, or at the end of the recording. That is closed there unless the plan names a
+/// checkpoint.
 pub fn choose_ending(plan: &Plan) -> Ending
     ensures { result ≡ ending_of plan.now }
 {
@@ -58,14 +59,14 @@ pub fn begin_checkpoint<'p, R: Files + AllocGlobal>(
     }
 }
 
-/// Takes that file away again, where the run ended with a fault.
+/// Removes that file again, where the run ended with a fault.
 pub fn abandon_checkpoint<R: Files>(rt: &R, replacement: Option<Replacement<'_, R::File>>) {
     if let Some(replacement) = replacement {
         abandon_replacement(rt, replacement);
     }
 }
 
-/// Writes the checkpoint of the job that a run kept, and answers which file it replaced. What the file then holds has no place in a contract.
+/// Writes the checkpoint of the job that a run kept, and answers which file it replaced. No contract can say what the file then holds.
 #[tactic(auto, using(tm_files::proofs::FaultLemmas::no_memory_there))]
 pub fn store_checkpoint<'p, R: Files + AllocGlobal>(
     rt: &R,

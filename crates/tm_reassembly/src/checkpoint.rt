@@ -30,7 +30,7 @@ pub struct Block<'a> {
 }
 
 impl<'a> Block<'a> {
-    /// Nothing.
+    /// No count, and no tail.
     pub const NONE: Block<'static> = Block {
         count: None,
         first: 0,

@@ -1,6 +1,6 @@
 //! Refusals.
 
-/// Memory was wanted and not found.
+/// Memory ran out.
 #[derive(Clone, Copy, Debug, PartialEq, Eq)]
 pub struct NoMemory;
 
@@ -27,6 +27,6 @@ pub enum StateFault {
     Tail,
     /// A tail begins in a record that isn't done, or where no packet can start.
     Place,
-    /// Memory was wanted and not found.
+    /// Memory ran out.
     NoMemory,
 }

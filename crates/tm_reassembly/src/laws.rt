@@ -22,7 +22,7 @@ ghost use Rattle.tm_reassembly.specs.Absolute.{start_in_text, frame_begin, frame
 ghost use Rattle.tm_reassembly.specs.Tiles.{Spot, channel_spots, parts_of, held_tail, Tile, IsHeld};
 ghost use Rattle.tm_reassembly.specs.Verdict.{completed_at_once, Grow, IsSettledIn, is_whole};
 
-/// Joining: the items of two lists of records, one behind the other, are those of the first, and then those of the second from
+/// Joining: the items of two lists of records, one after the other, are those of the first, and then those of the second from
 /// the state that the first leaves. So are the states.
 pub fn joining()
     ensures items_join { (o : Origin) (a b : Records)
@@ -41,7 +41,7 @@ pub fn valid_states()
 
 /// Spellings: what is spelled is read again as the same state, whatever follows, and no spelling is a proper prefix of another.
 /// Octets that are read as a state begin with its spelling, which is the octets that were read. In the older form this holds too,
-/// but that the last master channel count is lost. With a 0 put in behind the number of records the newer form reads what the
+/// except that the last master channel count is lost. With a 0 put after the number of records the newer form reads what the
 /// older one reads without it.
 pub fn spellings()
     ensures read_again { (o : Origin) (rest : List ℕ) →
@@ -80,9 +80,9 @@ pub fn forgotten_count()
 {}
 
 /// Settled verdicts are the same for every extension of the records. They are whether a start is open at a frame, whether the
-/// frame agrees with it, and whether its packet is long or whole there. So it is for a start's own frame, whether its packet is
-/// long there, and whether it is whole there. More records leave each run that was ended as it is, go on with the last one, and
-/// may add runs after it. So each frame of the first records stands in the same run of all.
+/// frame agrees with it, and whether its packet is long or whole there. The same holds for whether its packet is long, or
+/// whole, in the start's own frame. More records leave each run that was ended as it is, go on with the last one, and may add
+/// runs after it. So each frame of the first records stands in the same run of all.
 pub fn settled_verdict()
     ensures runs_grow { (layout : LayoutParts) (s : State) (c : ℕ) (a b : Records)
         → Grow (runs_of layout s c a) (runs_of layout s c (a ++ b)) }
@@ -116,7 +116,7 @@ pub fn nothing_is_lost()
         ≡ master_items (master_chain o.state (readings o.rules.layout records)) }
 {}
 
-/// No packet is longer than the limit: each packet among the items of records has at most so many octets.
+/// No packet among the items of records has more octets than the limit.
 pub fn limited_packets()
     ensures limited { (o : Origin) (records : Records) (seen channel first place : ℕ) (octets : List ℕ) →
         Among (Packet seen channel first place octets) (given_items o records) → length octets ≤ o.rules.max_packet }

@@ -30,16 +30,16 @@ pub fn is_packet(octets: &[u8]) -> bool
     packet_version(octets[0]) == 0
 }
 
-/// Whether a packet of so many octets is long at a frame that ends `end` octets behind its start. It is if it has more octets
-/// than the limit, and its whole header is there.
+/// Whether a packet of `length` octets is long at a frame that ends `end` octets after its start. It is if it has more
+/// octets than the limit, and its whole header is there.
 pub fn is_long(limit: usize, length: usize, end: usize) -> bool
     ensures { result ≡ model.is_long limit length end }
 {
     end >= 6 && limit < length
 }
 
-/// Whether a frame agrees by its place with a packet of so many octets, at whose offset its field begins. It agrees if it has no
-/// place and the packet reaches the end of the field, or if the packet ends at its place.
+/// Whether a frame agrees by its place with a packet of `length` octets. The frame's field begins at this offset of the packet.
+/// It agrees if it has no place and the packet reaches the end of the field, or if the packet ends at its place.
 pub fn agrees_at(length: usize, offset: usize, field_length: usize, place: Option<u16>) -> bool
     requires room { offset + field_length < 2 ^ 64 }
     requires place { PlaceFits place field_length }
@@ -216,8 +216,8 @@ pub fn read_field<S: Sink>(
     give_unread(limit, seen, channel, field, offset, sink)
 }
 
-/// Gives what a field has where no packet is open: what stands before its place is lost for this reason, and then come its packets
-/// and its unread part. Answers where its unfinished packet begins, as `read_field` does.
+/// Gives what a field has where no packet is open. What stands before its place is lost for this reason. Then come its packets and
+/// its unread part. Answers where its unfinished packet begins, as `read_field` does.
 pub fn give_field<S: Sink>(
     limit: usize,
     seen: u32,

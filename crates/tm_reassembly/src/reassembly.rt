@@ -27,7 +27,7 @@ use tm_frame::{Layout, read};
 use tm_items::{Item, Sink};
 use tm_rules::{Channels, Rules};
 
-/// Takes the records of a recording one by one, and gives the packets of the chosen channels and what is lost of them.
+/// Takes the records of a recording one by one, and gives the packets of the chosen channels and what was lost.
 #[derive(Drop)]
 pub struct Reassembly {
     rules: Rules,
@@ -52,7 +52,7 @@ impl Model for Reassembly {
 }
 
 impl Reassembly {
-    /// Before any record. No packet has more than `max_packet` octets, 7 to 65,542. Room for so many is reserved for each of the eight channels;
+    /// Before any record. No packet has more than `max_packet` octets, 7 to 65,542. Room for as many is reserved for each of the eight channels;
     /// no later call takes memory.
     ///
     /// # Errors
@@ -83,7 +83,7 @@ impl Reassembly {
         }
     }
 
-    /// Takes the next record, of one record's length, and gives its items in order.
+    /// Takes the octets of the next record, and gives its items in order.
     ///
     /// # Errors
     ///
@@ -141,7 +141,7 @@ impl Reassembly {
         }
     }
 
-    /// The same of an object that is kept: it stays as it is, and may take further records.
+    /// The same for an object that is kept: it stays as it is, and may take further records.
     ///
     /// # Errors
     ///
@@ -199,8 +199,8 @@ impl Reassembly {
         self.records
     }
 
-    /// The octets so far of the packet of a channel that is not whole, fewer than a packet may have. There are none where nothing
-    /// is held, as for a channel that isn't chosen. No step was refused.
+    /// The octets so far of a channel's unfinished packet, fewer than a packet may have. There are none where nothing is held, as
+    /// for a channel that isn't chosen. No step was refused.
     pub fn held(&self, channel: u8) -> &[u8]
         requires channel { channel < 8 }
         requires done { self.now.failed ≡ false }
@@ -238,7 +238,8 @@ impl Reassembly {
     ///
     /// # Errors
     ///
-    /// `NoMemory` where the octets have no room for it and can't be given more; they are then as they were.
+    /// `NoMemory` where the vector's capacity is too small for it and can't be made larger; the octets are then as they
+    /// were.
     pub fn encode(&self, out: &mut Vec<u8>) -> Result<(), NoMemory>
         requires { self.now.failed ≡ false }
         ensures appended { OnOk result (out.new.items ≡ out.old.items ++ state_spelling self.now.state) }

@@ -135,7 +135,7 @@ impl Tail {
         }
     }
 
-    /// Takes a frame of no packet that is open: what stands before its place is lost for this reason, its packets are given, and its
+    /// Takes a frame while no packet is open: what stands before its place is lost for this reason, its packets are given, and its
     /// unfinished packet is held.
     pub fn begin<S: Sink>(
         &mut self,

@@ -27,7 +27,7 @@ impl Channels {
         Channels { chosen: [true; 8] }
     }
 
-    /// The channels of these numbers: `None` if and only if there are none, one is over 7, or one stands there twice.
+    /// The channels of these numbers: `None` if and only if there are none, one is over 7, or one comes twice.
     #[tactic(auto, using(crate::proofs::ChannelSets::marks_start, crate::proofs::ChannelSets::marks_more, crate::proofs::ChannelSets::marks_over, crate::proofs::ChannelSets::marks_twice, crate::proofs::ChannelSets::marks_done))]
     pub fn of(numbers: &[u8]) -> Option<Channels>
         ensures { result ≡ channels_of numbers.now }

@@ -14,7 +14,7 @@ pub enum SettingsFault {
     Missing(Key),
     /// The value of this key is of another kind.
     Kind(Key),
-    /// The value of this key is none that it may have.
+    /// The value of this key isn't one that it may have.
     Range(Key),
     /// Memory ran out.
     NoMemory,

@@ -121,7 +121,7 @@ fn read_presence(key: Key, value: &Value) -> Result<Presence, SettingsFault>
     }
 }
 
-/// A presence, by the frame's flag where it is absent.
+/// A presence; the frame's flag decides where the key is absent.
 pub fn presence_at(table: &Table, key: Key) -> Result<Presence, SettingsFault>
     ensures { result ≡ optional Presence.Flag (presence_of key) (value_at key (table_view table.now)) }
 {

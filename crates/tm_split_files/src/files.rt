@@ -22,7 +22,7 @@ const MOST_HELD: usize = 8_388_608;
 // So many octets of one application are written, and not held: so they are written while they are still in the processor's cache.
 const MANY_OF_ONE: usize = 65_536;
 
-/// Why octets don't come to their file.
+/// Why octets don't reach their file.
 #[derive(Clone, Copy, Debug, PartialEq, Eq)]
 pub enum ShelfFault {
     /// A file can't be made or written.
@@ -251,8 +251,8 @@ pub struct HeldFiles<'a, R> {
 }
 
 impl<'a, R: Files + AllocGlobal> HeldFiles<'a, R> {
-    /// Files in this folder, none begun. Files that are there are appended to where the run resumes a job, and else begin empty.
-    /// The identities are those of the run's other files.
+    /// Files in this folder, none begun. Files that are there are appended to if the run resumes a job, and begin empty
+    /// otherwise. The identities are those of the run's other files.
     pub fn new(
         rt: &'a R,
         dir: &'a str,
@@ -303,14 +303,14 @@ impl<'a, R: Files + AllocGlobal> HeldFiles<'a, R> {
         self.folder.dir
     }
 
-    /// The application of the last put that was refused, where its file is another file of the run.
+    /// The application of the last refused put, if its file is another file of the run.
     pub fn clashing(&self) -> Option<usize>
         ensures { result ≡ self.now.clashing }
     {
         self.clashing
     }
 
-    /// Writes all that is held. Where a file can't be written the others still are. A fault of `write_out` that no call has told is told first.
+    /// Writes all that is held. If a file can't be written, the others still are. A fault of `write_out` that no call has told is told first.
     pub fn write_held(&mut self) -> Result<(), ShelfFault>
         ensures held { OnOk result (AreEmpty self.new.held.items) }
         ensures told { IfSome self.old.unwritten (λ fault. result ≡ Err fault) }
@@ -331,7 +331,7 @@ impl<'a, R: Files + AllocGlobal> HeldFiles<'a, R> {
         }
     }
 
-    /// Writes all that is held. Where a file can't be written the next call of `put` or `write_held` tells it.
+    /// Writes all that is held. If a file can't be written, the next call of `put` or `write_held` tells it.
     pub fn write_out(&mut self)
         ensures held { self.new.unwritten ≡ None → AreEmpty self.new.held.items }
         ensures told { IfSome self.old.unwritten (λ fault. self.new.unwritten ≡ Some fault) }

@@ -41,9 +41,8 @@ impl<'a, R> Model for FileShelf<'a, R> {
 }
 
 impl<'a, R: Files + AllocGlobal> FileShelf<'a, R> {
-    /// Files in this folder, none begun. Files that are there are appended to where the run resumes a job, and else begin empty.
-    /// A file that is one of the run's other files, is not begun, and neither is one by another name of
-    /// one that was made.
+    /// Files in this folder, none begun. Files that are there are appended to if the run resumes a job, and begin empty
+    /// otherwise. A file is not begun if it is another of the run's files, or one that was made by another name.
     #[tactic(auto, using(crate::proofs::ShelfLemmas::none_seen))]
     pub fn new(
         rt: &'a R,
@@ -62,7 +61,7 @@ impl<'a, R: Files + AllocGlobal> FileShelf<'a, R> {
         Ok(FileShelf { files })
     }
 
-    /// The last put that was refused was refused because memory ran out.
+    /// The last refused put was refused because memory ran out.
     pub fn out_of_memory(&self) -> bool
         ensures { result ≡ self.now.out_of_memory }
     {
@@ -76,14 +75,14 @@ impl<'a, R: Files + AllocGlobal> FileShelf<'a, R> {
         self.files.dir()
     }
 
-    /// The application of the last put that was refused, where it was so since its file is another file of the run.
+    /// The application of the last refused put, if its file is another file of the run.
     pub fn clashing(&self) -> Option<usize>
         ensures { result ≡ self.now.clashing }
     {
         self.files.clashing()
     }
 
-    /// Writes all that is held. Where a file can't be written the others still are. A fault of `write_out` that no put has told is told first.
+    /// Writes all that is held. If a file can't be written, the others still are. A fault of `write_out` that no put has told is told first.
     #[tactic(auto, using(crate::proofs::ShelfLemmas::none_of_call, crate::proofs::LeftLemmas::kept_seen))]
     pub fn write_held(&mut self) -> Result<(), ShelfFault>
         ensures held { OnOk result (HoldsNone self.new.held) }

@@ -81,7 +81,7 @@ impl Counts {
         })
     }
 
-    /// A good frame more, of this channel, whose data field holds this and has so many octets.
+    /// Counts a good frame of this channel, by what its data field holds and how many octets that has.
     #[tactic(auto, unfolding(crate::specs::Adding::with_frame))]
     pub fn add_frame(&mut self, channel: u8, kind: Kind, octets: u64)
         requires { channel < 8 }
@@ -100,7 +100,7 @@ impl Counts {
         self.faults[place] = self.faults[place].saturating_add(1);
     }
 
-    /// A whole packet more, which this record completed, of this channel and application and of so many octets.
+    /// Counts a whole packet of this channel and application, which the record `seen` completed, and its octets.
     pub fn add_packet(&mut self, seen: u32, channel: u8, application: u16, octets: u64)
         requires channel { channel < 8 }
         requires application { application < 2048 }
@@ -114,7 +114,7 @@ impl Counts {
         self.applications[usize::from(pair.key())].add_packet(seen, octets);
     }
 
-    /// An item more that is no packet.
+    /// Counts an item that is no packet.
     #[tactic(auto, unfolding(crate::specs::Adding::with_item))]
     pub fn add_item(&mut self, item: Item<'_>)
         requires fits { ItemFits (item_of item) }
@@ -144,7 +144,7 @@ impl Counts {
         }
     }
 
-    /// A note more on the sequence counts of the channel and application of this key.
+    /// Counts a note on the sequence counts of the channel and application of this key.
     #[tactic(auto, unfolding(crate::specs::Adding::with_note))]
     pub fn add_note(&mut self, key: u16, note: Note)
         requires { key < 16384 }

@@ -12,7 +12,7 @@ ghost use Rattle.tm_summary.specs.SummaryNumbers.{Tally, and_frame, and_item, an
 ghost use Rattle.tm_summary.specs.Sums.{IsBelowGreatest, application_counts, counts_on, fault_counts, loss_counts};
 ghost use Rattle.tm_summary.specs.Tallies.{AllFit, and_items, and_notes, open_notes, with_all, with_open};
 
-/// Counting: with one frame, item or note more the numbers are those of the lists with it.
+/// Counting: with a further frame, item or note the numbers are those of the lists with it.
 pub fn counting()
     ensures frame { (t : Tally) (f : GoodFrame) → f.channel < 8
         → numbers_of (and_frame t f) ≡ with_frame (numbers_of t) f.channel f.kind (length f.field) }
@@ -20,7 +20,8 @@ pub fn counting()
     ensures note { (t : Tally) (n : Noted) → n.key < 16384 → numbers_of (and_note t n) ≡ with_note (numbers_of t) n.key n.note }
 {}
 
-/// A sink that counts: with items more, and with the groups that are open at a closed end, the numbers are those of the lists with them.
+/// A sink that counts: with further items, and with the groups that are open at a closed end, the numbers are those of the lists with
+/// them.
 pub fn giving()
     ensures items { (t : Tally) (e : Entries) (xs : List Item) → AllFit xs
         → with_all e (numbers_of t) xs ≡ numbers_of (and_items t e xs) }

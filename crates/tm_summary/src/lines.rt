@@ -24,7 +24,7 @@ pub fn format_recording(line: &mut LineBuffer, records: u32, good: u64, bad: u64
     line.prepend_text(b"recording records=");
 }
 
-/// The line of a fault that so many records have.
+/// The line of a fault, and of how many records have it.
 #[tactic(auto, using(tm_lines::proofs::BufferLemmas::short_fault_word))]
 pub fn format_fault(line: &mut LineBuffer, fault: FrameFault, records: u64)
     ensures { line.new ≡ fault_line fault records }

@@ -193,8 +193,8 @@ fn write_applications<W: Drain>(
     Ok(())
 }
 
-/// Writes the lines of the numbers, where these channels are chosen and there are so many records. Each is made whole before any of it is
-/// written, and takes no memory.
+/// Writes the lines of the numbers, for these chosen channels and this number of records. Each is made whole before any of it is written,
+/// and takes no memory.
 pub fn write_summary<W: Drain>(
     chosen: &Channels,
     records: u32,

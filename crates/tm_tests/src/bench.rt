@@ -55,7 +55,7 @@ fn behind_puts<'o>(shelf: &MemoryShelf, octets: &'o [u8]) -> Option<&'o [u8]> {
 }
 
 impl Bench {
-    /// Devices that move at most so many octets per call, over a recording in hexadecimal.
+    /// Devices that move at most this many octets per call, over a recording in hexadecimal.
     pub(crate) fn new(
         alloc: Global,
         settings: &str,

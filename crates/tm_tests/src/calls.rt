@@ -5,7 +5,7 @@ use crate::runs::Row;
 use std::alloc::{AllocError, Global};
 use tm_tool::Command;
 
-/// A call of a device, which moves so many octets: none where it finds the end, or flushes.
+/// A call of a device, and how many octets it moves: none where it finds the end, or flushes.
 #[derive(Clone, Copy)]
 pub(crate) struct Call {
     pub(crate) device: Device,

@@ -1,6 +1,6 @@
 //! Devices that fail. All calls of a run are known, in their order, with the octets that each of them moves. So is what was read
 //! and written before any one of them fails. Each piece before the call is whole, in the output and in the report, and nothing
-//! behind it was begun.
+//! after it was begun.
 
 use crate::bench::{Bench, By, Device};
 use crate::calls::{Call, calls_of, calls_until};

@@ -1,5 +1,5 @@
-//! Devices and a shelf over memory, which tell their octets. Each moves at most so many octets per call, and one
-//! of its calls fails, if that is asked for.
+//! Devices and a shelf over memory, which tell their octets. Each moves at most a given number of octets per call, and
+//! one of its calls fails, if that is asked for.
 
 ghost use Rattle.std.specs.Prelude.{◌≡◌, ◌<◌, ◌≤◌, [], Some, take, drop, true, false, vec_len};
 ghost use Rattle.tm_devices.specs.Devices.{Puts, PutsPrefix};
@@ -13,7 +13,7 @@ use tm_tool::{DeviceFailed, Drain, Shelf, Source};
 pub struct MemorySource {
     pub octets: Vec<u8>,
     pub at: usize,
-    /// At most so many per call, at least one.
+    /// The most octets per call, at least one.
     pub per_call: usize,
     pub calls: u64,
     /// The call that fails, counted from 1; 0 for none.
@@ -77,7 +77,7 @@ impl Source for MemorySource {
 #[derive(Drop)]
 pub struct MemoryDrain {
     pub octets: Vec<u8>,
-    /// At most so many per call, at least one.
+    /// The most octets per call, at least one.
     pub per_call: usize,
     pub calls: u64,
     /// The call that fails, counted from 1; 0 for none.

@@ -27,10 +27,10 @@ impl Job {
         write_checkpoint(alloc, &self.extractor.reassembly, &self.extractor.tracker)
     }
 
-    /// The job that these octets say, which were written with the same settings, in version 3 or in one of the older versions 1
-    /// and 2. It isn't fresh. Room is reserved as `new` does. Version 1 has no limit on packets in its settings: it stands for
-    /// the greatest, 65,542. A job from an older version has no last master channel count, so its first good frame has no gap of
-    /// the master channel.
+    /// The job that these octets say. They were written with the same settings, in version 3 or in one of the older versions 1
+    /// and 2. The job isn't fresh. Room is reserved as `new` does. Version 1 has no limit on packets in its settings: it stands
+    /// for the greatest, 65,542. A job from an older version has no last master channel count, so its first good frame has no
+    /// gap of the master channel.
     ///
     /// # Errors
     ///

@@ -19,7 +19,7 @@ use tm_fields::Rows;
 use tm_lines::LineBuffer;
 use tm_output::{PacketLines, PacketOctets, PacketRows};
 
-/// Writes what the command has before all else, where that is due: the head of its rows. It is flushed where the recording may wait.
+/// Writes the head of the command's rows, where that is due, and flushes it if the recording may wait.
 pub fn write_csv_head<W: Drain>(
     alloc: Global,
     command: Command<'_>,
@@ -56,7 +56,7 @@ pub fn write_csv_head<W: Drain>(
     }
 }
 
-/// What the command wants of the packets, into a drain.
+/// Runs over the recording, and gives what the command gives of the packets to a drain.
 pub(crate) fn run_command<R: BufferedSource, W: Drain, V: Drain>(
     alloc: Global,
     command: Command<'_>,

@@ -100,7 +100,7 @@ fn make_done(extractor: Extractor, fresh: bool, ending: Ending) -> Done
     Done { records, kept }
 }
 
-/// Reads the recording from its beginning, one record at a time, and passes over the records that are done. From those behind
+/// Reads the recording from its beginning, one record at a time, and passes over the records that are done. From those after
 /// them it gives what the job's settings choose. To `out` goes each whole packet, its octets or its line. To the report goes each
 /// bad frame, gap of the master channel, gap of a channel, VCA frame and dropped part, and the notes of the packets' sequence
 /// counts. For each item what belongs to `out` is written first. With `Close` the recording is closed at its end; with `Keep` and
@@ -165,7 +165,7 @@ pub fn run<R: BufferedSource, W: Drain, V: Drain>(
     }
 }
 
-/// Reads the recording as `run` does, and puts the octets of each whole packet, idle packets included, behind those of its
+/// Reads the recording as `run` does, and puts the octets of each whole packet, idle packets included, after those of its
 /// application, all channels together. The report is that of `run`, and is flushed at the end.
 ///
 /// # Errors

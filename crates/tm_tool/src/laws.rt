@@ -31,10 +31,10 @@ ghost use Rattle.tm_tool.specs.SummaryNumbers.{summary_numbers};
 ghost use Rattle.tm_tool.specs.Summaries.{IsSummarized, IsSummaryStop, SummaryStopped, summary};
 ghost use Rattle.tm_tool.specs.Runs.{Devices, IsHeadedStop, IsSoundWork, IsStop, Outcome, Ran, StoppedIn};
 
-/// Recordings that tell their octets: what `run` and `split` say of the octets that were read holds of the whole recording. With
-/// `Ok` just its pieces were written, down to the ending. After a fault there is one place up to which they were written.
-/// `NoMemory` comes only where something was to be made in memory. A refused put leaves some octets of its packet out. There are
-/// more records than can be counted, or fewer than are done.
+/// Recordings that tell their octets: what `run` and `split` promise of the octets that were read holds for the whole recording.
+/// With `Ok` exactly its pieces were written, down to the ending. After a fault there is one place up to which they were
+/// written. `NoMemory` comes only where something was to be made in memory. A refused put leaves some octets of its packet out.
+/// There are more records than can be counted, or fewer than are done.
 pub fn whole_recordings()
     ensures ran { (command : Command) (ending : Ending) (job : JobState) (old new : Devices (Option (List ℕ)))
         (count : ℕ) (kept : Option Work) → IsSoundWork job.work →
@@ -56,7 +56,7 @@ pub fn whole_recordings()
         IfSome old.left (StoppedIn Shelves shelf_buffering shelf_text ending w [] old.outputs new.outputs fault) }
 {}
 
-/// Joining: the pieces of two lists of records, one behind the other, are those of the first, and then those of the second from
+/// Joining: the pieces of two lists of records, one after the other, are those of the first, and then those of the second from
 /// the work that the first leaves. So is the work that they leave.
 pub fn joining()
     ensures pieces { (text : Texts ℕ) (w : Work) (a b : List (List ℕ)) → IsValidState w.rules w.state →
@@ -66,9 +66,9 @@ pub fn joining()
     ensures work { (w : Work) (a b : List (List ℕ)) → IsValidState w.rules w.state → worked w (a ++ b) ≡ worked (worked w a) b }
 {}
 
-/// Notes: of each packet the report has the notes that it has among the whole list of the headers of the packets of the records,
-/// in their order. What is kept of the sequence counts after the records is what that list leaves. The groups that are open at a
-/// closed end are those that are open behind the list.
+/// Notes: for each packet the report has the notes that its header has in the whole list of the records' headers, in their
+/// order. What is kept of the sequence counts after the records is what that list leaves. The groups that are open at a closed
+/// end are those that are open after the list.
 pub fn notes()
     ensures pieces { (text : Texts ℕ) (w : Work) (rs : List (List ℕ)) → IsWork w →
         record_pieces text w rs ≡ pieces_with text (sequence.notes w.entries (sent_among (items_of w rs))) (items_of w rs) }
@@ -81,11 +81,11 @@ pub fn notes()
         ≡ sequence.entries_after w.entries (sent_among (items_of w rs)) }
 {}
 
-/// Resumption: a new job is stopped any number of times, at the recording's end or after so many records. Each time it is written
-/// as a checkpoint and resumed from it with the same settings. Then it gives in all just what one run gives of the last
-/// recording. That run goes down to its closed end where the last run closes it, else down to as many records as are done in all.
-/// Each recording has to begin with the records that are done by then, and the last has fewer than 2^32 records. So it is for
-/// each command, its head standing once in front, and for packets that are put on a shelf.
+/// Resumption: a new job is stopped any number of times, at the recording's end or after any number of records. Each time it is
+/// written as a checkpoint and resumed from it with the same settings. Then it gives in all exactly what one run gives of the
+/// last recording. That run goes down to its closed end where the last run closes it, else down to as many records as are done in
+/// all. Each recording has to begin with the records that are done by then, and the last has fewer than 2^32 records. This holds
+/// for each command, with its head once in front, and for packets that are put on a shelf.
 pub fn resumption()
     ensures run { (command : Command) (ending : Ending) (last : List ℕ) (settings : Rules) (stops : List Stop) →
         length settings.channels ≡ 8 → IsLimit settings.max_packet → AllOctets (records (record_length_of settings.layout) last) →
@@ -104,9 +104,9 @@ pub fn resumption()
         (new_job settings) last }
 {}
 
-/// Resumption across versions: the same where each checkpoint is of any version that can tell the settings, but for lines of gaps of the master
-/// channel. For each stop of version 1 or 2 the line is lost of the gap that the first good frame behind it has, if one comes and has one. Nothing
-/// else is lost. So at most one line is lost for each of these stops.
+/// Resumption across versions: the same if each checkpoint is of any version that can tell the settings, except for lines of gaps of the master
+/// channel. A stop of version 1 or 2 loses the line of the gap that the first good frame after it has, if such a frame comes and has one. Nothing
+/// else is lost. So each of these stops loses at most one line.
 pub fn resumption_across_versions()
     ensures run { (command : Command) (ending : Ending) (last : List ℕ) (settings : Rules) (stops : List Stop) →
         length settings.channels ≡ 8 → IsLimit settings.max_packet → AllOctets (records (record_length_of settings.layout) last) →
@@ -134,8 +134,8 @@ pub fn resumption_across_versions()
 
 /// Older versions: from an older checkpoint a job gives, in this and all further runs, what the job of the same work gives
 /// without its last master channel count. The pieces of a recording from there are those from the work itself, in their order,
-/// but for one line. That is the gap of the master channel at the first good frame, if one comes and has one. So it is for each
-/// command, and for packets that are put on a shelf.
+/// except for one line. That is the gap of the master channel at the first good frame, if one comes and has one. This holds for
+/// each command, and for packets that are put on a shelf.
 pub fn older_versions()
     ensures run { (v : Version) (w : Work) (command : Command) (ending : Ending) (last : List ℕ) (stops : List Stop) →
         IsWork w → tells v w.rules ≡ true →
@@ -156,9 +156,9 @@ pub fn older_versions()
         (pieces shelf_text ending (work_without_master w) recording) }
 {}
 
-/// Summaries of recordings that tell their octets: what `summarize` says of the octets that were read holds of the whole recording. With `Ok` just the
-/// lines of its summary were written, and the answer is the number of its whole records. After a fault there is one place up to which they were
-/// written. `NoMemory` comes before all.
+/// Summaries of recordings that tell their octets: what `summarize` promises of the octets that were read holds for the whole recording. With `Ok`
+/// exactly the lines of its summary were written, and the answer is the number of its whole records. After a fault there is one place up to which
+/// they were written. `NoMemory` comes before all.
 ///
 /// What adds up in a summary, where the sum is below 2^64 - 1: its lines are made of `summary_numbers`, so `sums` of `tm_summary` holds of them.
 /// The good frames and the bad ones are its records. The octets of a chosen channel's packets and dropped parts, those of the closed end too, are

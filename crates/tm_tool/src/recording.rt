@@ -127,7 +127,7 @@ fn handle_recording<R: BufferedSource, O: Outlet, V: Drain>(
     }
 }
 
-/// The same, of a job's extractor, into an outlet and a report.
+/// The same with a job's extractor, into an outlet and a report.
 pub(crate) fn run_into<R: BufferedSource, O: Outlet, V: Drain>(
     extractor: &mut Extractor,
     recording: &mut R,

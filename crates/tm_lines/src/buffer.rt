@@ -13,7 +13,6 @@ pub struct LineBuffer {
     begin: usize,
 }
 
-<<<<<<< HEAD
 impl Model for LineBuffer {
     ghost use Rattle.std.specs.Prelude.{◌≤◌, ℕ, List, drop};
 
@@ -37,20 +36,6 @@ impl LineBuffer {
             octets: [0; LINE_CAPACITY],
             begin: LINE_CAPACITY,
         }
-=======
-/// Puts a text before what begins at `end`, and answers where it begins. It goes octet by octet: for a constant text the compiler makes a few
-/// stores of words.
-#[inline(always)]
-pub fn prepend_text<const N: usize>(buffer: &mut LineBuffer, end: usize, text: &[u8; N]) -> usize
-    requires enough { N ≤ end }
-    requires within { end ≤ 320 }
-    ensures begin { result + N ≡ end }
-    ensures text { drop result buffer.new ≡ text.now ++ drop end buffer.old }
-{
-    let begin = end - N;
-    for i in 0..N {
-        buffer[begin + i] = text[i];
->>>>>>> 22e206a05e8c5b2e7355ccafe63dc73215baa1c9
     }
 
     /// The line.
@@ -80,7 +65,7 @@ pub fn prepend_text<const N: usize>(buffer: &mut LineBuffer, end: usize, text: &
         self.begin = LINE_CAPACITY - 1;
     }
 
-    /// Puts a text in front. It goes octet by octet: of a text that is known the compiler makes a few stores of words.
+    /// Puts a text in front. It goes octet by octet: for a constant text the compiler makes a few stores of words.
     #[inline(always)]
     #[tactic(auto, using(crate::proofs::BufferLemmas::behind_begin))]
     pub fn prepend_text<const N: usize>(&mut self, text: &[u8; N])

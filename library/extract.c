@@ -33,7 +33,8 @@ int main(int argc, char **argv) {
         request.checkpoint = (struct tmx_octets){kept.at, answer.checkpoint_length};
         request.octets = (struct tmx_octets){chunk, left + read};
         request.last = read < CHUNK;
-        while (tmx_run(&request, out.at, out.length, report.at, report.length, next.at, next.length, &answer) == TMX_ROOM)
+        while (tmx_run(&request, out.at, out.length, report.at, report.length, next.at, next.length, &answer)
+               == TMX_ROOM)
             grow(&out, answer.out_length), grow(&report, answer.report_length), grow(&next, answer.checkpoint_length);
         if (answer.status != TMX_DONE || ferror(recording)) return 1;
         fwrite(out.at, 1, answer.out_length, stdout);

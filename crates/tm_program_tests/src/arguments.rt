@@ -194,11 +194,11 @@ const HELP_OF_SUMMARY: &str =
 const HELPS: [(&[&str], &str); 9] = [
     (
         &["--version"],
-        "tmx 0.1.0\nrattle-kit-13b logic dac8208d650f15bf\n",
+        "tmx 0.1.0\nrattle-kit-13f logic dac8208d650f15bf\n",
     ),
     (
         &["-V"],
-        "tmx 0.1.0\nrattle-kit-13b logic dac8208d650f15bf\n",
+        "tmx 0.1.0\nrattle-kit-13f logic dac8208d650f15bf\n",
     ),
     (&["--help"], HELP),
     (&["frames", "--help"], HELP_OF_FRAMES),

@@ -35,6 +35,7 @@ pub fn error_control(octets: &[u8]) -> u16
 /// plain program. It is slower, but for few octets.
 // Apart from its callers, since its loop would take registers from the folding there.
 #[inline(never)]
+#[tactic(auto, using(crate::proofs::Entries::octet_by_octet))]
 pub fn error_control_by_table(octets: &[u8]) -> u16
     ensures { result ≡ error_control_of octets.now }
 {
@@ -66,7 +67,7 @@ fn shift_octet(register: u16, octet: u8) -> u16
 // Words with the remainder of the first octets. Zeros in front change no remainder, and that of 0x84CF
 // is a register of ones.
 #[inline(always)]
-#[tactic(auto, using(crate::proofs::FoldWords::begun))]
+#[tactic(auto, using(crate::proofs::FoldWords::begun, crate::proofs::Fold::folds_64))]
 fn begin(first: &[u8]) -> [u64; 16]
     requires { length first.now < 128 }
     ensures { words_remainder result ≡ remainder_from 65535 (bits_of first.now) }
@@ -86,6 +87,7 @@ fn begin(first: &[u8]) -> [u64; 16]
 
 // Words with the remainder of those held and a block behind them.
 #[inline(always)]
+#[tactic(auto, using(crate::proofs::Fold::folds_64))]
 fn append_block(held: &mut [u64; 16], block: &[u8])
     requires { length block.now ≡ 128 }
     ensures { words_remainder held.new ≡ remainder_from (words_remainder held.old) (bits_of block.now) }
@@ -100,6 +102,7 @@ fn append_block(held: &mut [u64; 16], block: &[u8])
 
 // The remainder of the words: they are folded twice more, and the last four are divided.
 #[inline(always)]
+#[tactic(auto, using(crate::proofs::Fold::folds_32, crate::proofs::Fold::folds_16))]
 fn finish(held: [u64; 16]) -> u16
     ensures { result ≡ words_remainder held }
 {
@@ -187,6 +190,7 @@ fn add_at(words: &mut [u64], place: usize, word: u64)
 
 // The register after words, from zeros.
 #[inline(always)]
+#[tactic(auto, using(crate::proofs::FoldWords::word_by_word))]
 fn shift_words(words: &[u64]) -> u16
     ensures { result ≡ words_remainder words.now }
 {

@@ -3,12 +3,8 @@ use Rattle.std.proofs.lemmas.List.{take_all}
 use Rattle.tm_bits.specs.Bits.{bits_of}
 use Rattle.tm_frame.specs.code.Folding.{remainder_from, bits_of_words, words_remainder}
 use Rattle.tm_frame.proofs.Division.{remainder_from-append}
-use Rattle.tm_frame.proofs.Fold.{folds_64}
 use Rattle.tm_frame.proofs.FoldWords.{bits_of_words-append}
 use Rattle.tm_frame.proofs.control.append_block.Goals as goal
-
-pub fold-requires-clause-folds : goal.fold-requires-clause-folds
-fold-requires-clause-folds c = folds_64
 
 pub returns : goal.returns
 returns c =

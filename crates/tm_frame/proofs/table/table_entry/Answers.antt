@@ -3,7 +3,7 @@ use Rattle.std.specs.Prelude.{slice_index}
 use Rattle.tm_bits.specs.Bits.{bits_of, low_bits, number}
 use Rattle.tm_frame.specs.declared.table.TheConstants.{TABLE}
 use Rattle.tm_frame.specs.ErrorControl.{long_division, subtract, table_entry_of}
-use Rattle.tm_frame.proofs.Words.{agree, agree_at}
+use Rattle.tm_frame.proofs.Linear.{agree, agree_at}
 use Rattle.tm_frame.proofs.table.table_entry.Goals as goal
 
 -- computed: each of the 256 octets is divided

@@ -20,24 +20,11 @@ raws-step n at xs h =
     rw (one, drop-drop 6 (2 + 6 * at) xs, next) refl
 
 -- the fault of the entries from one on: of its values, of its order, or of those after it
-fault_here : (before : Option ℕ) (n at : ℕ) (xs : List ℕ) (r : RawEntry) → at < n → r ≡ raw_of (drop (2 + 6 * at) xs)
+pub fault_more : (before : Option ℕ) (n at : ℕ) (xs : List ℕ) → at < n
     → fault_after before (raws (n - at) (drop (2 + 6 * at) xs))
-    ≡ (if has_values r then (if rises before r.key then fault_after (Some r.key) (raws (n - (at + 1)) (drop (2 + 6 * (at + 1)) xs)) else Some Order) else Some Value)
-fault_here before n at xs r h e =
-    rw (raws-step n at xs h, e) refl
-
-pub fault_of_values : (before : Option ℕ) (n at : ℕ) (xs : List ℕ) (r : RawEntry) → at < n → r ≡ raw_of (drop (2 + 6 * at) xs)
-    → has_values r ≡ false → fault_after before (raws (n - at) (drop (2 + 6 * at) xs)) ≡ Some Value
-fault_of_values before n at xs r h e values = fault_here before n at xs r h e ∙ rw values refl
-
-pub fault_of_order : (before : Option ℕ) (n at : ℕ) (xs : List ℕ) (r : RawEntry) → at < n → r ≡ raw_of (drop (2 + 6 * at) xs)
-    → has_values r ≡ true → rises before r.key ≡ false → fault_after before (raws (n - at) (drop (2 + 6 * at) xs)) ≡ Some Order
-fault_of_order before n at xs r h e values order = fault_here before n at xs r h e ∙ rw values (rw order refl)
-
-pub fault_of_rest : (before : Option ℕ) (n at : ℕ) (xs : List ℕ) (r : RawEntry) → at < n → r ≡ raw_of (drop (2 + 6 * at) xs)
-    → has_values r ≡ true → rises before r.key ≡ true
-    → fault_after before (raws (n - at) (drop (2 + 6 * at) xs)) ≡ fault_after (Some r.key) (raws (n - (at + 1)) (drop (2 + 6 * (at + 1)) xs))
-fault_of_rest before n at xs r h e values order = fault_here before n at xs r h e ∙ rw values (rw order refl)
+    ≡ (if has_values (raw_of (drop (2 + 6 * at) xs)) then (if rises before (raw_of (drop (2 + 6 * at) xs)).key then fault_after (Some (raw_of (drop (2 + 6 * at) xs)).key) (raws (n - (at + 1)) (drop (2 + 6 * (at + 1)) xs)) else Some Order) else Some Value)
+fault_more before n at xs h =
+    rw (raws-step n at xs h) refl
 
 -- where there is no fault the first entry has its values and its order, and there is none after it
 pub all_right : (before : Option ℕ) (r : RawEntry) (rs : List RawEntry) → fault_after before (r ∷ rs) ≡ None

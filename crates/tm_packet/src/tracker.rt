@@ -315,6 +315,7 @@ fn entry_count(octets: &[u8]) -> Option<usize>
 }
 
 // What is wrong first in the entries.
+#[tactic(auto, using(crate::proofs::DecodingLemmas::fault_more))]
 fn entry_fault(octets: &[u8], count: usize) -> Option<TrackerFault>
     requires { 2 + 6 * count ≤ length octets.now }
     ensures { result ≡ fault_after None (raws count (drop 2 octets.now)) }

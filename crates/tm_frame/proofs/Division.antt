@@ -5,6 +5,7 @@ use Rattle.std.specs.Int.{bit_at}
 use Rattle.std.proofs.lemmas.Nat.{shl-shr}
 use Rattle.std.proofs.lemmas.Nat.Bits.{bit_at-zero, bit_at-lt, bit_at_xor}
 use Rattle.std.proofs.lemmas.List.{take-append-drop}
+use Rattle.std.proofs.lemmas.Bool.Decides.{nat_tests}
 use Rattle.tm_bits.specs.Bits.{low_bits, bits_of, digit, number}
 use Rattle.tm_bits.proofs.BitLemmas.{length-low_bits, number-low_bits, low_bits-cat, low_bits-mod, low_bits-split, length-bits_of, bits_of-append}
 use Rattle.tm_frame.specs.ErrorControl.{differ, generator, subtract, long_division, invert_first, error_control_of}
@@ -13,10 +14,7 @@ use Rattle.tm_frame.specs.code.Folding.{remainder_from}
 -- ---- bits are subtracted
 
 differ_assoc : (a b c : Bool) → differ (differ a b) c ≡ differ a (differ b c)
-differ_assoc false b c = refl
-differ_assoc true false c = refl
-differ_assoc true true false = refl
-differ_assoc true true true = refl
+differ_assoc a b c = grind arith
 
 differ-false : (a : Bool) → differ a false ≡ a
 differ-false false = refl
@@ -68,12 +66,7 @@ low_bits-shl j k x =
     low_bits-split j k (x * 2 ^ k) ∙ ap (λ n. low_bits j n ++ low_bits k (x * 2 ^ k)) (shl-shr x k) ∙ ap (λ l. low_bits j x ++ l) low
 
 test-sum : (a b : ℕ) → a < 2 → b < 2 → ((a + b) % 2 == 1) ≡ differ (a == 1) (b == 1)
-test-sum zero zero h k = refl
-test-sum zero (suc zero) h k = refl
-test-sum (suc zero) zero h k = refl
-test-sum (suc zero) (suc zero) h k = refl
-test-sum (suc (suc a)) b h k = absurd (omega arith)
-test-sum a (suc (suc b)) h k = absurd (omega arith)
+test-sum a b h k = grind (arith, nat_tests)
 
 pub test-xor : (k x y : ℕ) → (bit_at (bit_xor x y) k == 1) ≡ differ (bit_at x k == 1) (bit_at y k == 1)
 test-xor k x y = ap (λ n. n == 1) (bit_at_xor x y k) ∙ test-sum (bit_at x k) (bit_at y k) (bit_at-lt x k) (bit_at-lt y k)

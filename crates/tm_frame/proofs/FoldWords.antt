@@ -5,14 +5,14 @@ use Rattle.std.specs.Int.Bits.{xor_assoc}
 use Rattle.std.proofs.lemmas.Nat.{xor_comm, shl-shr, shr-shr}
 use Rattle.std.proofs.Math.Seq.{take-add}
 use Rattle.byteorder.specs.Endian.{big_number}
-use Rattle.std.proofs.lemmas.List.{length-set, take_more, take_all, take_more_set, take-replicate, length-replicate, replicate-append-replicate}
+use Rattle.std.proofs.lemmas.List.{length-set, length-take-le, get_or-take, drop_at, at_drop_more, take_more, take_all, take_more_set, take_rest, take-replicate, length-replicate, replicate-append-replicate}
 use Rattle.tm_bits.specs.Bits.{low_bits, bits_of, number, AreOctets}
 use Rattle.tm_bits.proofs.BitLemmas.{length-low_bits, low_bits-mod, bits_spelled, low_bits-split, bits_of-append}
 use Rattle.tm_bits.proofs.PartLemmas.{octets_behind, length-bits_of-take}
 use Rattle.tm_frame.specs.ErrorControl.{subtract, long_division}
 use Rattle.tm_frame.specs.code.Folding.{Folds, remainder_from, shifted, bits_of_words, words_remainder}
 use Rattle.tm_frame.proofs.HeaderLemmas.{number-bits_of-take}
-use Rattle.tm_frame.proofs.Division.{low_bits-zero, low_bits-shl, remainder_from-append}
+use Rattle.tm_frame.proofs.Division.{low_bits-zero, low_bits-shl, remainder_from-append, remainder_from-nil, remainder_from-lt, octets_apart, error_control_of-remainder}
 use Rattle.tm_frame.proofs.Linear.{passed_linear, bits_linear, after_linear, remainder_from-zeros}
 use Rattle.tm_frame.proofs.Fold.{shifted-passed, remainder-apart, zeros-passed, bits-fold}
 
@@ -165,6 +165,19 @@ word_folds width w ws first second third m n is_third is_second is_first same_n 
     ∙ xor_comm r (bit_xor a (bit_xor b c))
     ∙ sym front
 
+-- the words up to the next one are taken away
+pub word_taken : (ws front behind after : List ℕ) (i total : ℕ) → i < length ws → front ≡ take (i + 1) ws → behind ≡ drop (i + 1) ws
+    → words_remainder after ≡ words_remainder (get_or front i 0 ∷ behind) → words_remainder (drop i ws) ≡ total
+    → words_remainder (drop (i + 1) (front ++ after)) ≡ total
+word_taken ws front behind after i total inside first last taken before =
+    let seam : length front ≡ i + 1 = ap length first ∙ length-take-le (i + 1) ws (omega arith) in
+    let word : get_or front i 0 ≡ get_or ws i 0 = ap (λ l. get_or l i 0) first ∙ get_or-take (i + 1) ws i 0 (omega arith) in
+    ap words_remainder (drop_at front after (i + 1) seam)
+    ∙ taken
+    ∙ ap₂ (λ x l. words_remainder (x ∷ l)) word last
+    ∙ sym (at_drop_more words_remainder ws i 0 inside)
+    ∙ before
+
 -- ---- words and octets
 
 -- the bits of a word are those of its octets
@@ -172,16 +185,20 @@ word_read : (xs : List ℕ) → AreOctets xs → 8 ≤ length xs → low_bits 64
 word_read xs octets room =
     bits_spelled 64 (big_number 8 xs) (bits_of (take 8 xs)) (length-bits_of-take 8 xs room) (sym (number-bits_of-take 8 xs octets room))
 
--- one word more
+-- no word, and one word more
+pub fill_none : bits_of_words [] ≡ bits_of []
+unfolding bits_of_words bits_of
+fill_none = refl
+
 pub fill_step : (ws octets : List ℕ) (i v : ℕ) → i < length ws → 8 * i + 8 ≤ length octets → AreOctets octets
-    → v ≡ big_number 8 (drop (8 * i) octets)
+    → v ≡ big_number 8 (take (length octets - 8 * i) (drop (8 * i) octets))
     → bits_of_words (take i ws) ≡ bits_of (take (8 * i) octets)
     → bits_of_words (take (i + 1) (set ws i v)) ≡ bits_of (take (8 * (i + 1)) octets)
 fill_step ws octets i v inside room are read before =
     let left : 8 ≤ length (drop (8 * i) octets) = omega (arith, length-drop (8 * i) octets) in
     let next : 8 * (i + 1) ≡ 8 * i + 8 = omega arith in
     let word : bits_of_words (v ∷ []) ≡ bits_of (take 8 (drop (8 * i) octets)) =
-    bits_of_words-one v ∙ ap (low_bits 64) read ∙ word_read (drop (8 * i) octets) (octets_behind (8 * i) octets are) left in
+    bits_of_words-one v ∙ ap (low_bits 64) (read ∙ ap (big_number 8) (take_rest octets (8 * i))) ∙ word_read (drop (8 * i) octets) (octets_behind (8 * i) octets are) left in
     ap bits_of_words (take_more_set ws i v inside)
     ∙ bits_of_words-append (take i ws) (v ∷ [])
     ∙ ap₂ (λ p q. p ++ q) before word
@@ -228,7 +245,15 @@ first_octets n octets =
     ∙ zeros-passed (8 * n) (bits_of behind)
     ∙ preset_octets octets
 
--- the words that are held first: all but one of those that zeros, the two octets and the first octets fill
+-- the last 16 words are held
+held_last : (k : ℕ) (held folded filled : List ℕ) → held ≡ take 16 (drop k folded) → words_remainder (drop (length filled - 16) folded) ≡ words_remainder filled
+    → length filled ≡ k + 16 → length folded ≡ length filled → words_remainder held ≡ words_remainder filled
+held_last k held folded filled is_held same long as_long =
+    let last : length (drop k folded) ≤ 16 = omega (arith, length-drop k folded, long, as_long) in
+    let front : k ≡ length filled - 16 = omega (arith, long) in
+    ap words_remainder (is_held ∙ take_all 16 (drop k folded) last) ∙ ap (λ j. words_remainder (drop j folded)) front ∙ same
+
+-- those that are held first: all but one of those that zeros, the two octets and the first octets fill
 pub begun : (held folded filled front preset back first : List ℕ) → held ≡ take 16 (drop 1 folded)
     → words_remainder (drop (length filled - 16) folded) ≡ words_remainder filled
     → bits_of_words filled ≡ bits_of (front ++ (preset ++ back))
@@ -238,10 +263,23 @@ pub begun : (held folded filled front preset back first : List ℕ) → held ≡
 begun held folded filled front preset back first is_held same spelled zeros two all seventeen as_long =
     let n : ℕ = 134 - length first in
     let octets : front ++ (preset ++ back) ≡ replicate n 0 ++ 0x84 ∷ 0xCF ∷ first = rw (zeros, two, all, take-replicate {X = ℕ} n 136 0 (omega arith)) refl in
-    let sixteen : length (drop 1 folded) ≤ 16 = omega (arith, length-drop 1 folded, as_long, seventeen) in
-    let one : 1 ≡ length filled - 16 = omega (arith, seventeen) in
-    ap words_remainder (is_held ∙ take_all 16 (drop 1 folded) sixteen)
-    ∙ ap (λ k. words_remainder (drop k folded)) one
-    ∙ same
-    ∙ ap (remainder_from 0) (spelled ∙ ap bits_of octets)
-    ∙ first_octets n first
+    held_last 1 held folded filled is_held same seventeen as_long ∙ ap (remainder_from 0) (spelled ∙ ap bits_of octets) ∙ first_octets n first
+
+-- those that are held after a block
+pub appended : (held folded front back old block : List ℕ) → held ≡ take 16 (drop 16 folded)
+    → words_remainder (drop (length (front ++ back) - 16) folded) ≡ words_remainder (front ++ back)
+    → front ≡ old → bits_of_words back ≡ bits_of block
+    → length front ≡ 16 → length back ≡ 16 → length folded ≡ length (front ++ back)
+    → words_remainder held ≡ remainder_from (words_remainder old) (bits_of block)
+appended held folded front back old block is_held same is_old spelled first last as_long =
+    held_last 16 held folded (front ++ back) is_held same (omega (arith, length-append front back)) as_long
+    ∙ ap (remainder_from 0) (bits_of_words-append front back ∙ ap₂ (λ p q. p ++ q) (ap bits_of_words is_old) spelled)
+    ∙ remainder_from-append 0 (bits_of_words old) (bits_of block)
+
+-- where no block is left, no octet is
+pub blocks_done : (words rest : List ℕ) → length rest % 128 ≡ 0 → length rest < 128 → remainder_from (words_remainder words) (bits_of rest) ≡ words_remainder words
+unfolding bits_of
+blocks_done words [] whole few = remainder_from-nil (words_remainder words) (remainder_from-lt 0 (bits_of_words words))
+blocks_done words (x ∷ rest) whole few = absurd (omega arith)
+
+pub ruleset by_blocks = (octets_apart, blocks_done, error_control_of-remainder)

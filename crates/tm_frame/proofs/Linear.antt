@@ -15,21 +15,10 @@ use Rattle.tm_frame.proofs.Division.{subtract-zeros, zeros-subtract, test-xor, l
 -- ---- one bit
 
 differ_exchange : (a b c d : Bool) → differ (differ a b) (differ c d) ≡ differ (differ a c) (differ b d)
-differ_exchange false false c d = refl
-differ_exchange false true false d = refl
-differ_exchange false true true d = refl
-differ_exchange true false false d = refl
-differ_exchange true false true false = refl
-differ_exchange true false true true = refl
-differ_exchange true true false false = refl
-differ_exchange true true false true = refl
-differ_exchange true true true d = refl
+differ_exchange a b c d = grind arith
 
 gain-differ : (c d : Bool) → digit (differ c d) * 0x1021 ≡ bit_xor (digit c * 0x1021) (digit d * 0x1021)
-gain-differ false false = refl
-gain-differ false true = refl
-gain-differ true false = refl
-gain-differ true true = refl
+gain-differ c d = grind arith
 
 xor_exchange : (a b c d : ℕ) → bit_xor (bit_xor a b) (bit_xor c d) ≡ bit_xor (bit_xor a c) (bit_xor b d)
 xor_exchange a b c d =

@@ -149,3 +149,7 @@ pub noted_by : (old entries : Entries) (p : Sent) (k : ℕ) (e : Option PairEntr
     → is_idle p.header ≡ false → k < length entries → e ≡ get_or entries k e → result ≡ single_notes e p.header → notes old (p ∷ []) ≡ result ∷ []
 noted_by old entries p k e result same at h inside found is =
     rw (notes-one old p h, is, found ∙ get_or_default entries k e None inside, same, at) refl
+
+pub ruleset joins = (notes-append, after-append)
+
+pub ruleset one_header = (after-idle, left_by, noted_by)

@@ -9,6 +9,7 @@ use Rattle.tm_packet.specs.declared.tracker.PairEntry.{PairEntry}
 use Rattle.tm_packet.specs.declared.tracker.RawEntry.{RawEntry}
 use Rattle.tm_packet.specs.Spelling.{KeyedEntry, DecodedEntries, first_number, first_count_of, entries_from, spelled, entries_spelling, raws, rises, fault_after, entry_at_key, entries_at_keys, state_of, entries_decoding_of}
 use Rattle.tm_bits.specs.Bits.{two_octets, two_at}
+use Rattle.tm_packet.proofs.SpellingLemmas.{decoding-spelling, no_prefix}
 use Rattle.tm_packet.proofs.DecodingLemmas.{read_faultless, AreValues, values_of, all_right, last_in, places-above}
 
 -- ---- the entries that numbers are
@@ -116,3 +117,5 @@ pub spelled-again : (octets : List ℕ) (d : DecodedEntries) → AreOctets octet
 spelled-again octets d h e =
     read_faultless (λ (d : DecodedEntries). (d.octets ≤ length octets) × (take d.octets octets ≡ entries_spelling d.entries)) octets d e
     (λ long none. (long, faultless octets (two_at octets 0) h refl long none))
+
+pub ruleset spells = (decoding-spelling, no_prefix, spelled-again)

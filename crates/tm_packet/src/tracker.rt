@@ -104,6 +104,7 @@ impl Tracker {
 
     /// Takes the next header of a channel, and answers its notes. An idle packet has none and changes nothing. Time is constant, and
     /// no memory is taken.
+    #[tactic(auto, using(crate::proofs::Merging::one_header))]
     pub fn take(&mut self, channel: u8, header: Header) -> Notes
         requires { channel < 8 }
         ensures notes { sequence.notes self.old (record { channel = channel; header = header } ∷ []) ≡ result ∷ [] }
@@ -119,6 +120,7 @@ impl Tracker {
     }
 
     /// Takes the next header of a channel if it has no notes, and answers whether it has none. A header that has notes is left to `take`.
+    #[tactic(auto, using(crate::proofs::Merging::one_header))]
     pub fn add_without_notes(&mut self, channel: u8, header: Header) -> bool
         requires { channel < 8 }
         ensures none { Decides result (sequence.notes self.old (record { channel = channel; header = header } ∷ []) ≡ [] ∷ []) }
@@ -171,6 +173,7 @@ impl Tracker {
     /// # Errors
     ///
     /// `NoMemory` where the vector's capacity is too small for it and can't be made larger; the octets are then as they were.
+    #[tactic(auto, using(crate::proofs::SpellingLemmas::lengths))]
     pub fn encode(&self, out: &mut Vec<u8>) -> Result<(), NoMemory>
         ensures appended { OnOk result (out.new.items ≡ out.old.items ++ entries_spelling self.now) }
         ensures unchanged { OnErr result (out.new.items ≡ out.old.items) }
@@ -212,6 +215,7 @@ impl Tracker {
     }
 
     // Puts the entries in their places. The first entry of a key counts: hence from the last to the first.
+    #[tactic(auto, using(crate::proofs::DecodingLemmas::entries_set))]
     fn set_entries(&mut self, octets: &[u8], count: usize)
         requires room { 2 + 6 * count ≤ length octets.now }
         requires faultless { fault_after None (raws count (drop 2 octets.now)) ≡ None }

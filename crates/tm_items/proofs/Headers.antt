@@ -1,7 +1,8 @@
 -- The version and the length of a packet, as its header has them.
 use Rattle.std.proofs.Common.{◌≡◌, ℕ, ◌+◌, ◌-◌, ◌*◌, ◌/◌, ◌%◌, ◌^◌, ◌<◌, ◌≤◌, Bool, true, false, Ok, Err, Result, List, [], ◌∷◌, length, take, get_or, refl, sym, ap, ◌∙◌, ⊎_elim, arith, ◌==◌}
 use Rattle.std.specs.Prelude.{nat_lt, if◌then◌else◌}
-use Rattle.std.proofs.lemmas.Bool.{cases_lt, ltb-false, eqb-true}
+use Rattle.std.proofs.lemmas.Bool.Decides.{nat_tests}
+use Rattle.std.proofs.lemmas.Bool.{cases_lt, eqb-true}
 use Rattle.tm_bits.specs.Bits.{part}
 use Rattle.tm_bits.proofs.PartLemmas.{part-front}
 use Rattle.tm_packet.specs.declared.header.PacketFault.{PacketFault}
@@ -17,18 +18,10 @@ version_first (x ∷ xs) h = refl
 
 -- what reading a header says of the length
 pub reading-ok : (octets : List ℕ) (h : Fields) → header_reading_of octets ≡ Ok h → (6 ≤ length octets) × (h ≡ packet_header_of octets)
-reading-ok octets h e = by_tests (nat_lt (length octets) 6) (packet_version_of octets == 0) refl e
-  where
-    by_tests : (short right : Bool) → nat_lt (length octets) 6 ≡ short
-        → ◌≡◌ {A = Result Fields PacketFault} (if short then Err Short else if right then Ok (packet_header_of octets) else Err Version) (Ok h)
-        → (6 ≤ length octets) × (h ≡ packet_header_of octets)
-    by_tests true right is e = cc
-    by_tests false false is e = cc
-    by_tests false true is e = (ltb-false (length octets) 6 is, cc)
+reading-ok octets h e = grind (arith, nat_tests)
 
 pub reading-err : (octets : List ℕ) (fault : PacketFault) → packet_version_of octets ≡ 0 → header_reading_of octets ≡ Err fault → length octets < 6
-reading-err octets fault zero e =
-    ⊎_elim (λ short. short) (λ long. let both = sym (reading_ok octets long zero) ∙ e in absurd (cc both)) (cases_lt (length octets) 6)
+reading-err octets fault zero e = grind (arith, nat_tests)
 
 -- the length by the header that is read
 pub packet_length_read : (octets : List ℕ) (h : Fields) → header_reading_of octets ≡ Ok h → h.data_length + 7 ≡ packet_length octets

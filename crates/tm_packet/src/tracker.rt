@@ -186,7 +186,7 @@ impl Tracker {
             Err(_) => return Err(NoMemory),
         }
         push_two(out, count as u16);
-        self.push_entries(out);
+        self.push_entries(count, out);
         Ok(())
     }
 
@@ -260,14 +260,21 @@ impl Tracker {
         count
     }
 
-    // Appends the entries, for which there is room.
-    fn push_entries(&self, out: &mut Vec<u8>)
-        requires { vec_len out.old + 6 * length (entries_from 0 self.now) ≤ vec_capacity out.old }
+    // Appends the entries, so many, for which there is room. What lies behind the last of them isn't looked at.
+    #[tactic(auto, using(std::proofs::lemmas::List::nil_from_length))]
+    fn push_entries(&self, count: usize, out: &mut Vec<u8>)
+        requires all { count ≡ length (entries_from 0 self.now) }
+        requires room { vec_len out.old + 6 * count ≤ vec_capacity out.old }
         ensures { out.new.items ≡ out.old.items ++ spelled (entries_from 0 self.now) }
     {
+        let mut left = count;
         for key in 0..PAIRS {
+            if left == 0 {
+                return;
+            }
             if let Some(last) = self.entries[key] {
                 push_entry(out, key as u16, &last);
+                left -= 1;
             }
         }
     }

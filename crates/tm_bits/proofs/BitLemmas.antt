@@ -2,7 +2,7 @@
 use Rattle.std.proofs.Common.{◌≡◌, ℕ, zero, suc, ◌+◌, ◌*◌, ◌/◌, ◌%◌, ◌^◌, ◌<◌, ◌≤◌, Bool, true, false, List, [], ◌∷◌, ◌++◌, length, ◌==◌, refl, sym, ap, ◌∙◌, arith, length-append, append_assoc, zero-add}
 use Rattle.std.proofs.Math.Nat.{pow-suc, mul-le-mul_right}
 use Rattle.std.proofs.lemmas.List.{append-nil}
-use Rattle.std.proofs.lemmas.Nat.{pow-add, mod-pow-add, shr_high, shr-shr}
+use Rattle.std.proofs.lemmas.Nat.{pow-add, mod-pow-add, shr_high, shr-shr, shr_split}
 use Rattle.std.proofs.lemmas.Nat.Bits.{bit_at_cat_low}
 use Rattle.std.specs.Int.{bit_at}
 use Rattle.tm_bits.specs.Bits.{low_bits, bits_of, digit, number}
@@ -56,6 +56,9 @@ low_bits-cat (suc n) a k y h =
     let rest = low_bits-cat n a k y (omega arith) in
     rw (one, rest) refl
 
+pub low_bits-mod : (k n : ℕ) → low_bits k (n % 2 ^ k) ≡ low_bits k n
+low_bits-mod k n = sym (low_bits-cat k (n / 2 ^ k) k (n % 2 ^ k) (omega arith)) ∙ ap (low_bits k) (shr_split n k)
+
 digit-is_one : (b : Bool) → (digit b == 1) ≡ b
 digit-is_one false = refl
 digit-is_one true = refl
@@ -70,6 +73,9 @@ low_bits-number (x ∷ xs) =
     let d = digit-lt x in
     let one : bit_at (digit x * 2 ^ length xs + number xs) (length xs) ≡ digit x = rw top (omega arith) in
     rw (one, digit-is_one x, low_bits-cat (length xs) (digit x) (length xs) (number xs) (omega arith), low_bits-number xs) refl
+
+pub bits_spelled : (n w : ℕ) (xs : List Bool) → length xs ≡ n → w ≡ number xs → low_bits n w ≡ xs
+bits_spelled n w xs l e = rw (e, ← l) (low_bits-number xs)
 
 -- the high bits, and then the low ones
 pub low_bits-split : (j k x : ℕ) → low_bits (j + k) x ≡ low_bits j (x / 2 ^ k) ++ low_bits k x

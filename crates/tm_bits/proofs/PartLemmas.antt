@@ -1,5 +1,5 @@
 -- Slices of the bits of octets as quotients and remainders.
-use Rattle.std.proofs.Common.{◌≡◌, ℕ, zero, suc, ◌+◌, ◌-◌, ◌*◌, ◌/◌, ◌%◌, ◌^◌, ◌<◌, ◌≤◌, Bool, List, ◌∷◌, ◌++◌, length, take, drop, refl, sym, ap, ◌∙◌, subst, arith, length-drop}
+use Rattle.std.proofs.Common.{◌≡◌, ℕ, zero, suc, ◌+◌, ◌-◌, ◌*◌, ◌/◌, ◌%◌, ◌^◌, ◌<◌, ◌≤◌, Bool, List, ◌∷◌, ◌++◌, length, take, drop, refl, sym, ap, ◌∙◌, subst, arith, length-drop, length-take, pow_mono}
 use Rattle.std.proofs.lemmas.Nat.{field_of, shr_high, mod_low, pow-add}
 use Rattle.std.proofs.lemmas.List.{take-append-drop, length-take-le, take-append-le, drop-append-le, get_or-drop}
 use Rattle.std.proofs.Math.Seq.{drop-append-add}
@@ -65,22 +65,33 @@ number-bits_of-cons x xs small =
     number-append (low_bits 8 x) (bits_of xs)
     ∙ rw (length-bits_of xs, top, pow-octets (length xs)) refl
 
--- a part within the first n octets, by the number that these spell
+-- the bits of the first n octets, and those of the others
+bits_apart : (n : ℕ) (octets : List ℕ) → bits_of octets ≡ bits_of (take n octets) ++ bits_of (drop n octets)
+bits_apart n octets = ap bits_of (sym (take-append-drop n octets)) ∙ bits_of-append (take n octets) (drop n octets)
+
+pub length-bits_of-take : (n : ℕ) (octets : List ℕ) → n ≤ length octets → length (bits_of (take n octets)) ≡ 8 * n
+length-bits_of-take n octets room = length-bits_of (take n octets) ∙ ap (λ m. 8 * m) (length-take-le n octets room)
+
+-- a part within the first n octets
+pub part-front : (n : ℕ) (octets : List ℕ) (from to : ℕ) → n ≤ length octets → from ≤ to → to ≤ 8 * n → part octets from to ≡ part (take n octets) from to
+unfolding part
+part-front n octets from to room ordered inside =
+    let front : List Bool = bits_of (take n octets) in
+    let back : List Bool = bits_of (drop n octets) in
+    let l : length front ≡ 8 * n = length-bits_of-take n octets room in
+    let left : length (drop from front) ≡ length front - from = length-drop from front in
+    ap (λ bits. number (slice_range bits from to)) (bits_apart n octets)
+    ∙ ap (λ bits. number (take (to - from) bits)) (drop-append-le from front back (omega arith))
+    ∙ ap number (take-append-le (to - from) (drop from front) back (omega arith))
+
+-- by the number that these spell
 pub part-word : (n : ℕ) (octets : List ℕ) (from to : ℕ) → n ≤ length octets → from ≤ to → to ≤ 8 * n
     → part octets from to ≡ number (bits_of (take n octets)) / 2 ^ (8 * n - to) % 2 ^ (to - from)
 unfolding part
 part-word n octets from to room ordered inside =
     let front : List Bool = bits_of (take n octets) in
-    let back : List Bool = bits_of (drop n octets) in
-    let l : length front ≡ 8 * n = length-bits_of (take n octets) ∙ ap (λ m. 8 * m) (length-take-le n octets room) in
-    let whole : bits_of octets ≡ front ++ back = ap bits_of (sym (take-append-drop n octets)) ∙ bits_of-append (take n octets) (drop n octets) in
-    let dropped : drop from (front ++ back) ≡ drop from front ++ back = drop-append-le from front back (omega arith) in
-    let left : length (drop from front) ≡ length front - from = length-drop from front in
-    let taken : take (to - from) (drop from front ++ back) ≡ take (to - from) (drop from front) =
-    take-append-le (to - from) (drop from front) back (omega arith) in
-    ap (λ bits. number (slice_range bits from to)) whole
-    ∙ ap (λ bits. number (take (to - from) bits)) dropped
-    ∙ ap number taken
+    let l : length front ≡ 8 * n = length-bits_of-take n octets room in
+    part-front n octets from to room ordered inside
     ∙ number-slice front from to ordered (omega arith)
     ∙ ap (λ m. number front / 2 ^ (m - to) % 2 ^ (to - from)) l
 
@@ -91,18 +102,17 @@ unfolding part
 part-behind k octets from to room ordered =
     let front : List Bool = bits_of (take k octets) in
     let back : List Bool = bits_of (drop k octets) in
-    let l : length front ≡ 8 * k = length-bits_of (take k octets) ∙ ap (λ m. 8 * m) (length-take-le k octets room) in
-    let whole : bits_of octets ≡ front ++ back = ap bits_of (sym (take-append-drop k octets)) ∙ bits_of-append (take k octets) (drop k octets) in
     let width : 8 * k + to - (8 * k + from) ≡ to - from = omega arith in
-    ap (λ bits. number (slice_range bits (8 * k + from) (8 * k + to))) whole
+    ap (λ bits. number (slice_range bits (8 * k + from) (8 * k + to))) (bits_apart k octets)
     ∙ ap (λ m. number (take m (drop (8 * k + from) (front ++ back)))) width
-    ∙ ap (λ m. number (take (to - from) (drop (m + from) (front ++ back)))) (sym l)
+    ∙ ap (λ m. number (take (to - from) (drop (m + from) (front ++ back)))) (sym (length-bits_of-take k octets room))
     ∙ ap (λ bits. number (take (to - from) bits)) (drop-append-add front back from)
 
--- a part of n bits is below 2 ^ n
-pub part-lt : (octets : List ℕ) (from to : ℕ) → to ≤ 8 * length octets → from ≤ to → part octets from to < 2 ^ (to - from)
+-- a part of n bits is below 2 ^ n, also where bits are missing
+pub part-lt : (octets : List ℕ) (from to : ℕ) → part octets from to < 2 ^ (to - from)
 unfolding part
-part-lt octets from to inside ordered =
-    let l : length (slice_range (bits_of octets) from to) ≡ to - from =
-    length-take-le (to - from) (drop from (bits_of octets)) (omega (arith, length-drop from (bits_of octets), length-bits_of octets)) in
-    subst (λ n. number (slice_range (bits_of octets) from to) < 2 ^ n) l (number-lt (slice_range (bits_of octets) from to))
+part-lt octets from to =
+    let bits : List Bool = slice_range (bits_of octets) from to in
+    let short : length bits ≤ to - from = omega (arith, length-take (to - from) (drop from (bits_of octets))) in
+    let less : 2 ^ length bits ≤ 2 ^ (to - from) = pow_mono short in
+    omega (arith, number-lt bits)

@@ -53,8 +53,8 @@ sound layout frame long most h =
     let l : length (data_field_of layout frame) ≡ field_length layout frame =
     length-take-le (field_length layout frame) (drop (field_start frame) frame) (omega (arith, length-drop (field_start frame) frame)) in
     record {
-      channel = part-lt frame 12 15 (omega arith) (omega arith);
-      segment = part-lt frame 35 37 (omega arith) (omega arith);
+      channel = part-lt frame 12 15;
+      segment = part-lt frame 35 37;
       some = omega (arith, some, l);
       most = omega arith;
       place = let P : ℕ → Type 0 = λ n. IsPlaceBelow n (kind_of frame) in subst P (sym l) (place_inside layout frame h);

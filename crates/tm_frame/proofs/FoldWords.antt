@@ -1,20 +1,20 @@
 -- Folding in words of 64 bits.
-use Rattle.std.proofs.Common.{◌≡◌, ℕ, zero, suc, ◌+◌, ◌-◌, ◌*◌, ◌^◌, ◌/◌, ◌%◌, ◌<◌, ◌≤◌, Bool, false, List, [], ◌∷◌, ◌++◌, length, take, drop, get_or, set, refl, sym, ap, ◌∙◌, arith, length-append, append_assoc, append-nil, length-drop}
+use Rattle.std.proofs.Common.{◌≡◌, ℕ, zero, suc, ◌+◌, ◌-◌, ◌*◌, ◌^◌, ◌/◌, ◌%◌, ◌<◌, ◌≤◌, Bool, false, List, [], ◌∷◌, ◌++◌, length, take, drop, get_or, set, refl, sym, ap, ap₂, ◌∙◌, arith, length-append, append_assoc, append-nil, length-drop}
 use Rattle.std.specs.Prelude.{bit_xor, replicate}
 use Rattle.std.specs.Int.Bits.{xor_assoc}
 use Rattle.std.proofs.lemmas.Nat.{xor_comm, shl-shr, shr-shr}
 use Rattle.std.proofs.Math.Seq.{take-add}
 use Rattle.byteorder.specs.Endian.{big_number}
-use Rattle.std.proofs.lemmas.List.{length-set, take_more, take_all, take_more_set, take-replicate, length-take-le, length-replicate, replicate-append-replicate}
+use Rattle.std.proofs.lemmas.List.{length-set, length-take-le, get_or-take, drop_at, at_drop_more, take_more, take_all, take_more_set, take_rest, take-replicate, length-replicate, replicate-append-replicate}
 use Rattle.tm_bits.specs.Bits.{low_bits, bits_of, number, AreOctets}
-use Rattle.tm_bits.proofs.BitLemmas.{length-low_bits, low_bits-number, low_bits-cat, low_bits-split, length-bits_of, bits_of-append}
-use Rattle.tm_bits.proofs.PartLemmas.{octets_behind}
+use Rattle.tm_bits.proofs.BitLemmas.{length-low_bits, low_bits-mod, bits_spelled, low_bits-split, bits_of-append}
+use Rattle.tm_bits.proofs.PartLemmas.{octets_behind, length-bits_of-take}
 use Rattle.tm_frame.specs.ErrorControl.{subtract, long_division}
 use Rattle.tm_frame.specs.code.Folding.{Folds, remainder_from, shifted, bits_of_words, words_remainder}
 use Rattle.tm_frame.proofs.HeaderLemmas.{number-bits_of-take}
-use Rattle.tm_frame.proofs.Division.{subtract-zeros, remainder_from-append}
-use Rattle.tm_frame.proofs.Linear.{subtract-append, low_bits-zero, low_bits-mod, low_bits-xor, remainder_from-xor}
-use Rattle.tm_frame.proofs.Fold.{remainder-apart, zeros-passed, bits-fold}
+use Rattle.tm_frame.proofs.Division.{low_bits-zero, low_bits-shl, remainder_from-append, remainder_from-nil, remainder_from-lt, octets_apart, error_control_of-remainder}
+use Rattle.tm_frame.proofs.Linear.{passed_linear, bits_linear, after_linear, remainder_from-zeros}
+use Rattle.tm_frame.proofs.Fold.{shifted-passed, remainder-apart, zeros-passed, bits-fold}
 
 -- ---- the bits of words
 
@@ -22,18 +22,14 @@ bits_of_words-cons : (w : ℕ) (ws : List ℕ) → bits_of_words (w ∷ ws) ≡ 
 unfolding bits_of_words
 bits_of_words-cons w ws = refl
 
-pub bits_of_words-nil : bits_of_words [] ≡ []
-unfolding bits_of_words
-bits_of_words-nil = refl
-
 bits_of_words-one : (w : ℕ) → bits_of_words (w ∷ []) ≡ low_bits 64 w
-bits_of_words-one w = bits_of_words-cons w [] ∙ ap (λ l. low_bits 64 w ++ l) bits_of_words-nil ∙ append-nil (low_bits 64 w)
+unfolding bits_of_words
+bits_of_words-one w = append-nil (low_bits 64 w)
 
 pub bits_of_words-append : (xs ys : List ℕ) → bits_of_words (xs ++ ys) ≡ bits_of_words xs ++ bits_of_words ys
 unfolding bits_of_words
 bits_of_words-append [] ys = refl
-bits_of_words-append (x ∷ xs) ys =
-    ap (λ l. low_bits 64 x ++ l) (bits_of_words-append xs ys) ∙ sym (append_assoc (low_bits 64 x) (bits_of_words xs) (bits_of_words ys))
+bits_of_words-append (x ∷ xs) ys = rw (bits_of_words-append xs ys) (sym (append_assoc (low_bits 64 x) (bits_of_words xs) (bits_of_words ys)))
 
 length-bits_of_words : (ws : List ℕ) → length (bits_of_words ws) ≡ 64 * length ws
 unfolding bits_of_words
@@ -52,15 +48,8 @@ words_remainder-cons w n ws width =
 
 shifted-xor : (n x y : ℕ) → shifted n (low_bits 64 (bit_xor x y)) ≡ bit_xor (shifted n (low_bits 64 x)) (shifted n (low_bits 64 y))
 shifted-xor n x y =
-    let a : List Bool = low_bits 64 x in
-    let b : List Bool = low_bits 64 y in
-    let z : List Bool = replicate n false in
-    let same : length a ≡ length b = length-low_bits 64 x ∙ sym (length-low_bits 64 y) in
-    let padded : subtract a b ++ z ≡ subtract (a ++ z) (b ++ z) =
-    sym (subtract-append a z b z same ∙ ap (λ l. subtract a b ++ l) (subtract-zeros n z)) in
-    ap (shifted n) (low_bits-xor 64 x y)
-    ∙ ap (remainder_from 0) padded
-    ∙ remainder_from-xor 0 0 (a ++ z) (b ++ z) (length-append a z ∙ omega (arith, same) ∙ sym (length-append b z))
+    let at : (z : ℕ) → shifted n (low_bits 64 z) ≡ remainder_from (remainder_from 0 (low_bits 64 z)) (replicate n false) = λ z. shifted-passed n (low_bits 64 z) in
+    at (bit_xor x y) ∙ (after_linear (passed_linear n) (bits_linear 64)).joins x y ∙ sym (ap₂ bit_xor (at x) (at y))
 
 -- the words, with a word added without carries to the one at a place
 abbrev pub with_added : List ℕ → ℕ → ℕ → List ℕ
@@ -75,11 +64,10 @@ words_remainder-added (w ∷ ws) zero n v place =
     let b : ℕ = shifted (64 * n) (low_bits 64 v) in
     let r : ℕ = words_remainder ws in
     words_remainder-cons (bit_xor w v) n ws width
-    ∙ ap (λ k. bit_xor k r) (shifted-xor (64 * n) w v)
-    ∙ xor_assoc a b r
-    ∙ ap (bit_xor a) (xor_comm b r)
-    ∙ sym (xor_assoc a r b)
-    ∙ ap (λ k. bit_xor k b) (sym (words_remainder-cons w n ws width))
+    ∙ ap (λ k. bit_xor k r) (shifted-xor (64 * n) w v ∙ xor_comm a b)
+    ∙ xor_assoc b a r
+    ∙ ap (bit_xor b) (sym (words_remainder-cons w n ws width))
+    ∙ xor_comm b (words_remainder (w ∷ ws))
 words_remainder-added (w ∷ ws) (suc i) n v place =
     let a : ℕ = shifted (64 * length ws) (low_bits 64 w) in
     let b : ℕ = shifted (64 * n) (low_bits 64 v) in
@@ -93,36 +81,30 @@ across : (m s j x : ℕ) → s + j ≡ 64 → x < 2 ^ 64
     → shifted (64 * m + j) (low_bits 64 x)
     ≡ bit_xor (shifted (64 * suc m) (low_bits 64 (x / 2 ^ s))) (shifted (64 * m) (low_bits 64 (x * 2 ^ j % 2 ^ 64)))
 across m s j x parts fits =
-    let high : List Bool = low_bits j (x / 2 ^ s) in
-    let low : List Bool = low_bits s x in
+    let first : List Bool = low_bits 64 (x / 2 ^ s) in
+    let second : List Bool = low_bits 64 (x * 2 ^ j % 2 ^ 64) in
+    let word : List Bool = low_bits 64 x in
     let z : ℕ → List Bool = λ n. replicate n false in
-    let turned_round : 64 ≡ j + s = omega (arith, parts) in
-    let back : j + 64 * m ≡ 64 * m + j = omega arith in
-    let whole : low_bits 64 x ≡ high ++ low = ap (λ n. low_bits n x) turned_round ∙ low_bits-split j s x in
-    let gone : x / 2 ^ s / 2 ^ j ≡ 0 = shr-shr x s j ∙ ap (λ n. x / 2 ^ n) parts ∙ omega (arith, fits) in
-    let first : low_bits 64 (x / 2 ^ s) ≡ z s ++ high =
-    ap (λ n. low_bits n (x / 2 ^ s)) (sym parts) ∙ low_bits-split s j (x / 2 ^ s) ∙ ap (λ n. low_bits s n ++ high) gone ∙ ap (λ l. l ++ high) (low_bits-zero s) in
-    let none : x * 2 ^ j ≡ x * 2 ^ j + 0 = omega arith in
-    let second : low_bits 64 (x * 2 ^ j % 2 ^ 64) ≡ low ++ z j =
-    low_bits-mod 64 (x * 2 ^ j)
-    ∙ ap (λ n. low_bits n (x * 2 ^ j)) (sym parts)
-    ∙ low_bits-split s j (x * 2 ^ j)
-    ∙ ap (λ n. low_bits s n ++ low_bits j (x * 2 ^ j)) (shl-shr x j)
-    ∙ ap (λ n. low ++ low_bits j n) none
-    ∙ ap (λ l. low ++ l) (low_bits-cat j x j 0 (omega arith) ∙ low_bits-zero j) in
-    let behind : length (low ++ z (64 * m + j)) ≡ 64 * suc m =
-    length-append low (z (64 * m + j)) ∙ omega (arith, length-low_bits s x, length-replicate (64 * m + j) false, parts) in
-    ap (shifted (64 * m + j)) whole
-    ∙ ap (remainder_from 0) (append_assoc high low (z (64 * m + j)))
-    ∙ remainder-apart high (low ++ z (64 * m + j))
-    ∙ ap (λ n. bit_xor (shifted n high) (remainder_from 0 (low ++ z (64 * m + j)))) behind
-    ∙ ap (λ n. bit_xor n (remainder_from 0 (low ++ z (64 * m + j))))
-    (sym (ap (shifted (64 * suc m)) first ∙ ap (remainder_from 0) (append_assoc (z s) high (z (64 * suc m))) ∙ zeros-passed s (high ++ z (64 * suc m))))
-    ∙ ap (bit_xor (shifted (64 * suc m) (low_bits 64 (x / 2 ^ s))))
-    (sym (
-    ap (shifted (64 * m)) second
-    ∙ ap (remainder_from 0) (append_assoc low (z j) (z (64 * m)) ∙ ap (λ l. low ++ l) (replicate-append-replicate j (64 * m) false ∙ ap z back))
-    ))
+    let all : j + s ≡ 64 = omega (arith, parts) in
+    let width : 128 ≡ s + 64 + j = omega (arith, parts) in
+    let none : x / 2 ^ 64 ≡ 0 = omega (arith, fits) in
+    let high : x * 2 ^ j / 2 ^ 64 ≡ x / 2 ^ s = ap (λ n. x * 2 ^ j / 2 ^ n) (sym all) ∙ sym (shr-shr (x * 2 ^ j) j s) ∙ ap (λ n. n / 2 ^ s) (shl-shr x j) in
+    let both : z s ++ word ++ z j ≡ first ++ second =
+    sym (ap (λ l. l ++ z j) (low_bits-split s 64 x ∙ ap (λ n. low_bits s n ++ word) none ∙ ap (λ l. l ++ word) (low_bits-zero s)))
+    ∙ sym (low_bits-shl (s + 64) j x)
+    ∙ ap (λ n. low_bits n (x * 2 ^ j)) (sym width)
+    ∙ low_bits-split 64 64 (x * 2 ^ j)
+    ∙ ap₂ (λ n l. low_bits 64 n ++ l) high (sym (low_bits-mod 64 (x * 2 ^ j))) in
+    let back : 64 * m + j ≡ j + 64 * m = omega arith in
+    let behind : length (second ++ z (64 * m)) ≡ 64 * suc m =
+    length-append second (z (64 * m)) ∙ omega (arith, length-low_bits 64 (x * 2 ^ j % 2 ^ 64), length-replicate (64 * m) false) in
+    let joined : z s ++ (word ++ z (j + 64 * m)) ≡ first ++ (second ++ z (64 * m)) =
+    ap (λ l. z s ++ (word ++ l)) (sym (replicate-append-replicate j (64 * m) false)) ∙ simp (← append_assoc) (ap (λ l. l ++ z (64 * m)) both) in
+    ap (λ n. shifted n word) back
+    ∙ sym (zeros-passed s (word ++ z (j + 64 * m)))
+    ∙ ap (remainder_from 0) joined
+    ∙ remainder-apart first (second ++ z (64 * m))
+    ∙ ap (λ n. bit_xor (shifted n first) (shifted (64 * m) second)) behind
 
 -- a word is added at the place of one
 pub added_at : (ws : List ℕ) (place at x : ℕ) → place ≡ 64 * at → place + 64 ≤ 64 * length ws
@@ -167,58 +149,73 @@ word_folds width w ws first second third m n is_third is_second is_first same_n 
     let at_first : 64 * length ws - (4 * width - 64 + 64) ≡ left + 12 * width = omega arith in
     let at_second : 64 * m - (11 * width - 64 + 64) ≡ left + 5 * width = omega (arith, same_m) in
     let at_third : 64 * n - (16 * width - 64 + 64) ≡ left = omega (arith, same_n, same_m) in
-    let all : left + 16 * width ≡ 64 * length ws = omega arith in
-    let a : ℕ = shifted (left + 12 * width) bits in
-    let b : ℕ = shifted (left + 5 * width) bits in
-    let c : ℕ = shifted left bits in
+    let all : 64 * length ws ≡ left + 16 * width = omega arith in
+    let at : ℕ → ℕ = λ k. shifted k bits in
+    let a : ℕ = at (left + 12 * width) in
+    let b : ℕ = at (left + 5 * width) in
+    let c : ℕ = at left in
+    let front : words_remainder (w ∷ ws) ≡ bit_xor (bit_xor a (bit_xor b c)) r =
+    words_remainder-cons w (length ws) ws refl ∙ ap (λ k. bit_xor k r) (ap at all ∙ bits-fold width left bits folds) in
+    let one : first ≡ bit_xor r a = is_first ∙ ap (λ k. bit_xor r (at k)) at_first in
+    let two : second ≡ bit_xor (bit_xor r a) b = is_second ∙ ap₂ (λ p k. bit_xor p (at k)) one at_second in
     is_third
-    ∙ ap (λ k. bit_xor second (shifted k bits)) at_third
-    ∙ ap (λ k. bit_xor k c) (is_second ∙ ap (λ k. bit_xor first (shifted k bits)) at_second ∙ ap (λ k. bit_xor k b) (is_first ∙ ap (λ k. bit_xor r (shifted k bits)) at_first))
+    ∙ ap₂ (λ p k. bit_xor p (at k)) two at_third
     ∙ xor_assoc (bit_xor r a) b c
     ∙ xor_assoc r a (bit_xor b c)
-    ∙ ap (bit_xor r) (sym (bits-fold width left bits folds))
-    ∙ xor_comm r (shifted (left + 16 * width) bits)
-    ∙ ap (λ k. bit_xor (shifted k bits) r) all
-    ∙ sym (words_remainder-cons w (length ws) ws refl)
+    ∙ xor_comm r (bit_xor a (bit_xor b c))
+    ∙ sym front
+
+-- the words up to the next one are taken away
+pub word_taken : (ws front behind after : List ℕ) (i total : ℕ) → i < length ws → front ≡ take (i + 1) ws → behind ≡ drop (i + 1) ws
+    → words_remainder after ≡ words_remainder (get_or front i 0 ∷ behind) → words_remainder (drop i ws) ≡ total
+    → words_remainder (drop (i + 1) (front ++ after)) ≡ total
+word_taken ws front behind after i total inside first last taken before =
+    let seam : length front ≡ i + 1 = ap length first ∙ length-take-le (i + 1) ws (omega arith) in
+    let word : get_or front i 0 ≡ get_or ws i 0 = ap (λ l. get_or l i 0) first ∙ get_or-take (i + 1) ws i 0 (omega arith) in
+    ap words_remainder (drop_at front after (i + 1) seam)
+    ∙ taken
+    ∙ ap₂ (λ x l. words_remainder (x ∷ l)) word last
+    ∙ sym (at_drop_more words_remainder ws i 0 inside)
+    ∙ before
 
 -- ---- words and octets
 
 -- the bits of a word are those of its octets
 word_read : (xs : List ℕ) → AreOctets xs → 8 ≤ length xs → low_bits 64 (big_number 8 xs) ≡ bits_of (take 8 xs)
 word_read xs octets room =
-    let p : List Bool = bits_of (take 8 xs) in
-    let width : length p ≡ 64 = length-bits_of (take 8 xs) ∙ ap (λ n. 8 * n) (length-take-le 8 xs room) in
-    ap (low_bits 64) (sym (number-bits_of-take 8 xs octets room))
-    ∙ ap (λ n. low_bits n (number p)) (sym width)
-    ∙ low_bits-number p
+    bits_spelled 64 (big_number 8 xs) (bits_of (take 8 xs)) (length-bits_of-take 8 xs room) (sym (number-bits_of-take 8 xs octets room))
 
--- one word more
+-- no word, and one word more
+pub fill_none : bits_of_words [] ≡ bits_of []
+unfolding bits_of_words bits_of
+fill_none = refl
+
 pub fill_step : (ws octets : List ℕ) (i v : ℕ) → i < length ws → 8 * i + 8 ≤ length octets → AreOctets octets
-    → v ≡ big_number 8 (drop (8 * i) octets)
+    → v ≡ big_number 8 (take (length octets - 8 * i) (drop (8 * i) octets))
     → bits_of_words (take i ws) ≡ bits_of (take (8 * i) octets)
     → bits_of_words (take (i + 1) (set ws i v)) ≡ bits_of (take (8 * (i + 1)) octets)
 fill_step ws octets i v inside room are read before =
     let left : 8 ≤ length (drop (8 * i) octets) = omega (arith, length-drop (8 * i) octets) in
     let next : 8 * (i + 1) ≡ 8 * i + 8 = omega arith in
+    let word : bits_of_words (v ∷ []) ≡ bits_of (take 8 (drop (8 * i) octets)) =
+    bits_of_words-one v ∙ ap (low_bits 64) (read ∙ ap (big_number 8) (take_rest octets (8 * i))) ∙ word_read (drop (8 * i) octets) (octets_behind (8 * i) octets are) left in
     ap bits_of_words (take_more_set ws i v inside)
     ∙ bits_of_words-append (take i ws) (v ∷ [])
-    ∙ ap (λ l. l ++ bits_of_words (v ∷ [])) before
-    ∙ ap (λ l. bits_of (take (8 * i) octets) ++ l)
-    (bits_of_words-one v ∙ ap (low_bits 64) read ∙ word_read (drop (8 * i) octets) (octets_behind (8 * i) octets are) left)
+    ∙ ap₂ (λ p q. p ++ q) before word
     ∙ sym (bits_of-append (take (8 * i) octets) (take 8 (drop (8 * i) octets)))
-    ∙ ap bits_of (sym (take-add (8 * i) 8 octets))
-    ∙ ap (λ n. bits_of (take n octets)) (sym next)
+    ∙ ap bits_of (sym (ap (λ n. take n octets) next ∙ take-add (8 * i) 8 octets))
 
--- the register after one word more
-pub words_step : (ws : List ℕ) (register i after : ℕ) → i < length ws → register ≡ words_remainder (take i ws)
-    → after ≡ remainder_from register (low_bits 64 (get_or ws i 0)) → after ≡ words_remainder (take (i + 1) ws)
-words_step ws register i after inside before moved =
+-- the register after no word, after one word more, and after the last
+pub words_none : words_remainder [] ≡ 0
+unfolding bits_of_words
+words_none = remainder_from-zeros 0
+
+pub words_more : (ws : List ℕ) (i : ℕ) → i < length ws → words_remainder (take (i + 1) ws) ≡ remainder_from (words_remainder (take i ws)) (low_bits 64 (get_or ws i 0))
+words_more ws i inside =
     let w : ℕ = get_or ws i 0 in
-    rw (moved, before, take_more ws i 0 inside, bits_of_words-append (take i ws) (w ∷ []), bits_of_words-one w, remainder_from-append 0 (bits_of_words (take i ws)) (low_bits 64 w)) refl
+    rw (take_more ws i 0 inside, bits_of_words-append (take i ws) (w ∷ []), bits_of_words-one w, remainder_from-append 0 (bits_of_words (take i ws)) (low_bits 64 w)) refl
 
--- and after the last
-pub words_done : (ws : List ℕ) (register i : ℕ) → length ws ≤ i → register ≡ words_remainder (take i ws) → register ≡ words_remainder ws
-words_done ws register i all held = held ∙ ap words_remainder (take_all i ws all)
+pub ruleset word_by_word = (words_none, words_more, take_all)
 
 -- ---- the first octets
 
@@ -248,7 +245,15 @@ first_octets n octets =
     ∙ zeros-passed (8 * n) (bits_of behind)
     ∙ preset_octets octets
 
--- the words that are held first: all but one of those that zeros, the two octets and the first octets fill
+-- the last 16 words are held
+held_last : (k : ℕ) (held folded filled : List ℕ) → held ≡ take 16 (drop k folded) → words_remainder (drop (length filled - 16) folded) ≡ words_remainder filled
+    → length filled ≡ k + 16 → length folded ≡ length filled → words_remainder held ≡ words_remainder filled
+held_last k held folded filled is_held same long as_long =
+    let last : length (drop k folded) ≤ 16 = omega (arith, length-drop k folded, long, as_long) in
+    let front : k ≡ length filled - 16 = omega (arith, long) in
+    ap words_remainder (is_held ∙ take_all 16 (drop k folded) last) ∙ ap (λ j. words_remainder (drop j folded)) front ∙ same
+
+-- those that are held first: all but one of those that zeros, the two octets and the first octets fill
 pub begun : (held folded filled front preset back first : List ℕ) → held ≡ take 16 (drop 1 folded)
     → words_remainder (drop (length filled - 16) folded) ≡ words_remainder filled
     → bits_of_words filled ≡ bits_of (front ++ (preset ++ back))
@@ -257,14 +262,24 @@ pub begun : (held folded filled front preset back first : List ℕ) → held ≡
     → words_remainder held ≡ remainder_from 65535 (bits_of first)
 begun held folded filled front preset back first is_held same spelled zeros two all seventeen as_long =
     let n : ℕ = 134 - length first in
-    let octets : front ++ (preset ++ back) ≡ replicate n 0 ++ 0x84 ∷ 0xCF ∷ first =
-    ap (λ l. l ++ (preset ++ back)) (zeros ∙ take-replicate n 136 0 (omega arith))
-    ∙ ap (λ l. replicate n 0 ++ (l ++ back)) two
-    ∙ ap (λ l. replicate n 0 ++ 0x84 ∷ 0xCF ∷ l) all in
-    let sixteen : length (drop 1 folded) ≤ 16 = omega (arith, length-drop 1 folded, as_long, seventeen) in
-    let one : 1 ≡ length filled - 16 = omega (arith, seventeen) in
-    ap words_remainder (is_held ∙ take_all 16 (drop 1 folded) sixteen)
-    ∙ ap (λ k. words_remainder (drop k folded)) one
-    ∙ same
-    ∙ ap (remainder_from 0) (spelled ∙ ap bits_of octets)
-    ∙ first_octets n first
+    let octets : front ++ (preset ++ back) ≡ replicate n 0 ++ 0x84 ∷ 0xCF ∷ first = rw (zeros, two, all, take-replicate {X = ℕ} n 136 0 (omega arith)) refl in
+    held_last 1 held folded filled is_held same seventeen as_long ∙ ap (remainder_from 0) (spelled ∙ ap bits_of octets) ∙ first_octets n first
+
+-- those that are held after a block
+pub appended : (held folded front back old block : List ℕ) → held ≡ take 16 (drop 16 folded)
+    → words_remainder (drop (length (front ++ back) - 16) folded) ≡ words_remainder (front ++ back)
+    → front ≡ old → bits_of_words back ≡ bits_of block
+    → length front ≡ 16 → length back ≡ 16 → length folded ≡ length (front ++ back)
+    → words_remainder held ≡ remainder_from (words_remainder old) (bits_of block)
+appended held folded front back old block is_held same is_old spelled first last as_long =
+    held_last 16 held folded (front ++ back) is_held same (omega (arith, length-append front back)) as_long
+    ∙ ap (remainder_from 0) (bits_of_words-append front back ∙ ap₂ (λ p q. p ++ q) (ap bits_of_words is_old) spelled)
+    ∙ remainder_from-append 0 (bits_of_words old) (bits_of block)
+
+-- where no block is left, no octet is
+pub blocks_done : (words rest : List ℕ) → length rest % 128 ≡ 0 → length rest < 128 → remainder_from (words_remainder words) (bits_of rest) ≡ words_remainder words
+unfolding bits_of
+blocks_done words [] whole few = remainder_from-nil (words_remainder words) (remainder_from-lt 0 (bits_of_words words))
+blocks_done words (x ∷ rest) whole few = absurd (omega arith)
+
+pub ruleset by_blocks = (octets_apart, blocks_done, error_control_of-remainder)

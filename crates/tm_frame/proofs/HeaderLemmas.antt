@@ -1,10 +1,16 @@
 -- The parts of a frame's headers as the code reads them.
-use Rattle.std.proofs.Common.{◌≡◌, ℕ, zero, suc, ◌+◌, ◌-◌, ◌*◌, ◌/◌, ◌%◌, ◌^◌, ◌≤◌, List, [], ◌∷◌, length, take, drop, get_or, refl, sym, ap, ◌∙◌, arith, length-drop}
+use Rattle.std.proofs.Common.{◌≡◌, ℕ, zero, suc, ◌+◌, ◌-◌, ◌*◌, ◌/◌, ◌%◌, ◌^◌, ◌<◌, ◌≤◌, List, [], ◌∷◌, length, take, drop, get_or, refl, sym, ap, ◌∙◌, arith, length-drop}
+use Rattle.std.specs.Prelude.{bit_and}
+use Rattle.std.proofs.lemmas.Nat.{and_mask, one_shl}
 use Rattle.std.proofs.lemmas.List.{length-take-le, get_or-drop}
 use Rattle.byteorder.specs.Endian.{big_number, big_from}
 use Rattle.byteorder.specs.Numbers.{big_from-cons}
 use Rattle.tm_bits.specs.Bits.{AreOctets, bits_of, number, part}
 use Rattle.tm_bits.proofs.PartLemmas.{octets_after, octets_behind, number-bits_of-cons, part-word, part-behind}
+
+-- the lowest k bits
+pub masked : (n k : ℕ) → k < 64 → bit_and n (1 * 2 ^ k % 2 ^ 64 - 1) ≡ n % 2 ^ k
+masked n k small = rw (one_shl k 64 small) (and_mask n k)
 
 -- the number of the first n octets is what `byteorder` reads
 pub number-bits_of-take : (n : ℕ) (xs : List ℕ) → AreOctets xs → n ≤ length xs → number (bits_of (take n xs)) ≡ big_from 0 n xs
@@ -34,6 +40,14 @@ part_secondary frame from to octets room ordered inside =
     let left : 1 ≤ length (drop 6 frame) = omega (arith, length-drop 6 frame) in
     let value : big_number 1 (drop 6 frame) ≡ get_or frame 6 0 = rw (get_or-drop 6 frame 0 0) (omega arith) in
     rw (part-behind 6 frame from to (omega arith) ordered, part-big 1 (drop 6 frame) from to (octets_behind 6 frame octets) left ordered inside, value) refl
+
+-- the version of the secondary header, and its length field
+pub version_read : (frame : List ℕ) → AreOctets frame → 7 ≤ length frame → part frame 48 50 ≡ get_or frame 6 0 / 64
+version_read frame octets room = let small = octets.below 6 in part_secondary frame 0 2 octets room (omega arith) (omega arith) ∙ omega arith
+
+pub length_read : (frame : List ℕ) → AreOctets frame → 7 ≤ length frame → part frame 50 56 ≡ bit_and (get_or frame 6 0) 63
+length_read frame octets room =
+    part_secondary frame 2 8 octets room (omega arith) (omega arith) ∙ omega arith ∙ sym (and_mask (get_or frame 6 0) 6)
 
 -- the last two octets
 pub part_control : (frame : List ℕ) → AreOctets frame → 2 ≤ length frame

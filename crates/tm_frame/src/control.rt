@@ -14,6 +14,7 @@ const FEW: usize = 16;
 
 /// The error control of octets: the remainder of their bits and 16 zero bits by `x^16 + x^12 + x^5 + 1`. The register is preset
 /// to ones, and the most significant bit comes first.
+#[tactic(auto, using(crate::proofs::FoldWords::by_blocks))]
 pub fn error_control(octets: &[u8]) -> u16
     ensures { result ≡ error_control_of octets.now }
 {
@@ -35,6 +36,7 @@ pub fn error_control(octets: &[u8]) -> u16
 /// program. It is slower, except for few octets.
 // Apart from its callers, since its loop would take registers from the folding there.
 #[inline(never)]
+#[tactic(auto, using(crate::proofs::Entries::octet_by_octet))]
 pub fn error_control_by_table(octets: &[u8]) -> u16
     ensures { result ≡ error_control_of octets.now }
 {
@@ -46,6 +48,7 @@ pub fn error_control_by_table(octets: &[u8]) -> u16
 }
 
 /// The frame's last two octets are the error control of those before.
+#[tactic(auto, using(crate::proofs::HeaderLemmas::part_control))]
 pub fn control_holds(frame: &[u8]) -> bool
     requires { 9 ≤ length frame.now }
     ensures { result ≡ control_holds frame.now }
@@ -66,7 +69,7 @@ fn shift_octet(register: u16, octet: u8) -> u16
 // Words with the remainder of the first octets. Zeros in front change no remainder, and that of 0x84CF
 // is a register of ones.
 #[inline(always)]
-#[tactic(auto, using(crate::proofs::FoldWords::begun))]
+#[tactic(auto, using(crate::proofs::FoldWords::begun, crate::proofs::Fold::folds_64))]
 fn begin(first: &[u8]) -> [u64; 16]
     requires { length first.now < 128 }
     ensures { words_remainder result ≡ remainder_from 65535 (bits_of first.now) }
@@ -86,6 +89,7 @@ fn begin(first: &[u8]) -> [u64; 16]
 
 // Words with the remainder of those held and a block behind them.
 #[inline(always)]
+#[tactic(auto, using(crate::proofs::FoldWords::appended, crate::proofs::Fold::folds_64))]
 fn append_block(held: &mut [u64; 16], block: &[u8])
     requires { length block.now ≡ 128 }
     ensures { words_remainder held.new ≡ remainder_from (words_remainder held.old) (bits_of block.now) }
@@ -100,6 +104,7 @@ fn append_block(held: &mut [u64; 16], block: &[u8])
 
 // The remainder of the words: they are folded twice more, and the last four are divided.
 #[inline(always)]
+#[tactic(auto, using(crate::proofs::Fold::folds_32, crate::proofs::Fold::folds_16))]
 fn finish(held: [u64; 16]) -> u16
     ensures { result ≡ words_remainder held }
 {
@@ -125,6 +130,7 @@ fn copy(words: &mut [u64], from: &[u64])
 
 // The words that octets spell.
 #[inline(always)]
+#[tactic(auto, using(crate::proofs::FoldWords::fill_none, crate::proofs::FoldWords::fill_step))]
 fn fill(words: &mut [u64], octets: &[u8])
     requires { length octets.now ≡ 8 * length words.old }
     ensures len { length words.new ≡ length words.old }
@@ -137,6 +143,7 @@ fn fill(words: &mut [u64], octets: &[u8])
 
 // All words are taken away from the front, until 16 times `width` bits are left.
 #[inline(always)]
+#[tactic(auto, using(crate::proofs::FoldWords::word_taken))]
 fn fold(words: &mut [u64], width: usize)
     requires folds { Folds width }
     requires wide { 16 ≤ width }
@@ -171,6 +178,7 @@ fn fold_word(words: &mut [u64], width: usize, word: u64)
 
 // A word is added without carries so many bits behind the front.
 #[inline(always)]
+#[tactic(auto, using(crate::proofs::FoldWords::added_at, crate::proofs::FoldWords::added_across))]
 fn add_at(words: &mut [u64], place: usize, word: u64)
     requires { place + 64 ≤ 64 * length words.old }
     ensures len { length words.new ≡ length words.old }
@@ -187,6 +195,7 @@ fn add_at(words: &mut [u64], place: usize, word: u64)
 
 // The register after words, from zeros.
 #[inline(always)]
+#[tactic(auto, using(crate::proofs::FoldWords::word_by_word))]
 fn shift_words(words: &[u64]) -> u16
     ensures { result ≡ words_remainder words.now }
 {

@@ -175,6 +175,7 @@ pub fn read_good<'r>(layout: &Layout, octets: &'r [u8]) -> Frame<'r>
 }
 
 // The frame, in which no fault was found.
+#[tactic(auto, using(crate::proofs::FaultLemmas::begins_before_end, crate::proofs::FaultLemmas::sound))]
 fn good_frame<'r>(parts: &LayoutParts, frame: &'r [u8], header: &FrameHeader) -> Frame<'r>
     requires long { 9 ≤ length frame.now }
     requires header { header.now ≡ frame_header_of frame.now }

@@ -33,6 +33,7 @@ pub struct FrameHeader {
 
 impl FrameHeader {
     /// The primary header of a frame.
+    #[tactic(auto, using(crate::proofs::HeaderLemmas::part_read))]
     pub fn read(frame: &[u8]) -> FrameHeader
         requires { 6 ≤ length frame.now }
         ensures { result ≡ frame_header_of frame.now }
@@ -55,6 +56,7 @@ impl FrameHeader {
 }
 
 // The number in the bits of a word of 48 bits from `from` up to `to`, the most significant bit being bit 0.
+#[tactic(auto, using(crate::proofs::HeaderLemmas::masked))]
 fn part(word: u64, from: u32, to: u32) -> u16
     requires ordered { from ≤ to }
     requires short { to - from ≤ 16 }
@@ -67,6 +69,7 @@ fn part(word: u64, from: u32, to: u32) -> u16
 }
 
 /// The version of the secondary header, in the octet after the primary header.
+#[tactic(auto, using(crate::proofs::HeaderLemmas::version_read))]
 pub fn secondary_version(frame: &[u8]) -> u8
     requires { 9 ≤ length frame.now }
     ensures { result ≡ secondary_version_of frame.now }
@@ -89,6 +92,7 @@ pub fn secondary_length(frame: &[u8], header: &FrameHeader) -> u8
 }
 
 // The length field of the secondary header, the low six bits of its first octet.
+#[tactic(auto, using(crate::proofs::HeaderLemmas::length_read))]
 fn secondary_length_code(frame: &[u8]) -> u8
     requires { 9 ≤ length frame.now }
     ensures value { result ≡ part frame.now 50 56 }

@@ -31,6 +31,7 @@ static TABLE: [u16; 256] = [
 
 /// The entry of an octet in the table of 256: the remainder of its eight bits and 16 zero bits by `x^16 + x^12 + x^5 + 1`. The
 /// most significant bit comes first (CCSDS 132.0-B-3, 4.1.6). No bit is inverted.
+#[tactic(auto, using(crate::proofs::Entries::table_is))]
 pub fn table_entry(octet: u8) -> u16
     ensures { result ≡ table_entry_of octet }
 {

@@ -1,5 +1,5 @@
 -- Items that a sink takes one after the other: what taking the rest of them leads to.
-use Rattle.std.proofs.Common.{◌≡◌, List, [], ◌∷◌, ◌++◌, sym, subst, inl, inr, Result, Ok, Err}
+use Rattle.std.proofs.Common.{◌≡◌, List, [], ◌∷◌, ◌++◌, refl, sym, subst, inl, inr, Result, Ok, Err}
 use Rattle.tm_items.specs.declared.sink.Sink as sink
 use Rattle.tm_items.specs.Giving.{Gives}
 use Rattle.tm_items.specs.Item.{Item}
@@ -34,14 +34,6 @@ pub record Leads {S F : Type 0} (takes : S → Item → S → Type 0) (refuses :
   pub accepted : (new : S) → TakesAll takes now rest new → TakesAll takes start all new
   pub refused : (fault : F) (new : S) → RefusesOne takes refuses now rest fault new → RefusesOne takes refuses start all fault new
 
-module _ {S F : Type 0} {takes : S → Item → S → Type 0} {refuses : S → Item → F → S → Type 0} {start now : S} {all rest : List Item} (l : Leads takes refuses start now all rest) where
-  pub leads_take : (mid : S) (x : Item) (more : List Item) → rest ≡ x ∷ more → takes now x mid → Leads takes refuses start mid all more
-  leads_take mid x more e t =
-      record {
-        accepted = λ new h. l.accepted new (subst (λ (xs : List Item). TakesAll takes now xs new) (sym e) (mid, t, h));
-        refused = λ fault new h. l.refused fault new (subst (λ (xs : List Item). RefusesOne takes refuses now xs fault new) (sym e) (inr (mid, t, h)));
-      }
-
 -- a list of items taken, of those that are still to be given
 pub leads_all : {S F : Type 0} {takes : S → Item → S → Type 0} {refuses : S → Item → F → S → Type 0} {start now : S} {all rest : List Item}
     → Leads takes refuses start now all rest → (mid : S) (xs more : List Item) → rest ≡ xs ++ more → TakesAll takes now xs mid
@@ -51,6 +43,11 @@ leads_all {takes = takes} {refuses = refuses} {now = now} l mid xs more e t =
       accepted = λ new h. l.accepted new (subst (λ (ys : List Item). TakesAll takes now ys new) (sym e) (TakesAll-append takes now mid new xs more t h));
       refused = λ fault new h. l.refused fault new (subst (λ (ys : List Item). RefusesOne takes refuses now ys fault new) (sym e) (RefusesOne-right takes refuses now mid new xs more fault t h));
     }
+
+-- one item taken
+pub leads_take : {S F : Type 0} {takes : S → Item → S → Type 0} {refuses : S → Item → F → S → Type 0} {start now : S} {all rest : List Item}
+    → Leads takes refuses start now all rest → (mid : S) (x : Item) (more : List Item) → rest ≡ x ∷ more → takes now x mid → Leads takes refuses start mid all more
+leads_take l mid x more e t = leads_all l mid (x ∷ []) more e (mid, t, refl)
 
 pub leads_refused : {S F : Type 0} {takes : S → Item → S → Type 0} {refuses : S → Item → F → S → Type 0} {start now : S} {all rest : List Item}
     → Leads takes refuses start now all rest → (fault : F) (new : S) (xs more : List Item) → rest ≡ xs ++ more → RefusesOne takes refuses now xs fault new

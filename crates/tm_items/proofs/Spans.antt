@@ -44,11 +44,7 @@ joined-behind zero (x ∷ xs) =
 
 -- no octet is lost between them
 pub joined-all : (t : List ℕ) → joined (packets_in t) ≡ t
-joined-all t = joined-behind 0 t ∙ drop-none t
-  where
-    drop-none : (l : List ℕ) → drop 0 l ≡ l
-    drop-none [] = refl
-    drop-none (x ∷ xs) = refl
+joined-all t = joined-behind 0 t
 
 -- what is the front of octets has the version that they have
 version-front : (n : ℕ) (t : List ℕ) → 1 ≤ n → take 1 (take n t) ≡ take 1 t

@@ -1,12 +1,9 @@
 -- Headers leave a valid state valid.
-use Rattle.std.proofs.Common.{◌≡◌, ℕ, ◌+◌, ◌-◌, ◌*◌, ◌^◌, ◌<◌, ◌≤◌, min, false, Option, Some, None, List, [], ◌∷◌, length, drop, set, sym, subst, ◌∙◌, ⊎_elim, arith}
-use Rattle.std.specs.Prelude.{slice_range}
-use Rattle.std.proofs.Math.Pow.{pow_mono}
+use Rattle.std.proofs.Common.{◌≡◌, ℕ, ◌+◌, ◌*◌, ◌<◌, false, Option, Some, None, List, [], ◌∷◌, length, set, sym, subst, ◌∙◌, ⊎_elim, arith}
 use Rattle.std.proofs.lemmas.Bool.{cases_Bool, cases_eq, cond_both, eqb-false}
-use Rattle.std.proofs.lemmas.List.{length-set, length-take, get_or-set_other}
+use Rattle.std.proofs.lemmas.List.{length-set, get_or-set_other}
 use Rattle.std.proofs.lemmas.Grind.{get_or-set_at}
-use Rattle.tm_bits.specs.Bits.{part, bits_of}
-use Rattle.tm_bits.proofs.BitLemmas.{number-lt}
+use Rattle.tm_bits.proofs.PartLemmas.{part-lt}
 use Rattle.tm_packet.specs.declared.header.Flags.{Flags}
 use Rattle.tm_packet.specs.declared.header.Flags.TheVariants as flag
 use Rattle.tm_packet.specs.declared.tracker.PairEntry.{PairEntry}
@@ -15,25 +12,16 @@ use Rattle.tm_packet.specs.Sequence.{begun_group, opened, first_in, goes_on}
 use Rattle.tm_packet.specs.code.Single.{member_after, single_after}
 use Rattle.tm_packet.specs.Merge.{Entries, entries_after, entry_at, is_idle, key_of, Sent}
 use Rattle.tm_packet.specs.Valid.{Fits, FirstFits, IsEntry, EntryFits, AreValidEntries}
-use Rattle.tm_packet.proofs.Merging.{after-idle, after-one, after-append, after_from-none}
+use Rattle.tm_packet.proofs.Merging.{after-idle, after-one}
 
 -- ---- the numbers of a header
-
--- a part of n bits is below 2 ^ n, also where bits are missing
-part_below : (octets : List ℕ) (from to : ℕ) → part octets from to < 2 ^ (to - from)
-unfolding part
-part_below octets from to =
-    let small = number-lt (slice_range (bits_of octets) from to) in
-    let l : length (slice_range (bits_of octets) from to) ≡ min (to - from) (length (drop from (bits_of octets))) = length-take (to - from) (drop from (bits_of octets)) in
-    let less : 2 ^ length (slice_range (bits_of octets) from to) ≤ 2 ^ (to - from) = pow_mono (omega (arith, l)) in
-    omega arith
 
 -- the header in any octets, also in too few, is in range
 pub header-range : (octets : List ℕ) → AreInRange (packet_header_of octets)
 header-range octets = record {
-  application = part_below octets 5 16;
-  count = part_below octets 18 32;
-  data_length = part_below octets 32 48;
+  application = part-lt octets 5 16;
+  count = part-lt octets 18 32;
+  data_length = part-lt octets 32 48;
 }
 
 -- and so it fits on each of the eight channels
@@ -95,14 +83,3 @@ after-valid s p valid fits small =
     (set-valid s p (single_after (entry_at s (key_of p)) p.header) valid fits h
     (entry-valid (entry_at s (key_of p)) p.header (valid.fit (key_of p)) small)))
     (cases_Bool (is_idle p.header))
-
--- headers that have a key and a count
-abbrev pub AllSent : List Sent → Type 0
-AllSent [] = Unit {0}
-AllSent (p ∷ ps) = Fits p × (p.header.count < 16384) × AllSent ps
-
--- and so do more
-pub all_after-valid : (s : Entries) (ps : List Sent) → AreValidEntries s → AllSent ps → AreValidEntries (entries_after s ps)
-all_after-valid s [] valid h = subst AreValidEntries (sym (after_from-none 0 s)) valid
-all_after-valid s (p ∷ ps) valid h =
-    subst AreValidEntries (sym (after-append s (p ∷ []) ps)) (all_after-valid (entries_after s (p ∷ [])) ps (after-valid s p valid h.0 h.1) h.2)

@@ -2,6 +2,7 @@
 use Rattle.std.proofs.Common.{◌≡◌, ℕ, zero, suc, ◌+◌, ◌-◌, ◌*◌, ◌%◌, ◌<◌, ◌≤◌, Bool, true, false, ◌||◌, ◌==◌, Option, Some, None, Ok, length, subst, List, [], ◌∷◌, drop, set, refl, sym, ap, ◌∙◌, arith}
 use Rattle.std.specs.Prelude.{nat_lt, replicate, if◌then◌else◌}
 use Rattle.std.proofs.lemmas.Bool.{ne_eqb, not-true, and_parts, eq-eqb, ltb-true, ltb-false}
+use Rattle.std.proofs.lemmas.Bool.Decides.{nat_tests}
 use Rattle.std.proofs.lemmas.List.{drop-drop}
 use Rattle.tm_packet.specs.declared.tracker.PairEntry.{PairEntry}
 use Rattle.tm_packet.specs.declared.tracker.RawEntry.{RawEntry}
@@ -20,35 +21,16 @@ raws-step n at xs h =
     rw (one, drop-drop 6 (2 + 6 * at) xs, next) refl
 
 -- the fault of the entries from one on: of its values, of its order, or of those after it
-fault_here : (before : Option ℕ) (n at : ℕ) (xs : List ℕ) (r : RawEntry) → at < n → r ≡ raw_of (drop (2 + 6 * at) xs)
+pub fault_more : (before : Option ℕ) (n at : ℕ) (xs : List ℕ) → at < n
     → fault_after before (raws (n - at) (drop (2 + 6 * at) xs))
-    ≡ (if has_values r then (if rises before r.key then fault_after (Some r.key) (raws (n - (at + 1)) (drop (2 + 6 * (at + 1)) xs)) else Some Order) else Some Value)
-fault_here before n at xs r h e =
-    rw (raws-step n at xs h, e) refl
-
-pub fault_of_values : (before : Option ℕ) (n at : ℕ) (xs : List ℕ) (r : RawEntry) → at < n → r ≡ raw_of (drop (2 + 6 * at) xs)
-    → has_values r ≡ false → fault_after before (raws (n - at) (drop (2 + 6 * at) xs)) ≡ Some Value
-fault_of_values before n at xs r h e values = fault_here before n at xs r h e ∙ rw values refl
-
-pub fault_of_order : (before : Option ℕ) (n at : ℕ) (xs : List ℕ) (r : RawEntry) → at < n → r ≡ raw_of (drop (2 + 6 * at) xs)
-    → has_values r ≡ true → rises before r.key ≡ false → fault_after before (raws (n - at) (drop (2 + 6 * at) xs)) ≡ Some Order
-fault_of_order before n at xs r h e values order = fault_here before n at xs r h e ∙ rw values (rw order refl)
-
-pub fault_of_rest : (before : Option ℕ) (n at : ℕ) (xs : List ℕ) (r : RawEntry) → at < n → r ≡ raw_of (drop (2 + 6 * at) xs)
-    → has_values r ≡ true → rises before r.key ≡ true
-    → fault_after before (raws (n - at) (drop (2 + 6 * at) xs)) ≡ fault_after (Some r.key) (raws (n - (at + 1)) (drop (2 + 6 * (at + 1)) xs))
-fault_of_rest before n at xs r h e values order = fault_here before n at xs r h e ∙ rw values (rw order refl)
+    ≡ (if has_values (raw_of (drop (2 + 6 * at) xs)) then (if rises before (raw_of (drop (2 + 6 * at) xs)).key then fault_after (Some (raw_of (drop (2 + 6 * at) xs)).key) (raws (n - (at + 1)) (drop (2 + 6 * (at + 1)) xs)) else Some Order) else Some Value)
+fault_more before n at xs h =
+    rw (raws-step n at xs h) refl
 
 -- where there is no fault the first entry has its values and its order, and there is none after it
 pub all_right : (before : Option ℕ) (r : RawEntry) (rs : List RawEntry) → fault_after before (r ∷ rs) ≡ None
     → (has_values r ≡ true) × (rises before r.key ≡ true) × (fault_after (Some r.key) rs ≡ None)
-all_right before r rs h = by_tests (has_values r) (rises before r.key) (fault_after (Some r.key) rs) h
-  where
-    by_tests : (values order : Bool) (rest : Option TrackerFault) → (if values then (if order then rest else Some Order) else Some Value) ≡ None
-        → (values ≡ true) × (order ≡ true) × (rest ≡ None)
-    by_tests true true rest h = (refl, refl, h)
-    by_tests true false rest h = cc
-    by_tests false order rest h = cc
+all_right before r rs h = grind (arith, nat_tests)
 
 valued_each : (n i : ℕ) (before : Option ℕ) (xs : List ℕ) → fault_after before (raws n xs) ≡ None → i < n → has_values (raw_of (drop (6 * i) xs)) ≡ true
 valued_each zero i before xs h inside = absurd (omega arith)
@@ -58,9 +40,8 @@ valued_each (suc n) (suc i) before xs h inside =
     rw (behind, ← drop-drop (6 * i) 6 xs) (valued_each n i (Some (raw_of xs).key) (drop 6 xs) (all_right before (raw_of xs) (raws n (drop 6 xs)) h).2 (omega arith))
 
 -- each entry of faultless octets has its values
-pub valued_at : (n i : ℕ) (xs : List ℕ) → fault_after None (raws n (drop 2 xs)) ≡ None → i < n → has_values (raw_of (drop (2 + 6 * i) xs)) ≡ true
-valued_at n i xs h inside =
-    rw (← drop-drop (6 * i) 2 xs) (valued_each n i None (drop 2 xs) h inside)
+pub valued_at : (n i : ℕ) (xs : List ℕ) (r : RawEntry) → r ≡ raw_of (drop (2 + 6 * i) xs) → fault_after None (raws n (drop 2 xs)) ≡ None → i < n → has_values r ≡ true
+valued_at n i xs r e h inside = rw (e, ← drop-drop (6 * i) 2 xs) (valued_each n i None (drop 2 xs) h inside)
 
 -- what holds of entries that are all there and have no fault holds of what is read
 pub read_faultless : (P : DecodedEntries → Type 0) (xs : List ℕ) (d : DecodedEntries) → entries_decoding_of xs ≡ Ok d
@@ -84,16 +65,7 @@ pub record AreValues (r : RawEntry) : Type 0 where
   pub first : (nat_lt r.first 16384 || (r.first == 65535)) ≡ true
 
 pub values_of : (r : RawEntry) → has_values r ≡ true → AreValues r
-values_of r h =
-    let one = and_parts _ _ h in
-    let two = and_parts _ _ one.0 in
-    let three = and_parts _ _ two.0 in
-    record {
-      key = ltb-true r.key 16384 three.0;
-      packets = not-true (r.key % 2048 == 2047) three.1;
-      count = ltb-true r.count 16384 two.1;
-      first = one.1;
-    }
+values_of r h = grind (arith, nat_tests)
 
 abbrev pub last_in : RawEntry → PairEntry
 last_in r = record { count = r.count; first = first_count_of r.first }
@@ -132,9 +104,12 @@ state-begin s n xs h =
 
 -- the entries from one on are put where those after it are
 pub state-step : (old new : Entries) (n at : ℕ) (xs : List ℕ) (r : RawEntry) → 1 ≤ at → at ≤ n
-    → old ≡ state_of (raws (n - at) (drop (2 + 6 * at) xs)) → r ≡ raw_of (drop (2 + 6 * (at - 1)) xs) → r.key < 16384
-    → new ≡ set old r.key (Some (last_in r))
+    → old ≡ state_of (raws (n - at) (drop (2 + 6 * at) xs)) → r ≡ raw_of (drop (2 + 6 * (at - 1)) xs)
+    → new ≡ set old r.key (Some (last_in r)) → fault_after None (raws n (drop 2 xs)) ≡ None
     → new ≡ state_of (raws (n - (at - 1)) (drop (2 + 6 * (at - 1)) xs))
-state-step old new n at xs r some inside before e key set_entry =
+state-step old new n at xs r some inside before e set_entry faultless =
     let back : at - 1 + 1 ≡ at = omega arith in
-    rw (set_entry, before, state-set r (raws (n - at) (drop (2 + 6 * at) xs)) key, e, raws-step n (at - 1) xs (omega arith), back) refl
+    let values : AreValues r = values_of r (valued_at n (at - 1) xs r e faultless (omega arith)) in
+    rw (set_entry, before, state-set r (raws (n - at) (drop (2 + 6 * at) xs)) values.key, e, raws-step n (at - 1) xs (omega arith), back) refl
+
+pub ruleset entries_set = (state-begin, state-step, valued_at)

@@ -20,23 +20,15 @@ on channel application flags count =
 
 -- ---- headers
 
-header_short : header_reading_of (0x00 ∷ 0x64 ∷ 0xC0 ∷ 0x00 ∷ 0x00 ∷ []) ≡ Err packet_fault.Short
-header_short = refl
-
-header_version : header_reading_of (0xE0 ∷ 0 ∷ 0 ∷ 0 ∷ 0 ∷ 0 ∷ []) ≡ Err packet_fault.Version
-unfolding part number bits_of low_bits
-header_version = refl
-
 hundred : Fields
 hundred = record { telecommand = false; secondary = false; application = 100; flags = flag.Unsegmented; count = 0; data_length = 0 }
 
-header_read : header_reading_of (0x00 ∷ 0x64 ∷ 0xC0 ∷ 0x00 ∷ 0x00 ∷ 0x00 ∷ []) ≡ Ok hundred
+headers : (header_reading_of (0x00 ∷ 0x64 ∷ 0xC0 ∷ 0x00 ∷ 0x00 ∷ []) ≡ Err packet_fault.Short)
+    × (header_reading_of (0xE0 ∷ 0 ∷ 0 ∷ 0 ∷ 0 ∷ 0 ∷ []) ≡ Err packet_fault.Version)
+    × (header_reading_of (0x00 ∷ 0x64 ∷ 0xC0 ∷ 0x00 ∷ 0x00 ∷ 0x00 ∷ []) ≡ Ok hundred)
+    × (header_bits hundred ≡ bits_of (0x00 ∷ 0x64 ∷ 0xC0 ∷ 0x00 ∷ 0x00 ∷ 0x00 ∷ []))
 unfolding hundred part number bits_of low_bits
-header_read = refl
-
-header_written : header_bits hundred ≡ bits_of (0x00 ∷ 0x64 ∷ 0xC0 ∷ 0x00 ∷ 0x00 ∷ 0x00 ∷ [])
-unfolding hundred bits_of low_bits
-header_written = refl
+headers = (refl, refl, refl, refl)
 
 -- ---- sequence counts and groups
 
@@ -58,14 +50,11 @@ open_at_end = refl
 
 -- ---- spelling
 
-spelling_short : entries_decoding_of (0 ∷ []) ≡ Err Short
-spelling_short = refl
-
-spelling_order : entries_decoding_of (0 ∷ 2 ∷ 0x08 ∷ 0x64 ∷ 0 ∷ 1 ∷ 0xFF ∷ 0xFF ∷ 0 ∷ 0x64 ∷ 0 ∷ 1 ∷ 0xFF ∷ 0xFF ∷ []) ≡ Err Order
-spelling_order = refl
-
-spelling_value : entries_decoding_of (0 ∷ 1 ∷ 0x07 ∷ 0xFF ∷ 0 ∷ 0 ∷ 0xFF ∷ 0xFF ∷ []) ≡ Err Value
-spelling_value = refl
+-- octets are missing, keys are out of order, and a key is that of idle packets
+spelling_faults : (entries_decoding_of (0 ∷ []) ≡ Err Short)
+    × (entries_decoding_of (0 ∷ 2 ∷ 0x08 ∷ 0x64 ∷ 0 ∷ 1 ∷ 0xFF ∷ 0xFF ∷ 0 ∷ 0x64 ∷ 0 ∷ 1 ∷ 0xFF ∷ 0xFF ∷ []) ≡ Err Order)
+    × (entries_decoding_of (0 ∷ 1 ∷ 0x07 ∷ 0xFF ∷ 0 ∷ 0 ∷ 0xFF ∷ 0xFF ∷ []) ≡ Err Value)
+spelling_faults = (refl, refl, refl)
 
 spelling_of_two : entries_spelling (entries_after no_entries (on 1 100 flag.Unsegmented 0 ∷ on 1 100 flag.Unsegmented 1 ∷ [])) ≡ 0 ∷ 1 ∷ 0x08 ∷ 0x64 ∷ 0 ∷ 1 ∷ 0xFF ∷ 0xFF ∷ []
 unfolding no_entries

@@ -2,9 +2,10 @@
 use Rattle.std.proofs.Common.{◌≡◌, ℕ, ◌+◌, ◌-◌, ◌*◌, ◌/◌, ◌%◌, ◌^◌, ◌<◌, ◌≤◌, Bool, true, false, ◌==◌, List, [], ◌∷◌, ◌++◌, length, drop, get_or, refl, sym, ap, ◌∙◌, arith, length-drop, length-append, append_assoc}
 use Rattle.std.proofs.lemmas.Bool.{eq-eqb, le-ltb}
 use Rattle.std.proofs.lemmas.List.{append-nil, get_or-drop}
-use Rattle.std.specs.Prelude.{Ok}
+use Rattle.std.specs.Prelude.{Ok, bit_and}
+use Rattle.std.proofs.lemmas.Nat.{and_mask, one_shl}
 use Rattle.tm_bits.specs.Bits.{AreOctets, low_bits, bits_of, number, digit, part}
-use Rattle.tm_bits.proofs.BitLemmas.{length-low_bits, number-low_bits, number-append, low_bits-number, low_bits-cat, low_bits-split, bits_of-one}
+use Rattle.tm_bits.proofs.BitLemmas.{length-low_bits, number-low_bits, number-append, low_bits-mod, low_bits-split, bits_of-one, bits_spelled}
 use Rattle.tm_bits.proofs.PartLemmas.{octets_behind, number-bits_of-cons, part-word, part-behind}
 use Rattle.tm_packet.specs.declared.header.Flags.{Flags}
 use Rattle.tm_packet.specs.declared.header.Flags.TheVariants as flag
@@ -44,19 +45,14 @@ part_read octets word from to read are room whole ordered inside is =
     let width : to - from ≡ to - 16 * at - (from - 16 * at) = omega arith in
     rw (is, whole, behind, width, ← part_in_word (2 * at) octets (from - 16 * at) (to - 16 * at) are room (omega arith) (omega arith), first, last) refl
 
-low_bits-mod : (k x : ℕ) → low_bits k (x % 2 ^ k) ≡ low_bits k x
-low_bits-mod k x =
-    let whole : x ≡ x / 2 ^ k * 2 ^ k + x % 2 ^ k = omega arith in
-    sym (ap (low_bits k) whole ∙ low_bits-cat k (x / 2 ^ k) k (x % 2 ^ k) (omega arith))
+-- the lowest k bits
+pub masked : (n k : ℕ) → k < 32 → bit_and n (1 * 2 ^ k % 2 ^ 32 - 1) ≡ n % 2 ^ k
+masked n k small = rw (one_shl k 32 small) (and_mask n k)
 
 -- the bits of a word's two octets
 pub word_octets : (w : ℕ) → low_bits 8 (w / 256 % 256) ++ low_bits 8 (w % 256) ≡ low_bits 16 w
 word_octets w =
     rw (low_bits-mod 8 (w / 256), low_bits-mod 8 w) (sym (low_bits-split 8 8 w))
-
--- the bits of the number that the bits spell
-pub bits_spelled : (n w : ℕ) (xs : List Bool) → length xs ≡ n → w ≡ number xs → low_bits n w ≡ xs
-bits_spelled n w xs l e = rw (e, ← l) (low_bits-number xs)
 
 pub identification_bits : (t s : Bool) (a : ℕ) → a < 2048
     → low_bits 16 (digit t * 4096 + digit s * 2048 + a) ≡ low_bits 3 0 ++ t ∷ s ∷ low_bits 11 a

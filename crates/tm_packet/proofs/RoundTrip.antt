@@ -1,12 +1,10 @@
 -- What is written of a header that was read.
-use Rattle.std.proofs.Common.{◌≡◌, ℕ, zero, suc, ◌+◌, ◌-◌, ◌*◌, ◌^◌, ◌<◌, ◌≤◌, Bool, true, false, ◌==◌, List, [], ◌∷◌, ◌++◌, length, take, drop, refl, sym, ap, ◌∙◌, subst, arith, length-drop, length-append, append_assoc}
-use Rattle.std.proofs.lemmas.List.{take-append-drop, length-take-le, take-append-le, drop-append-le, take_all, drop-drop}
-use Rattle.std.proofs.Math.Seq.{drop-append_seam}
+use Rattle.std.proofs.Common.{◌≡◌, ℕ, zero, suc, ◌+◌, ◌-◌, ◌*◌, ◌^◌, ◌<◌, ◌≤◌, Bool, true, false, ◌==◌, List, [], ◌∷◌, ◌++◌, length, take, drop, refl, sym, ap, ◌∙◌, arith, length-drop, append_assoc}
+use Rattle.std.proofs.lemmas.List.{take-append-drop, length-take-le, take_all, drop-drop}
 use Rattle.tm_bits.specs.Bits.{AreOctets, low_bits, bits_of, number, part}
 use Rattle.tm_packet.specs.Header.{Fields, flags_of, flags_number, packet_version_of, packet_header_of, header_bits}
-use Rattle.tm_bits.proofs.BitLemmas.{length-low_bits, number-low_bits, number-lt, length-bits_of, bits_of-append}
-use Rattle.tm_bits.proofs.PartLemmas.{octets_after}
-use Rattle.tm_packet.proofs.HeaderLemmas.{bits_spelled}
+use Rattle.tm_bits.proofs.BitLemmas.{number-low_bits, bits_spelled}
+use Rattle.tm_bits.proofs.PartLemmas.{octets_after, length-bits_of-take, part-front, part-lt}
 
 cut : (b : List Bool) (i n : ℕ) → drop i b ≡ take n (drop i b) ++ drop (i + n) b
 cut b i n = rw (← drop-drop n i b) (sym (take-append-drop n (drop i b)))
@@ -40,59 +38,48 @@ written_parts h v t s a f n d ev et es ea ef en ed =
     rw (← ev, ← et, ← es, ← ea, ← ef, ← en, ← ed) (simp append_assoc)
 
 -- a part lies in the first six octets
-part_of_six : (octets : List ℕ) (from to : ℕ) → 6 ≤ length octets → from ≤ to → to ≤ 48
-    → part octets from to ≡ number (take (to - from) (drop from (bits_of (take 6 octets))))
+part_of_six : (octets : List ℕ) (from n : ℕ) → 6 ≤ length octets → from + n ≤ 48
+    → (part octets from (from + n) ≡ number (take n (drop from (bits_of (take 6 octets))))) × (length (take n (drop from (bits_of (take 6 octets)))) ≡ n)
 unfolding part
-part_of_six octets from to room ordered inside =
-    let front : List Bool = bits_of (take 6 octets) in
-    let back : List Bool = bits_of (drop 6 octets) in
-    let l : length front ≡ 48 = length-bits_of (take 6 octets) ∙ ap (λ m. 8 * m) (length-take-le 6 octets room) in
-    let whole : bits_of octets ≡ front ++ back = ap bits_of (sym (take-append-drop 6 octets)) ∙ bits_of-append (take 6 octets) (drop 6 octets) in
-    let dropped : drop from (front ++ back) ≡ drop from front ++ back = drop-append-le from front back (omega arith) in
-    let left : length (drop from front) ≡ length front - from = length-drop from front in
-    rw (whole, dropped, take-append-le (to - from) (drop from front) back (omega arith)) refl
+part_of_six octets from n room inside =
+    let b : List Bool = bits_of (take 6 octets) in
+    let width : from + n - from ≡ n = omega arith in (
+      part-front 6 octets from (from + n) room (omega arith) inside ∙ ap (λ m. number (take m (drop from b))) width,
+      length-take-le n (drop from b) (omega (arith, length-drop from b, length-bits_of-take 6 octets room)),
+    )
+
+bits_again : (octets : List ℕ) (from n : ℕ) → 6 ≤ length octets → from + n ≤ 48 → low_bits n (part octets from (from + n)) ≡ take n (drop from (bits_of (take 6 octets)))
+bits_again octets from n room inside =
+    let six = part_of_six octets from n room inside in bits_spelled n (part octets from (from + n)) (take n (drop from (bits_of (take 6 octets)))) six.1 six.0
+
+flag_again : (octets : List ℕ) (from : ℕ) → 6 ≤ length octets → from + 1 ≤ 48 → (part octets from (from + 1) == 1) ∷ [] ≡ take 1 (drop from (bits_of (take 6 octets)))
+flag_again octets from room inside =
+    let six = part_of_six octets from 1 room inside in ap (λ n. (n == 1) ∷ []) six.0 ∙ single (take 1 (drop from (bits_of (take 6 octets)))) six.1
 
 pub written_again : (octets : List ℕ) → AreOctets octets → 6 ≤ length octets → packet_version_of octets ≡ 0 → header_bits (packet_header_of octets) ≡ bits_of (take 6 octets)
 written_again octets are room version =
     let b : List Bool = bits_of (take 6 octets) in
-    let l : length b ≡ 48 = length-bits_of (take 6 octets) ∙ ap (λ m. 8 * m) (length-take-le 6 octets room) in
-    let long : (i n : ℕ) → i + n ≤ 48 → length (take n (drop i b)) ≡ n =
-    λ i n h. length-take-le n (drop i b) (omega (arith, length-drop i b)) in
-    let bits : (i j n : ℕ) → i ≤ j → j ≤ 48 → j - i ≡ n → low_bits n (part octets i j) ≡ take n (drop i b) =
-    λ i j n ordered inside width.
-    bits_spelled n _ (take n (drop i b)) (long i n (omega arith)) (part_of_six octets i j room ordered inside ∙ rw width refl) in
-    let flag_bit : (i j : ℕ) → i + 1 ≡ j → j ≤ 48 → (part octets i j == 1) ∷ [] ≡ take 1 (drop i b) =
-    λ i j next inside.
-    let w : j - i ≡ 1 = omega arith in
-    rw (part_of_six octets i j room (omega arith) inside, w) (single (take 1 (drop i b)) (long i 1 (omega arith))) in
-    let few : part octets 16 18 < 4 =
-    subst (λ n. n < 4) (sym (part_of_six octets 16 18 room (omega arith) (omega arith)))
-    (let small = number-lt (take 2 (drop 16 b)) in let w = long 16 2 (omega arith) in subst (λ n. number (take 2 (drop 16 b)) < 2 ^ n) w small) in
+    let bits : (from n : ℕ) → from + n ≤ 48 → low_bits n (part octets from (from + n)) ≡ take n (drop from b) = λ from n inside. bits_again octets from n room inside in
     written_parts (packet_header_of octets) (take 3 b) (take 1 (drop 3 b)) (take 1 (drop 4 b)) (take 11 (drop 5 b)) (take 2 (drop 16 b)) (take 14 (drop 18 b)) (take 16 (drop 32 b))
-    (ap (low_bits 3) (sym version) ∙ bits 0 3 3 (omega arith) (omega arith) (omega arith))
-    (flag_bit 3 4 (omega arith) (omega arith)) (flag_bit 4 5 (omega arith) (omega arith))
-    (bits 5 16 11 (omega arith) (omega arith) (omega arith))
-    (ap (low_bits 2) (two_bits (part octets 16 18) few) ∙ bits 16 18 2 (omega arith) (omega arith) (omega arith))
-    (bits 18 32 14 (omega arith) (omega arith) (omega arith))
-    (bits 32 48 16 (omega arith) (omega arith) (omega arith))
-    ∙ parts b l
+    (ap (low_bits 3) (sym version) ∙ bits 0 3 (omega arith))
+    (flag_again octets 3 room (omega arith)) (flag_again octets 4 room (omega arith))
+    (bits 5 11 (omega arith))
+    (ap (low_bits 2) (two_bits (part octets 16 18) (part-lt octets 16 18)) ∙ bits 16 2 (omega arith))
+    (bits 18 14 (omega arith))
+    (bits 32 16 (omega arith))
+    ∙ parts b (length-bits_of-take 6 octets room)
 
 -- octets of the same bits are the same
 pub bits_tell : (xs ys : List ℕ) → AreOctets xs → AreOctets ys → bits_of xs ≡ bits_of ys → xs ≡ ys
-unfolding bits_of
+unfolding bits_of low_bits
 bits_tell [] [] hx hy e = refl
-bits_tell [] (y ∷ ys) hx hy e =
-    let n = simp (length-append, length-low_bits) at (ap length e) in absurd (omega arith)
-bits_tell (x ∷ xs) [] hx hy e =
-    let n = simp (length-append, length-low_bits) at (ap length e) in absurd (omega arith)
+bits_tell [] (y ∷ ys) hx hy e = cc
+bits_tell (x ∷ xs) [] hx hy e = cc
 bits_tell (x ∷ xs) (y ∷ ys) hx hy e =
-    let front : (z : ℕ) (zs : List Bool) → take 8 (low_bits 8 z ++ zs) ≡ low_bits 8 z =
-    λ z zs. take-append-le 8 (low_bits 8 z) zs (omega (arith, length-low_bits 8 z)) ∙ take_all 8 (low_bits 8 z) (omega (arith, length-low_bits 8 z)) in
-    let back : (z : ℕ) (zs : List Bool) → drop 8 (low_bits 8 z ++ zs) ≡ zs =
-    λ z zs. ap (λ n. drop n (low_bits 8 z ++ zs)) (sym (length-low_bits 8 z)) ∙ drop-append_seam (low_bits 8 z) zs in
-    let low : low_bits 8 x ≡ low_bits 8 y = sym (front x (bits_of xs)) ∙ ap (take 8) e ∙ front y (bits_of ys) in
-    let rest : bits_of xs ≡ bits_of ys = sym (back x (bits_of xs)) ∙ ap (drop 8) e ∙ back y (bits_of ys) in
+    let low : low_bits 8 x ≡ low_bits 8 y = cc in
+    let rest : bits_of xs ≡ bits_of ys = cc in
     let sx : x < 256 = hx.below 0 in
     let sy : y < 256 = hy.below 0 in
-    let same : x ≡ y = (let n = sym (number-low_bits 8 x) ∙ ap number low ∙ number-low_bits 8 y in omega arith) in
+    let n = sym (number-low_bits 8 x) ∙ ap number low ∙ number-low_bits 8 y in
+    let same : x ≡ y = omega arith in
     rw (same, bits_tell xs ys (octets_after x xs hx) (octets_after y ys hy) rest) refl

@@ -9,6 +9,7 @@ use Rattle.tm_packet.specs.declared.tracker.PairEntry.{PairEntry}
 use Rattle.tm_packet.specs.declared.tracker.RawEntry.{RawEntry}
 use Rattle.tm_packet.specs.Spelling.{KeyedEntry, DecodedEntries, first_number, first_count_of, entries_from, spelled, entries_spelling, raws, rises, fault_after, entry_at_key, entries_at_keys, state_of, entries_decoding_of}
 use Rattle.tm_bits.specs.Bits.{two_octets, two_at}
+use Rattle.tm_packet.proofs.SpellingLemmas.{decoding-spelling, no_prefix}
 use Rattle.tm_packet.proofs.DecodingLemmas.{read_faultless, AreValues, values_of, all_right, last_in, places-above}
 
 -- ---- the entries that numbers are
@@ -47,27 +48,20 @@ absent key k (r ∷ rs) h low =
     let above = h.0 in
     rw (ne_eqb r.key key (λ (e : r.key ≡ key). omega arith)) (absent key (r.key + 1) rs h.2 (omega arith))
 
--- what the entries say of all keys from one on has just these entries: where the first has a greater key, and where it has this key
-greater : (n k : ℕ) (r : RawEntry) (rs : List RawEntry) → Rising k (r ∷ rs) → k < r.key
-    → entries_from (k + 1) (entries_at_keys n (k + 1) (r ∷ rs)) ≡ map entry (r ∷ rs) → entries_from k (entries_at_keys (suc n) k (r ∷ rs)) ≡ map entry (r ∷ rs)
-greater n k r rs h above rest =
-    rw (ne_eqb r.key k (λ (e : r.key ≡ k). omega arith), absent k (r.key + 1) rs h.2 (omega arith)) rest
-
-same : (n k : ℕ) (r : RawEntry) (rs : List RawEntry) → r.key ≡ k → entries_from (k + 1) (entries_at_keys n (k + 1) rs) ≡ map entry rs
-    → entries_from k (entries_at_keys (suc n) k (r ∷ rs)) ≡ map entry (r ∷ rs)
-same n k r rs e rest =
-    rw (eq-eqb r.key k e, places-above n (k + 1) r rs (omega arith), rest, e) refl
-
+-- what the entries say of all keys from one on has just these entries
 entries_back : (n k : ℕ) (rs : List RawEntry) → Rising k rs → k + n ≡ 16384 → entries_from k (entries_at_keys n k rs) ≡ map entry rs
 entries_back zero k [] h all = refl
 entries_back zero k (r ∷ rs) h all = let a = h.0 in let b = h.1 in absurd (omega arith)
 entries_back (suc n) k [] h all = entries_back n (k + 1) [] tt (omega arith)
 entries_back (suc n) k (r ∷ rs) h all =
     let least = h.0 in
-    ⊎_elim (λ (above : k < r.key). greater n k r rs h above (entries_back n (k + 1) (r ∷ rs) (omega arith, h.1, h.2) (omega arith)))
+    ⊎_elim
+    (λ (above : k < r.key).
+    rw (ne_eqb r.key k (λ (e : r.key ≡ k). omega arith), absent k (r.key + 1) rs h.2 (omega arith)) (entries_back n (k + 1) (r ∷ rs) (omega arith, h.1, h.2) (omega arith)))
     (λ (below : r.key ≤ k).
     let e : r.key ≡ k = omega arith in
-    same n k r rs e (entries_back n (k + 1) rs (subst (λ (m : ℕ). Rising (m + 1) rs) e h.2) (omega arith)))
+    let rest = entries_back n (k + 1) rs (subst (λ (m : ℕ). Rising (m + 1) rs) e h.2) (omega arith) in
+    rw (eq-eqb r.key k e, places-above n (k + 1) r rs (omega arith), rest, e) refl)
     (cases_lt k r.key)
 
 -- ---- the octets of entries
@@ -123,3 +117,5 @@ pub spelled-again : (octets : List ℕ) (d : DecodedEntries) → AreOctets octet
 spelled-again octets d h e =
     read_faultless (λ (d : DecodedEntries). (d.octets ≤ length octets) × (take d.octets octets ≡ entries_spelling d.entries)) octets d e
     (λ long none. (long, faultless octets (two_at octets 0) h refl long none))
+
+pub ruleset spells = (decoding-spelling, no_prefix, spelled-again)

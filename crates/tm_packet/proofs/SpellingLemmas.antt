@@ -134,3 +134,5 @@ no_prefix s t rest vs vt e =
     let held : decoded s (length (entries_spelling s)) ≡ decoded t (length (entries_spelling t)) = cc in
     let sum : length (entries_spelling s) + length rest ≡ length (entries_spelling t) = sym (length-append (entries_spelling s) rest) ∙ ap length e in
     (ap (λ (d : DecodedEntries). d.entries) held, nil_from_length rest (omega (arith, ap (λ (d : DecodedEntries). d.octets) held)))
+
+pub ruleset lengths = (length-spelled)

@@ -1,15 +1,10 @@
 -- The states that the code makes are valid.
-use Rattle.std.proofs.Common.{◌≡◌, ℕ, ◌+◌, ◌-◌, ◌*◌, ◌<◌, zero, suc, Option, None, List, [], ◌∷◌, ◌++◌, length, get_or, take, refl, sym, arith, subst}
+use Rattle.std.proofs.Common.{◌≡◌, ℕ, ◌+◌, ◌-◌, ◌*◌, zero, suc, Option, None, [], ◌++◌, length, get_or, take, refl, sym, subst}
 use Rattle.std.proofs.Math.ListN.{replicate}
 use Rattle.std.proofs.lemmas.List.{length-replicate}
 use Rattle.tm_packet.specs.declared.tracker.PairEntry.{PairEntry}
 use Rattle.tm_packet.specs.Merge.{Entries, entry_at, no_entries}
 use Rattle.tm_packet.specs.Valid.{AreValidEntries, EntryFits}
-
-pub get_or-any : {A : Type 0} (xs : List A) (i : ℕ) (d e : A) → i < length xs → get_or xs i d ≡ get_or xs i e
-get_or-any [] i d e h = absurd (omega arith)
-get_or-any (x ∷ xs) zero d e h = refl
-get_or-any (x ∷ xs) (suc i) d e h = get_or-any xs i d e (omega arith)
 
 get_or-none : (n i : ℕ) → get_or (replicate {A = Option PairEntry} n None) i None ≡ None
 get_or-none zero i = refl

@@ -251,6 +251,7 @@ pub fn write_header(header: Header) -> [u8; 6]
 }
 
 // The number in the header's bits from `from` up to, not with, `to`, which lie in one word of 16 bits.
+#[tactic(auto, using(crate::proofs::HeaderLemmas::masked, crate::proofs::HeaderLemmas::part_read))]
 fn bits(octets: &[u8], from: usize, to: usize) -> u16
     requires ordered { from ≤ to }
     requires one_word { to ≤ 16 * (from / 16) + 16 }

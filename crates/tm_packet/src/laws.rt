@@ -10,6 +10,7 @@ ghost use Rattle.tm_packet.specs.Valid.{AreValidEntries, AllHeadersFit};
 
 /// Joining, from every state. The notes of two lists of headers, one after the other, are those of the first, and then those of
 /// the second from the entries that it leaves. So are the entries.
+#[tactic(auto, using(crate::proofs::Merging::joins))]
 pub fn joining()
     ensures notes_join { (s : Entries) (a b : List Sent) → AreValidEntries s → AllHeadersFit b →
         sequence.notes s (a ++ b) ≡ sequence.notes s a ++ sequence.notes (sequence.entries_after s a) b }
@@ -18,6 +19,7 @@ pub fn joining()
 {}
 
 /// Round trip: a header that is read and written again has the bits of its six octets, and octets are told by their bits.
+#[tactic(auto, using(crate::proofs::RoundTrip::written_again, crate::proofs::RoundTrip::bits_tell))]
 pub fn round_trip()
     ensures written_again { (octets : List ℕ) → AreOctets octets → 6 ≤ length octets → packet_version_of octets ≡ 0 →
         header_bits (packet_header_of octets) ≡ bits_of (take 6 octets) }
@@ -26,6 +28,7 @@ pub fn round_trip()
 
 /// Spelling: what is spelled is read again as the same entries, whatever follows it, and no spelling is a proper prefix of another.
 /// Octets that are read as entries begin with their spelling, which is the octets that were read.
+#[tactic(auto, using(crate::proofs::Spelled::spells))]
 pub fn spellings()
     ensures read_again { (s : Entries) (rest : List ℕ) → AreValidEntries s →
         entries_decoding_of (entries_spelling s ++ rest) ≡ Ok (record { entries = s; octets = length (entries_spelling s) }) }

@@ -104,6 +104,7 @@ impl Tracker {
 
     /// Takes the next header of a channel, and answers its notes. An idle packet has none and changes nothing. Time is constant, and
     /// no memory is taken.
+    #[tactic(auto, using(crate::proofs::Merging::one_header))]
     pub fn take(&mut self, channel: u8, header: Header) -> Notes
         requires { channel < 8 }
         ensures notes { sequence.notes self.old (record { channel = channel; header = header } ∷ []) ≡ result ∷ [] }
@@ -119,6 +120,7 @@ impl Tracker {
     }
 
     /// Takes the next header of a channel if it has no notes, and answers whether it has none. A header that has notes is left to `take`.
+    #[tactic(auto, using(crate::proofs::Merging::one_header))]
     pub fn add_without_notes(&mut self, channel: u8, header: Header) -> bool
         requires { channel < 8 }
         ensures none { Decides result (sequence.notes self.old (record { channel = channel; header = header } ∷ []) ≡ [] ∷ []) }
@@ -171,6 +173,7 @@ impl Tracker {
     /// # Errors
     ///
     /// `NoMemory` where the vector's capacity is too small for it and can't be made larger; the octets are then as they were.
+    #[tactic(auto, using(crate::proofs::SpellingLemmas::lengths))]
     pub fn encode(&self, out: &mut Vec<u8>) -> Result<(), NoMemory>
         ensures appended { OnOk result (out.new.items ≡ out.old.items ++ entries_spelling self.now) }
         ensures unchanged { OnErr result (out.new.items ≡ out.old.items) }
@@ -183,7 +186,7 @@ impl Tracker {
             Err(_) => return Err(NoMemory),
         }
         push_two(out, count as u16);
-        self.push_entries(out);
+        self.push_entries(count, out);
         Ok(())
     }
 
@@ -212,6 +215,7 @@ impl Tracker {
     }
 
     // Puts the entries in their places. The first entry of a key counts: hence from the last to the first.
+    #[tactic(auto, using(crate::proofs::DecodingLemmas::entries_set))]
     fn set_entries(&mut self, octets: &[u8], count: usize)
         requires room { 2 + 6 * count ≤ length octets.now }
         requires faultless { fault_after None (raws count (drop 2 octets.now)) ≡ None }
@@ -256,14 +260,21 @@ impl Tracker {
         count
     }
 
-    // Appends the entries, for which there is room.
-    fn push_entries(&self, out: &mut Vec<u8>)
-        requires { vec_len out.old + 6 * length (entries_from 0 self.now) ≤ vec_capacity out.old }
+    // Appends the entries, so many, for which there is room. What lies behind the last of them isn't looked at.
+    #[tactic(auto, using(std::proofs::lemmas::List::nil_from_length))]
+    fn push_entries(&self, count: usize, out: &mut Vec<u8>)
+        requires all { count ≡ length (entries_from 0 self.now) }
+        requires room { vec_len out.old + 6 * count ≤ vec_capacity out.old }
         ensures { out.new.items ≡ out.old.items ++ spelled (entries_from 0 self.now) }
     {
+        let mut left = count;
         for key in 0..PAIRS {
+            if left == 0 {
+                return;
+            }
             if let Some(last) = self.entries[key] {
                 push_entry(out, key as u16, &last);
+                left -= 1;
             }
         }
     }
@@ -315,6 +326,7 @@ fn entry_count(octets: &[u8]) -> Option<usize>
 }
 
 // What is wrong first in the entries.
+#[tactic(auto, using(crate::proofs::DecodingLemmas::fault_more))]
 fn entry_fault(octets: &[u8], count: usize) -> Option<TrackerFault>
     requires { 2 + 6 * count ≤ length octets.now }
     ensures { result ≡ fault_after None (raws count (drop 2 octets.now)) }

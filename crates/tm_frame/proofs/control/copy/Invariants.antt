@@ -1,5 +1,5 @@
-use Rattle.std.proofs.Common.{◌≡◌, take}
+use Rattle.std.proofs.Common.{◌≡◌, ◌<◌, ℕ, get_or}
 use Rattle.tm_frame.proofs.control.copy.Given as goal
 
 abbrev pub invariant-loop-i : goal.invariant-loop-i
-invariant-loop-i l = take l.i l.words ≡ take l.i l.from
+invariant-loop-i l = (k : ℕ) → k < l.i → get_or l.words k 0 ≡ get_or l.from k 0

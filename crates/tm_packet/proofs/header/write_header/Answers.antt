@@ -1,7 +1,7 @@
 use Rattle.std.proofs.Common.{◌≡◌, ◌+◌, ◌*◌, ◌<◌, Bool, true, false, refl, ap, ◌∙◌, subst, arith}
 use Rattle.std.specs.Int.{from_bool}
 use Rattle.tm_bits.specs.Bits.{digit}
-use Rattle.tm_packet.specs.Header.{Fields, AreInRange, header_bits}
+use Rattle.tm_packet.specs.Header.{AreInRange, header_bits}
 use Rattle.tm_packet.proofs.HeaderLemmas.{written, reading_back}
 use Rattle.tm_packet.proofs.header.write_header.Goals as goal
 
@@ -11,15 +11,7 @@ digit_from false = refl
 
 pub returns-clause-bits : goal.returns-clause-bits
 returns-clause-bits c =
-    let h : Fields = record {
-      telecommand = c.header.inside.telecommand;
-      secondary = c.header.inside.secondary;
-      application = c.header.inside.application;
-      flags = c.header.inside.flags;
-      count = c.header.inside.count;
-      data_length = c.header.inside.data_length;
-    } in
-    written h c.to_be_bytes.result c.to_be_bytes-2.result c.to_be_bytes-3.result _ _ c.header.invariant
+    written _ c.to_be_bytes.result c.to_be_bytes-2.result c.to_be_bytes-3.result _ _ c.header.invariant
     (ap (λ n. n * 4096 + c.from-2.result * 2048 + c.header.inside.application) (c.from.ensures ∙ digit_from c.header.inside.telecommand)
     ∙ ap (λ n. digit c.header.inside.telecommand * 4096 + n * 2048 + c.header.inside.application) (c.from-2.ensures ∙ digit_from c.header.inside.secondary))
     (ap (λ n. n * 16384 + c.header.inside.count) c.number.ensures.value)

@@ -65,6 +65,7 @@ fn unaligned_octets(
 }
 
 // So many octets of a packet from a bit on, which is the first of an octet.
+#[tactic(auto, using(crate::proofs::NumberLemmas::octets_at_border))]
 fn aligned_octets(packet: &[u8], at: u32, count: u32) -> &[u8]
     requires border { at % 8 ≡ 0 }
     requires within { at + 8 * count ≤ bits_in packet.now }

@@ -1,19 +1,12 @@
 use Rattle.std.proofs.Common.{◌≡◌, ◌+◌, ◌*◌, ◌^◌, ◌<◌, add-one, refl, arith}
 use Rattle.std.proofs.Math.Nat.{pow-succ'}
 use Rattle.tm_bits.specs.Bits.{bits_of, number}
-use Rattle.tm_fields.proofs.NumberLemmas.{small_power, spelled_next}
+use Rattle.tm_fields.proofs.NumberLemmas.{spelled_next}
 use Rattle.tm_fields.proofs.numbers.big_endian.Goals as goal
 
 pub loop-octet-init : goal.loop-octet-init
 unfolding bits_of number
 loop-octet-init c = (refl, omega arith)
-
-pub overflow_mul-all : goal.overflow_mul-all
-overflow_mul-all c = omega (arith, c.loop-octet.invariant.1, small_power c.loop-octet.octet-index (omega arith))
-
-pub overflow_add-all : goal.overflow_add-all
-overflow_add-all c =
-    omega (arith, c.from.ensures, c.type_inv.octets c.loop-octet.octet-index, c.loop-octet.invariant.1, small_power c.loop-octet.octet-index (omega arith))
 
 pub loop-octet-preserved : goal.loop-octet-preserved
 loop-octet-preserved c =

@@ -1,15 +1,7 @@
 use Rattle.std.proofs.Common.{◌≡◌, ◌+◌, ◌*◌, ◌^◌, add-one, arith}
 use Rattle.std.proofs.Math.Nat.{pow-succ'}
-use Rattle.tm_fields.proofs.Digits.{digit_at, digits_number_at, power_of_ten}
+use Rattle.tm_fields.proofs.Digits.{digit_at, digits_number_at}
 use Rattle.tm_fields.proofs.words.digits_value.Goals as goal
-
-pub overflow_mul-all : goal.overflow_mul-all
-overflow_mul-all c = omega (arith, c.loop-digit.invariant.1, power_of_ten c.loop-digit.digit-index (omega arith))
-
-pub overflow_add-all : goal.overflow_add-all
-overflow_add-all c =
-    let digit = digit_at c.args.text.now c.loop-digit.digit-index c.requires.digits (omega arith) in
-    omega (arith, digit, c.loop-digit.invariant.1, power_of_ten c.loop-digit.digit-index (omega arith), c.from.ensures)
 
 pub loop-digit-preserved : goal.loop-digit-preserved
 loop-digit-preserved c =

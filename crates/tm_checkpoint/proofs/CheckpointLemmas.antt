@@ -186,20 +186,6 @@ joined w a b c d first second third last = rw (last, third, second, first) refl
 
 -- ---- read
 
-pub resumed_in : (s : Rules) (octets : List ℕ) (v : Version) (between : List ℕ) (r : Result JobState CheckpointFault) → version_in s octets ≡ Ok v → between ≡ inner v octets
-    → with_state s between (state_in v s between) ≡ r → resumed s octets ≡ r
-unfolding resumed
-resumed_in s octets v between r around is e = rw (around, ← is) e
-
--- where the state is read, what is said of the octets behind it decides
-pub resumed_behind : (s : Rules) (octets : List ℕ) (v : Version) (between : List ℕ) (state : State) (read : ℕ) (r : Result JobState CheckpointFault) → version_in s octets ≡ Ok v
-    → between ≡ inner v octets → state_in v s between ≡ Ok (record { state = state; octets = read })
-    → with_entries s state (length (take (length between - read) (drop read between))) (sequence.entries_decoding_of (take (length between - read) (drop read between))) ≡ r
-    → resumed s octets ≡ r
-resumed_behind s octets v between state read r around is there e =
-    let all = take_all (length between - read) (drop read between) (omega (arith, length-drop read between)) in
-    resumed_in s octets v between r around is (rw there (rw all at e))
-
 none_left : (b : Bool) (found : CheckpointFault) (made job : JobState) → (if b then Err found else Ok made) ≡ Ok job → (b ≡ false) × (made ≡ job)
 none_left true found made job e = cc
 none_left false found made job e = (refl, cc)

@@ -60,3 +60,6 @@ state_spelled Three rules octets d h e = let (inside, same) = spelled-again rule
 state_spelled _ rules octets d h e =
     let (inside, same, none) = old-spelled-again rules octets d h e in
     record { inside = inside; same = same; kept = ap (λ (m : Option ℕ). record d.state { master = m }) (sym none) }
+
+pub read_inside : (v : Version) (rules : Rules) (octets : List ℕ) (d : DecodedState) → AreOctets octets → state_in v rules octets ≡ Ok d → d.octets ≤ length octets
+read_inside v rules octets d h e = (state_spelled v rules octets d h e).inside

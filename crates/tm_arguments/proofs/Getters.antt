@@ -11,11 +11,16 @@ use Rattle.clap.specs.Lexer.{without_minus}
 use Rattle.clap.specs.Matches.{ReadsOne}
 use Rattle.clap.specs.Values.{read_as}
 use Rattle.clap.specs.ValueTests.{accepts}
-use Rattle.clap.specs.Words.{Text}
+use Rattle.clap.specs.Words.{Text, first_of, first_value, rows_of}
 use Rattle.clap.specs.declared.builder.value_parser.Reading.TheVariants.{WithoutMinus}
 use Rattle.clap.proofs.CallerReads.{signed_reads}
+use Rattle.clap.specs.declared.parser.matches.Found.{Found}
 use Rattle.clap.proofs.ValueTestLemmas.{accepts-Accepts}
+use Rattle.clap.proofs.WalkLemmas.{first_value-rows}
 use Rattle.tm_arguments.specs.CommandLine.{IsBetween, numbers, number_spelled}
+
+pub value_read : (f : Found) (id : Text) → first_value f id ≡ first_of id (rows_of f)
+value_read f id = first_value-rows f id
 
 -- ---- numbers
 

@@ -1,7 +1,7 @@
 -- A definition is told by the records that are kept.
-use Rattle.std.proofs.Common.{◌≡◌, ℕ, zero, suc, true, List, [], ◌∷◌, ◌++◌, length, take, refl, ap, ◌∙◌, arith, inl, inr, Ok, Err, length-take-le}
+use Rattle.std.proofs.Common.{◌≡◌, ◌≤◌, ℕ, zero, suc, true, List, [], ◌∷◌, ◌++◌, length, take, refl, ap, ◌∙◌, arith, inl, inr, Ok, Err, length-take-le}
 use Rattle.std.proofs.lemmas.Bool.{cases_lt, lt-ltb}
-use Rattle.std.proofs.lemmas.List.{take_all}
+use Rattle.std.proofs.lemmas.List.{take_all, take-append-le}
 use Rattle.tm_fields.specs.Columns.{ReadOrFault, and_then_read, columns_of}
 use Rattle.tm_fields.specs.Reading.{definition_of, fields_in, fields_under}
 use Rattle.tm_fields.specs.Table.{same_lengths, table}
@@ -13,6 +13,13 @@ pub take_again : {A : Type 0} (n : ℕ) (xs : List A) (x : A) → take n (take n
 take_again zero xs x = refl
 take_again (suc n) [] x = refl
 take_again (suc n) (y ∷ xs) x = rw (take_again n xs x) refl
+
+-- all are kept of no more than count, and no other where so many are kept
+pub kept_short : (records : List (List (List ℕ))) → length records ≤ 1002 → kept records ≡ records
+kept_short records h = take_all 1002 records h
+
+pub kept_full : (records : List (List (List ℕ))) (values : List (List ℕ)) → length records ≡ 1002 → kept (records ++ (values ∷ [])) ≡ records
+kept_full records values h = take-append-le 1002 records (values ∷ []) (omega arith) ∙ take_all 1002 records (omega arith)
 
 same_next : {A B : Type 0} (r : ReadOrFault A) (f g : A → ReadOrFault B) → ((x : A) → f x ≡ g x) → and_then_read r f ≡ and_then_read r g
 same_next (Ok x) f g h = h x

@@ -1,5 +1,5 @@
 -- Numbers in octets that hold them, and octets of eight bits.
-use Rattle.std.proofs.Common.{◌≡◌, ℕ, zero, suc, ◌+◌, ◌-◌, ◌*◌, ◌/◌, ◌%◌, ◌^◌, ◌<◌, ◌≤◌, List, [], ◌∷◌, ◌++◌, length, get_or, take, drop, refl, sym, ap, ◌∙◌, arith, length-drop, append_assoc}
+use Rattle.std.proofs.Common.{◌≡◌, ℕ, zero, suc, ◌+◌, ◌-◌, ◌*◌, ◌/◌, ◌%◌, ◌^◌, ◌<◌, ◌≤◌, List, [], ◌∷◌, length, get_or, take, drop, refl, ap, ◌∙◌, arith, length-drop}
 use Rattle.std.specs.Prelude.{bit_and, slice_range}
 use Rattle.std.specs.Int.Bits.{mask_lt}
 use Rattle.std.proofs.lemmas.Nat.{and_mask}
@@ -17,18 +17,18 @@ use Rattle.tm_fields.specs.Numbers.{octets_at}
 number_of_one : (x : ℕ) → x < 256 → number (bits_of (x ∷ [])) ≡ x
 number_of_one x h = ap number (bits_of-one x) ∙ number-low_bits 8 x ∙ omega arith
 
--- one octet more at the end
-pub number_more : (octets : List ℕ) (x : ℕ) → x < 256 → number (bits_of (octets ++ (x ∷ []))) ≡ 256 * number (bits_of octets) + x
-number_more octets x h =
-    let size : length (bits_of (x ∷ [])) ≡ 8 = length-bits_of (x ∷ []) in
-    rw (bits_of-append octets (x ∷ []), number-append (bits_of octets) (bits_of (x ∷ [])), size, number_of_one x h) (omega arith)
+pub none_spelled : number (bits_of []) ≡ 0
+unfolding bits_of number
+none_spelled = refl
 
 -- the octets up to one more place
-pub spelled_next : (octets : List ℕ) (all i x : ℕ) → i < length octets → x ≡ get_or octets i 0 → x < 256 → all ≡ number (bits_of (take i octets))
-    → 256 * all + x ≡ number (bits_of (take (i + 1) octets))
-spelled_next octets all i x inside is small e =
-    let more : take (i + 1) octets ≡ take i octets ++ (x ∷ []) = take_more octets i 0 inside ∙ ap (λ y. take i octets ++ (y ∷ [])) (sym is) in
-    rw (more, number_more (take i octets) x small, e) refl
+pub one_more_spelled : (octets : List ℕ) (i : ℕ) → i < length octets → get_or octets i 0 < 256
+    → number (bits_of (take (i + 1) octets)) ≡ 256 * number (bits_of (take i octets)) + get_or octets i 0
+one_more_spelled octets i inside small =
+    let x : ℕ = get_or octets i 0 in
+    let size : length (bits_of (x ∷ [])) ≡ 8 = length-bits_of (x ∷ []) in
+    rw (take_more octets i 0 inside, bits_of-append (take i octets) (x ∷ []), number-append (bits_of (take i octets)) (bits_of (x ∷ [])), size, number_of_one x small)
+    (omega arith)
 
 pub power_most : (n i : ℕ) → 0 < n → i ≤ 8 → n ^ i ≤ n ^ 8
 power_most n i some few = pow-le-pow_right {n = n} some few
@@ -105,10 +105,10 @@ octets_at_border octets at count are border h =
     let size : at / 8 + count - at / 8 ≡ count = omega arith in
     rw (size, ← octets_from octets (at / 8) count are h, place) refl
 
--- one octet more
-pub octets_more : (octets text new : List ℕ) (at count i x : ℕ) → i < count → new ≡ text ++ (x ∷ []) → x ≡ part octets (at + 8 * i) (at + 8 * i + 8)
-    → new ++ octets_at octets (at + 8 * (i + 1)) (count - (i + 1)) ≡ text ++ octets_at octets (at + 8 * i) (count - i)
-octets_more octets text new at count i x h e is =
+-- one octet in front of the others
+pub octets_next : (octets : List ℕ) (at count i : ℕ) → i < count
+    → octets_at octets (at + 8 * i) (count - i) ≡ part octets (at + 8 * i) (at + 8 * i + 8) ∷ octets_at octets (at + 8 * (i + 1)) (count - (i + 1))
+octets_next octets at count i h =
     let left : count - i ≡ suc (count - (i + 1)) = omega arith in
     let place : at + 8 * (i + 1) ≡ at + 8 * i + 8 = omega arith in
-    rw (e, left, place, is) (append_assoc text (part octets (at + 8 * i) (at + 8 * i + 8) ∷ []) (octets_at octets (at + 8 * i + 8) (count - (i + 1))))
+    rw (left, place) refl

@@ -47,6 +47,7 @@ fn push_signed(text: &mut Vec<u8>, bits: u32, number: u64) -> Result<(), AllocEr
 }
 
 // So many octets from a bit on, of a field that doesn't begin on an octet's border.
+#[tactic(auto, using(std::proofs::lemmas::Grind::common_steps, crate::proofs::NumberLemmas::octets_next))]
 fn unaligned_octets(
     alloc: Global,
     packet: &[u8],

@@ -80,7 +80,7 @@ pub(crate) fn is_array_text(text: &[u8]) -> bool
 }
 
 // The number that at most nine digits spell.
-#[tactic(auto, using(crate::proofs::Digits::digit_at, crate::proofs::NumberLemmas::power_most))]
+#[tactic(auto, using(std::proofs::lemmas::Grind::common_steps, crate::proofs::Digits::digit_at, crate::proofs::Digits::digits_number_at, crate::proofs::NumberLemmas::power_most))]
 fn digits_value(text: &[u8]) -> u32
     requires few { length text.now ≤ 9 }
     requires digits { list_all is_ascii_digit text.now ≡ true }

@@ -1,104 +1,69 @@
 -- Worked examples: what the definitions say of known arguments.
-use Rattle.std.proofs.Common.{◌≡◌, true, List, [], ◌∷◌, Some, None, option_map, refl, codes}
+use Rattle.std.proofs.Common.{◌≡◌, true, List, [], ◌∷◌, Some, option_map, refl, codes}
 use Rattle.clap.specs.Words.{Text}
 use Rattle.clap.specs.declared.error.kind.ErrorKind.TheVariants.{DisplayHelp, DisplayVersion, MissingRequiredArgument, UnknownArgument, ValueValidation}
 use Rattle.clap.proofs.OnLiterals.{clap_on_literals}
+use Rattle.tm_arguments.specs.declared.request.Action.{Action}
 use Rattle.tm_arguments.specs.declared.request.Action.TheVariants.{Frames, Packets, Extract, Split, Fields, Summary}
-use Rattle.tm_arguments.specs.CommandLine.{faults_of, is_accepted, lacks_checkpoint, matches_of, plan_of}
+use Rattle.tm_arguments.specs.declared.request.Plan.{Plan}
+use Rattle.tm_arguments.specs.CommandLine.{faults_of, is_accepted, lacks_checkpoint, matches_of, plan_of, plan_with}
 
-arguments : List Text
-arguments = codes "frames" ∷ codes "--settings" ∷ codes "s" ∷ codes "r" ∷ []
+-- a subcommand, the settings `s`, and more
+abbrev with_settings : Text → List Text → List Text
+with_settings command more = command ∷ codes "--settings" ∷ codes "s" ∷ more
 
-words_taken : is_accepted arguments ≡ true
-unfolding clap_on_literals is_accepted arguments
+-- the plan with these settings, and nothing else but an action
+abbrev only : Action → Plan
+only action = record (plan_with [] action) { settings = Some (codes "s") }
+
+words_taken : is_accepted (with_settings (codes "frames") (codes "r" ∷ [])) ≡ true
+unfolding clap_on_literals is_accepted
 words_taken = refl
 
-words_planned : plan_of arguments ≡ Some (record { action = Frames; recording = Some (codes "r"); settings = Some (codes "s"); report = None; checkpoint = None; stop_after = None; resume = None; dir = None; definition = None; apid = None })
-unfolding clap_on_literals matches_of arguments
-words_planned = refl
-
-packets_planned : plan_of (codes "packets" ∷ codes "r" ∷ codes "--settings" ∷ codes "s" ∷ [])
-    ≡ Some (record { action = Packets; recording = Some (codes "r"); settings = Some (codes "s"); report = None; checkpoint = None; stop_after = None; resume = None; dir = None; definition = None; apid = None })
+listings_planned : (plan_of (with_settings (codes "frames") (codes "r" ∷ [])) ≡ Some (record (only Frames) { recording = Some (codes "r") }))
+    × (plan_of (codes "packets" ∷ codes "r" ∷ codes "--settings" ∷ codes "s" ∷ []) ≡ Some (record (only Packets) { recording = Some (codes "r") }))
+    × (plan_of (with_settings (codes "summary") (codes "r" ∷ [])) ≡ Some (record (only Summary) { recording = Some (codes "r") }))
 unfolding clap_on_literals matches_of
-packets_planned = refl
+listings_planned = (refl, refl, refl)
 
-report_planned : plan_of (codes "extract" ∷ codes "--settings" ∷ codes "s" ∷ codes "--report" ∷ codes "x" ∷ [])
-    ≡ Some (record { action = Extract; recording = None; settings = Some (codes "s"); report = Some (codes "x"); checkpoint = None; stop_after = None; resume = None; dir = None; definition = None; apid = None })
+files_planned : (plan_of (with_settings (codes "extract") (codes "--report" ∷ codes "x" ∷ [])) ≡ Some (record (only Extract) { report = Some (codes "x") }))
+    × (plan_of (with_settings (codes "split") (codes "--dir" ∷ codes "d" ∷ [])) ≡ Some (record (only Split) { dir = Some (codes "d") }))
+    × (plan_of (with_settings (codes "fields") (codes "--definition" ∷ codes "d" ∷ codes "--apid" ∷ codes "200" ∷ []))
+    ≡ Some (record (only Fields) { definition = Some (codes "d"); apid = Some 200 }))
 unfolding clap_on_literals matches_of
-report_planned = refl
+files_planned = (refl, refl, refl)
 
-one_word_more : faults_of (codes "frames" ∷ codes "--settings" ∷ codes "s" ∷ codes "r" ∷ codes "extra" ∷ []) ≡ UnknownArgument ∷ []
-unfolding clap_on_literals faults_of
-one_word_more = refl
-
-report_of_frames : faults_of (codes "frames" ∷ codes "--settings" ∷ codes "s" ∷ codes "--report" ∷ codes "x" ∷ []) ≡ UnknownArgument ∷ []
-unfolding clap_on_literals faults_of
-report_of_frames = refl
-
-settings_missing : faults_of (codes "frames" ∷ codes "r" ∷ []) ≡ MissingRequiredArgument ∷ []
-unfolding clap_on_literals faults_of
-settings_missing = refl
-
-report_alone : faults_of (codes "extract" ∷ codes "--report" ∷ codes "x" ∷ []) ≡ MissingRequiredArgument ∷ []
-unfolding clap_on_literals faults_of
-report_alone = refl
-
-split_planned : plan_of (codes "split" ∷ codes "--settings" ∷ codes "s" ∷ codes "--dir" ∷ codes "d" ∷ [])
-    ≡ Some (record { action = Split; recording = None; settings = Some (codes "s"); report = None; checkpoint = None; stop_after = None; resume = None; dir = Some (codes "d"); definition = None; apid = None })
-unfolding clap_on_literals matches_of
-split_planned = refl
-
-folder_missing : faults_of (codes "split" ∷ codes "--settings" ∷ codes "s" ∷ []) ≡ MissingRequiredArgument ∷ []
-unfolding clap_on_literals faults_of
-folder_missing = refl
-
-fields_planned : plan_of (codes "fields" ∷ codes "--settings" ∷ codes "s" ∷ codes "--definition" ∷ codes "d" ∷ codes "--apid" ∷ codes "200" ∷ [])
-    ≡ Some (record { action = Fields; recording = None; settings = Some (codes "s"); report = None; checkpoint = None; stop_after = None; resume = None; dir = None; definition = Some (codes "d"); apid = Some 200 })
-unfolding clap_on_literals matches_of
-fields_planned = refl
-
-apid_beyond : faults_of (codes "fields" ∷ codes "--settings" ∷ codes "s" ∷ codes "--definition" ∷ codes "d" ∷ codes "--apid" ∷ codes "2048" ∷ []) ≡ ValueValidation ∷ []
-unfolding clap_on_literals faults_of
-apid_beyond = refl
-
-summary_planned : plan_of (codes "summary" ∷ codes "--settings" ∷ codes "s" ∷ codes "r" ∷ [])
-    ≡ Some (record { action = Summary; recording = Some (codes "r"); settings = Some (codes "s"); report = None; checkpoint = None; stop_after = None; resume = None; dir = None; definition = None; apid = None })
-unfolding clap_on_literals matches_of
-summary_planned = refl
-
-report_of_summary : faults_of (codes "summary" ∷ codes "--settings" ∷ codes "s" ∷ codes "--report" ∷ codes "x" ∷ []) ≡ UnknownArgument ∷ []
-unfolding clap_on_literals faults_of
-report_of_summary = refl
-
-definition_missing : faults_of (codes "fields" ∷ codes "--settings" ∷ codes "s" ∷ codes "--apid" ∷ codes "200" ∷ []) ≡ MissingRequiredArgument ∷ []
-unfolding clap_on_literals faults_of
-definition_missing = refl
-
-stop_planned : plan_of (codes "extract" ∷ codes "--settings" ∷ codes "s" ∷ codes "--checkpoint" ∷ codes "c" ∷ codes "--stop-after" ∷ codes "3" ∷ codes "--resume" ∷ codes "b" ∷ [])
-    ≡ Some (record { action = Extract; recording = None; settings = Some (codes "s"); report = None; checkpoint = Some (codes "c"); stop_after = Some 3; resume = Some (codes "b"); dir = None; definition = None; apid = None })
+stop_planned : plan_of (with_settings (codes "extract") (codes "--checkpoint" ∷ codes "c" ∷ codes "--stop-after" ∷ codes "3" ∷ codes "--resume" ∷ codes "b" ∷ []))
+    ≡ Some (record (only Extract) { checkpoint = Some (codes "c"); stop_after = Some 3; resume = Some (codes "b") })
 unfolding clap_on_literals matches_of
 stop_planned = refl
 
-stop_alone : option_map lacks_checkpoint (plan_of (codes "extract" ∷ codes "--settings" ∷ codes "s" ∷ codes "--stop-after" ∷ codes "3" ∷ [])) ≡ Some true
+stop_alone : option_map lacks_checkpoint (plan_of (with_settings (codes "extract") (codes "--stop-after" ∷ codes "3" ∷ []))) ≡ Some true
 unfolding clap_on_literals matches_of
 stop_alone = refl
 
-stop_at_none : faults_of (codes "extract" ∷ codes "--settings" ∷ codes "s" ∷ codes "--stop-after" ∷ codes "0" ∷ []) ≡ ValueValidation ∷ []
+-- one word too many, options of other subcommands, and the version behind a subcommand
+unknown : (faults_of (with_settings (codes "frames") (codes "r" ∷ codes "extra" ∷ [])) ≡ UnknownArgument ∷ [])
+    × (faults_of (with_settings (codes "frames") (codes "--report" ∷ codes "x" ∷ [])) ≡ UnknownArgument ∷ [])
+    × (faults_of (with_settings (codes "summary") (codes "--report" ∷ codes "x" ∷ [])) ≡ UnknownArgument ∷ [])
+    × (faults_of (with_settings (codes "frames") (codes "--stop-after" ∷ codes "3" ∷ [])) ≡ UnknownArgument ∷ [])
+    × (faults_of (codes "packets" ∷ codes "--version" ∷ []) ≡ UnknownArgument ∷ [])
 unfolding clap_on_literals faults_of
-stop_at_none = refl
+unknown = (refl, refl, refl, refl, refl)
 
-stop_of_frames : faults_of (codes "frames" ∷ codes "--settings" ∷ codes "s" ∷ codes "--stop-after" ∷ codes "3" ∷ []) ≡ UnknownArgument ∷ []
+-- no settings, no folder, and no definition
+missing : (faults_of (codes "frames" ∷ codes "r" ∷ []) ≡ MissingRequiredArgument ∷ [])
+    × (faults_of (codes "extract" ∷ codes "--report" ∷ codes "x" ∷ []) ≡ MissingRequiredArgument ∷ [])
+    × (faults_of (with_settings (codes "split") []) ≡ MissingRequiredArgument ∷ [])
+    × (faults_of (with_settings (codes "fields") (codes "--apid" ∷ codes "200" ∷ [])) ≡ MissingRequiredArgument ∷ [])
 unfolding clap_on_literals faults_of
-stop_of_frames = refl
+missing = (refl, refl, refl, refl)
 
-help_asked : faults_of (codes "fields" ∷ codes "--help" ∷ []) ≡ DisplayHelp ∷ []
+out_of_range : (faults_of (with_settings (codes "extract") (codes "--stop-after" ∷ codes "0" ∷ [])) ≡ ValueValidation ∷ [])
+    × (faults_of (with_settings (codes "fields") (codes "--definition" ∷ codes "d" ∷ codes "--apid" ∷ codes "2048" ∷ [])) ≡ ValueValidation ∷ [])
 unfolding clap_on_literals faults_of
-help_asked = refl
+out_of_range = (refl, refl)
 
-version_asked : faults_of (codes "--version" ∷ []) ≡ DisplayVersion ∷ []
+asked : (faults_of (codes "fields" ∷ codes "--help" ∷ []) ≡ DisplayHelp ∷ []) × (faults_of (codes "--version" ∷ []) ≡ DisplayVersion ∷ [])
 unfolding clap_on_literals faults_of
-version_asked = refl
-
-version_of_packets : faults_of (codes "packets" ∷ codes "--version" ∷ []) ≡ UnknownArgument ∷ []
-unfolding clap_on_literals faults_of
-version_of_packets = refl
+asked = (refl, refl)

@@ -20,6 +20,7 @@ fn copy_of(alloc: Global, text: &str) -> Result<Octets, AllocError>
 }
 
 // A copy of the value of an argument.
+#[tactic(auto, using(crate::proofs::Getters::value_read))]
 fn value_of(alloc: Global, matches: &ArgMatches<'_>, id: &str) -> Result<Option<Octets>, AllocError>
     ensures { IfOk result (λ o. o ≡ first_of id.now (rows_of (found_of matches.now))) }
 {

@@ -1,11 +1,11 @@
 -- What is written is read again, and what is read is what was written.
-use Rattle.std.proofs.Common.{◌≡◌, ℕ, suc, ◌+◌, ◌-◌, ◌*◌, ◌/◌, ◌%◌, ◌<◌, ◌≤◌, Bool, true, false, not, Ok, Err, Result, Option, Some, None, List, [], ◌∷◌, ◌++◌, length, take, drop, refl, sym, ap, subst, ◌∙◌, arith, length-append, length-drop, ltb}
+use Rattle.std.proofs.Common.{◌≡◌, ℕ, suc, ◌+◌, ◌-◌, ◌*◌, ◌/◌, ◌%◌, ◌≤◌, Bool, true, false, not, Ok, Err, Result, Option, Some, None, List, [], ◌∷◌, ◌++◌, length, take, drop, refl, sym, ap, subst, ◌∙◌, arith, add-zero, length-append, length-drop, ltb}
 use Rattle.std.specs.Prelude.{slice_index, slice_range, if◌then◌else◌}
 use Rattle.std.specs.Str.{bytes_eq}
 use Rattle.std.proofs.lemmas.Bool.{and_parts, not-false, le-ltb, ltb-false, eqb-true, eq-eqb}
 use Rattle.std.proofs.lemmas.List.{append-nil, get_or-append-add, get_or-drop, take_all, take-append-drop}
 use Rattle.std.proofs.lemmas.Slice.Eq.{bytes_eq-Decides}
-use Rattle.std.proofs.Math.Seq.{take-add, drop-cons, take-append_seam, drop-append_seam}
+use Rattle.std.proofs.Math.Seq.{get_or-append_seam, take-add, drop-cons, take-append_seam, drop-append_seam}
 use Rattle.tm_bits.specs.Bits.{AreOctets}
 use Rattle.tm_bits.proofs.PartLemmas.{octets_behind}
 use Rattle.tm_frame.specs.ErrorControl.{error_control_of}
@@ -25,7 +25,7 @@ use Rattle.tm_reassembly.proofs.Fits.{octets_front}
 use Rattle.tm_faults.specs.declared.fault.CheckpointFault.{CheckpointFault}
 use Rattle.tm_faults.specs.declared.fault.CheckpointFault.TheVariants as fault
 use Rattle.tm_checkpoint.specs.declared.version.Version.{Version}
-use Rattle.tm_checkpoint.specs.declared.version.Version.TheVariants.{One, Two, Three}
+use Rattle.tm_checkpoint.specs.declared.version.Version.TheVariants.{One, Three}
 use Rattle.tm_checkpoint.specs.Works.{IsWork, JobState, Work}
 use Rattle.tm_checkpoint.specs.Checkpoints.{form_of, version_named, tells, kept_state, kept_in, magic, settings_in, head_octets, state_octets, with_check, spelled_in, checkpoint_of, check_holds, says_settings, version_of_form, version_in, inner, job_of, with_entries, with_state, state_in, resumed_as, resumed}
 use Rattle.tm_packet.specs.Merge.{Entries}
@@ -52,33 +52,27 @@ version_in_form : (s : Rules) (octets : List ℕ) (x : Option Version) (v : Vers
     → IsInVersion v s octets
 version_in_form s octets None v first is e = cc
 version_in_form s octets (Some u) v first is e =
-    let says : Bool = says_settings u s octets in
-    let three : Result Version CheckpointFault = Ok u in
-    let two_octets : Result Version CheckpointFault = if not says then Err fault.Settings else three in
-    let one : Result Version CheckpointFault = if not (check_holds octets) then Err fault.Check else two_octets in
-    let a = passed (ltb (length octets) (form_of u).least) fault.Short one v e in
-    let b = passed (not (check_holds octets)) fault.Check two_octets v a.1 in
-    let c = passed (not says) fault.Settings three v b.1 in
-    let same : u ≡ v = cc in
-    let both_are = and_parts (tells u s) (bytes_eq (slice_range octets 5 (5 + (form_of u).settings)) (settings_in u s)) (not-false says c.0) in
-    subst (λ (w : Version). IsInVersion w s octets) same
+    let (long, checks) = passed (ltb (length octets) (form_of u).least) fault.Short _ v e in
+    let (check, says) = passed (not (check_holds octets)) fault.Check _ v checks in
+    let (said, same) = passed (not (says_settings u s octets)) fault.Settings _ v says in
+    let (told, settings) = and_parts (tells u s) (bytes_eq (slice_range octets 5 (5 + (form_of u).settings)) (settings_in u s)) (not-false _ said) in
+    let one : u ≡ v = cc in
+    subst (λ (w : Version). IsInVersion w s octets) one
     (record {
-      long = ltb-false (length octets) (form_of u).least a.0;
+      long = ltb-false (length octets) (form_of u).least long;
       magic_is = first;
       version_is = own_octet (slice_index octets 4) u is;
-      check_is = not-false _ b.0;
-      told = both_are.0;
-      settings_are = (bytes_eq-Decides (slice_range octets 5 (5 + (form_of u).settings)) (settings_in u s)).0 both_are.1;
+      check_is = not-false _ check;
+      told = told;
+      settings_are = (bytes_eq-Decides _ _).0 settings;
     })
 
 pub is_in_version : (s : Rules) (octets : List ℕ) (v : Version) → version_in s octets ≡ Ok v → IsInVersion v s octets
 unfolding version_in
 is_in_version s octets v e =
-    let two_octets : Result Version CheckpointFault = version_of_form s octets (version_named (slice_index octets 4)) in
-    let one : Result Version CheckpointFault = if not (bytes_eq (take 4 octets) magic) then Err fault.Magic else two_octets in
-    let a = passed (ltb (length octets) 33) fault.Short one v e in
-    let b = passed (not (bytes_eq (take 4 octets) magic)) fault.Magic two_octets v a.1 in
-    version_in_form s octets (version_named (slice_index octets 4)) v ((bytes_eq-Decides (take 4 octets) magic).0 (not-false _ b.0)) refl b.1
+    let (long, begins) = passed (ltb (length octets) 33) fault.Short _ v e in
+    let (first, form) = passed (not (bytes_eq (take 4 octets) magic)) fault.Magic _ v begins in
+    version_in_form s octets (version_named (slice_index octets 4)) v ((bytes_eq-Decides (take 4 octets) magic).0 (not-false _ first)) refl form
 
 pub version_again : (s : Rules) (octets : List ℕ) (v : Version) → IsInVersion v s octets → version_in s octets ≡ Ok v
 unfolding version_in
@@ -88,8 +82,7 @@ version_again s octets v h =
     (bytes_eq-Decides (slice_range octets 5 (5 + (form_of v).settings)) (settings_in v s)).1 h.settings_are in
     let version_there : version_named (slice_index octets 4) ≡ Some v = ap version_named h.version_is ∙ named v in
     let fits = (around_fits v).1 in
-    let long = h.long in
-    rw (le-ltb (length octets) 33 (omega arith), magic_there, version_there, le-ltb (length octets) (form_of v).least long, h.check_is, h.told, settings_there) refl
+    rw (le-ltb (length octets) 33 (omega arith), magic_there, version_there, le-ltb (length octets) (form_of v).least h.long, h.check_is, h.told, settings_there) refl
 
 -- ---- written
 
@@ -106,51 +99,39 @@ checked_length head inside k e = simp length-append (omega arith)
 spelled_is : (v : Version) (w : Work) → spelled_in v w ≡ with_check (checked v w)
 unfolding spelled_in
 spelled_is One w = refl
-spelled_is Two w = refl
-spelled_is Three w = refl
+spelled_is _ w = refl
 
 length-spelled : (v : Version) (w : Work) → length (spelled_in v w) ≡ length (body v w) + (7 + (form_of v).settings)
 length-spelled v w = rw (spelled_is v w) (checked_length (head_octets v w.rules) (body v w) (form_of v).settings (length-head v w.rules))
 
 pub bound : (w : Work) → IsWork w → length (checkpoint_of w) ≤ 98374 + 8 * w.rules.max_packet
 bound w h =
-    let a = length-spelled Three w in
-    let b = state_most w.rules w.state h.state in
-    let c = sequence_most w.entries h.entries in
-    let d = length-append (reassembly.state_spelling w.state) (sequence.entries_spelling w.entries) in
-    omega arith
+    let sum = length-append (reassembly.state_spelling w.state) (sequence.entries_spelling w.entries) in
+    omega (arith, length-spelled Three w, state_most w.rules w.state h.state, sequence_most w.entries h.entries, sum)
 
 pub most : (w : Work) → IsWork w → length (checkpoint_of w) ≤ 622710
-most w h = let a = bound w h in let b = h.state.limit.most in omega arith
+most w h = omega (arith, bound w h, h.state.limit.most)
 
 -- the number that is written behind octets
 number_behind : (xs : List ℕ) (n : ℕ) → two_at (xs ++ two_octets n) (length xs) ≡ n
-number_behind xs n =
-    let z : length xs + 0 ≡ length xs = omega arith in
-    let high : slice_index (xs ++ two_octets n) (length xs) ≡ n / 256 = rw z at (get_or-append-add xs (two_octets n) 0 0) in
-    let low : slice_index (xs ++ two_octets n) (length xs + 1) ≡ n % 256 = get_or-append-add xs (two_octets n) 1 0 in
-    rw (high, low) (omega arith)
+number_behind xs n = rw (get_or-append_seam xs (n / 256) (n % 256 ∷ []) 0, get_or-append-add xs (two_octets n) 1 0) (omega arith)
 
 check_behind : (xs : List ℕ) → check_holds (with_check xs) ≡ true
 check_behind xs =
-    let len : length (with_check xs) - 2 ≡ length xs = let a = length-append xs (two_octets (error_control_of xs)) in omega arith in
+    let len : length (with_check xs) - 2 ≡ length xs = omega (arith, length-append xs (two_octets (error_control_of xs))) in
     rw (len, take-append_seam xs (two_octets (error_control_of xs))) (eq-eqb (two_at (with_check xs) (length xs)) (error_control_of xs) (number_behind xs (error_control_of xs)))
 
 settings_there : (v : Version) (w : Work) → slice_range (spelled_in v w) 5 (5 + (form_of v).settings) ≡ settings_in v w.rules
 unfolding spelled_in
 settings_there One w = refl
-settings_there Two w = refl
-settings_there Three w = refl
+settings_there _ w = refl
 
 version_spelled : (v : Version) (w : Work) → IsWork w → tells v w.rules ≡ true → IsInVersion v w.rules (spelled_in v w)
 unfolding spelled_in
 version_spelled v w h told = record {
   long =
-      let a = length-spelled v w in
-      let b = state_least v w.rules w.state h.state in
-      let c = sequence_least w.entries in
-      let d = length-append (state_octets v w.state) (sequence.entries_spelling w.entries) in
-      omega arith;
+      let sum = length-append (state_octets v w.state) (sequence.entries_spelling w.entries) in
+      omega (arith, length-spelled v w, state_least v w.rules w.state h.state, sequence_least w.entries, sum);
   magic_is = refl;
   version_is = refl;
   check_is = ap check_holds (spelled_is v w) ∙ check_behind (checked v w);
@@ -165,13 +146,12 @@ check v w = two_octets (error_control_of (checked v w))
 pub behind_head : (v : Version) (w : Work) (rest : List ℕ) → drop (5 + (form_of v).settings) (spelled_in v w ++ rest) ≡ (body v w ++ check v w) ++ rest
 unfolding spelled_in
 behind_head One w rest = refl
-behind_head Two w rest = refl
-behind_head Three w rest = refl
+behind_head _ w rest = refl
 
 inner_spelled : (v : Version) (w : Work) → inner v (spelled_in v w) ≡ body v w
 inner_spelled v w =
     let k : ℕ = 5 + (form_of v).settings in
-    let len : length (spelled_in v w) - 2 - k ≡ length (body v w) = let a = length-spelled v w in omega arith in
+    let len : length (spelled_in v w) - 2 - k ≡ length (body v w) = omega (arith, length-spelled v w) in
     let rest : drop k (spelled_in v w) ≡ body v w ++ check v w =
     ap (drop k) (sym (append-nil (spelled_in v w))) ∙ behind_head v w [] ∙ append-nil (body v w ++ check v w) in
     rw (rest, len) (take-append_seam (body v w) (check v w))
@@ -187,9 +167,8 @@ entries_again s state entries h =
 body_again : (v : Version) (w : Work) → IsWork w
     → with_state w.rules (body v w) (state_in v w.rules (body v w)) ≡ Ok (job_of w.rules (kept_state v w.state) w.entries)
 body_again v w h =
-    let spelled : List ℕ = state_octets v w.state in
-    let rest : List ℕ = sequence.entries_spelling w.entries in
-    rw (state_again v w.rules w.state rest h.state, drop-append_seam spelled rest) (entries_again w.rules (kept_state v w.state) w.entries h.entries)
+    rw (state_again v w.rules w.state (sequence.entries_spelling w.entries) h.state, drop-append_seam (state_octets v w.state) (sequence.entries_spelling w.entries))
+    (entries_again w.rules (kept_state v w.state) w.entries h.entries)
 
 pub older_again : (v : Version) (w : Work) → IsWork w → tells v w.rules ≡ true → resumed w.rules (spelled_in v w) ≡ Ok (record { work = kept_in v w; fresh = false })
 unfolding resumed
@@ -207,32 +186,6 @@ joined w a b c d first second third last = rw (last, third, second, first) refl
 
 -- ---- read
 
-pub refused_around : (s : Rules) (octets : List ℕ) (found : CheckpointFault) → version_in s octets ≡ Err found → resumed s octets ≡ Err found
-unfolding resumed
-refused_around s octets found e = ap (resumed_as s octets) e
-
-pub resumed_in : (s : Rules) (octets : List ℕ) (v : Version) (between : List ℕ) (r : Result JobState CheckpointFault) → version_in s octets ≡ Ok v → between ≡ inner v octets
-    → with_state s between (state_in v s between) ≡ r → resumed s octets ≡ r
-unfolding resumed
-resumed_in s octets v between r around is e = rw (around, ← is) e
-
--- where the state is read, what is said of the octets behind it decides
-pub resumed_behind : (s : Rules) (octets : List ℕ) (v : Version) (between rest : List ℕ) (state : State) (read : ℕ) (r : Result JobState CheckpointFault) → version_in s octets ≡ Ok v
-    → between ≡ inner v octets → state_in v s between ≡ Ok (record { state = state; octets = read }) → rest ≡ drop read between
-    → with_entries s state (length rest) (sequence.entries_decoding_of rest) ≡ r → resumed s octets ≡ r
-resumed_behind s octets v between rest state read r around is there behind e = resumed_in s octets v between r around is (rw (there, ← behind) e)
-
--- a job that is made, or out of memory
--- octets that are accepted have a version
-record IsResumed (s : Rules) (octets : List ℕ) (job : JobState) : Type 0 where
-  version : Version
-  around : version_in s octets ≡ Ok version
-  inside : with_state s (inner version octets) (state_in version s (inner version octets)) ≡ Ok job
-
-by_version : (s : Rules) (octets : List ℕ) (job : JobState) (x : Result Version CheckpointFault) → version_in s octets ≡ x → resumed_as s octets x ≡ Ok job → IsResumed s octets job
-by_version s octets job (Ok v) is e = record { version = v; around = is; inside = e }
-by_version s octets job (Err found) is e = cc
-
 none_left : (b : Bool) (found : CheckpointFault) (made job : JobState) → (if b then Err found else Ok made) ≡ Ok job → (b ≡ false) × (made ≡ job)
 none_left true found made job e = cc
 none_left false found made job e = (refl, cc)
@@ -247,13 +200,12 @@ entries_read : (s : Rules) (state : State) (octets : List ℕ) (job : JobState) 
     → sequence.entries_decoding_of octets ≡ r → with_entries s state (length octets) r ≡ Ok job → AreEntries s state octets job
 entries_read s state octets job (Err found) h read e = cc
 entries_read s state octets job (Ok d) h read e =
-    let none = none_left (ltb d.octets (length octets)) fault.Trailing (job_of s state d.entries) job e in
-    let all : length octets ≤ d.octets = ltb-false d.octets (length octets) none.0 in
-    let spelled = sequence_read.spelled-again octets d h read in
-    let entries : d.entries ≡ job.work.entries = ap (λ (j : JobState). j.work.entries) none.1 in
+    let (left, made) = none_left (ltb d.octets (length octets)) fault.Trailing (job_of s state d.entries) job e in
+    let all = take_all d.octets octets (ltb-false d.octets (length octets) left) in
+    let entries : d.entries ≡ job.work.entries = ap (λ (j : JobState). j.work.entries) made in
     record {
-      spelled = sym (take_all d.octets octets all) ∙ spelled.1 ∙ ap sequence.entries_spelling entries;
-      same = ap (λ (l : Entries). job_of s state l) (sym entries) ∙ none.1;
+      spelled = sym all ∙ (sequence_read.spelled-again octets d h read).1 ∙ ap sequence.entries_spelling entries;
+      same = ap (λ (l : Entries). job_of s state l) (sym entries) ∙ made;
       fit = subst valid.AreValidEntries entries (entries_valid.entries_read octets d read);
     }
 
@@ -290,24 +242,19 @@ body_read v s octets job (Ok d) h read e =
 
 last_two : (ys : List ℕ) → AreOctets ys → length ys ≡ 2 → two_octets (256 * slice_index ys 0 + slice_index ys 1) ≡ ys
 last_two (a ∷ b ∷ []) h e =
-    let small : b < 256 = h.below 1 in
-    let high : (256 * a + b) / 256 ≡ a = omega arith in
-    let low : (256 * a + b) % 256 ≡ b = omega arith in
+    let high : (256 * a + b) / 256 ≡ a = omega (arith, h.below 1) in
+    let low : (256 * a + b) % 256 ≡ b = omega (arith, h.below 1) in
     rw (high, low) refl
-last_two [] h e = absurd (omega arith)
-last_two (a ∷ []) h e = absurd (omega arith)
-last_two (a ∷ b ∷ c ∷ ys) h e = absurd (omega arith)
+last_two _ h e = absurd (omega arith)
 
 -- octets whose check holds
 check_again : (octets : List ℕ) → AreOctets octets → 2 ≤ length octets → check_holds octets ≡ true → octets ≡ with_check (take (length octets - 2) octets)
 check_again octets h long e =
     let n : ℕ = length octets - 2 in
     let ys : List ℕ = drop n octets in
-    let z : n + 0 ≡ n = omega arith in
-    let high : slice_index ys 0 ≡ slice_index octets n = rw z at (get_or-drop n octets 0 0) in
-    let low : slice_index ys 1 ≡ slice_index octets (n + 1) = get_or-drop n octets 1 0 in
+    let high : slice_index ys 0 ≡ slice_index octets n = rw add-zero at (get_or-drop n octets 0 0) in
     let number : 256 * slice_index ys 0 + slice_index ys 1 ≡ error_control_of (take n octets) =
-    rw (high, low) (eqb-true (two_at octets n) (error_control_of (take n octets)) e) in
+    rw (high, get_or-drop n octets 1 0) (eqb-true (two_at octets n) (error_control_of (take n octets)) e) in
     let len : length ys ≡ 2 = length-drop n octets ∙ omega arith in
     rw (← number, last_two ys (octets_behind n octets h) len) (sym (take-append-drop n octets))
 
@@ -339,39 +286,27 @@ record IsAccepted (s : Rules) (octets : List ℕ) (job : JobState) : Type 0 wher
 
 accepted : (s : Rules) (octets : List ℕ) (job : JobState) → AreOctets octets → resumed s octets ≡ Ok job → IsAccepted s octets job
 unfolding resumed
-accepted s octets job h e =
-    let found = by_version s octets job (version_in s octets) refl e in
-    let v : Version = found.version in
-    let k : ℕ = 5 + (form_of v).settings in
-    let within : AreOctets (inner v octets) = octets_front (length octets - 2 - k) (drop k octets) (octets_behind k octets h) in
-    record {
-      version = v;
-      around = is_in_version s octets v found.around;
-      read = body_read v s (inner v octets) job (state_in v s (inner v octets)) within refl found.inside;
-    }
-
-spelled_by : (v : Version) (w : Work) (octets front : List ℕ) → octets ≡ with_check front → front ≡ checked v w → octets ≡ spelled_in v w
-spelled_by v w octets front is e = is ∙ ap with_check e ∙ sym (spelled_is v w)
+accepted s octets job h = by_version (version_in s octets) refl
+  where
+    by_version : (x : Result Version CheckpointFault) → version_in s octets ≡ x → resumed_as s octets x ≡ Ok job → IsAccepted s octets job
+    by_version (Err found) is e = cc
+    by_version (Ok v) is e =
+        let k : ℕ = 5 + (form_of v).settings in
+        let within : AreOctets (inner v octets) = octets_front (length octets - 2 - k) (drop k octets) (octets_behind k octets h) in
+        record { version = v; around = is_in_version s octets v is; read = body_read v s (inner v octets) job (state_in v s (inner v octets)) within refl e }
 
 pub written_again : (s : Rules) (octets : List ℕ) (job : JobState) → AreOctets octets → resumed s octets ≡ Ok job
     → (v : Version) × (octets ≡ spelled_in v job.work) × (tells v s ≡ true) × (kept_in v job.work ≡ job.work) × (job.work.rules ≡ s) × (job.fresh ≡ false)
 written_again s octets job h e =
     let all = accepted s octets job h e in
     let v : Version = all.version in
-    let around = all.around in
     let read = all.read in
-    let long = around.long in
-    let fits = (around_fits v).1 in (
-      v,
-      spelled_by v job.work octets (take (length octets - 2) octets) (check_again octets h (omega arith) around.check_is)
-          (before_check v s octets around
-          ∙ ap (λ (t : Rules). head_octets v t ++ inner v octets) (sym read.settings)
-          ∙ ap (λ (l : List ℕ). head_octets v job.work.rules ++ l) read.spelled),
-      around.told,
-      read.kept,
-      read.settings,
-      read.stale,
-    )
+    let long : 2 ≤ length octets = omega (arith, (around_fits v).1, all.around.long) in
+    let front : take (length octets - 2) octets ≡ checked v job.work = before_check v s octets all.around
+    ∙ ap (λ (t : Rules). head_octets v t ++ inner v octets) (sym read.settings)
+    ∙ ap (λ (l : List ℕ). head_octets v job.work.rules ++ l) read.spelled in
+    let spelled = check_again octets h long all.around.check_is ∙ ap with_check front ∙ sym (spelled_is v job.work) in
+    (v, spelled, all.around.told, read.kept, read.settings, read.stale)
 
 pub valid_again : (s : Rules) (octets : List ℕ) (job : JobState) → length s.channels ≡ 8 → IsLimit s.max_packet → AreOctets octets → resumed s octets ≡ Ok job → IsWork job.work
 valid_again s octets job eight range h e =

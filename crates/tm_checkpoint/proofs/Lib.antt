@@ -3,5 +3,4 @@ pub mod VersionLemmas
 pub mod ReadValid
 pub mod CheckpointLemmas
 pub mod NoPrefix
-pub mod StateFaults
 pub mod CheckpointExamples

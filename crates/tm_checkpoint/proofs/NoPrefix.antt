@@ -1,9 +1,9 @@
 -- No checkpoint begins another.
-use Rattle.std.proofs.Common.{◌≡◌, ℕ, suc, ◌+◌, ◌*◌, ◌^◌, ◌/◌, ◌%◌, Bool, true, false, Ok, Result, List, [], ◌∷◌, ◌++◌, length, take, drop, refl, sym, ap, subst, ◌∙◌, arith, length-append, append_assoc}
+use Rattle.std.proofs.Common.{◌≡◌, ℕ, ◌+◌, ◌*◌, ◌^◌, ◌/◌, ◌%◌, Bool, true, false, Ok, Result, List, [], ◌∷◌, ◌++◌, length, take, drop, refl, sym, ap, subst, ◌∙◌, arith, add-one, length-append, append_assoc}
 use Rattle.std.specs.Prelude.{if◌then◌else◌, slice_index}
 use Rattle.std.proofs.lemmas.Bool.{eqb-true}
-use Rattle.std.proofs.lemmas.List.{append-nil, nil_from_length}
-use Rattle.std.proofs.Math.Seq.{drop-append_seam}
+use Rattle.std.proofs.lemmas.List.{append-nil, append_cancel_left, nil_from_length}
+use Rattle.tm_frame.specs.declared.layout.LayoutParts.{LayoutParts}
 use Rattle.tm_frame.specs.declared.layout.Presence.{Presence}
 use Rattle.tm_frame.specs.declared.layout.Presence.TheVariants.{Flag, Always, Never}
 use Rattle.tm_packet.specs.Spelling as sequence
@@ -15,7 +15,7 @@ use Rattle.tm_rules.specs.Rules.{Rules}
 use Rattle.tm_reassembly.specs.State.{State}
 use Rattle.tm_reassembly.specs.Valid.{IsValidState}
 use Rattle.tm_checkpoint.specs.declared.version.Version.{Version}
-use Rattle.tm_checkpoint.specs.declared.version.Version.TheVariants.{One, Two, Three}
+use Rattle.tm_checkpoint.specs.declared.version.Version.TheVariants.{One}
 use Rattle.tm_checkpoint.specs.Works.{IsWork, Work}
 use Rattle.tm_checkpoint.specs.Checkpoints.{form_of, tells, kept_state, kept_in, presence_octet, three_octets, settings_octets, head_octets, state_octets, spelled_in, state_in}
 use Rattle.tm_packet.specs.Merge.{Entries}
@@ -41,22 +41,19 @@ truth_told true true e = refl
 truth_told false false e = refl
 truth_told _ _ e = absurd (omega arith)
 
-power : (c : ℕ) → 2 ^ (c + 1) ≡ 2 * 2 ^ c
-power c = ap (λ (n : ℕ). 2 ^ n) (let z : c + 1 ≡ suc c = omega arith in z) ∙ omega arith
-
 mask_twice : (c : ℕ) (xs : List Bool) → mask_from (c + 1) xs ≡ 2 * mask_from c xs
 mask_twice c [] = omega arith
-mask_twice c (true ∷ xs) = let h = mask_twice (c + 1) xs in let p = power c in omega arith
-mask_twice c (false ∷ xs) = let h = mask_twice (c + 1) xs in omega arith
+mask_twice c (true ∷ xs) = let power : 2 ^ (c + 1) ≡ 2 * 2 ^ c = rw add-one (omega arith) in omega (arith, mask_twice (c + 1) xs)
+mask_twice c (false ∷ xs) = omega (arith, mask_twice (c + 1) xs)
 
 mask_told : (xs ys : List Bool) → length xs ≡ length ys → mask_of xs ≡ mask_of ys → xs ≡ ys
 mask_told [] [] l e = refl
-mask_told [] (y ∷ ys) l e = absurd (omega arith)
-mask_told (x ∷ xs) [] l e = absurd (omega arith)
-mask_told (true ∷ xs) (true ∷ ys) l e = let a = mask_twice 0 xs in let b = mask_twice 0 ys in ap (λ (zs : List Bool). true ∷ zs) (mask_told xs ys (omega arith) (omega arith))
-mask_told (false ∷ xs) (false ∷ ys) l e = let a = mask_twice 0 xs in let b = mask_twice 0 ys in ap (λ (zs : List Bool). false ∷ zs) (mask_told xs ys (omega arith) (omega arith))
-mask_told (true ∷ xs) (false ∷ ys) l e = let a = mask_twice 0 xs in let b = mask_twice 0 ys in absurd (omega arith)
-mask_told (false ∷ xs) (true ∷ ys) l e = let a = mask_twice 0 xs in let b = mask_twice 0 ys in absurd (omega arith)
+mask_told (true ∷ xs) (true ∷ ys) l e =
+    ap (λ (zs : List Bool). true ∷ zs) (mask_told xs ys (omega arith) (omega (arith, mask_twice 0 xs, mask_twice 0 ys)))
+mask_told (false ∷ xs) (false ∷ ys) l e =
+    ap (λ (zs : List Bool). false ∷ zs) (mask_told xs ys (omega arith) (omega (arith, mask_twice 0 xs, mask_twice 0 ys)))
+mask_told (x ∷ xs) (y ∷ ys) l e = absurd (omega (arith, mask_twice 0 xs, mask_twice 0 ys))
+mask_told _ _ l e = absurd (omega arith)
 
 number_told : (a b : ℕ) → a / 256 ≡ b / 256 → a % 256 ≡ b % 256 → a ≡ b
 number_told a b e f = omega arith
@@ -64,25 +61,15 @@ number_told a b e f = omega arith
 three_told : (a b : ℕ) → a / 65536 ≡ b / 65536 → (a % 65536) / 256 ≡ (b % 65536) / 256 → (a % 65536) % 256 ≡ (b % 65536) % 256 → a ≡ b
 three_told a b e f g = omega arith
 
-abbrev made : ℕ → ℕ → ℕ → ℕ → Presence → Presence → Bool → List Bool → ℕ → Rules
-made spacecraft frame_length skip_before skip_after secondary ocf error_control channels max_packet = record {
-  layout = record {
-    frame_length = frame_length;
-    skip_before = skip_before;
-    skip_after = skip_after;
-    spacecraft = spacecraft;
-    secondary = secondary;
-    ocf = ocf;
-    error_control = error_control;
-  };
-  channels = channels;
-  max_packet = max_packet;
-}
+abbrev layout_of : ℕ → ℕ → ℕ → ℕ → Presence → Presence → Bool → LayoutParts
+layout_of craft long before after secondary ocf control =
+    record { frame_length = long; skip_before = before; skip_after = after; spacecraft = craft; secondary = secondary; ocf = ocf; error_control = control }
 
 -- the first twelve octets tell all but the limit on packets
 twelve_told : (s t : Rules) → length s.channels ≡ length t.channels → take 12 (settings_octets s) ≡ take 12 (settings_octets t) → s.max_packet ≡ t.max_packet → s ≡ t
 twelve_told s t l e limit =
-    let all : made s.layout.spacecraft s.layout.frame_length s.layout.skip_before s.layout.skip_after s.layout.secondary s.layout.ocf s.layout.error_control s.channels s.max_packet ≡ t =
+    let layout = layout_of s.layout.spacecraft s.layout.frame_length s.layout.skip_before s.layout.skip_after s.layout.secondary s.layout.ocf s.layout.error_control in
+    let all : ◌≡◌ {A = Rules} (record { layout = layout; channels = s.channels; max_packet = s.max_packet }) t =
     rw (number_told s.layout.spacecraft t.layout.spacecraft (cc) (cc), number_told s.layout.frame_length t.layout.frame_length (cc) (cc))
     (rw (number_told s.layout.skip_before t.layout.skip_before (cc) (cc), number_told s.layout.skip_after t.layout.skip_after (cc) (cc), presence_told s.layout.secondary t.layout.secondary (cc))
     (rw (presence_told s.layout.ocf t.layout.ocf (cc), truth_told s.layout.error_control t.layout.error_control (cc), mask_told s.channels t.channels l (cc), limit) refl)) in
@@ -101,11 +88,6 @@ settings_told _ s t l p q e = fifteen_told s t l (ap (drop 5) e)
 
 -- ---- spellings in front of octets
 
--- what is behind equal fronts is equal
-behind : (xs ys a b : List ℕ) → xs ≡ ys → xs ++ a ≡ ys ++ b → a ≡ b
-behind xs ys a b e f =
-    sym (drop-append_seam ys a) ∙ ap (drop (length ys)) (rw e at f) ∙ drop-append_seam ys b
-
 -- the octets of states that go on in the same way tell what the version keeps of them
 states_told : (v : Version) (rules : Rules) (s t : State) (a b : List ℕ) → IsValidState rules s → IsValidState rules t
     → state_octets v s ++ a ≡ state_octets v t ++ b → (kept_state v s ≡ kept_state v t) × (a ≡ b)
@@ -113,7 +95,7 @@ states_told v rules s t a b p q e =
     let read = sym (state_again v rules s a p) ∙ ap (state_in v rules) e ∙ state_again v rules t b q in
     let same : kept_state v s ≡ kept_state v t = ap (λ (d : reassembly.DecodedState). d.state) (same_Ok _ _ read) in
     let octets : state_octets v s ≡ state_octets v t = sym (kept_spelled v s) ∙ ap (state_octets v) same ∙ kept_spelled v t in
-    (same, behind (state_octets v s) (state_octets v t) a b octets e)
+    (same, append_cancel_left (state_octets v t) a b (rw octets at e))
 
 entries_told : (s t : Entries) (a b : List ℕ) → valid.AreValidEntries s → valid.AreValidEntries t → sequence.entries_spelling s ++ a ≡ sequence.entries_spelling t ++ b → s ≡ t
 entries_told s t a b v w e =
@@ -126,8 +108,7 @@ entries_told s t a b v w e =
 front : (v : Version) (w : Work) (rest : List ℕ) → take (5 + (form_of v).settings) (spelled_in v w ++ rest) ≡ head_octets v w.rules
 unfolding spelled_in
 front One w rest = refl
-front Two w rest = refl
-front Three w rest = refl
+front _ w rest = refl
 
 -- the octets behind them, part by part
 parts : (v : Version) (w : Work) (rest : List ℕ) → drop (5 + (form_of v).settings) (spelled_in v w ++ rest)
@@ -158,17 +139,14 @@ version_told u v a b rest e = told_apart u v (ap (λ (l : List ℕ). slice_index
 kept_again : (v : Version) (w : Work) → spelled_in v (kept_in v w) ≡ spelled_in v w
 unfolding spelled_in
 kept_again One w = refl
-kept_again Two w = refl
-kept_again Three w = refl
+kept_again _ w = refl
 
 same_version : (v : Version) (a b : Work) (rest : List ℕ) → IsWork a → IsWork b → tells v a.rules ≡ true → tells v b.rules ≡ true
     → spelled_in v a ++ rest ≡ spelled_in v b → (kept_in v a ≡ kept_in v b) × (rest ≡ [])
 same_version v a b rest ha hb ta tb e =
     let same : kept_in v a ≡ kept_in v b = works_told v a b rest [] ha hb ta tb (e ∙ sym (append-nil (spelled_in v b))) in
     let octets : spelled_in v a ≡ spelled_in v b = sym (kept_again v a) ∙ ap (spelled_in v) same ∙ kept_again v b in
-    let long : length (spelled_in v a) ≡ length (spelled_in v b) = ap length octets in
-    let sum : length (spelled_in v a) + length rest ≡ length (spelled_in v b) = sym (length-append (spelled_in v a) rest) ∙ ap length e in
-    (same, nil_from_length rest (omega arith))
+    (same, nil_from_length rest (omega (arith, ap length octets, ap length e, length-append (spelled_in v a) rest)))
 
 pub no_prefix : (u v : Version) (a b : Work) (rest : List ℕ) → IsWork a → IsWork b → tells u a.rules ≡ true → tells v b.rules ≡ true
     → spelled_in u a ++ rest ≡ spelled_in v b → (u ≡ v) × (kept_in u a ≡ kept_in v b) × (rest ≡ [])

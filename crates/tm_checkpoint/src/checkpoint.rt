@@ -70,6 +70,7 @@ pub fn write_checkpoint(
 /// aren't the error control of those before. `Settings` where they were written with other settings. `State` where `Reassembly::decode`
 /// refuses them, or `Reassembly::decode_old` in an older version, or `Tracker::decode` the octets after those. `Trailing` where octets are
 /// left over. `NoMemory` comes at the earliest after the checks of the state.
+#[tactic(auto, using(std::proofs::lemmas::Grind::common_steps, std::proofs::lemmas::List::take_all), unfolding(crate::specs::Checkpoints::resumed))]
 pub fn read_checkpoint(
     alloc: Global,
     settings: &Settings,
@@ -265,6 +266,7 @@ fn decode_state(
 }
 
 // The same, where what is refused is a fault of the checkpoint.
+#[tactic(auto, using(crate::proofs::ReadValid::never_memory, crate::proofs::VersionLemmas::read_inside))]
 fn read_state(
     alloc: Global,
     settings: &Settings,

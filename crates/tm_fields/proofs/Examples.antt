@@ -16,40 +16,20 @@ use Rattle.tm_fields.specs.declared.faults.DefinitionFault.TheVariants as fault
 use Rattle.tm_fields.specs.declared.field.DataType.TheVariants.{Uint, Int, Float, Str, Fill}
 use Rattle.tm_fields.specs.declared.field.Field.{Field}
 
--- a type with brackets
-pub array : definition_of (codes "name,data_type,bit_length\nA,uint(4),8\n") ≡ Err (fault.Array 1)
+-- a type with brackets, no type, more bits than a number may have, a name that is taken, and an end behind the longest packet
+rows_refused : (definition_of (codes "name,data_type,bit_length\nA,uint(4),8\n") ≡ Err (fault.Array 1))
+    × (definition_of (codes "name,data_type,bit_length\nA,bool,8\n") ≡ Err (fault.Kind 1))
+    × (definition_of (codes "name,data_type,bit_length\nA,uint,65\n") ≡ Err (fault.Bits 1))
+    × (definition_of (codes "name,data_type,bit_length\nA,uint,8\nA,uint,8\n") ≡ Err (fault.Name 2))
+    × (definition_of (codes "name,data_type,bit_length,bit_offset\nA,uint,1,524336\n") ≡ Err (fault.Offset 1))
 unfolding csv_on_literals field_at
-array = refl
+rows_refused = (refl, refl, refl, refl, refl)
 
--- no type
-pub kind : definition_of (codes "name,data_type,bit_length\nA,bool,8\n") ≡ Err (fault.Kind 1)
+-- two values under three headings, and no column of lengths
+columns_refused : (definition_of (codes "name,data_type,bit_length\nA,uint\n") ≡ Err fault.Csv)
+    × (definition_of (codes "name,data_type\n") ≡ Err (fault.Column column.BitLength))
 unfolding csv_on_literals field_at
-kind = refl
-
--- more bits than a number may have
-pub bits : definition_of (codes "name,data_type,bit_length\nA,uint,65\n") ≡ Err (fault.Bits 1)
-unfolding csv_on_literals field_at
-bits = refl
-
--- the second field has the name of the first
-pub name : definition_of (codes "name,data_type,bit_length\nA,uint,8\nA,uint,8\n") ≡ Err (fault.Name 2)
-unfolding csv_on_literals field_at
-name = refl
-
--- two values under three headings
-pub lengths : definition_of (codes "name,data_type,bit_length\nA,uint\n") ≡ Err fault.Csv
-unfolding csv_on_literals field_at
-lengths = refl
-
--- no column of lengths
-pub column_missing : definition_of (codes "name,data_type\n") ≡ Err (fault.Column column.BitLength)
-unfolding csv_on_literals field_at
-column_missing = refl
-
--- a field that ends behind the longest packet
-pub offset : definition_of (codes "name,data_type,bit_length,bit_offset\nA,uint,1,524336\n") ≡ Err (fault.Offset 1)
-unfolding csv_on_literals field_at
-offset = refl
+columns_refused = (refl, refl)
 
 abbrev fields : List Field
 fields =
@@ -60,7 +40,7 @@ fields =
     ∷ record { name = codes "RATE"; data_type = Float; begin = 96; length = 32 } ∷ []
 
 -- values with blanks round them; each field begins where the one before it ends
-pub read_whole : definition_of (codes "name, data_type, bit_length\nVERSION, uint, 8\nLEVEL, int, 12\nPAD, fill, 4\nLABEL, str, 24\nRATE, float, 32\n") ≡ Ok fields
+read_whole : definition_of (codes "name, data_type, bit_length\nVERSION, uint, 8\nLEVEL, int, 12\nPAD, fill, 4\nLABEL, str, 24\nRATE, float, 32\n") ≡ Ok fields
 unfolding csv_on_literals field_at
 read_whole = refl
 
@@ -71,29 +51,21 @@ abbrev packet : List ℕ
 packet = 0 ∷ 100 ∷ 192 ∷ 0 ∷ 0 ∷ 9 ∷ 7 ∷ 255 ∷ 240 ∷ 97 ∷ 44 ∷ 98 ∷ 63 ∷ 128 ∷ 0 ∷ 0 ∷ []
 
 -- the head leaves the `fill` out
-pub head : head_of fields ≡ codes "tm_record,tm_channel,tm_apid,tm_count,VERSION,LEVEL,LABEL,RATE\n"
+head : head_of fields ≡ codes "tm_record,tm_channel,tm_apid,tm_count,VERSION,LEVEL,LABEL,RATE\n"
 unfolding escaped fields_text is_blank
 head = refl
 
 -- a negative number, a value with quotes, raw digits
-pub row : row_from fields lead packet ≡ Ok (codes "0,0,100,0,7,-1,\"a,b\",0x3f800000\n")
+row : row_from fields lead packet ≡ Ok (codes "0,0,100,0,7,-1,\"a,b\",0x3f800000\n")
 unfolding escaped fields_text is_blank digits encode_with bits_of low_bits number part
 row = refl
 
--- one and a half octets
-pub twelve_bits : number_within (255 ∷ 240 ∷ []) 0 12 ≡ Some 4095
+-- one and a half octets; a last bit that would lie behind the octets; and no bits
+bits_read : (number_within (255 ∷ 240 ∷ []) 0 12 ≡ Some 4095) × (number_within (255 ∷ 240 ∷ []) 12 5 ≡ None) × (number_within (255 ∷ 240 ∷ []) 0 0 ≡ None)
 unfolding bits_of low_bits number part
-twelve_bits = refl
-
--- the last bit would lie behind the octets
-pub past_the_end : number_within (255 ∷ 240 ∷ []) 12 5 ≡ None
-past_the_end = refl
-
--- no bits
-pub no_bits : number_within (255 ∷ 240 ∷ []) 0 0 ≡ None
-no_bits = refl
+bits_read = (refl, refl, refl)
 
 -- 1001 rows
-pub too_many : definition_of (codes "name,data_type,bit_length\n" ++ concat (replicate 1001 (codes "A,fill,8\n"))) ≡ Err fault.TooMany
+too_many : definition_of (codes "name,data_type,bit_length\n" ++ concat (replicate 1001 (codes "A,fill,8\n"))) ≡ Err fault.TooMany
 unfolding csv_on_literals field_at
 too_many = refl

@@ -1,9 +1,7 @@
 -- The fields of records, one by one.
-use Rattle.std.proofs.Common.{◌≡◌, ℕ, suc, ◌+◌, ◌<◌, true, List, [], ◌∷◌, ◌++◌, length, get_or, drop, map, max, refl, ap, sym, ◌∙◌, arith, Ok, Err}
-use Rattle.std.specs.List.{list_all}
+use Rattle.std.proofs.Common.{◌≡◌, ℕ, suc, ◌+◌, ◌<◌, List, [], ◌∷◌, ◌++◌, length, get_or, drop, map, max, refl, ap, sym, ◌∙◌, arith, Ok, Err}
 use Rattle.std.proofs.Math.Seq.{drop-cons}
-use Rattle.std.proofs.lemmas.List.Folds.{list_all-append}
-use Rattle.tm_fields.specs.Reading.{end_of, defined_field_of, fields_from, is_sound, last_end}
+use Rattle.tm_fields.specs.Reading.{end_of, defined_field_of, fields_from, last_end}
 use Rattle.tm_fields.specs.Rows.{bits_needed}
 use Rattle.tm_fields.specs.declared.columns.Columns.{Columns}
 use Rattle.tm_fields.specs.declared.faults.DefinitionFault.{DefinitionFault}
@@ -28,9 +26,6 @@ next_read f columns fields records i values x h is ok =
 pub last_end_more : (before : ℕ) (fields : List Field) (x : Field) → last_end before (fields ++ (x ∷ [])) ≡ end_of x
 last_end_more before [] x = refl
 last_end_more before (f ∷ fields) x = last_end_more (end_of f) fields x
-
-pub sound_more : (fields : List Field) (x : Field) → list_all is_sound fields ≡ true → is_sound x ≡ true → list_all is_sound (fields ++ (x ∷ [])) ≡ true
-sound_more fields x all one = list_all-append is_sound fields (x ∷ []) ∙ rw (all, one) refl
 
 pub needed_more : (fields : List Field) (needed : ℕ) (x : Field) → needed ≡ bits_needed fields → bits_needed (fields ++ (x ∷ [])) ≡ max needed (end_of x)
 needed_more [] needed x e = omega (arith, e)

@@ -1,5 +1,5 @@
 -- A definition is told by the records that are kept.
-use Rattle.std.proofs.Common.{◌≡◌, ℕ, zero, suc, ◌≤◌, true, List, [], ◌∷◌, ◌++◌, length, take, refl, ap, ◌∙◌, arith, inl, inr, Ok, Err, length-take-le}
+use Rattle.std.proofs.Common.{◌≡◌, ◌≤◌, ℕ, zero, suc, true, List, [], ◌∷◌, ◌++◌, length, take, refl, ap, ◌∙◌, arith, inl, inr, Ok, Err, length-take-le}
 use Rattle.std.proofs.lemmas.Bool.{cases_lt, lt-ltb}
 use Rattle.std.proofs.lemmas.List.{take_all, take-append-le}
 use Rattle.tm_fields.specs.Columns.{ReadOrFault, and_then_read, columns_of}
@@ -8,20 +8,16 @@ use Rattle.tm_fields.specs.Table.{same_lengths, table}
 use Rattle.tm_fields.specs.code.Reading.{kept}
 use Rattle.tm_fields.specs.declared.columns.Columns.{Columns}
 
-take_again : {A : Type 0} (n : ℕ) (xs : List A) (x : A) → take n (take n xs ++ (x ∷ [])) ≡ take n (xs ++ (x ∷ []))
+-- one record more, of all and of those that were kept
+pub take_again : {A : Type 0} (n : ℕ) (xs : List A) (x : A) → take n (take n xs ++ (x ∷ [])) ≡ take n (xs ++ (x ∷ []))
 take_again zero xs x = refl
 take_again (suc n) [] x = refl
 take_again (suc n) (y ∷ xs) x = rw (take_again n xs x) refl
 
--- one record more, of all and of those that were kept
-pub kept_again : (records : List (List (List ℕ))) (values : List (List ℕ)) → kept (kept records ++ (values ∷ [])) ≡ kept (records ++ (values ∷ []))
-kept_again records values = take_again 1002 records values
-
--- all are kept of no more than count
+-- all are kept of no more than count, and no other where so many are kept
 pub kept_short : (records : List (List (List ℕ))) → length records ≤ 1002 → kept records ≡ records
 kept_short records h = take_all 1002 records h
 
--- a record more, where as many are kept as count
 pub kept_full : (records : List (List (List ℕ))) (values : List (List ℕ)) → length records ≡ 1002 → kept (records ++ (values ∷ [])) ≡ records
 kept_full records values h = take-append-le 1002 records (values ∷ []) (omega arith) ∙ take_all 1002 records (omega arith)
 

@@ -12,19 +12,15 @@ abbrev pub Expects : Option ℕ → List (List (List ℕ)) → Type 0
 Expects e [] = e ≡ None
 Expects e (first ∷ more) = (e ≡ Some (length first)) × (same_lengths (first ∷ more) ≡ true)
 
-all_more : (n : ℕ) (rows : List (List (List ℕ))) (f : List (List ℕ)) → list_all (λ row. length row == n) rows ≡ true → length f ≡ n → list_all (λ row. length row == n) (rows ++ (f ∷ [])) ≡ true
-all_more n rows f all e = list_all-append (λ row. length row == n) rows (f ∷ []) ∙ rw (all, eq-eqb (length f) n e) refl
-
 pub expects_more : (e new : Option ℕ) (rows : List (List (List ℕ))) (f : List (List ℕ)) → Expects e rows → IfSome e (λ x. new ≡ Some x) × (new ≡ Some (length f)) → Expects new (rows ++ (f ∷ []))
 expects_more e new [] f h k = (k.1, refl)
 expects_more e new (first ∷ more) f h k =
     let expected : new ≡ Some (length first) = rw h.0 at k.0 in
     let same : length f ≡ length first = cc (k.1, expected) in
-    (expected, all_more (length first) more f h.1 same)
+    (expected, list_all-append (λ row. length row == length first) more (f ∷ []) ∙ rw (h.1, eq-eqb (length f) (length first) same) refl)
 
 not_all : (n : ℕ) (rows more : List (List (List ℕ))) (f : List (List ℕ)) → length f ≢ n → list_all (λ row. length row == n) (rows ++ (f ∷ more)) ≡ false
-not_all n [] more f apart = rw (ne_eqb (length f) n apart) refl
-not_all n (r ∷ rows) more f apart = rw (not_all n rows more f apart) (and-false (length r == n))
+not_all n rows more f apart = list_all-append (λ row. length row == n) rows (f ∷ more) ∙ rw (ne_eqb (length f) n apart) (and-false (list_all (λ row. length row == n) rows))
 
 pub not_expected : (e : Option ℕ) (x : ℕ) (rows more : List (List (List ℕ))) (f : List (List ℕ)) → Expects e rows → e ≡ Some x → x ≢ length f → same_lengths (rows ++ (f ∷ more)) ≡ false
 not_expected e x [] more f h k apart = absurd (cc)

@@ -12,9 +12,8 @@ use Rattle.csv.proofs.WriteFacts.{row-more}
 -- what stands before the next value
 separator : (written count : ℕ) → written ≡ min count (2 ^ 64 - 1) → next_sep default_writer written ≡ next_sep default_writer count
 separator zero zero e = refl
-separator zero (suc count) e = absurd (omega (arith, e))
-separator (suc written) zero e = absurd (omega (arith, e))
 separator (suc written) (suc count) e = rw (ne_eqb (suc written) 0 (λ z. cc z), ne_eqb (suc count) 0 (λ z. cc z)) refl
+separator _ _ e = absurd (omega (arith, e))
 
 pub line_more : (old new : Option (List ℕ)) (lines : List ℕ) (values : List (List ℕ)) (value : List ℕ) (written : ℕ)
     → old ≡ Some (lines ++ row_body default_writer values) → written ≡ min (length values) (2 ^ 64 - 1)
@@ -26,16 +25,14 @@ line_more old (Some y) lines values value written e n a =
     rw (whole, separator written (length values) n, row-more default_writer values value) (ap Some (append_assoc lines _ _))
 
 ended : (wrote : Bool) (written : ℕ) → 2 ≤ written → tail_text default_writer wrote written ≡ end_text default_writer.terminator
-ended wrote zero h = absurd (omega arith)
-ended wrote (suc zero) h = absurd (omega arith)
 ended true (suc (suc n)) h = refl
 ended false (suc (suc n)) h = rw (ne_eqb (suc (suc n)) 0 (λ z. cc z), ne_eqb (suc (suc n)) 1 (λ z. cc z)) refl
+ended _ _ h = absurd (omega arith)
 
 row_is : (values : List (List ℕ)) → 2 ≤ length values → row_text default_writer values ≡ row_body default_writer values ++ end_text default_writer.terminator
 unfolding is_blank
-row_is [] h = absurd (omega arith)
-row_is (x ∷ []) h = absurd (omega arith)
 row_is (x ∷ y ∷ more) h = refl
+row_is _ h = absurd (omega arith)
 
 pub line_end : (old new : Option (List ℕ)) (lines : List ℕ) (values : List (List ℕ)) (wrote : Bool) (written : ℕ) → 2 ≤ length values
     → old ≡ Some (lines ++ row_body default_writer values) → written ≡ min (length values) (2 ^ 64 - 1)

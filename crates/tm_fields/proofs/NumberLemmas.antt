@@ -1,7 +1,10 @@
 -- Numbers in octets that hold them, and octets of eight bits.
-use Rattle.std.proofs.Common.{◌≡◌, ℕ, zero, suc, ◌+◌, ◌-◌, ◌*◌, ◌/◌, ◌%◌, ◌^◌, ◌<◌, ◌≤◌, List, [], ◌∷◌, ◌++◌, length, get_or, take, drop, refl, sym, ap, ◌∙◌, arith, length-drop, append_assoc}
-use Rattle.std.specs.Prelude.{slice_range}
+use Rattle.std.proofs.Common.{◌≡◌, ℕ, zero, suc, ◌+◌, ◌-◌, ◌*◌, ◌/◌, ◌%◌, ◌^◌, ◌<◌, ◌≤◌, List, [], ◌∷◌, length, get_or, take, drop, refl, ap, ◌∙◌, arith, length-drop}
+use Rattle.std.specs.Prelude.{bit_and, slice_range}
+use Rattle.std.specs.Int.Bits.{mask_lt}
+use Rattle.std.proofs.lemmas.Nat.{and_mask}
 use Rattle.std.proofs.Math.Nat.{pow-le-pow_right}
+use Rattle.std.proofs.lemmas.Nat.Bits.{ones_shr}
 use Rattle.std.proofs.Math.Seq.{drop-cons}
 use Rattle.std.proofs.lemmas.List.{length-take-le, take_more}
 use Rattle.byteorder.specs.Endian.{big_number}
@@ -14,21 +17,32 @@ use Rattle.tm_fields.specs.Numbers.{octets_at}
 number_of_one : (x : ℕ) → x < 256 → number (bits_of (x ∷ [])) ≡ x
 number_of_one x h = ap number (bits_of-one x) ∙ number-low_bits 8 x ∙ omega arith
 
--- one octet more at the end
-pub number_more : (octets : List ℕ) (x : ℕ) → x < 256 → number (bits_of (octets ++ (x ∷ []))) ≡ 256 * number (bits_of octets) + x
-number_more octets x h =
-    let size : length (bits_of (x ∷ [])) ≡ 8 = length-bits_of (x ∷ []) in
-    rw (bits_of-append octets (x ∷ []), number-append (bits_of octets) (bits_of (x ∷ [])), size, number_of_one x h) (omega arith)
+pub none_spelled : number (bits_of []) ≡ 0
+unfolding bits_of number
+none_spelled = refl
 
 -- the octets up to one more place
-pub spelled_next : (octets : List ℕ) (all i x : ℕ) → i < length octets → x ≡ get_or octets i 0 → x < 256 → all ≡ number (bits_of (take i octets))
-    → 256 * all + x ≡ number (bits_of (take (i + 1) octets))
-spelled_next octets all i x inside is small e =
-    let more : take (i + 1) octets ≡ take i octets ++ (x ∷ []) = take_more octets i 0 inside ∙ ap (λ y. take i octets ++ (y ∷ [])) (sym is) in
-    rw (more, number_more (take i octets) x small, e) refl
+pub one_more_spelled : (octets : List ℕ) (i : ℕ) → i < length octets → get_or octets i 0 < 256
+    → number (bits_of (take (i + 1) octets)) ≡ 256 * number (bits_of (take i octets)) + get_or octets i 0
+one_more_spelled octets i inside small =
+    let x : ℕ = get_or octets i 0 in
+    let size : length (bits_of (x ∷ [])) ≡ 8 = length-bits_of (x ∷ []) in
+    rw (take_more octets i 0 inside, bits_of-append (take i octets) (x ∷ []), number-append (bits_of (take i octets)) (bits_of (x ∷ [])), size, number_of_one x small)
+    (omega arith)
 
-pub small_power : (i : ℕ) → i ≤ 8 → 256 ^ i ≤ 18446744073709551616
-small_power i h = pow-le-pow_right {n = 256} (omega arith) h
+pub power_most : (n i : ℕ) → 0 < n → i ≤ 8 → n ^ i ≤ n ^ 8
+power_most n i some few = pow-le-pow_right {n = n} some few
+
+mask_is : (count : ℕ) → count ≤ 64 → 18446744073709551615 / 2 ^ (64 - count) ≡ 2 ^ count - 1
+mask_is count few =
+    let left : 64 - (64 - count) ≡ count = omega arith in ones_shr 64 (64 - count) (omega arith) ∙ ap (λ n. 2 ^ n - 1) left
+
+-- the last bits of a word, by a mask
+pub masked : (word count : ℕ) → count ≤ 64 → bit_and word (18446744073709551615 / 2 ^ (64 - count)) ≡ word % 2 ^ count
+masked word count few = rw (mask_is count few) (and_mask word count)
+
+pub masked_below : (word count : ℕ) → count ≤ 64 → bit_and word (18446744073709551615 / 2 ^ (64 - count)) < 2 ^ count
+masked_below word count few = rw (mask_is count few) (mask_lt word count)
 
 -- bits that lie in the octets from `first` up to, not with, `last`, from the number that these spell
 pub part_between : (octets : List ℕ) (first last from to : ℕ) → last ≤ length octets → 8 * first ≤ from → from ≤ to → to ≤ 8 * last → first ≤ last
@@ -70,16 +84,11 @@ part_read octets last from to word are whole inside low ordered high is =
 -- the eight bits of an octet
 part_octet : (octets : List ℕ) (i : ℕ) → AreOctets octets → i < length octets → part octets (8 * i) (8 * i + 8) ≡ get_or octets i 0
 part_octet octets i are h =
-    let x : ℕ = get_or octets i 0 in
-    let small : x < 256 = are.below i in
-    let place : 8 * i ≡ 8 * i + 0 = omega arith in
-    ap (λ n. part octets n (8 * i + 8)) place
-    ∙ rw (
-      part-behind i octets 0 8 (omega arith) (omega arith),
-      drop-cons octets i 0 h,
-      part-word 1 (x ∷ drop (suc i) octets) 0 8 (omega arith) (omega arith) (omega arith),
-      number_of_one x small,
-    ) (omega arith)
+    let one : i + 1 - i ≡ 1 = omega arith in
+    let behind : 8 * (i + 1) - (8 * i + 8) ≡ 0 = omega arith in
+    let width : 8 * i + 8 - 8 * i ≡ 8 = omega arith in
+    part_between octets i (i + 1) (8 * i) (8 * i + 8) (omega arith) (omega arith) (omega arith) (omega arith) (omega arith)
+    ∙ rw (one, behind, width, drop-cons octets i 0 h, number_of_one (get_or octets i 0) (are.below i)) (omega (arith, are.below i))
 
 octets_from : (octets : List ℕ) (first count : ℕ) → AreOctets octets → first + count ≤ length octets → octets_at octets (8 * first) count ≡ take count (drop first octets)
 octets_from octets first zero are h = refl
@@ -96,10 +105,10 @@ octets_at_border octets at count are border h =
     let size : at / 8 + count - at / 8 ≡ count = omega arith in
     rw (size, ← octets_from octets (at / 8) count are h, place) refl
 
--- one octet more
-pub octets_more : (octets text new : List ℕ) (at count i x : ℕ) → i < count → new ≡ text ++ (x ∷ []) → x ≡ part octets (at + 8 * i) (at + 8 * i + 8)
-    → new ++ octets_at octets (at + 8 * (i + 1)) (count - (i + 1)) ≡ text ++ octets_at octets (at + 8 * i) (count - i)
-octets_more octets text new at count i x h e is =
+-- one octet in front of the others
+pub octets_next : (octets : List ℕ) (at count i : ℕ) → i < count
+    → octets_at octets (at + 8 * i) (count - i) ≡ part octets (at + 8 * i) (at + 8 * i + 8) ∷ octets_at octets (at + 8 * (i + 1)) (count - (i + 1))
+octets_next octets at count i h =
     let left : count - i ≡ suc (count - (i + 1)) = omega arith in
     let place : at + 8 * (i + 1) ≡ at + 8 * i + 8 = omega arith in
-    rw (e, left, place, is) (append_assoc text (part octets (at + 8 * i) (at + 8 * i + 8) ∷ []) (octets_at octets (at + 8 * i + 8) (count - (i + 1))))
+    rw (left, place) refl

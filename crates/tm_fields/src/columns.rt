@@ -55,6 +55,7 @@ fn once_more(found: Standing, at: usize) -> Standing
 }
 
 // Where this heading stands.
+#[tactic(auto, using(crate::proofs::Places::standing_first))]
 fn find_heading(headings: &ByteRecord, word: &[u8]) -> Standing
     ensures { result ≡ standing word.now (fields_of headings.now) }
 {

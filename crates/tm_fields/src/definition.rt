@@ -140,6 +140,7 @@ impl Definition {
     }
 
     /// Writes the row of a packet that is long enough after whole lines, and passes it on. The text of each value is made in `text`, whatever that holds.
+    #[tactic(auto, using(crate::proofs::RowLemmas::fits_needed))]
     pub(crate) fn write_row(
         &self,
         alloc: Global,

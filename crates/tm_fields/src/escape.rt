@@ -27,6 +27,7 @@ fn push_digits(text: &mut Vec<u8>, octet: u8) -> Result<(), AllocError>
 }
 
 // Writes an octet at the end of a text.
+#[tactic(auto, using(std::proofs::lemmas::Grind::common_steps, crate::proofs::Escapes::four))]
 fn push_octet(text: &mut Vec<u8>, octet: u8) -> Result<(), AllocError>
     ensures appended { OnOk result (text.new.items ≡ text.old.items ++ octet_text octet) }
     ensures room { vec_capacity text.old ≤ vec_capacity text.new }

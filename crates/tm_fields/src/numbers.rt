@@ -7,6 +7,7 @@ ghost use Rattle.tm_fields.specs.Numbers.{bits_in, number_within};
 use byteorder::{BigEndian, ByteOrder};
 
 // The number that at most nine octets spell.
+#[tactic(auto, using(std::proofs::lemmas::Grind::common_steps, crate::proofs::NumberLemmas::none_spelled, crate::proofs::NumberLemmas::one_more_spelled, crate::proofs::NumberLemmas::power_most))]
 fn big_endian(octets: &[u8]) -> u128
     requires few { length octets.now ≤ 9 }
     ensures value { result ≡ number (bits_of octets.now) }
@@ -20,6 +21,7 @@ fn big_endian(octets: &[u8]) -> u128
 }
 
 // The bits of a word in front of the last `behind`, so many of them.
+#[tactic(auto, using(crate::proofs::NumberLemmas::masked, crate::proofs::NumberLemmas::masked_below))]
 fn cut_bits(word: u64, behind: u32, count: u32) -> u64
     requires some { 1 ≤ count }
     requires within { behind + count ≤ 64 }

@@ -24,6 +24,7 @@ fn fault_of(error: Error) -> DefinitionFault
 const MOST_ROWS: usize = 1002;
 
 // Keeps a further record, if it can count.
+#[tactic(auto, using(std::proofs::lemmas::Grind::common_steps, crate::proofs::Kept::kept_short, crate::proofs::Kept::kept_full))]
 fn keep(rows: &mut Vec<ByteRecord>, row: ByteRecord) -> Result<(), AllocError>
     requires few { length rows.old.items ≤ 1002 }
     ensures kept { OnOk result (map fields_of rows.new.items ≡ kept (map fields_of rows.old.items ++ (fields_of row ∷ []))) }

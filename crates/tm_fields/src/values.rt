@@ -47,6 +47,7 @@ fn push_signed(text: &mut Vec<u8>, bits: u32, number: u64) -> Result<(), AllocEr
 }
 
 // So many octets from a bit on, of a field that doesn't begin on an octet's border.
+#[tactic(auto, using(std::proofs::lemmas::Grind::common_steps, crate::proofs::NumberLemmas::octets_next))]
 fn unaligned_octets(
     alloc: Global,
     packet: &[u8],
@@ -65,6 +66,7 @@ fn unaligned_octets(
 }
 
 // So many octets of a packet from a bit on, which is the first of an octet.
+#[tactic(auto, using(crate::proofs::NumberLemmas::octets_at_border))]
 fn aligned_octets(packet: &[u8], at: u32, count: u32) -> &[u8]
     requires border { at % 8 ≡ 0 }
     requires within { at + 8 * count ≤ bits_in packet.now }

@@ -16,6 +16,7 @@ fn is_space_or_tab(octet: u8) -> bool
 }
 
 /// A value without the spaces and tabs at its ends.
+#[tactic(auto, using(crate::proofs::Trim::back_more, crate::proofs::Trim::back_stays))]
 pub(crate) fn trim(value: &[u8]) -> &[u8]
     ensures { result.now ≡ trimmed value.now }
 {
@@ -79,6 +80,7 @@ pub(crate) fn is_array_text(text: &[u8]) -> bool
 }
 
 // The number that at most nine digits spell.
+#[tactic(auto, using(std::proofs::lemmas::Grind::common_steps, crate::proofs::Digits::digit_at, crate::proofs::Digits::digits_number_at, crate::proofs::NumberLemmas::power_most))]
 fn digits_value(text: &[u8]) -> u32
     requires few { length text.now ≤ 9 }
     requires digits { list_all is_ascii_digit text.now ≡ true }

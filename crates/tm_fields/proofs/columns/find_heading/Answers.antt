@@ -2,15 +2,11 @@ use Rattle.std.proofs.Common.{◌≡◌, true, false, arith, sym, ◌∙◌}
 use Rattle.std.specs.Prelude.{if◌then◌else◌}
 use Rattle.std.specs.Str.{bytes_eq}
 use Rattle.csv.specs.Records.{fields_of}
-use Rattle.tm_fields.specs.Columns.{heading_places}
 use Rattle.tm_fields.specs.code.Reading.{met}
 use Rattle.tm_fields.specs.Values.{value}
-use Rattle.tm_fields.proofs.Places.{standing_first, standing_step}
+use Rattle.tm_fields.proofs.Places.{standing_step}
 use Rattle.tm_fields.proofs.columns.find_heading.Goals as goal
 use Rattle.tm_fields.proofs.columns.find_heading.Goals.{then-is_text, else-is_text}
-
-pub loop-at-init : goal.loop-at-init
-loop-at-init c = standing_first (heading_places c.args.word.now 0 (fields_of c.args.headings.now))
 
 pub loop-at-preserved : goal.loop-at-preserved
 loop-at-preserved c =

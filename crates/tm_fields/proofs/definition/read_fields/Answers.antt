@@ -1,8 +1,10 @@
-use Rattle.std.proofs.Common.{◌≡◌, ◌∷◌, [], arith, sym, ◌∙◌, rules, true, length-append}
+use Rattle.std.proofs.Common.{◌≡◌, ◌∷◌, [], arith, sym, ◌∙◌, rules, true, refl, length-append}
 use Rattle.std.specs.Result.{is_ok}
 use Rattle.std.proofs.lemmas.Result.{err_from_is_err_and}
+use Rattle.std.proofs.lemmas.List.Folds.{list_all-append}
 use Rattle.csv.specs.Records.{fields_of}
-use Rattle.tm_fields.proofs.Fields.{last_end_more, needed_more, next_read, next_refused, sound_more}
+use Rattle.tm_fields.specs.Reading.{is_sound}
+use Rattle.tm_fields.proofs.Fields.{last_end_more, needed_more, next_read, next_refused}
 use Rattle.tm_fields.proofs.definition.read_fields.Goals as goal
 
 pub returns-in_err-field-clause-refused : goal.returns-in_err-field-clause-refused
@@ -22,7 +24,7 @@ loop-values-preserved c =
     rw items (record {
       rest = sym step ∙ c.loop-values.invariant.rest;
       before = sym (last_end_more 48 fields x);
-      sound = sound_more fields x c.loop-values.invariant.sound c.in_ok-field.ensures.sound;
+      sound = list_all-append is_sound fields (x ∷ []) ∙ rw (c.loop-values.invariant.sound, c.in_ok-field.ensures.sound) refl;
       needed = c.max-needed.ensures ∙ sym (needed_more fields c.loop-values.needed x c.loop-values.invariant.needed);
       count = omega (arith, length-append fields (x ∷ []), c.loop-values.invariant.count);
     })

@@ -1,4 +1,4 @@
-use Rattle.std.proofs.Common.{Bor, List, ℕ, length, ap, ◌≡◌, ◌∙◌, sym, refl, arith, inl, inr, Some, ◌∷◌, ◌++◌, []}
+use Rattle.std.proofs.Common.{Bor, List, ℕ, length, ap, ◌≡◌, ◌∙◌, sym, refl, arith, inl, inr, Some, ◌∷◌, ◌++◌, [], rules}
 use Rattle.csv.specs.Reading.{Reached, default_config, strip_bom}
 use Rattle.csv.specs.Records.{fields_of}
 use Rattle.csv.specs.declared.parser.State.TheVariants as st
@@ -7,7 +7,7 @@ use Rattle.std.specs.Prelude.{Option}
 use Rattle.tm_fields.specs.code.Reading.{fault_of_kind, kept}
 use Rattle.tm_fields.specs.declared.faults.DefinitionFault.TheVariants.{Csv}
 use Rattle.tm_fields.proofs.Causes.{cause, took_next}
-use Rattle.tm_fields.proofs.Kept.{kept_again}
+use Rattle.tm_fields.proofs.Kept.{take_again}
 use Rattle.tm_fields.proofs.Lengths.{expects_more, expected_same, not_expected}
 use Rattle.tm_fields.proofs.Records.{records_are, records_have}
 use Rattle.tm_fields.proofs.table.read_table.Goals as goal
@@ -45,23 +45,16 @@ loop-row-preserved c =
     let all = inv.6 in
     let m = rows-more (λ (s : Bor (List ℕ)). Some s.now) c.loop-row.row-iterator.rdr c.next.new.self.rdr f default_config st.StartRecord (strip_bom c.args.text.now) inv.9 all inv.3 inv.10 inv.11 s.0 in
     let expects = expects_more _ c.next.new.self.rdr.expected all f inv.8 (s.0.5 refl inv.4) in
-    let rows = c.in_ok-keep-in-Ok.ensures.kept ∙ ap (λ l. kept (l ++ (f ∷ []))) inv.7 ∙ kept_again all f in
+    let rows = c.in_ok-keep-in-Ok.ensures.kept ∙ ap (λ l. kept (l ++ (f ∷ []))) inv.7 ∙ take_again 1002 all f in
     (s.0.3 ∙ inv.0, inl s.1, s.2, s.0.2 ∙ inv.3, flexible ∙ inv.4, c.keep.ensures.few, all ++ (f ∷ []), rows, expects, m.0, m.1, m.2)
 
-pub returns-clause-rows : goal.returns-clause-rows
-returns-clause-rows c =
-    let inv = c.loop-row.invariant in
-    let s = rw c.in-None.is at ((c.next.ensures.steps inv.2 inv.0).0 inv.1) in
-    let ended = rows-end (λ (s : Bor (List ℕ)). Some s.now) c.loop-row.row-iterator.rdr c.next.new.self.rdr [] default_config inv.9 inv.3 inv.10 s in
-    inv.7 ∙ ap kept (sym (records_are (strip_bom c.args.text.now) inv.6 (c.loop-row.row-iterator.rdr.state, inv.9, inv.11, ended)))
-
-pub returns-clause-same : goal.returns-clause-same
-returns-clause-same c =
+pub returns : goal.returns
+returns c =
     let inv = c.loop-row.invariant in
     let s = rw c.in-None.is at ((c.next.ensures.steps inv.2 inv.0).0 inv.1) in
     let ended = rows-end (λ (s : Bor (List ℕ)). Some s.now) c.loop-row.row-iterator.rdr c.next.new.self.rdr [] default_config inv.9 inv.3 inv.10 s in
     let all = records_are (strip_bom c.args.text.now) inv.6 (c.loop-row.row-iterator.rdr.state, inv.9, inv.11, ended) in
-    rw all (expected_same _ _ inv.8)
+    record { rows = inv.7 ∙ ap kept (sym all); same = rw all (expected_same _ _ inv.8); csv = search rules; only = search rules }
 
 pub returns-in-Err-clause-csv : goal.returns-in-Err-clause-csv
 returns-in-Err-clause-csv c h =

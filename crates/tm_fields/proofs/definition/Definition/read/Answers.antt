@@ -4,14 +4,8 @@ use Rattle.tm_fields.specs.Reading.{definition_of, fields_in}
 use Rattle.tm_fields.proofs.Kept.{kept_definition}
 use Rattle.tm_fields.proofs.definition.Definition.read.Goals as goal
 
-pub returns-clause-ok : goal.returns-clause-ok
-returns-clause-ok c =
+pub returns : goal.returns
+returns c =
     let records = map fields_of c.in_ok-table.table.items in
     let same : fields_in records ≡ definition_of c.args.text.now = kept_definition c.args.text.now records c.in_ok-table.ensures.rows c.in_ok-table.ensures.same in
-    rw (c.as_slice.ensures.value, same) at c.read_records.ensures.ok
-
-pub returns-clause-refused : goal.returns-clause-refused
-returns-clause-refused c =
-    let records = map fields_of c.in_ok-table.table.items in
-    let same : fields_in records ≡ definition_of c.args.text.now = kept_definition c.args.text.now records c.in_ok-table.ensures.rows c.in_ok-table.ensures.same in
-    rw (c.as_slice.ensures.value, same) at c.read_records.ensures.refused
+    record { ok = rw (c.as_slice.ensures.value, same) at c.read_records.ensures.ok; refused = rw (c.as_slice.ensures.value, same) at c.read_records.ensures.refused }

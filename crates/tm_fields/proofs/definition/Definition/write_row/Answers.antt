@@ -1,20 +1,11 @@
-use Rattle.std.proofs.Common.{◌≡◌, ℕ, ◌≤◌, ◌++◌, List, Some, take, subst, arith, sym, ◌∙◌, length, length-append}
+use Rattle.std.proofs.Common.{◌≡◌, ℕ, ◌≤◌, ◌++◌, List, Some, take, subst, arith, ◌∙◌, length, length-append}
 use Rattle.std.proofs.lemmas.List.{take_all}
 use Rattle.std.proofs.lemmas.Result.{on_ok_weaker}
 use Rattle.std.specs.List.{flat_map}
 use Rattle.tm_fields.specs.code.Line.{HasValues}
-use Rattle.tm_fields.specs.Reading.{end_of}
-use Rattle.tm_fields.specs.Rows.{bits_needed, lead_texts, printed}
-use Rattle.tm_fields.proofs.RowLemmas.{fits_needed, texts_more}
+use Rattle.tm_fields.specs.Rows.{lead_texts, printed}
+use Rattle.tm_fields.proofs.RowLemmas.{texts_more}
 use Rattle.tm_fields.proofs.definition.Definition.write_row.Goals as goal
-
-pub write_field_value-requires-clause-within : goal.write_field_value-requires-clause-within
-write_field_value-requires-clause-within c =
-    let same = c.deref-field-items.ensures.value ∙ c.self.view_is in
-    let inside = rw same at c.loop-field-test.true in
-    let is = rw same at c.field-item.is in
-    let fits : end_of c.field-item.result ≤ bits_needed c.args.self.now = rw (sym is) at (fits_needed c.args.self.now c.loop-field.field-index c.field-item.result inside) in
-    omega (arith, fits, c.requires)
 
 pub loop-field-preserved : goal.loop-field-preserved
 loop-field-preserved c = λ lines h.

@@ -1,6 +1,6 @@
 //! Why octets are no checkpoint of a job with the settings.
 
-use crate::line::{Value, fill_text};
+use crate::line::{Value, some_text};
 use crate::roles::{Role, phrase_in};
 use crate::texts::{CHECK, MAGIC, OTHER_SETTINGS, SHORT, STATE, TRAILING, VERSION};
 use std::alloc::{AllocError, Global};
@@ -101,6 +101,28 @@ fn value_text(alloc: Global, key: Key, number: u32) -> Result<Vec<u8>, AllocErro
     Vec::from_slice(alloc, word.as_bytes())
 }
 
+// How a setting differs, by its numbers in the checkpoint and in the settings.
+fn other_value_text(
+    alloc: Global,
+    plan: &Plan,
+    file: &[u8],
+    key: Key,
+    there: u32,
+    here: u32,
+) -> Result<Option<Vec<u8>>, AllocError> {
+    let there = value_text(alloc, key, there)?;
+    let here = value_text(alloc, key, here)?;
+    let settings = phrase_in(alloc, plan, Role::Settings)?;
+    let values = [
+        Value::Octets(file),
+        Value::Word(key.word()),
+        Value::Octets(there.as_slice()),
+        Value::Octets(here.as_slice()),
+        Value::Octets(settings.as_slice()),
+    ];
+    some_text(alloc, OTHER_SETTINGS, &values)
+}
+
 // Which setting differs, and how; none if no one does.
 fn difference_text(
     alloc: Global,
@@ -110,22 +132,10 @@ fn difference_text(
     settings: &Settings,
 ) -> Result<Option<Vec<u8>>, AllocError> {
     for key in Key::ALL {
-        let (there, here) = (
-            number_in_checkpoint(octets, key),
-            number_in_settings(settings, key),
-        );
+        let there = number_in_checkpoint(octets, key);
+        let here = number_in_settings(settings, key);
         if there != here {
-            let there = value_text(alloc, key, there)?;
-            let here = value_text(alloc, key, here)?;
-            let settings = phrase_in(alloc, plan, Role::Settings)?;
-            let values = [
-                Value::Octets(file),
-                Value::Word(key.word()),
-                Value::Octets(there.as_slice()),
-                Value::Octets(here.as_slice()),
-                Value::Octets(settings.as_slice()),
-            ];
-            return Ok(Some(fill_text(alloc, OTHER_SETTINGS, &values)?));
+            return other_value_text(alloc, plan, file, key, there, here);
         }
     }
     Ok(None)
@@ -140,6 +150,25 @@ pub(crate) fn records_in(octets: &[u8]) -> u64 {
     u64::from(number_at(octets, first, 4))
 }
 
+// Why a file, by what a line calls it, is no checkpoint.
+fn fault_text(
+    alloc: Global,
+    file: &[u8],
+    fault: CheckpointFault,
+    octets: &[u8],
+) -> Result<Option<Vec<u8>>, AllocError> {
+    let (text, number) = match fault {
+        CheckpointFault::Short => (SHORT, octets.len() as u64),
+        CheckpointFault::Magic => (MAGIC, 0),
+        CheckpointFault::Version => (VERSION, octets.get(4).map_or(0, |octet| u64::from(*octet))),
+        CheckpointFault::Check => (CHECK, 0),
+        CheckpointFault::State => (STATE, 0),
+        CheckpointFault::Trailing => (TRAILING, 0),
+        CheckpointFault::Settings | CheckpointFault::NoMemory => return Ok(None),
+    };
+    some_text(alloc, text, &[Value::Octets(file), Value::Number(number)])
+}
+
 /// Why the file of the checkpoint, which has these octets, is refused.
 pub(crate) fn checkpoint_text(
     alloc: Global,
@@ -150,16 +179,8 @@ pub(crate) fn checkpoint_text(
 ) -> Result<Option<Vec<u8>>, AllocError> {
     let file = phrase_in(alloc, plan, Role::Resumed)?;
     let file = file.as_slice();
-    let (text, number) = match fault {
-        CheckpointFault::Short => (SHORT, octets.len() as u64),
-        CheckpointFault::Magic => (MAGIC, 0),
-        CheckpointFault::Version => (VERSION, octets.get(4).map_or(0, |octet| u64::from(*octet))),
-        CheckpointFault::Check => (CHECK, 0),
-        CheckpointFault::State => (STATE, 0),
-        CheckpointFault::Trailing => (TRAILING, 0),
-        CheckpointFault::Settings => return difference_text(alloc, plan, file, octets, settings),
-        CheckpointFault::NoMemory => return Ok(None),
-    };
-    let values = [Value::Octets(file), Value::Number(number)];
-    Ok(Some(fill_text(alloc, text, &values)?))
+    match fault {
+        CheckpointFault::Settings => difference_text(alloc, plan, file, octets, settings),
+        _ => fault_text(alloc, file, fault, octets),
+    }
 }

@@ -1,6 +1,6 @@
 //! Why a text is no definition of fields.
 
-use crate::line::{Value, fill_text};
+use crate::line::{Value, some_text};
 use crate::roles::{Role, phrase_in};
 use crate::texts::{
     ARRAY, COLUMN_TWICE, FIELDS, LENGTH, LENGTHS, NAME_TWICE, NO_COLUMN, NO_NAME, OFFSET, TYPE,
@@ -18,10 +18,10 @@ fn records_in(alloc: Global, text: &[u8]) -> Result<Vec<ByteRecord>, AllocError>
         .from_reader(alloc, text);
     let mut records = Vec::new(alloc);
     for record in reader.into_byte_records() {
-        match record {
-            Ok(record) => records.push(record)?,
-            Err(_) => return Ok(records),
-        }
+        let Ok(record) = record else {
+            break;
+        };
+        records.push(record)?;
     }
     Ok(records)
 }
@@ -93,14 +93,14 @@ impl<'t> Table<'t> {
                     Value::Number(record.len() as u64),
                     Value::Number(heading.len() as u64),
                 ];
-                return Ok(Some(fill_text(alloc, LENGTHS, &values)?));
+                return some_text(alloc, LENGTHS, &values);
             }
         }
         Ok(None)
     }
 
     // Which columns there are, and which is missing or stands there twice.
-    fn column_text(&self, alloc: Global, column: Column) -> Result<Vec<u8>, AllocError> {
+    fn column_text(&self, alloc: Global, column: Column) -> Result<Option<Vec<u8>>, AllocError> {
         let headings = self.headings(alloc)?;
         let text = match self.count(column) {
             0 => NO_COLUMN,
@@ -111,7 +111,7 @@ impl<'t> Table<'t> {
             Value::Octets(headings.as_slice()),
             Value::Word(column.word()),
         ];
-        fill_text(alloc, text, &values)
+        some_text(alloc, text, &values)
     }
 
     // A text with the name of a row's field and its value in a column.
@@ -121,7 +121,7 @@ impl<'t> Table<'t> {
         text: &str,
         row: u32,
         column: Column,
-    ) -> Result<Vec<u8>, AllocError> {
+    ) -> Result<Option<Vec<u8>>, AllocError> {
         let row = row as usize;
         let data_type = self.value(row, Column::DataType);
         let values = [
@@ -131,11 +131,11 @@ impl<'t> Table<'t> {
             Value::Octets(data_type),
             Value::Word(lengths_of(data_type)),
         ];
-        fill_text(alloc, text, &values)
+        some_text(alloc, text, &values)
     }
 
     // Where a row's field would begin, and how long it is.
-    fn offset_text(&self, alloc: Global, row: u32) -> Result<Vec<u8>, AllocError> {
+    fn offset_text(&self, alloc: Global, row: u32) -> Result<Option<Vec<u8>>, AllocError> {
         let row = row as usize;
         let values = [
             Value::Octets(self.file),
@@ -143,11 +143,11 @@ impl<'t> Table<'t> {
             Value::Octets(self.value(row, Column::BitOffset)),
             Value::Octets(self.value(row, Column::BitLength)),
         ];
-        fill_text(alloc, OFFSET, &values)
+        some_text(alloc, OFFSET, &values)
     }
 
     // Which earlier row has the name of a row, or that it has none.
-    fn name_text(&self, alloc: Global, row: u32) -> Result<Vec<u8>, AllocError> {
+    fn name_text(&self, alloc: Global, row: u32) -> Result<Option<Vec<u8>>, AllocError> {
         let name = self.value(row as usize, Column::Name);
         for earlier in 1..row {
             let at = earlier as usize;
@@ -159,17 +159,32 @@ impl<'t> Table<'t> {
                     Value::Octets(name),
                     Value::Number(u64::from(earlier)),
                 ];
-                return fill_text(alloc, NAME_TWICE, &values);
+                return some_text(alloc, NAME_TWICE, &values);
             }
         }
-        fill_text(alloc, NO_NAME, &[Value::Octets(self.file)])
+        some_text(alloc, NO_NAME, &[Value::Octets(self.file)])
     }
 
     // How many fields there are.
-    fn fields_text(&self, alloc: Global) -> Result<Vec<u8>, AllocError> {
+    fn fields_text(&self, alloc: Global) -> Result<Option<Vec<u8>>, AllocError> {
         let fields = self.records.len().saturating_sub(1);
         let values = [Value::Octets(self.file), Value::Number(fields as u64)];
-        fill_text(alloc, FIELDS, &values)
+        some_text(alloc, FIELDS, &values)
+    }
+
+    // Why it is no definition.
+    fn text(&self, alloc: Global, fault: DefinitionFault) -> Result<Option<Vec<u8>>, AllocError> {
+        match fault {
+            DefinitionFault::Csv => self.lengths_text(alloc),
+            DefinitionFault::Column(column) => self.column_text(alloc, column),
+            DefinitionFault::Kind { row } => self.row_text(alloc, TYPE, row, Column::DataType),
+            DefinitionFault::Array { row } => self.row_text(alloc, ARRAY, row, Column::DataType),
+            DefinitionFault::Bits { row } => self.row_text(alloc, LENGTH, row, Column::BitLength),
+            DefinitionFault::Offset { row } => self.offset_text(alloc, row),
+            DefinitionFault::Name { row } => self.name_text(alloc, row),
+            DefinitionFault::TooMany => self.fields_text(alloc),
+            DefinitionFault::NoMemory => Ok(None),
+        }
     }
 }
 
@@ -196,16 +211,5 @@ pub(crate) fn definition_text(
         file: file.as_slice(),
         records: records.as_slice(),
     };
-    let text = match fault {
-        DefinitionFault::Csv => return table.lengths_text(alloc),
-        DefinitionFault::Column(column) => table.column_text(alloc, column)?,
-        DefinitionFault::Kind { row } => table.row_text(alloc, TYPE, row, Column::DataType)?,
-        DefinitionFault::Array { row } => table.row_text(alloc, ARRAY, row, Column::DataType)?,
-        DefinitionFault::Bits { row } => table.row_text(alloc, LENGTH, row, Column::BitLength)?,
-        DefinitionFault::Offset { row } => table.offset_text(alloc, row)?,
-        DefinitionFault::Name { row } => table.name_text(alloc, row)?,
-        DefinitionFault::TooMany => table.fields_text(alloc)?,
-        DefinitionFault::NoMemory => return Ok(None),
-    };
-    Ok(Some(text))
+    table.text(alloc, fault)
 }

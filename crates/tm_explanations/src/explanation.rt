@@ -6,7 +6,7 @@ ghost use Rattle.tm_explanations.specs.Explanations.{IsLine, bad_frames_text, li
 use crate::checkpoint::checkpoint_text;
 use crate::definition::definition_text;
 use crate::files::{file_text, length_text};
-use crate::line::{NoMemory, fill_text, line_of};
+use crate::line::{NoMemory, line_of, some_text};
 use crate::runs::{output_text, run_text, shorter_text};
 use crate::settings::settings_text;
 use crate::texts::NO_CHECKPOINT;
@@ -41,15 +41,17 @@ fn resumed_text<R: Files + AllocGlobal>(
     plan: &Plan,
     fault: &ToolFault,
 ) -> Result<Option<Vec<u8>>, AllocError> {
-    let (Some(octets), Some(settings)) = (octets_in(rt, &plan.resume), settings_in(rt, plan)) else {
+    let Some(settings) = settings_in(rt, plan) else {
         return Ok(None);
     };
-    let octets = octets.as_slice();
+    let Some(octets) = octets_in(rt, &plan.resume) else {
+        return Ok(None);
+    };
     match fault {
         ToolFault::Checkpoint(fault) => {
-            checkpoint_text(rt.alloc(), plan, *fault, octets, &settings)
+            checkpoint_text(rt.alloc(), plan, *fault, octets.as_slice(), &settings)
         }
-        _ => Ok(Some(shorter_text(rt, plan, octets, &settings)?)),
+        _ => shorter_text(rt, plan, octets.as_slice(), &settings),
     }
 }
 
@@ -74,9 +76,21 @@ fn plan_text<R: Files + AllocGlobal>(
             resumed_text(rt, plan, fault)
         }
         ToolFault::File(name) => file_text(rt, plan, name, number),
-        ToolFault::TooLong(name) => Ok(Some(length_text(rt, plan, name)?)),
+        ToolFault::TooLong(name) => length_text(rt, plan, name),
         ToolFault::Run(fault) => run_text(rt, plan, *fault, number),
         ToolFault::Usage(_) | ToolFault::Errors => Ok(None),
+    }
+}
+
+// Why words are no plan. There is more to say only of help that can't be written.
+fn usage_text(
+    alloc: Global,
+    usage: &UsageFault,
+    number: Option<i32>,
+) -> Result<Option<Vec<u8>>, AllocError> {
+    match (usage, number) {
+        (UsageFault::Help(_), Some(number)) => output_text(alloc, number),
+        _ => Ok(None),
     }
 }
 
@@ -87,14 +101,9 @@ fn fault_text<R: Files + AllocGlobal>(
     fault: &ToolFault,
     number: Option<i32>,
 ) -> Result<Option<Vec<u8>>, AllocError> {
-    let alloc = rt.alloc();
-    if let ToolFault::Usage(UsageFault::StopAfter) = fault {
-        return Ok(Some(fill_text(alloc, NO_CHECKPOINT, &[])?));
-    }
-    match (plan(alloc, words), number) {
-        (Ok(plan), _) => plan_text(rt, &plan, fault, number),
-        (Err(UsageFault::Help(_)), Some(number)) => Ok(Some(output_text(alloc, number)?)),
-        (Err(_), _) => Ok(None),
+    match plan(rt.alloc(), words) {
+        Ok(plan) => plan_text(rt, &plan, fault, number),
+        Err(usage) => usage_text(rt.alloc(), &usage, number),
     }
 }
 
@@ -112,7 +121,11 @@ pub fn explain<R: Files + AllocGlobal>(
 ) -> Result<Option<Vec<u8>>, NoMemory>
     ensures { IfOk result (λ found. IfSome found (λ line. IsLine line.items)) }
 {
-    match fault_text(rt, words, fault, number)? {
+    let text = match fault {
+        ToolFault::Usage(UsageFault::StopAfter) => some_text(rt.alloc(), NO_CHECKPOINT, &[]),
+        _ => fault_text(rt, words, fault, number),
+    };
+    match text? {
         Some(text) => Ok(Some(line_of(rt.alloc(), text.as_slice())?)),
         None => Ok(None),
     }

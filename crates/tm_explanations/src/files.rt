@@ -1,6 +1,6 @@
 //! Why a file can't be opened, made, read or written.
 
-use crate::line::{Value, fill_text};
+use crate::line::{Value, some_text};
 use crate::roles::{Role, has_name, phrase_in, phrase_of, role_of};
 use crate::texts::{
     FOLDER, NO_FILE, NO_FOLDER, NO_NAME_GIVEN, NO_PERMISSION, OVER, SYSTEM, TOO_LONG,
@@ -27,14 +27,19 @@ pub(crate) fn with_system_words(
     text: &str,
     file: &[u8],
     number: i32,
-) -> Result<Vec<u8>, AllocError> {
+) -> Result<Option<Vec<u8>>, AllocError> {
     let words = system_words(alloc, number)?;
     let values = [Value::Octets(file), Value::Octets(words.as_slice())];
-    fill_text(alloc, text, &values)
+    some_text(alloc, text, &values)
 }
 
 // The text of an error of the system.
-fn error_text(alloc: Global, role: Role, file: &[u8], number: i32) -> Result<Vec<u8>, AllocError> {
+fn error_text(
+    alloc: Global,
+    role: Role,
+    file: &[u8],
+    number: i32,
+) -> Result<Option<Vec<u8>>, AllocError> {
     let text = match io::Error::from_raw_os_error(number).kind() {
         ErrorKind::NotFound if role.is_written() || role == Role::Folder => NO_FOLDER,
         ErrorKind::NotFound => NO_FILE,
@@ -42,7 +47,7 @@ fn error_text(alloc: Global, role: Role, file: &[u8], number: i32) -> Result<Vec
         ErrorKind::IsADirectory => FOLDER,
         _ => return with_system_words(alloc, SYSTEM, file, number),
     };
-    fill_text(alloc, text, &[Value::Octets(file)])
+    some_text(alloc, text, &[Value::Octets(file)])
 }
 
 // A name that is written, and what it stands for.
@@ -83,30 +88,69 @@ impl<'w> Written<'w> {
 }
 
 // What a file and one over which it would be written are called.
-fn over_text(alloc: Global, plan: &Plan, file: &[u8], over: Role) -> Result<Vec<u8>, AllocError> {
+fn over_text(
+    alloc: Global,
+    plan: &Plan,
+    file: &[u8],
+    over: Role,
+) -> Result<Option<Vec<u8>>, AllocError> {
     let other = phrase_in(alloc, plan, over)?;
     let values = [Value::Octets(file), Value::Octets(other.as_slice())];
-    fill_text(alloc, OVER, &values)
+    some_text(alloc, OVER, &values)
 }
 
-// Over which file the file beside the checkpoint would be written.
-fn clash_of_temporary(
+// Over which file a file would be written; none if over no other.
+fn written_text(
+    alloc: Global,
+    plan: &Plan,
+    written: Written<'_>,
+    identities: &FileIdentities,
+) -> Result<Option<Vec<u8>>, AllocError> {
+    match written.clash(plan, identities) {
+        Some(over) => {
+            let file = phrase_of(alloc, written.role, written.name.as_slice())?;
+            over_text(alloc, plan, file.as_slice(), over)
+        }
+        None => Ok(None),
+    }
+}
+
+// Likewise of the file beside the checkpoint.
+fn temporary_text(
     alloc: Global,
     plan: &Plan,
     name: &Octets,
     identities: &FileIdentities,
-) -> Result<Option<(Octets, Role)>, AllocError> {
+) -> Result<Option<Vec<u8>>, AllocError> {
     let mut octets = Vec::from_slice(alloc, name.as_slice())?;
     octets.extend_from_slice(b".new")?;
-    let name = Octets::new(octets);
     let written = Written {
         role: Role::TemporaryCheckpoint,
-        name: &name,
+        name: &Octets::new(octets),
         identity: &identities.temporary_checkpoint,
     };
-    match written.clash(plan, identities) {
-        Some(over) => Ok(Some((name, over))),
-        None => Ok(None),
+    written_text(alloc, plan, written, identities)
+}
+
+// Likewise of a file by its name, and of the file beside it if it is the checkpoint.
+fn name_clash_text<R: Files + AllocGlobal>(
+    rt: &R,
+    plan: &Plan,
+    role: Role,
+    name: &Octets,
+    identities: &FileIdentities,
+) -> Result<Option<Vec<u8>>, AllocError> {
+    let Ok(path) = std::str::from_utf8(name.as_slice()) else {
+        return Ok(None);
+    };
+    let written = Written {
+        role,
+        name,
+        identity: &identity_of(rt, path)?,
+    };
+    match written_text(rt.alloc(), plan, written, identities)? {
+        None if role == Role::Checkpoint => temporary_text(rt.alloc(), plan, name, identities),
+        found => Ok(found),
     }
 }
 
@@ -117,30 +161,10 @@ fn clash_text<R: Files + AllocGlobal>(
     role: Role,
     name: &Octets,
 ) -> Result<Option<Vec<u8>>, AllocError> {
-    let alloc = rt.alloc();
-    let Ok(identities) = identify_files(rt, plan) else {
-        return Err(AllocError);
-    };
-    let Ok(path) = std::str::from_utf8(name.as_slice()) else {
-        return Ok(None);
-    };
-    let identity = identity_of(rt, path)?;
-    let written = Written {
-        role,
-        name,
-        identity: &identity,
-    };
-    if let Some(over) = written.clash(plan, &identities) {
-        let file = phrase_of(alloc, role, name.as_slice())?;
-        return Ok(Some(over_text(alloc, plan, file.as_slice(), over)?));
+    match identify_files(rt, plan) {
+        Ok(identities) => name_clash_text(rt, plan, role, name, &identities),
+        Err(_) => Err(AllocError),
     }
-    if role == Role::Checkpoint
-        && let Some((name, over)) = clash_of_temporary(alloc, plan, name, &identities)?
-    {
-        let file = phrase_of(alloc, Role::TemporaryCheckpoint, name.as_slice())?;
-        return Ok(Some(over_text(alloc, plan, file.as_slice(), over)?));
-    }
-    Ok(None)
 }
 
 // The file of this name is a folder.
@@ -154,15 +178,8 @@ fn is_folder<R: Files>(rt: &R, name: &Octets) -> bool {
     }
 }
 
-/// Over which file standard output would be written.
-pub(crate) fn output_clash_text<R: Files + AllocGlobal>(
-    rt: &R,
-    plan: &Plan,
-) -> Result<Option<Vec<u8>>, AllocError> {
-    let alloc = rt.alloc();
-    let Ok(identities) = identify_files(rt, plan) else {
-        return Err(AllocError);
-    };
+// The file that is read and is standard output.
+fn input_of_output(identities: &FileIdentities) -> Option<Role> {
     let inputs = [
         (Role::Recording, &identities.recording),
         (Role::Settings, &identities.settings),
@@ -171,11 +188,25 @@ pub(crate) fn output_clash_text<R: Files + AllocGlobal>(
     ];
     for (role, identity) in inputs {
         if identities.output.is_same(identity) {
-            let word = Role::Output.word().as_bytes();
-            return Ok(Some(over_text(alloc, plan, word, role)?));
+            return Some(role);
         }
     }
-    Ok(None)
+    None
+}
+
+/// Over which file standard output would be written.
+pub(crate) fn output_clash_text<R: Files + AllocGlobal>(
+    rt: &R,
+    plan: &Plan,
+) -> Result<Option<Vec<u8>>, AllocError> {
+    let over = match identify_files(rt, plan) {
+        Ok(identities) => input_of_output(&identities),
+        Err(_) => return Err(AllocError),
+    };
+    match over {
+        Some(over) => over_text(rt.alloc(), plan, Role::Output.word().as_bytes(), over),
+        None => Ok(None),
+    }
 }
 
 // What the file of this name is for, as far as it is written: the checkpoint is compared before the report, and a file of packets last.
@@ -186,6 +217,28 @@ fn written_roles(plan: &Plan, name: &Octets) -> [Option<Role>; 3] {
     [checkpoint, report, packets]
 }
 
+// Why the file of this name failed without an error of the system: it is in the way of another, or a folder.
+fn place_text<R: Files + AllocGlobal>(
+    rt: &R,
+    plan: &Plan,
+    name: &Octets,
+    file: &[u8],
+) -> Result<Option<Vec<u8>>, AllocError> {
+    for role in written_roles(plan, name) {
+        let found = match role {
+            Some(role) => clash_text(rt, plan, role, name)?,
+            None => None,
+        };
+        if found.is_some() {
+            return Ok(found);
+        }
+    }
+    if is_folder(rt, name) {
+        return some_text(rt.alloc(), FOLDER, &[Value::Octets(file)]);
+    }
+    Ok(None)
+}
+
 /// Why the file of this name failed. The number is that of the system's first error.
 pub(crate) fn file_text<R: Files + AllocGlobal>(
     rt: &R,
@@ -193,27 +246,16 @@ pub(crate) fn file_text<R: Files + AllocGlobal>(
     name: &Octets,
     number: Option<i32>,
 ) -> Result<Option<Vec<u8>>, AllocError> {
-    let alloc = rt.alloc();
     let role = role_of(plan, name);
-    let file = phrase_of(alloc, role, name.as_slice())?;
+    let file = phrase_of(rt.alloc(), role, name.as_slice())?;
     let file = file.as_slice();
-    if name.as_slice().is_empty() {
-        return Ok(Some(fill_text(alloc, NO_NAME_GIVEN, &[Value::Octets(file)])?));
-    }
-    if let Some(number) = number {
-        return Ok(Some(error_text(alloc, role, file, number)?));
-    }
-    for role in written_roles(plan, name) {
-        if let Some(role) = role
-            && let Some(text) = clash_text(rt, plan, role, name)?
-        {
-            return Ok(Some(text));
+    match number {
+        _ if name.as_slice().is_empty() => {
+            some_text(rt.alloc(), NO_NAME_GIVEN, &[Value::Octets(file)])
         }
+        Some(number) => error_text(rt.alloc(), role, file, number),
+        None => place_text(rt, plan, name, file),
     }
-    if is_folder(rt, name) {
-        return Ok(Some(fill_text(alloc, FOLDER, &[Value::Octets(file)])?));
-    }
-    Ok(None)
 }
 
 /// How long the file of this name is, which is too long.
@@ -221,15 +263,16 @@ pub(crate) fn length_text<R: Files + AllocGlobal>(
     rt: &R,
     plan: &Plan,
     name: &Octets,
-) -> Result<Vec<u8>, AllocError> {
+) -> Result<Option<Vec<u8>>, AllocError> {
     let alloc = rt.alloc();
     let file = phrase_of(alloc, role_of(plan, name), name.as_slice())?;
+    let file = file.as_slice();
     match length_of(rt, name) {
         Some(length) => {
-            let values = [Value::Octets(file.as_slice()), Value::Number(length)];
-            fill_text(alloc, TOO_LONG, &values)
+            let values = [Value::Octets(file), Value::Number(length)];
+            some_text(alloc, TOO_LONG, &values)
         }
-        None => fill_text(alloc, TOO_LONG_DEVICE, &[Value::Octets(file.as_slice())]),
+        None => some_text(alloc, TOO_LONG_DEVICE, &[Value::Octets(file)]),
     }
 }
 

@@ -54,6 +54,15 @@ pub(crate) fn fill_text(
     Ok(found)
 }
 
+/// Likewise, where there may be no text.
+pub(crate) fn some_text(
+    alloc: Global,
+    text: &str,
+    values: &[Value<'_>],
+) -> Result<Option<Vec<u8>>, AllocError> {
+    Ok(Some(fill_text(alloc, text, values)?))
+}
+
 /// The line of a text: two spaces before it, and each octet as it is printed.
 pub(crate) fn line_of(alloc: Global, text: &[u8]) -> Result<Vec<u8>, NoMemory>
     ensures { IfOk result (λ line. line.items ≡ line_of text.now) }

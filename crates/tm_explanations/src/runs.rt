@@ -2,7 +2,7 @@
 
 use crate::checkpoint::records_in;
 use crate::files::{length_at, length_of, output_clash_text, with_system_words};
-use crate::line::{Value, fill_text};
+use crate::line::{Value, some_text};
 use crate::roles::{Role, name_in, phrase_in, recording_phrase};
 use crate::texts::{
     CLOSED, FOLDER, NO_FOLDER, NO_MEMORY, NOT_A_FOLDER, PIPE, READ, SHORTER, SHORTER_STREAM,
@@ -29,14 +29,14 @@ fn stream_text(
     text: &str,
     stream: &[u8],
     number: i32,
-) -> Result<Vec<u8>, AllocError> {
+) -> Result<Option<Vec<u8>>, AllocError> {
     let text = match number {
         CLOSED_NUMBER => CLOSED,
         FOLDER_NUMBER => FOLDER,
         PIPE_NUMBER => PIPE,
         _ => return with_system_words(alloc, text, stream, number),
     };
-    fill_text(alloc, text, &[Value::Octets(stream)])
+    some_text(alloc, text, &[Value::Octets(stream)])
 }
 
 // Why a read of the recording failed.
@@ -48,7 +48,7 @@ fn read_text<R: Files + AllocGlobal>(
     let alloc = rt.alloc();
     let source = recording_phrase(alloc, plan)?;
     match number {
-        Some(number) => Ok(Some(stream_text(alloc, READ, source.as_slice(), number)?)),
+        Some(number) => stream_text(alloc, READ, source.as_slice(), number),
         None => Ok(None),
     }
 }
@@ -68,11 +68,11 @@ fn folder_text<R: Files + AllocGlobal>(rt: &R, plan: &Plan) -> Result<Option<Vec
         Err(_) => NO_FOLDER,
     };
     let folder = phrase_in(alloc, plan, Role::Folder)?;
-    Ok(Some(fill_text(alloc, text, &[Value::Octets(folder.as_slice())])?))
+    some_text(alloc, text, &[Value::Octets(folder.as_slice())])
 }
 
 /// Why standard output can't be written.
-pub(crate) fn output_text(alloc: Global, number: i32) -> Result<Vec<u8>, AllocError> {
+pub(crate) fn output_text(alloc: Global, number: i32) -> Result<Option<Vec<u8>>, AllocError> {
     stream_text(alloc, WRITE, Role::Output.word().as_bytes(), number)
 }
 
@@ -89,14 +89,14 @@ fn write_text<R: Files + AllocGlobal>(
     };
     if let Some(number) = number {
         let output = phrase_in(alloc, plan, role)?;
-        return Ok(Some(stream_text(alloc, WRITE, output.as_slice(), number)?));
+        return stream_text(alloc, WRITE, output.as_slice(), number);
     }
     if role == Role::Folder {
         return folder_text(rt, plan);
     }
     match output_clash_text(rt, plan)? {
-        Some(text) => Ok(Some(text)),
-        None => Ok(Some(output_text(alloc, CLOSED_NUMBER)?)),
+        None => output_text(alloc, CLOSED_NUMBER),
+        found => Ok(found),
     }
 }
 
@@ -112,7 +112,7 @@ fn report_text<R: Files + AllocGlobal>(
     };
     let report = phrase_in(rt.alloc(), plan, role)?;
     match number {
-        Some(number) => Ok(Some(stream_text(rt.alloc(), WRITE, report.as_slice(), number)?)),
+        Some(number) => stream_text(rt.alloc(), WRITE, report.as_slice(), number),
         None => Ok(None),
     }
 }
@@ -132,7 +132,7 @@ pub(crate) fn shorter_text<R: Files + AllocGlobal>(
     plan: &Plan,
     checkpoint: &[u8],
     settings: &Settings,
-) -> Result<Vec<u8>, AllocError> {
+) -> Result<Option<Vec<u8>>, AllocError> {
     let alloc = rt.alloc();
     let done = records_in(checkpoint);
     let source = recording_phrase(alloc, plan)?;
@@ -145,7 +145,7 @@ pub(crate) fn shorter_text<R: Files + AllocGlobal>(
                 Value::Number(done),
                 Value::Octets(resumed.as_slice()),
             ];
-            fill_text(alloc, SHORTER, &values)
+            some_text(alloc, SHORTER, &values)
         }
         None => {
             let values = [
@@ -153,7 +153,7 @@ pub(crate) fn shorter_text<R: Files + AllocGlobal>(
                 Value::Number(done),
                 Value::Octets(resumed.as_slice()),
             ];
-            fill_text(alloc, SHORTER_STREAM, &values)
+            some_text(alloc, SHORTER_STREAM, &values)
         }
     }
 }
@@ -172,10 +172,9 @@ pub(crate) fn run_text<R: Files + AllocGlobal>(
         RunFault::Report => report_text(rt, plan, number),
         RunFault::TooMany => {
             let source = recording_phrase(alloc, plan)?;
-            let values = [Value::Octets(source.as_slice())];
-            Ok(Some(fill_text(alloc, TOO_MANY, &values)?))
+            some_text(alloc, TOO_MANY, &[Value::Octets(source.as_slice())])
         }
-        RunFault::NoMemory => Ok(Some(fill_text(alloc, NO_MEMORY, &[])?)),
+        RunFault::NoMemory => some_text(alloc, NO_MEMORY, &[]),
         RunFault::ShortRecording => Ok(None),
     }
 }

@@ -1,7 +1,7 @@
 //! Why a text is no settings.
 
 use crate::keys::{nearest_key, wanted_value};
-use crate::line::{Value, fill_text};
+use crate::line::{Value, some_text};
 use crate::roles::{Role, phrase_in};
 use crate::texts::{MISSING_KEY, NEAR_KEY, NOT_TEXT, TOML, UNKNOWN_KEY, VALUE};
 use std::alloc::{AllocError, Global};
@@ -46,6 +46,22 @@ fn all_keys(alloc: Global) -> Result<Vec<u8>, AllocError> {
     Ok(text)
 }
 
+// Where a text is no TOML document, and why.
+fn document_text<'v>(
+    alloc: Global,
+    file: &'v [u8],
+    place: Position,
+    why: &'v str,
+) -> Result<Option<Vec<u8>>, AllocError> {
+    let values = [
+        Value::Octets(file),
+        Value::Number(place.line),
+        Value::Number(place.column),
+        Value::Word(why),
+    ];
+    some_text(alloc, TOML, &values)
+}
+
 // Why a text is no TOML document; none if it is one.
 fn toml_text(alloc: Global, file: &[u8], octets: &[u8]) -> Result<Option<Vec<u8>>, AllocError> {
     let text = match std::str::from_utf8(octets) {
@@ -57,27 +73,23 @@ fn toml_text(alloc: Global, file: &[u8], octets: &[u8]) -> Result<Option<Vec<u8>
                 Value::Number(place.line),
                 Value::Number(place.column),
             ];
-            return Ok(Some(fill_text(alloc, NOT_TEXT, &values)?));
+            return some_text(alloc, NOT_TEXT, &values);
         }
     };
     let Err(error) = toml::table_from_str(alloc, text) else {
         return Ok(None);
     };
-    let Some(span) = error.span() else {
-        return Ok(None);
-    };
-    let place = position_behind(&octets[..span.start]);
-    let values = [
-        Value::Octets(file),
-        Value::Number(place.line),
-        Value::Number(place.column),
-        Value::Word(error.message()),
-    ];
-    Ok(Some(fill_text(alloc, TOML, &values)?))
+    match error.span() {
+        Some(span) => {
+            let place = position_behind(&octets[..span.start]);
+            document_text(alloc, file, place, error.message())
+        }
+        None => Ok(None),
+    }
 }
 
 // What an unknown key may be meant for.
-fn unknown_text(alloc: Global, file: &[u8], key: &[u8]) -> Result<Vec<u8>, AllocError> {
+fn unknown_text(alloc: Global, file: &[u8], key: &[u8]) -> Result<Option<Vec<u8>>, AllocError> {
     let nearest = match std::str::from_utf8(key) {
         Ok(text) => nearest_key(alloc, text)?,
         Err(_) => None,
@@ -85,25 +97,30 @@ fn unknown_text(alloc: Global, file: &[u8], key: &[u8]) -> Result<Vec<u8>, Alloc
     match nearest {
         Some(key) => {
             let values = [Value::Octets(file), Value::Word(key.word())];
-            fill_text(alloc, NEAR_KEY, &values)
+            some_text(alloc, NEAR_KEY, &values)
         }
         None => {
             let keys = all_keys(alloc)?;
             let values = [Value::Octets(file), Value::Octets(keys.as_slice())];
-            fill_text(alloc, UNKNOWN_KEY, &values)
+            some_text(alloc, UNKNOWN_KEY, &values)
         }
     }
 }
 
 // A text that says what the value of a key has to be.
-fn key_text(alloc: Global, text: &str, file: &[u8], key: Key) -> Result<Vec<u8>, AllocError> {
+fn key_text(
+    alloc: Global,
+    text: &str,
+    file: &[u8],
+    key: Key,
+) -> Result<Option<Vec<u8>>, AllocError> {
     let wanted = wanted_value(alloc, key)?;
     let values = [
         Value::Octets(file),
         Value::Word(key.word()),
         Value::Octets(wanted.as_slice()),
     ];
-    fill_text(alloc, text, &values)
+    some_text(alloc, text, &values)
 }
 
 /// Why the file of the settings, which has these octets, is refused.
@@ -117,11 +134,9 @@ pub(crate) fn settings_text(
     let file = file.as_slice();
     match fault {
         SettingsFault::Toml => toml_text(alloc, file, octets),
-        SettingsFault::Unknown(key) => Ok(Some(unknown_text(alloc, file, key.as_slice())?)),
-        SettingsFault::Missing(key) => Ok(Some(key_text(alloc, MISSING_KEY, file, *key)?)),
-        SettingsFault::Kind(key) | SettingsFault::Range(key) => {
-            Ok(Some(key_text(alloc, VALUE, file, *key)?))
-        }
+        SettingsFault::Unknown(key) => unknown_text(alloc, file, key.as_slice()),
+        SettingsFault::Missing(key) => key_text(alloc, MISSING_KEY, file, *key),
+        SettingsFault::Kind(key) | SettingsFault::Range(key) => key_text(alloc, VALUE, file, *key),
         SettingsFault::NoMemory => Ok(None),
     }
 }

@@ -5,6 +5,7 @@ ghost use Rattle.tm_explanations.specs.Explanations.{IsLine};
 
 use crate::line::{NoMemory, Value, fill_text, line_of};
 use crate::texts::WORD;
+use std::alloc::Global;
 use std::env::FillError;
 use std::rt::Env;
 
@@ -14,26 +15,41 @@ const LONGEST: usize = 4096;
 // So many words are looked at.
 const MOST: usize = 65536;
 
+// The line of a word that is not UTF-8, by its number.
+fn word_line(alloc: Global, at: usize, word: &[u8]) -> Result<Vec<u8>, NoMemory>
+    ensures { IfOk result (λ line. IsLine line.items) }
+{
+    let values = [Value::Number(at as u64), Value::Octets(word)];
+    let text = fill_text(alloc, WORD, &values)?;
+    line_of(alloc, text.as_slice())
+}
+
+// The number and the length of the first word that is not UTF-8, whose octets are put here; none if it can't be told.
+fn find_word<R: Env>(rt: &R, octets: &mut [u8]) -> Option<(usize, usize)> {
+    for at in 1..MOST {
+        let length = match rt.arg(at, octets) {
+            Ok(length) => length,
+            Err(FillError::TooLong) => continue,
+            Err(FillError::NotPresent) => return None,
+        };
+        if std::str::from_utf8(octets.get(..length)?).is_err() {
+            return Some((at, length));
+        }
+    }
+    None
+}
+
 /// Which word of the command line is not UTF-8, and what to do; none if it can't be told. Words are counted after the program's name, from 1.
 pub fn explain_words<R: Env + AllocGlobal>(rt: &R) -> Result<Option<Vec<u8>>, NoMemory>
     ensures { IfOk result (λ found. IfSome found (λ line. IsLine line.items)) }
 {
     let alloc = rt.alloc();
     let mut octets = vec![in alloc; 0u8; LONGEST]?;
-    for at in 1..MOST {
-        let length = match rt.arg(at, octets.as_mut_slice()) {
-            Ok(length) => length,
-            Err(FillError::TooLong) => continue,
-            Err(FillError::NotPresent) => return Ok(None),
-        };
-        let Some(word) = octets.get(..length) else {
-            return Ok(None);
-        };
-        if std::str::from_utf8(word).is_err() {
-            let values = [Value::Number(at as u64), Value::Octets(word)];
-            let text = fill_text(alloc, WORD, &values)?;
-            return Ok(Some(line_of(alloc, text.as_slice())?));
-        }
+    let Some((at, length)) = find_word(rt, octets.as_mut_slice()) else {
+        return Ok(None);
+    };
+    match octets.get(..length) {
+        Some(word) => Ok(Some(word_line(alloc, at, word)?)),
+        None => Ok(None),
     }
-    Ok(None)
 }

@@ -134,6 +134,24 @@ fn identify_outputs<N: Namespace + AllocGlobal>(
     ))
 }
 
+// Likewise of the standard streams: output and errors where the plan writes to them, and errors in any case.
+fn identify_streams<N: Namespace + AllocGlobal>(
+    names: &N,
+    plan: &Plan,
+) -> Result<(FileIdentity, FileIdentity, FileIdentity), ToolFault>
+    ensures output { IfOk result (λ found. IsOfStream (N.stands_for names.now) (writes_output plan.now.action) output_name found.0) }
+    ensures errors { IfOk result (λ found. IsOfStream (N.stands_for names.now)
+        (writes_errors plan.now.action plan.now.report) errors_name found.1) }
+    ensures faults { IfOk result (λ found. N.stands_for names.now errors_name found.2) }
+    ensures refused { IfErr result IsNoMemory }
+{
+    Ok((
+        identify_stream(names, Stream::Output, writes_output(plan))?,
+        identify_stream(names, Stream::Errors, writes_errors(plan))?,
+        identify_stream(names, Stream::Errors, true)?,
+    ))
+}
+
 /// What the names of the plan's files, and the standard streams that it reads and writes, stand for now: each identity is that of its name.
 pub fn identify_files<N: Namespace + AllocGlobal>(
     names: &N,
@@ -155,6 +173,7 @@ pub fn identify_files<N: Namespace + AllocGlobal>(
 {
     let (recording, settings, definition, resumed) = identify_inputs(names, plan)?;
     let (report, checkpoint, temporary_checkpoint) = identify_outputs(names, plan)?;
+    let (output, errors, faults) = identify_streams(names, plan)?;
     Ok(FileIdentities {
         recording,
         settings,
@@ -163,8 +182,8 @@ pub fn identify_files<N: Namespace + AllocGlobal>(
         report,
         checkpoint,
         temporary_checkpoint,
-        output: identify_stream(names, Stream::Output, writes_output(plan))?,
-        errors: identify_stream(names, Stream::Errors, writes_errors(plan))?,
-        faults: identify_stream(names, Stream::Errors, true)?,
+        output,
+        errors,
+        faults,
     })
 }

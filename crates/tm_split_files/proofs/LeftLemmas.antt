@@ -1,9 +1,9 @@
 -- What buffers have after a write or a put that was refused.
-use Rattle.std.proofs.Common.{◌≡◌, ◌≢◌, ◌++◌, ◌∙◌, ◌⊎◌, ℕ, List, None, Some, Option, Vec, sym, ap, refl, subst, inl, inr, ⊎_elim}
-use Rattle.std.specs.Prelude.{Err, IfErr, Ok, OnErr, Result, option_map, slice_get, true}
+use Rattle.std.proofs.Common.{◌≡◌, ◌≢◌, ◌+◌, ◌++◌, ◌∙◌, ◌⊎◌, ℕ, List, None, Some, Option, Vec, sym, ap, refl, subst, inl, inr, ⊎_elim}
+use Rattle.std.specs.Prelude.{Err, IfErr, Ok, OnErr, OnOk, Result, length, option_map, slice_get, true}
 use Rattle.std.proofs.lemmas.Option.{slice_get-map}
 use Rattle.std.proofs.lemmas.Bool.{cases_eq}
-use Rattle.tm_split_files.specs.code.Buffers.{AreKept, AreKeptOrEmpty, AreLeft, IsDrained, IsExtended, IsLeftAt, octets_held_for}
+use Rattle.tm_split_files.specs.code.Buffers.{AreEmpty, AreKept, AreKeptOrEmpty, AreLeft, IsDrained, IsExtended, IsLeftAt, octets_held_for}
 use Rattle.tm_split_files.specs.ShelfFaults.{is_out_of_memory}
 use Rattle.tm_split_files.specs.declared.files.ShelfFault.{ShelfFault}
 use Rattle.tm_split_files.specs.Shelves.{HoldsSame, IsKeptOrEmptied, IsRefused, buffer_octets}
@@ -49,6 +49,27 @@ module _ {Z : Type 0} where
     own_left old mid new application added put (left application),
     λ other is_other. then_left old mid new other (others_of old mid application added put other is_other) (left other),
   )
+
+  -- likewise, where that may have failed
+  pub left_of_one_if_refused : {X Y : Type 0} (done : Result X Y) (old new : List (Vec ℕ Z)) (application : ℕ) (added : List ℕ) → AreKeptOrEmpty old new
+      → OnErr done (AreLeft old new application added)
+  left_of_one_if_refused (Ok value) old new application added left = tt
+  left_of_one_if_refused (Err fault) old new application added left = left_of_one old new application added left
+
+  pub left_of_all_if_refused : {X Y : Type 0} (done : Result X Y) (old mid new : List (Vec ℕ Z)) (application : ℕ) (added : List ℕ)
+      → IsExtended old mid application added ⊎ IsDrained old mid application → AreKeptOrEmpty mid new → OnErr done (AreLeft old new application added)
+  left_of_all_if_refused (Ok value) old mid new application added put left = tt
+  left_of_all_if_refused (Err fault) old mid new application added put left = left_of_all old mid new application added put left
+
+  pub all_written : {X Y : Type 0} (done : Result X Y) (old new : List (Vec ℕ Z)) (application : ℕ) (added : List ℕ) (before after : ℕ) → OnOk done (AreEmpty new)
+      → OnOk done (((IsExtended old new application added ⊎ IsDrained old new application) × (after ≡ before + length added)) ⊎ AreEmpty new)
+  all_written (Ok value) old new application added before after empty = inr empty
+  all_written (Err fault) old new application added before after empty = tt
+
+  pub kept_unless_written : {X : Type 0} (done : Result X ShelfFault) (old new : List (Vec ℕ Z)) (octets : ℕ) → octets ≡ 0
+      → IfErr done (λ fault. is_out_of_memory fault ≡ true → AreKept old new ⊎ (octets ≡ 0))
+  kept_unless_written (Ok value) old new octets none = tt
+  kept_unless_written (Err fault) old new octets none = λ starving. inr none
 
   same_left : (start old new : List (Vec ℕ Z)) (k : ℕ) → slice_get new k ≡ slice_get old k → IsLeftAt start old k → IsLeftAt start new k
   same_left start old new k same (inl kept) = inl (ap (option_map (λ octets. octets.items)) same ∙ kept)

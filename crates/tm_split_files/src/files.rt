@@ -43,6 +43,7 @@ pub fn name_in(alloc: Global, dir: &str, application: usize) -> Result<String, A
 // Remembers the identity of a file that was made, behind those of the others. It is refused only if memory runs out.
 fn remember(made: &mut Vec<FileIdentity>, identity: FileIdentity) -> Result<(), ShelfFault>
     ensures made { OnOk result (made.new.items ≡ made.old.items ++ (identity ∷ [])) }
+    ensures count { OnOk result (vec_len made.new ≡ vec_len made.old + 1) }
     ensures unmade { OnErr result (made.new.items ≡ made.old.items) }
     ensures out_of_memory { IfErr result (λ fault. is_out_of_memory fault ≡ true) }
 {
@@ -180,20 +181,16 @@ impl<R: Files + AllocGlobal> Folder<'_, R> {
         self.write_one(application, held, &[])
     }
 
-    // Holds octets of an application behind those that are held, or writes all of these where they are many.
-    fn add(&self, held: &mut [Vec<u8>], application: usize, octets: &[u8]) -> Result<(), ShelfFault>
-        requires { application < length held.now }
-        ensures held { OnOk result (IsExtended held.old held.new application octets.now
-            ⊎ IsDrained held.old held.new application) }
-        ensures kept { IfErr result (λ fault. is_out_of_memory fault ≡ true → AreKept held.old held.new) }
-        ensures left { OnErr result (AreKeptOrEmpty held.old held.new) }
-        ensures others { (other : ℕ) → other ≢ application → slice_get held.new other ≡ slice_get held.old other }
+    // Holds octets of an application behind those that are held of it, or writes all of these where they are many.
+    fn add(&self, application: usize, held: &mut Vec<u8>, octets: &[u8]) -> Result<(), ShelfFault>
+        ensures held { OnOk result ((held.new.items ≡ held.old.items ++ octets.now) ⊎ (held.new.items ≡ [])) }
+        ensures kept { IfErr result (λ fault. is_out_of_memory fault ≡ true → held.new.items ≡ held.old.items) }
+        ensures left { OnErr result (IsKeptOrEmpty held.old.items held.new.items) }
     {
-        let own = &mut held[application];
-        if own.len().saturating_add(octets.len()) >= MANY_OF_ONE {
-            return self.write_one(application, own, octets);
+        if held.len().saturating_add(octets.len()) >= MANY_OF_ONE {
+            return self.write_one(application, held, octets);
         }
-        match own.extend_from_slice(octets) {
+        match held.extend_from_slice(octets) {
             Ok(()) => Ok(()),
             Err(_) => Err(ShelfFault::NoMemory),
         }
@@ -267,8 +264,8 @@ impl<'a, R: Files + AllocGlobal> HeldFiles<'a, R> {
         ensures held { IfOk result (λ s. AreEmpty s.held.items) }
     {
         let alloc = rt.alloc();
-        let held = empty_buffers(alloc)?;
         let begun = vec![in alloc; false; APPLICATIONS]?;
+        let held = empty_buffers(alloc)?;
         let folder = Folder {
             rt,
             alloc,
@@ -347,8 +344,29 @@ impl<'a, R: Files + AllocGlobal> HeldFiles<'a, R> {
         }
     }
 
+    // Makes the file of an application, unless it was made, and holds octets of it or writes them.
+    fn begin_and_add(&mut self, application: usize, octets: &[u8]) -> Result<(), ShelfFault>
+        requires { application < 2048 }
+        ensures begun { OnOk result (slice_get self.new.begun.items application ≡ Some true) }
+        ensures others { (other : ℕ) → other ≢ application
+            → slice_get self.new.begun.items other ≡ slice_get self.old.begun.items other }
+        ensures made { OnOk result (slice_get self.old.begun.items application ≡ Some false
+            → vec_len self.new.made ≡ vec_len self.old.made + 1) }
+        ensures held { OnOk result (IsExtended self.old.held.items self.new.held.items application octets.now
+            ⊎ IsDrained self.old.held.items self.new.held.items application) }
+        ensures kept { IfErr result (λ fault. is_out_of_memory fault ≡ true → AreKept self.old.held.items self.new.held.items) }
+        ensures left { OnErr result (AreKeptOrEmpty self.old.held.items self.new.held.items) }
+        ensures same { (self.new.folder ≡ self.old.folder) × (self.new.octets ≡ self.old.octets) × (self.new.refused ≡ self.old.refused)
+            × (self.new.out_of_memory ≡ self.old.out_of_memory) × (self.new.clashing ≡ self.old.clashing)
+            × (self.new.unwritten ≡ self.old.unwritten) }
+    {
+        let begun = &mut self.begun[application];
+        self.folder.begin_once(application, begun, &mut self.made)?;
+        let held = &mut self.held[application];
+        self.folder.add(application, held, octets)
+    }
+
     // Holds octets of an application, or writes them. Its file is made at the first. All that is held is written where much came since it last was.
-    #[tactic(auto, using(crate::proofs::LeftLemmas::left_as_it_was, crate::proofs::LeftLemmas::left_of_one, crate::proofs::LeftLemmas::left_of_all, crate::proofs::LeftLemmas::kept_as_it_was))]
     fn hold(&mut self, application: usize, octets: &[u8]) -> Result<(), ShelfFault>
         requires { application < 2048 }
         ensures begun { OnOk result (slice_get self.new.begun.items application ≡ Some true) }
@@ -371,10 +389,7 @@ impl<'a, R: Files + AllocGlobal> HeldFiles<'a, R> {
         if let Some(fault) = self.unwritten.take() {
             return Err(fault);
         }
-        let begun = &mut self.begun[application];
-        self.folder.begin_once(application, begun, &mut self.made)?;
-        let held = self.held.as_mut_slice();
-        self.folder.add(held, application, octets)?;
+        self.begin_and_add(application, octets)?;
         self.octets = self.octets.saturating_add(octets.len());
         if self.octets < MOST_HELD {
             return Ok(());

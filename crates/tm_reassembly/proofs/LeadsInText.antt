@@ -1,7 +1,7 @@
 -- The leads of frames, by the starts that are open there with places in the text.
-use Rattle.std.proofs.Common.{◌≡◌, ℕ, ◌+◌, ◌≤◌, true, ◌&&◌, List, [], ◌∷◌, ◌++◌, length, refl, sym, ap, subst, ◌∙◌, ⊎_elim, inl, inr, arith, append_assoc, length-append}
+use Rattle.std.proofs.Common.{◌≡◌, ℕ, ◌+◌, ◌≤◌, true, false, ◌&&◌, List, [], ◌∷◌, ◌++◌, length, refl, sym, ap, subst, ◌∙◌, inl, inr, arith, append_assoc, length-append}
 use Rattle.std.specs.List.{flat_map}
-use Rattle.std.proofs.lemmas.Bool.{cases_Bool, cond-true, cond-false}
+use Rattle.std.proofs.lemmas.Bool.{cond-true, false_from_ne_true}
 use Rattle.tm_items.specs.declared.items.Reason.TheVariants as why
 use Rattle.tm_reassembly.specs.Chain.{ChainMember}
 use Rattle.tm_reassembly.specs.Parts.{Start, Claim, text, far_end, begins_packet, agrees, agrees_at, reason_at, open_after, starts_of, claim, claims, lead, lead_part, front_of}
@@ -82,19 +82,11 @@ module _ (limit : ℕ) where
           let lies = there.1 in
           let q : ℕ = length (text earlier) + length there.0 in
           let same = sym (text-at before later earlier between f m e) in
-          ⊎_elim
-          (λ o.
-          absurd (h q (
-            earlier,
-            between,
-            f,
-            e,
-            subst (λ (t : List ℕ). IsStart limit t (length (text earlier)) (length (text earlier) + length f.field) f.place q) same there.2,
-            subst (λ (t : List ℕ). IsOpen limit t q (earlier ++ f ∷ []) between) same
-                ((open-at limit earlier f there.0 s.octets lies.0 lies.2 between (between ++ m ∷ later)).0 o),
-          )))
-          (λ o. cond-false (begins_packet limit s.octets && open_after limit (far_end s.octets (between ++ m ∷ later)) (length s.octets) between) _ _ o)
-          (cases_Bool (begins_packet limit s.octets && open_after limit (far_end s.octets (between ++ m ∷ later)) (length s.octets) between))
+          let closed : (begins_packet limit s.octets && open_after limit (far_end s.octets (between ++ m ∷ later)) (length s.octets) between) ≡ false =
+          false_from_ne_true _ (λ o.
+          let opened = (open-at limit earlier f there.0 s.octets lies.0 lies.2 between (between ++ m ∷ later)).0 o in
+          h q (earlier, between, f, e, rw same at there.2, subst (λ (t : List ℕ). IsOpen limit t q (earlier ++ f ∷ []) between) same opened)) in
+          rw closed
 
   -- The claims are one. The frame agrees with it, or does so by its place, if and only if it agrees so with the packet that
   -- starts at q. The frame begins at n.
@@ -133,11 +125,9 @@ module _ (limit : ℕ) where
           let all : List ℕ = text (earlier ++ f ∷ (between ++ m ∷ later)) in
           let same = text-at before later earlier between f m e in
           let found = starts-here limit earlier f (between ++ m ∷ later) q
-          (subst (λ (t : List ℕ). IsStart limit t (length (text earlier)) (length (text earlier) + length f.field) f.place q) same start) in
+          (rw same at start) in
           let place : ℕ = length (text earlier) + length found.1 in
-          let one = one-start earlier between later f m found.0 found.1 found.2 found.3
-          (subst (λ (k : ℕ). IsOpen limit (text (earlier ++ f ∷ (between ++ m ∷ later))) k (earlier ++ f ∷ []) between) found.4
-          (subst (λ (t : List ℕ). IsOpen limit t q (earlier ++ f ∷ []) between) same opened)) in
+          let one = one-start earlier between later f m found.0 found.1 found.2 found.3 (rw (same, found.4) at opened) in
           subst (λ (t : List ℕ). IsOne (claims limit before ahead) m t q (length (text before))) (sym same)
           (subst (λ (k : ℕ). IsOne (claims limit before ahead) m all k (length (text before))) (sym found.4)
           (subst (λ (ms : List ChainMember). IsOne (claims limit ms ahead) m all place (length (text ms))) (sym e)
@@ -149,9 +139,7 @@ module _ (limit : ℕ) where
       → (agrees limit c.far c.at m ≡ true → ⊥) → reason_at c.far c.at m ≡ r
       → lead limit (claims limit before (m ∷ later)) m ≡ lead_part m r (front_of m.place m.field)
   lead-differs before later m c r e differs why_not =
-      ap (λ (cs : List Claim). lead limit cs m) e
-      ∙ ⊎_elim (λ agree. absurd (differs agree)) (λ differ. cond-false (agrees limit c.far c.at m) _ _ differ) (cases_Bool (agrees limit c.far c.at m))
-      ∙ ap (λ (z : Reason). lead_part m z (front_of m.place m.field)) why_not
+      ap (λ (cs : List Claim). lead limit cs m) e ∙ rw (false_from_ne_true (agrees limit c.far c.at m) differs, why_not)
 
   pub lead-pointer : (before later : List ChainMember) (m : ChainMember) (q : ℕ) → IsOpenAt limit (text (before ++ m ∷ later)) before q
       → (AgreesAt (packet_length_at (text (before ++ m ∷ later)) q) (length (text before)) (length m.field) m.place → ⊥)
@@ -159,8 +147,7 @@ module _ (limit : ℕ) where
   lead-pointer before later m q o differs =
       let one = one-at before later m q o in
       lead-differs before later m one.0 why.Pointer one.1 (λ agree. differs (one.2.0 agree).0)
-      (⊎_elim (λ place. absurd (differs (one.3.0 place))) (λ place. cond-false (agrees_at one.0.far one.0.at (length m.field) m.place) _ _ place)
-      (cases_Bool (agrees_at one.0.far one.0.at (length m.field) m.place)))
+      (rw (false_from_ne_true (agrees_at one.0.far one.0.at (length m.field) m.place) (λ place. differs (one.3.0 place))))
 
   pub lead-long : (before later : List ChainMember) (m : ChainMember) (q : ℕ) → IsOpenAt limit (text (before ++ m ∷ later)) before q
       → AgreesAt (packet_length_at (text (before ++ m ∷ later)) q) (length (text before)) (length m.field) m.place

@@ -1,10 +1,10 @@
 -- At the end of a chain at most one part is held.
 use Rattle.std.proofs.lemmas.Option.{none-some}
-use Rattle.std.proofs.Common.{◌≡◌, ℕ, suc, zero, pred, ◌+◌, ◌<◌, ◌≤◌, ◌⊎◌, Bool, true, false, if◌then◌else◌, Option, Some, None, List, [], ◌∷◌, ◌++◌, map, length, refl, sym, ap, subst, ◌∙◌, ⊎_elim, inl, inr, arith, length-append, ltb, leb}
+use Rattle.std.proofs.Common.{◌≡◌, ℕ, suc, zero, pred, ◌+◌, ◌<◌, ◌≤◌, ◌⊎◌, Bool, true, false, Option, Some, None, List, [], ◌∷◌, ◌++◌, map, length, refl, sym, ap, subst, ◌∙◌, ⊎_elim, inl, inr, arith, length-append, ltb, leb}
 use Rattle.std.specs.List.{flat_map}
 use Rattle.std.proofs.lemmas.List.{append-nil}
 use Rattle.std.proofs.lemmas.List.Concat.{flat_map-append}
-use Rattle.std.proofs.lemmas.Bool.{cases_Bool, cases_lt, cond_both, cond-true, cond-false, lt-ltb, leb-false}
+use Rattle.std.proofs.lemmas.Bool.{cases_Bool, cases_lt, cond_both, lt-ltb, leb-false}
 use Rattle.tm_items.specs.declared.items.Reason.TheVariants as why
 use Rattle.tm_items.specs.declared.items.Reason.{Reason}
 use Rattle.tm_reassembly.specs.State.{Tail}
@@ -51,14 +51,13 @@ module _ (limit : ℕ) where
   stays-alone far at [] h past before end = refl
   stays-alone far at (m ∷ later) h past before end =
       let len : length (m.field ++ text later) ≡ length m.field + length (text later) = length-append m.field (text later) in
-      let here : breaker limit far at (m ∷ later) ≡ (if agrees limit far at m then breaker limit far (at + length m.field) later else Some m) =
-      cond-true (ltb at far) _ _ (lt-ltb at far (omega arith)) in
+      let there : ltb at far ≡ true = lt-ltb at far (omega arith) in
       ⊎_elim
-      (λ agree.
+      (λ (agree : agrees limit far at m ≡ true).
       split-tails before m later end
-      ∙ ap (λ (ss : List Start). tails (map (start_part limit m later end) ss) ++ tails (parts_from limit (before ++ m ∷ []) later end)) (no-starts limit far at m agree (omega arith))
-      ∙ stays-alone far (at + length m.field) later (sym (cond-true (agrees limit far at m) _ _ agree) ∙ sym here ∙ h) (omega arith) (before ++ m ∷ []) end)
-      (λ differ. absurd (none-some m (sym h ∙ here ∙ cond-false (agrees limit far at m) _ _ differ)))
+      ∙ rw (no-starts limit far at m agree (omega arith))
+      (stays-alone far (at + length m.field) later (rw (there, agree) at h) (omega arith) (before ++ m ∷ []) end))
+      (λ (differ : agrees limit far at m ≡ false). absurd (none-some m (sym (rw (there, differ) at h))))
       (cases_Bool (agrees limit far at m))
 
   -- no tail, or one, of a start that stays
@@ -123,12 +122,11 @@ module _ (limit : ℕ) where
       let rest : List Tail = tails (parts_from limit (before ++ m ∷ []) later end) in
       subst (λ (ts : List Tail). length ts ≤ 1) (sym (split-tails before m later end))
       (⊎_elim
-      (λ none. subst (λ (ts : List Tail). length (ts ++ rest) ≤ 1) (sym none) (run-tails (before ++ m ∷ []) later end))
+      (λ none. rw none (run-tails (before ++ m ∷ []) later end))
       (λ one.
       let s = one.2 in
       let nothing : rest ≡ [] = stays-alone (far_end s.0 later) (length s.0) later s.1 s.2 (before ++ m ∷ []) end in
-      subst (λ (ts : List Tail). length (own ++ ts) ≤ 1) (sym nothing)
-      (let same : length (own ++ []) ≡ length own = ap (λ (ts : List Tail). length ts) (append-nil own) in let l : length own ≡ 1 = one.0 in omega arith))
+      rw (nothing, append-nil own, one.0) (omega arith))
       (own-tails m later end))
 
   -- and none, if it is ended

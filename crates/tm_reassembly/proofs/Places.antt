@@ -4,9 +4,9 @@ use Rattle.std.proofs.Common.{◌≡◌, ℕ, ◌+◌, ◌<◌, ◌≤◌, true,
 use Rattle.std.specs.Prelude.{is_none}
 use Rattle.std.proofs.lemmas.List.{append-nil, take-append-le}
 use Rattle.std.proofs.lemmas.List.Concat.{flat_map-append}
-use Rattle.std.proofs.lemmas.Bool.{and_from, cases_Bool, cases_lt, cond-true, cond-false, ltb-true, leb-true, lt-ltb, le-leb, lt-leb, eqb-true, eq-eqb, and_parts, both_ways}
+use Rattle.std.proofs.lemmas.Bool.{and_from, cases_Bool, cases_lt, ltb-true, leb-true, lt-ltb, le-leb, lt-leb, eqb-true, eq-eqb, and_parts, both_ways, false_from_ne_true, true_from_ne_false}
 use Rattle.std.proofs.Math.Seq.{drop-append_seam}
-use Rattle.tm_packet.specs.Header.{packet_version_of, packet_header_of}
+use Rattle.tm_packet.specs.Header.{packet_version_of}
 use Rattle.tm_reassembly.specs.Chain.{ChainMember}
 use Rattle.tm_reassembly.specs.Parts.{text, far_end, is_long, begins_packet, agrees, agrees_at, open_after, breaker}
 use Rattle.tm_items.specs.OnePacket.{packet_length, is_packet}
@@ -16,38 +16,25 @@ use Rattle.tm_items.proofs.Reaching.{packet_length-short, packet_length-long}
 use Rattle.tm_reassembly.proofs.Long.{and_not, agrees-place, agrees-short, begins-zero, begins-short}
 use Rattle.tm_reassembly.proofs.Settled.{own-long-settled}
 
--- what follows some octets
-pub drop-place : (before t : List ℕ) → drop (length before) (before ++ t) ≡ t
-drop-place before t = drop-append_seam before t
-
 -- a packet's end, from the start on
 pub packet_length-place : (before t : List ℕ) → packet_length_at (before ++ t) (length before) ≡ length before + packet_length t
 packet_length-place before t =
-    let n : ℕ = length before in
     let len : length (before ++ t) ≡ length before + length t = length-append before t in
     ⊎_elim
-    (λ short.
-    cond-false (leb (n + 6) (length (before ++ t))) _ _ (lt-leb (n + 6) (length (before ++ t)) (omega arith))
-    ∙ ap (λ (k : ℕ). length before + k) (sym (packet_length-short t short)))
-    (λ long.
-    cond-true (leb (n + 6) (length (before ++ t))) _ _ (le-leb (n + 6) (length (before ++ t)) (omega arith))
-    ∙ ap (λ (o : List ℕ). length before + ((packet_header_of (take 6 o)).data_length + 7)) (drop-place before t)
-    ∙ ap (λ (k : ℕ). length before + k) (sym (packet_length-long t long)))
+    (λ short. rw (lt-leb (length before + 6) (length (before ++ t)) (omega arith), packet_length-short t short))
+    (λ long. rw (le-leb (length before + 6) (length (before ++ t)) (omega arith), drop-append_seam before t, packet_length-long t long))
     (cases_lt (length t) 6)
 
 pub version-place : (before start t : List ℕ) → 0 < length start
     → packet_version_of (take 1 (drop (length before) (before ++ (start ++ t)))) ≡ packet_version_of (take 1 start)
 version-place before start t some =
-    ap (λ (o : List ℕ). packet_version_of (take 1 o)) (drop-place before (start ++ t)) ∙ ap packet_version_of (take-append-le 1 start t (omega arith))
+    rw (drop-append_seam before (start ++ t), take-append-le 1 start t (omega arith))
 
 -- one frame
-agrees-to : (q far at len : ℕ) (place : Option ℕ) → agrees_at far at len place ≡ true → AgreesAt (q + far) (q + at) len place
-agrees-to q far at len None h = let e = leb-true (at + len) far h in omega arith
-agrees-to q far at len (Some place) h = let e : far ≡ at + place = eqb-true far (at + place) h in omega arith
-
-agrees-from : (q far at len : ℕ) (place : Option ℕ) → AgreesAt (q + far) (q + at) len place → agrees_at far at len place ≡ true
-agrees-from q far at len None h = le-leb (at + len) far (omega arith)
-agrees-from q far at len (Some place) h = eq-eqb far (at + place) (omega arith)
+agrees-from : (q far at len : ℕ) (place : Option ℕ) → Iff (agrees_at far at len place ≡ true) (AgreesAt (q + far) (q + at) len place)
+agrees-from q far at len None = (λ h. let e = leb-true (at + len) far h in omega arith, λ h. le-leb (at + len) far (omega arith))
+agrees-from q far at len (Some place) =
+    (λ h. let e : far ≡ at + place = eqb-true far (at + place) h in omega arith, λ h. eq-eqb far (at + place) (omega arith))
 
 not_split : (earlier later : List ChainMember) (g : ChainMember) → [] ≡ earlier ++ g ∷ later → ⊥
 not_split [] later g e = cc
@@ -59,25 +46,18 @@ none-from (Some m) h = absurd (cc)
 
 module _ (limit : ℕ) where
   -- whether a packet is long there
-  long-to : (q r b far at : ℕ) → r ≡ q + far → b ≡ q + at → (q + limit < r) × (q + 6 ≤ b) → is_long limit far at ≡ true
-  long-to q r b far at e g h =
-      let past = h.0 in
-      let there = h.1 in
-      and_from (leb 6 at) (ltb limit far) (le-leb 6 at (omega arith)) (lt-ltb limit far (omega arith))
-
-  long-from : (q r b far at : ℕ) → r ≡ q + far → b ≡ q + at → is_long limit far at ≡ true → (q + limit < r) × (q + 6 ≤ b)
-  long-from q r b far at e g h =
-      let both = and_parts (leb 6 at) (ltb limit far) h in
-      let there = leb-true 6 at both.0 in
-      let past = ltb-true limit far both.1 in
-      (omega arith, omega arith)
-
-  short-to : (q r b far at : ℕ) → r ≡ q + far → b ≡ q + at → is_long limit far at ≡ false → (q + limit < r) × (q + 6 ≤ b) → ⊥
-  short-to q r b far at e g h l = both_ways (is_long limit far at) h (long-to q r b far at e g l)
-
-  short-from : (q r b far at : ℕ) → r ≡ q + far → b ≡ q + at → ((q + limit < r) × (q + 6 ≤ b) → ⊥) → is_long limit far at ≡ false
-  short-from q r b far at e g h =
-      ⊎_elim (λ l. absurd (h (long-from q r b far at e g l))) (λ s. s) (cases_Bool (is_long limit far at))
+  long-from : (q far at : ℕ) → Iff (is_long limit far at ≡ true) ((q + limit < q + far) × (q + 6 ≤ q + at))
+  long-from q far at = (
+    λ h.
+        let both = and_parts (leb 6 at) (ltb limit far) h in
+        let there = leb-true 6 at both.0 in
+        let past = ltb-true limit far both.1 in
+        (omega arith, omega arith),
+    λ h.
+        let past = h.0 in
+        let there = h.1 in
+        and_from (leb 6 at) (ltb limit far) (le-leb 6 at (omega arith)) (lt-ltb limit far (omega arith)),
+  )
 
   -- each frame between agrees
   abbrev pub AllAgree : ℕ → ℕ → List ChainMember → Type 0
@@ -88,7 +68,7 @@ module _ (limit : ℕ) where
   each-cons far at m between a h [] later g e =
       let same : m ≡ g = cc in
       let z : at + 0 ≡ at = omega arith in
-      ap (λ (k : ℕ). agrees limit far k g) z ∙ ap (agrees limit far at) (sym same) ∙ a
+      rw (z, ← same) a
   each-cons far at m between a h (x ∷ earlier) later g e =
       let same : m ≡ x = cc in
       let rest : between ≡ earlier ++ g ∷ later = cc in
@@ -130,11 +110,7 @@ module _ (limit : ℕ) where
   unbroken-to far at (f ∷ later) h [] more m e o =
       let same : f ≡ m = cc in
       let z : at + 0 ≡ at = omega arith in
-      ap (λ (k : ℕ). agrees limit far k m) z
-      ∙ ap (agrees limit far at) (sym same)
-      ∙ ⊎_elim (λ a. a)
-      (λ a. absurd (none-some f (sym h ∙ cond-true (ltb at far) _ _ o ∙ cond-false (agrees limit far at f) _ _ a)))
-      (cases_Bool (agrees limit far at f))
+      rw (z, ← same) (true_from_ne_false (agrees limit far at f) (λ a. none-some f (sym (rw (o, a) at h))))
   unbroken-to far at (f ∷ later) h (x ∷ between) more m e o =
       let same : f ≡ x = cc in
       let rest : later ≡ between ++ m ∷ more = cc in
@@ -144,8 +120,7 @@ module _ (limit : ℕ) where
       let len : length (x.field ++ text between) ≡ length x.field + length (text between) = length-append x.field (text between) in
       let agreed : agrees limit far at f ≡ true = ap (agrees limit far at) same ∙ both.0 in
       let here : at < far = let p = past.0 in omega arith in
-      let none : breaker limit far (at + length f.field) later ≡ None =
-      sym (cond-true (ltb at far) _ _ (lt-ltb at far here) ∙ cond-true (agrees limit far at f) _ _ agreed) ∙ h in
+      let none : breaker limit far (at + length f.field) later ≡ None = rw (lt-ltb at far here, agreed) at h in
       ap (λ (k : ℕ). agrees limit far k m) (omega arith)
       ∙ unbroken-to far (at + length f.field) later none between more m rest (ap (λ (k : ℕ). open_after limit far (at + k) between) size ∙ both.1)
 
@@ -153,28 +128,23 @@ module _ (limit : ℕ) where
   unbroken-from far at [] h = refl
   unbroken-from far at (f ∷ later) h =
       ⊎_elim
-      (λ here.
+      (λ (here : ltb at far ≡ true).
       let z : at ≡ at + 0 = omega arith in
       let agreed : agrees limit far at f ≡ true = ap (λ (k : ℕ). agrees limit far k f) z ∙ h [] later f refl here in
-      cond-true (ltb at far) _ _ here ∙ cond-true (agrees limit far at f) _ _ agreed
-      ∙ unbroken-from far (at + length f.field) later
+      rw (here, agreed)
+      (unbroken-from far (at + length f.field) later
       (λ between more m e o.
       let len : length (f.field ++ text between) ≡ length f.field + length (text between) = length-append f.field (text between) in
       ap (λ (k : ℕ). agrees limit far k m) (omega arith)
-      ∙ h (f ∷ between) more m (ap (λ (ms : List ChainMember). f ∷ ms) e) (and_from (agrees limit far at f) _ agreed o)))
-      (λ past. cond-false (ltb at far) _ _ past)
+      ∙ h (f ∷ between) more m (ap (λ (ms : List ChainMember). f ∷ ms) e) (and_from (agrees limit far at f) _ agreed o))))
+      (λ (past : ltb at far ≡ false). rw past)
       (cases_Bool (ltb at far))
 
   -- a start whose frame has the octets `skipped` before it
   module _ (before : List ChainMember) (f : ChainMember) (skipped start : List ℕ) (whole_field : f.field ≡ skipped ++ start) where
     pub text_split : (later : List ChainMember) → text (before ++ f ∷ later) ≡ (text before ++ skipped) ++ (start ++ text later)
     text_split later =
-        flat_map-append (λ m. m.field) before (f ∷ later)
-        ∙ ap (λ (o : List ℕ). text before ++ (o ++ text later)) whole_field
-        ∙ regroup (text before) skipped start (text later)
-      where
-        regroup : (a b c d : List ℕ) → a ++ ((b ++ c) ++ d) ≡ (a ++ b) ++ (c ++ d)
-        regroup a b c d = simp append_assoc
+        flat_map-append (λ m. m.field) before (f ∷ later) ∙ ap (λ (o : List ℕ). text before ++ (o ++ text later)) whole_field ∙ simp append_assoc
 
     pub ends-at : (later : List ChainMember)
         → packet_length_at (text (before ++ f ∷ later)) (length (text before) + length skipped) ≡ (length (text before) + length skipped) + far_end start later
@@ -209,20 +179,15 @@ module _ (limit : ℕ) where
         → Iff (agrees_at (far_end start later) (length start + length (text between)) (length m.field) m.place ≡ true)
         (AgreesAt (packet_length_at (text (before ++ f ∷ later)) (length (text before) + length skipped)) (length (text ((before ++ f ∷ []) ++ between))) (length m.field) m.place)
     place-at between later m =
-        let q : ℕ = length (text before) + length skipped in
-        let far : ℕ = far_end start later in
-        let at : ℕ = length start + length (text between) in (
-          λ h. rw (ends-at later, begins-at between) (agrees-to q far at (length m.field) m.place h),
-          λ h. agrees-from q far at (length m.field) m.place (rw (ends-at later, begins-at between) at h),
-        )
+        rw (ends-at later, begins-at between)
+        (agrees-from (length (text before) + length skipped) (far_end start later) (length start + length (text between)) (length m.field) m.place)
 
     pub long-at : (between later : List ChainMember) (m : ChainMember)
         → Iff (is_long limit (far_end start later) ((length start + length (text between)) + length m.field) ≡ true)
         (IsLong limit (text (before ++ f ∷ later)) (length (text before) + length skipped) (length (text ((before ++ f ∷ []) ++ between)) + length m.field))
-    long-at between later m = (
-      long-from _ _ _ _ ((length start + length (text between)) + length m.field) (ends-at later) (later-end between m),
-      long-to _ _ _ (far_end start later) ((length start + length (text between)) + length m.field) (ends-at later) (later-end between m),
-    )
+    long-at between later m =
+        rw (ends-at later, later-end between m)
+        (long-from (length (text before) + length skipped) (far_end start later) ((length start + length (text between)) + length m.field))
 
     pub agreement-at : (between later : List ChainMember) (m : ChainMember)
         → Iff (agrees limit (far_end start later) (length start + length (text between)) m ≡ true)
@@ -230,23 +195,19 @@ module _ (limit : ℕ) where
     agreement-at between later m =
         let at : ℕ = length start + length (text between) in
         let far : ℕ = far_end start later in (
-          λ h. (
-            (place-at between later m).0 (agrees-place limit far at m h),
-            short-to _ _ _ far (at + length m.field) (ends-at later) (later-end between m) (agrees-short limit far at m h),
-          ),
+          λ h. ((place-at between later m).0 (agrees-place limit far at m h), λ l. both_ways _ (agrees-short limit far at m h) ((long-at between later m).1 l)),
           λ h.
               and_not (agrees_at far at (length m.field) m.place) (is_long limit far (at + length m.field)) ((place-at between later m).1 h.0)
-              (short-from _ _ _ far (at + length m.field) (ends-at later) (later-end between m) h.1),
+              (false_from_ne_true (is_long limit far (at + length m.field)) (λ l. h.1 ((long-at between later m).0 l))),
         )
 
     -- in its own frame
     pub own-long-at : (later : List ChainMember)
         → Iff (is_long limit (packet_length start) (length start) ≡ true)
         (IsLong limit (text (before ++ f ∷ later)) (length (text before) + length skipped) (length (text (before ++ f ∷ []))))
-    own-long-at later = (
-      λ h. long-from _ _ _ (far_end start later) (length start) (ends-at later) own-end (own-long-settled limit start later ∙ h),
-      λ h. sym (own-long-settled limit start later) ∙ long-to _ _ _ (far_end start later) (length start) (ends-at later) own-end h,
-    )
+    own-long-at later =
+        rw (ends-at later, own-end, ← own-long-settled limit start later)
+        (long-from (length (text before) + length skipped) (far_end start later) (length start))
 
     module _ (some : 0 < length start) where
       version-at : (later : List ChainMember)
@@ -256,31 +217,21 @@ module _ (limit : ℕ) where
           ∙ ap (λ (k : ℕ). packet_version_of (take 1 (drop k ((text before ++ skipped) ++ (start ++ text later))))) (sym (length-append (text before) skipped))
           ∙ version-place (text before ++ skipped) start (text later) some
 
-      pub zero-to : (later : List ChainMember) → is_packet start ≡ true → IsVersionZero (text (before ++ f ∷ later)) (length (text before) + length skipped)
-      zero-to later h = version-at later ∙ eqb-true (packet_version_of (take 1 start)) 0 h
-
-      pub zero-from : (later : List ChainMember) → IsVersionZero (text (before ++ f ∷ later)) (length (text before) + length skipped) → is_packet start ≡ true
-      zero-from later h = eq-eqb (packet_version_of (take 1 start)) 0 (sym (version-at later) ∙ h)
-
-      pub begins-to : (later : List ChainMember) → begins_packet limit start ≡ true
-          → BeginsPacket limit (text (before ++ f ∷ later)) (length (text before) + length skipped) (length (text (before ++ f ∷ [])))
-      begins-to later h = (
-        zero-to later (begins-zero limit start h),
-        short-to _ _ _ (far_end start later) (length start) (ends-at later) own-end (own-long-settled limit start later ∙ begins-short limit start h),
+      pub zero-at : (later : List ChainMember) → Iff (is_packet start ≡ true) (IsVersionZero (text (before ++ f ∷ later)) (length (text before) + length skipped))
+      zero-at later = (
+        λ h. version-at later ∙ eqb-true (packet_version_of (take 1 start)) 0 h,
+        λ h. eq-eqb (packet_version_of (take 1 start)) 0 (sym (version-at later) ∙ h),
       )
 
-      pub begins-from : (later : List ChainMember)
-          → BeginsPacket limit (text (before ++ f ∷ later)) (length (text before) + length skipped) (length (text (before ++ f ∷ [])))
-          → begins_packet limit start ≡ true
-      begins-from later h =
-          and_not (is_packet start) (is_long limit (packet_length start) (length start)) (zero-from later h.0)
-          (sym (own-long-settled limit start later) ∙ short-from _ _ _ (far_end start later) (length start) (ends-at later) own-end h.1)
-
-      begins-before : (r q b far at : ℕ) → r ≡ q + far → b ≡ q + at → at < far → b < r
-      begins-before r q b far at e g h = omega arith
-
-      reaches-past : (r q b far at : ℕ) → r ≡ q + far → b ≡ q + at → b < r → at < far
-      reaches-past r q b far at e g h = omega arith
+      pub packet-begins : (later : List ChainMember)
+          → Iff (begins_packet limit start ≡ true)
+          (BeginsPacket limit (text (before ++ f ∷ later)) (length (text before) + length skipped) (length (text (before ++ f ∷ []))))
+      packet-begins later = (
+        λ h. ((zero-at later).0 (begins-zero limit start h), λ l. both_ways _ (begins-short limit start h) ((own-long-at later).1 l)),
+        λ h.
+            and_not (is_packet start) (is_long limit (packet_length start) (length start)) ((zero-at later).1 h.0)
+            (false_from_ne_true (is_long limit (packet_length start) (length start)) (λ l. h.1 ((own-long-at later).0 l))),
+      )
 
       pub open-at : (between later : List ChainMember)
           → Iff ((begins_packet limit start && open_after limit (far_end start later) (length start) between) ≡ true)
@@ -289,14 +240,14 @@ module _ (limit : ℕ) where
         λ h.
             let both = and_parts (begins_packet limit start) (open_after limit (far_end start later) (length start) between) h in
             let o = open-to (far_end start later) (length start) between both.1 in (
-              begins-to later both.0,
-              begins-before _ (length (text before) + length skipped) _ (far_end start later) (length start + length (text between)) (ends-at later) (begins-at between) o.0,
+              (packet-begins later).0 both.0,
+              rw (ends-at later, begins-at between) (omega (arith, o.0)),
               λ earlier more g e. (agreement-at earlier later g).0 (o.1 earlier more g e),
             ),
         λ h.
-            and_from (begins_packet limit start) (open_after limit (far_end start later) (length start) between) (begins-from later h.0)
+            and_from (begins_packet limit start) (open_after limit (far_end start later) (length start) between) ((packet-begins later).1 h.0)
             (open-from (far_end start later) (length start) between
-            (reaches-past _ (length (text before) + length skipped) _ (far_end start later) (length start + length (text between)) (ends-at later) (begins-at between) h.1)
+            (let past = rw (ends-at later, begins-at between) at h.1 in omega arith)
             (λ earlier more g e. (agreement-at earlier later g).1 (h.2 earlier more g e))),
       )
 
@@ -306,12 +257,6 @@ module _ (limit : ℕ) where
           ∙ length-append (text before ++ skipped) (start ++ text later)
           ∙ ap (λ (k : ℕ). k + length (start ++ text later)) (length-append (text before) skipped)
 
-      fits-to : (r q b far len : ℕ) → r ≡ q + far → b ≡ q + len → far ≤ len → r ≤ b
-      fits-to r q b far len e g h = omega arith
-
-      fits-from : (r q b far len : ℕ) → r ≡ q + far → b ≡ q + len → r ≤ b → far ≤ len
-      fits-from r q b far len e g h = omega arith
-
       pub whole-at : (later : List ChainMember)
           → Iff (is_whole limit start later ≡ true)
           (IsWhole limit (text (before ++ f ∷ later)) (length (text before) + length skipped) (before ++ f ∷ []) later)
@@ -320,21 +265,19 @@ module _ (limit : ℕ) where
             let one = and_parts (begins_packet limit start) (is_none (breaker limit (far_end start later) (length start) later) && leb (far_end start later) (length (start ++ text later))) h in
             let two = and_parts (is_none (breaker limit (far_end start later) (length start) later)) (leb (far_end start later) (length (start ++ text later))) one.1 in
             let unbroken = unbroken-to (far_end start later) (length start) later (none-from _ two.0) in (
-              begins-to later one.0,
-              fits-to _ (length (text before) + length skipped) _ (far_end start later) (length (start ++ text later)) (ends-at later) (text-length later)
-                  (leb-true (far_end start later) (length (start ++ text later)) two.1),
+              (packet-begins later).0 one.0,
+              rw (ends-at later, text-length later) (omega (arith, leb-true (far_end start later) (length (start ++ text later)) two.1)),
               λ between more m e o.
                   (agreement-at between later m).0
                   (unbroken between more m e (and_parts (begins_packet limit start) (open_after limit (far_end start later) (length start) between) ((open-at between later).1 o)).1),
             ),
         λ h.
-            and_from (begins_packet limit start) _ (begins-from later h.0)
+            and_from (begins_packet limit start) _ ((packet-begins later).1 h.0)
             (and_from (is_none (breaker limit (far_end start later) (length start) later)) (leb (far_end start later) (length (start ++ text later)))
             (ap (λ (b : Option ChainMember). is_none b)
             (unbroken-from (far_end start later) (length start) later
             (λ between more m e o.
             (agreement-at between later m).1
-            (h.2 between more m e ((open-at between later).0 (and_from (begins_packet limit start) (open_after limit (far_end start later) (length start) between) (begins-from later h.0) o))))))
-            (le-leb (far_end start later) (length (start ++ text later))
-            (fits-from _ (length (text before) + length skipped) _ (far_end start later) (length (start ++ text later)) (ends-at later) (text-length later) h.1))),
+            (h.2 between more m e ((open-at between later).0 (and_from (begins_packet limit start) (open_after limit (far_end start later) (length start) between) ((packet-begins later).1 h.0) o))))))
+            (le-leb (far_end start later) (length (start ++ text later)) (let fits = rw (ends-at later, text-length later) at h.1 in omega arith))),
       )

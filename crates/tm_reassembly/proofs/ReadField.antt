@@ -1,10 +1,11 @@
 -- The loop that reads a field: what lies before `at` is whole packets, end to end.
 use Rattle.std.proofs.Common.{◌++◌, ◌≡◌, ℕ, suc, pred, ◌+◌, ◌-◌, ◌<◌, ◌≤◌, true, List, [], ◌∷◌, length, take, drop, refl, sym, ap, subst, ◌∙◌, append_assoc, arith}
-use Rattle.std.proofs.lemmas.List.{length-drop, length-take-le, drop-drop, take_all}
+use Rattle.std.proofs.lemmas.List.{length-drop, length-take-le, drop-drop, take_rest}
 use Rattle.tm_items.proofs.Reaching.{packet_length-least}
-use Rattle.tm_reassembly.proofs.Split.{drop-pred, whole_part, field_parts-whole, unfinished-whole}
+use Rattle.std.proofs.lemmas.Bool.{le-leb}
+use Rattle.tm_reassembly.proofs.Split.{drop-pred, whole_part}
 use Rattle.tm_items.specs.Item.{Item, Packet}
-use Rattle.tm_reassembly.specs.Parts.{Part, begins_packet}
+use Rattle.tm_reassembly.specs.Parts.{begins_packet}
 use Rattle.tm_items.specs.OnePacket.{IsOnePacket, packet_length}
 use Rattle.tm_items.specs.code.Spans.{IsSpan, span_items}
 use Rattle.tm_items.proofs.Spans.{one-front, span-longer}
@@ -26,18 +27,13 @@ module _ (limit : ℕ) where
   field_parts-packet number stop [] h p fits = absurd (omega arith)
   field_parts-packet number stop (x ∷ xs) h p fits =
       let least : 0 < packet_length (x ∷ xs) = omega (arith, packet_length-least (x ∷ xs)) in
-      field_parts-whole limit number stop x xs p fits
-      ∙ ap (λ (ps : List Part). whole_part limit number (stop - suc (length xs)) (x ∷ xs) ∷ ps)
-      (field_parts-skip number stop (pred (packet_length (x ∷ xs))) xs
-      ∙ ap (field_parts limit number stop 0) (sym (drop-pred (packet_length (x ∷ xs)) x xs least)))
+      rw (p, le-leb (packet_length (x ∷ xs)) (suc (length xs)) fits, drop-pred (packet_length (x ∷ xs)) x xs least, field_parts-skip number stop (pred (packet_length (x ∷ xs))) xs)
 
   unfinished-packet : (o : List ℕ) → 0 < length o → begins_packet limit o ≡ true → packet_length o ≤ length o → unfinished limit 0 o ≡ unfinished limit 0 (drop (packet_length o) o)
   unfinished-packet [] h p fits = absurd (omega arith)
   unfinished-packet (x ∷ xs) h p fits =
       let least : 0 < packet_length (x ∷ xs) = omega (arith, packet_length-least (x ∷ xs)) in
-      unfinished-whole limit x xs p fits
-      ∙ unfinished-skip (pred (packet_length (x ∷ xs))) xs
-      ∙ ap (unfinished limit 0) (sym (drop-pred (packet_length (x ∷ xs)) x xs least))
+      rw (p, le-leb (packet_length (x ∷ xs)) (suc (length xs)) fits, drop-pred (packet_length (x ∷ xs)) x xs least, unfinished-skip (pred (packet_length (x ∷ xs))) xs)
 
   -- one packet in a field
   pub items_from-packet : (seen channel : ℕ) (field : List ℕ) (at r : ℕ) → at < length field → begins_packet limit (drop at field) ≡ true
@@ -67,7 +63,7 @@ module _ (limit : ℕ) where
       × (unfinished limit 0 (drop at field) ≡ unfinished limit 0 (drop (at + n) field))
   read_packet seen channel field at n t e h p r fits =
       let len : length (drop at field) ≡ length field - at = length-drop at field in
-      let e' : t ≡ drop at field = e ∙ take_all (length field - at) (drop at field) (omega arith) in
+      let e' : t ≡ drop at field = e ∙ take_rest field at in
       let here : drop at field ≡ t = sym e' in
       let same : length t ≡ length (drop at field) = ap length e' in
       let p' : begins_packet limit (drop at field) ≡ true = ap (begins_packet limit) here ∙ p in
@@ -104,7 +100,7 @@ module _ (limit : ℕ) where
       let len : length t ≡ length field - at =
       ap length is ∙ length-take-le (length field - at) (drop at field) (omega (arith, length-drop at field)) in
       let more = read_packet seen channel field at n t is (omega (arith, whole.some, read.inside)) whole.begins whole.reaches whole.whole in
-      let all : t ≡ drop at field = is ∙ take_all (length field - at) (drop at field) (omega (arith, length-drop at field)) in
+      let all : t ≡ drop at field = is ∙ take_rest field at in
       let there : place + (at - place) ≡ at = omega (arith, read.from) in
       let here : drop (at - place) (drop place field) ≡ t = drop-drop (at - place) place field ∙ ap (λ (k : ℕ). drop k field) there ∙ sym all in
       let one : IsOnePacket (take n t) = one-front t n whole.reaches whole.whole whole.version in

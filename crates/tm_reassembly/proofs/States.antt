@@ -21,12 +21,12 @@ use Rattle.tm_reassembly.specs.Items.{empty}
 use Rattle.tm_reassembly.specs.Items as read
 use Rattle.tm_reassembly.specs.Recording.{after, readings}
 use Rattle.tm_reassembly.specs.Valid as ok
-use Rattle.tm_reassembly.specs.Valid.{HasShape, IsCount, IsValidState, IsWithin, AllOctets}
+use Rattle.tm_reassembly.specs.Valid.{IsCount, IsValidState, IsWithin, AllOctets}
 use Rattle.tm_reassembly.proofs.Chained.{IsOpenTail, IsTail}
 use Rattle.tm_reassembly.proofs.Seen.{chain_tail_at-open}
 use Rattle.tm_reassembly.proofs.Joining.{before_of, tail_of}
 use Rattle.tm_reassembly.proofs.Records.{after-append, at_eight, none_kept}
-use Rattle.tm_reassembly.proofs.OneStep.{valid-from, after-nil, after-one, after-bad, after-other, get_set-same, get_set-other, open-at}
+use Rattle.tm_reassembly.proofs.OneStep.{last_moved, valid-from, after-nil, after-one, after-bad, after-other, get_set-same, get_set-other, open-at}
 use Rattle.tm_reassembly.proofs.Long.{begins-short, within-limit}
 use Rattle.tm_rules.specs.Rules.{Rules, IsLimit, chooses}
 use Rattle.tm_reassembly.proofs.Fits.{IsGood, IsRead, reading-fit, reading-good, octets_append}
@@ -186,17 +186,12 @@ module _ (rules : Rules) (s : State) (v : IsValidState rules s) (more : s.record
   read-valid (Err fault) h = subst (IsValidState rules) (sym (after-bad rules.max_packet (chooses rules) s fault v.shape)) (kept-valid s.master v.master)
   read-valid (Ok g) h =
       ⊎_elim
-      (λ e. subst (IsValidState rules) (sym (after-one rules.max_packet (chooses rules) s g v.shape h.fits e)) (set-valid (Some g.master_count) h.master g.channel _ h.fits.0 e (next e)))
+      (λ e. subst (IsValidState rules) (sym (after-one rules.max_packet (chooses rules) s g v.shape h.fits e)) (set-valid (Some g.master_count) h.master g.channel _ h.fits.0 e next))
       (λ e. subst (IsValidState rules) (sym (after-other rules.max_packet (chooses rules) s g v.shape h.fits e)) (kept-valid (Some g.master_count) h.master))
       (cases_Bool (chooses rules g.channel))
     where
-      next : chooses rules g.channel ≡ true → Keeps rules.max_packet rules.layout (s.records + 1)
-          (record {
-            count = g.count;
-            tail = chain_tail_at rules.max_packet (has_frame_gap (before_of (slice_get s.channels g.channel)) (member s.records g)) (is_vca_kind g.kind)
-                (tail_of (slice_get s.channels g.channel)) (member s.records g);
-          })
-      next e =
+      next : Keeps rules.max_packet rules.layout (s.records + 1) (last_moved rules.max_packet s g)
+      next =
           let gap = has_frame_gap (before_of (slice_get s.channels g.channel)) (member s.records g) in
           let tail = tail_of (slice_get s.channels g.channel) in
           record {

@@ -108,12 +108,8 @@ module _ (limit : ℕ) where
   quiet : (chosen : ℕ → Bool) (s : State) (r : Reading) (c : ℕ) (h : List Spot) → HasOpenTails limit chosen s → IsFit r → c < 8 → chosen c ≡ true
       → IsHeld (held_tail s c) h → parts_of c (items_of_readings limit chosen s (r ∷ [])) ≡ [] → record_spots c s.records r ≡ [] → member_of c s.records r ≡ []
       → Result chosen s r c h
-  quiet chosen s r c h valid fit small is_chosen held nothing no_spots no_frame = (
-    h,
-    subst (λ (xs : List Item). Tile (h ++ record_spots c s.records r) xs h) (sym nothing)
-        (ap (λ (z : List Spot). h ++ z) no_spots ∙ append-nil h),
-    subst (λ (t : Option Tail). IsHeld t h) (sym (tail-kept limit chosen s r valid fit c small is_chosen no_frame)) held,
-  )
+  quiet chosen s r c h valid fit small is_chosen held nothing no_spots no_frame =
+      (h, rw (nothing, no_spots) (append-nil h), rw (tail-kept limit chosen s r valid fit c small is_chosen no_frame) held)
 
   own-record : (chosen : ℕ → Bool) (s : State) (g : GoodFrame) (h : List Spot) → HasOpenTails limit chosen s → IsFit (Ok g) → chosen g.channel ≡ true
       → IsHeld (held_tail s g.channel) h → Result chosen s (Ok g) g.channel h
@@ -130,11 +126,8 @@ module _ (limit : ℕ) where
       let given : parts_of c (items_of_readings limit chosen s (Ok g ∷ [])) ≡ parts_of c (part_items c (chain_parts_at limit (has_frame_gap (before_of x) m) m.is_vca (tail_of x) m)) =
       ap (parts_of c) (items-one-valid limit chosen s g valid fit is_chosen) ∙ of-none c _ _ (gap-none c s.master (master_member s.records g)) ∙ member-parts c c (before_of x) (tail_of x) m in (
         lies.0,
-        subst (λ (xs : List Item). Tile (h ++ record_spots c s.records (Ok g)) xs lies.0) (sym given)
-            (subst (λ (z : List Spot). Tile (h ++ z) (parts_of c (part_items c (chain_parts_at limit (has_frame_gap (before_of x) m) m.is_vca (tail_of x) m))) lies.0) (sym spots)
-            (tile-parts limit c m.number _ lies.0 _ (chain_parts_at-at limit (has_frame_gap (before_of x) m) m.is_vca (tail_of x) m) lies.1)),
-        subst (λ (t : Option Tail). IsHeld t lies.0)
-            (sym (tail-moved limit chosen s (Ok g) valid fit g.channel fit.0 is_chosen (member s.records g) one fit.1)) lies.2,
+        rw (given, spots) (tile-parts limit c m.number _ lies.0 _ (chain_parts_at-at limit (has_frame_gap (before_of x) m) m.is_vca (tail_of x) m) lies.1),
+        rw (tail-moved limit chosen s (Ok g) valid fit g.channel fit.0 is_chosen (member s.records g) one fit.1) lies.2,
       )
 
   one-record : (chosen : ℕ → Bool) (s : State) (r : Reading) (c : ℕ) (h : List Spot) → HasOpenTails limit chosen s → IsFit r → c < 8 → chosen c ≡ true
@@ -142,9 +135,7 @@ module _ (limit : ℕ) where
   one-record chosen s (Err fault) c h valid fit small is_chosen held = quiet chosen s (Err fault) c h valid fit small is_chosen held refl refl refl
   one-record chosen s (Ok g) c h valid fit small is_chosen held =
       ⊎_elim
-      (λ e.
-      subst (λ (k : ℕ). Result chosen s (Ok g) k h) e
-      (own-record chosen s g h valid fit (ap chosen e ∙ is_chosen) (subst (λ (k : ℕ). IsHeld (held_tail s k) h) (sym e) held)))
+      (λ e. rw (← e) (own-record chosen s g h valid fit (ap chosen e ∙ is_chosen) (rw e held)))
       (λ ne.
       let other : eqb g.channel c ≡ false = ne_eqb g.channel c ne in
       quiet chosen s (Ok g) c h valid fit small is_chosen held
@@ -174,12 +165,10 @@ module _ (limit : ℕ) where
       ap (parts_of c) (items-cons limit chosen s r valid fits.0 rs fits.1)
       ∙ filter-append (λ x. is_part_of c x) (items_of_readings limit chosen s (r ∷ [])) (items_of_readings limit chosen (state_after_readings limit chosen s (r ∷ [])) rs) in (
         next.0,
-        subst (λ (xs : List Item). Tile (h ++ (record_spots c s.records r ++ channel_spots c (s.records + 1) rs)) xs next.0) (sym given)
-            (subst (λ (z : List Spot). Tile z (parts_of c (items_of_readings limit chosen s (r ∷ [])) ++ parts_of c (items_of_readings limit chosen (state_after_readings limit chosen s (r ∷ [])) rs)) next.0)
-            (append_assoc h (record_spots c s.records r) (channel_spots c (s.records + 1) rs))
+        rw (given, ← append_assoc h (record_spots c s.records r) (channel_spots c (s.records + 1) rs))
             (Tile-append _ (one.0 ++ channel_spots c (s.records + 1) rs) next.0 (parts_of c (items_of_readings limit chosen s (r ∷ []))) _
             (Tile-more (h ++ record_spots c s.records r) one.0 (channel_spots c (s.records + 1) rs) (parts_of c (items_of_readings limit chosen s (r ∷ []))) one.1)
-            next.1)),
+            next.1),
         subst (λ (z : State). IsHeld (held_tail z c) next.0) (sym (after-cons limit chosen s r valid fits.0 rs)) next.2,
       )
 

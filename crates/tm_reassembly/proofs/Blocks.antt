@@ -25,11 +25,10 @@ module _ (rules : Rules) (records : ℕ) (xs : List ℕ) where
   pub reads_none : (kept : List (Option Last)) → ReadsTo rules records xs 0 0 (take 0 kept)
   reads_none kept = record { so_far = all_of (blocks_read rules records 8 0 xs); inside = omega arith }
 
-  one_block : (n c at : ℕ) → 8 - c ≡ suc n
-      → blocks_read rules records (8 - c) c (drop at xs)
-      ≡ and_then_blocks (block_read rules.max_packet rules.layout (chooses rules c) records (drop at xs)) (λ used. blocks_read rules records n (c + 1) (drop used (drop at xs)))
+  one_block : (n c at : ℕ) (b : Result ReadBlock StateFault) → 8 - c ≡ suc n → block_read rules.max_packet rules.layout (chooses rules c) records (drop at xs) ≡ b
+      → blocks_read rules records (8 - c) c (drop at xs) ≡ and_then_blocks b (λ used. blocks_read rules records n (c + 1) (drop used (drop at xs)))
   unfolding blocks_read
-  one_block n c at e = ap (λ (k : ℕ). blocks_read rules records k c (drop at xs)) e
+  one_block n c at b e f = rw (e, f)
 
   joined : (done : List (Option Last)) (at : ℕ) (one : ReadBlock) (x : Result ReadBlocks StateFault)
       → in_fronts done at (in_front one x) ≡ in_fronts (done ++ one.kept ∷ []) (at + one.octets) x
@@ -44,25 +43,19 @@ module _ (rules : Rules) (records : ℕ) (xs : List ℕ) where
       let n : ℕ = 7 - c in
       let left : 8 - c ≡ suc n = omega arith in
       let rest : 8 - (c + 1) ≡ 7 - c = omega arith in
-      let len = length-drop at xs in
-      let within = r.inside in
       record {
         so_far =
             r.so_far
-            ∙ ap (in_fronts done at) (one_block n c at left ∙ ap (λ (b : Result ReadBlock StateFault). and_then_blocks b (λ used. blocks_read rules records n (c + 1) (drop used (drop at xs)))) e)
+            ∙ ap (in_fronts done at) (one_block n c at _ left e)
             ∙ joined done at (record { kept = kept; octets = used }) (blocks_read rules records n (c + 1) (drop used (drop at xs)))
-            ∙ ap (λ (l : List ℕ). in_fronts (done ++ kept ∷ []) (at + used) (blocks_read rules records n (c + 1) l)) (drop-drop used at xs)
-            ∙ ap (λ (k : ℕ). in_fronts (done ++ kept ∷ []) (at + used) (blocks_read rules records k (c + 1) (drop (at + used) xs))) (sym rest);
-        inside = omega arith;
+            ∙ rw (drop-drop used at xs, rest);
+        inside = omega (arith, length-drop at xs, r.inside);
       }
 
   pub reads_fault : (c at : ℕ) (done : List (Option Last)) (found : StateFault) → ReadsTo rules records xs c at done → c < 8
       → block_read rules.max_packet rules.layout (chooses rules c) records (drop at xs) ≡ Err found → blocks_read rules records 8 0 xs ≡ Err found
   reads_fault c at done found r h e =
-      let n : ℕ = 7 - c in
-      let left : 8 - c ≡ suc n = omega arith in
-      r.so_far
-      ∙ ap (in_fronts done at) (one_block n c at left ∙ ap (λ (b : Result ReadBlock StateFault). and_then_blocks b (λ used. blocks_read rules records n (c + 1) (drop used (drop at xs)))) e)
+      r.so_far ∙ ap (in_fronts done at) (one_block (7 - c) c at _ (omega arith) e)
 
   pub reads_all : (c at : ℕ) (done : List (Option Last)) → ReadsTo rules records xs c at done → 8 ≤ c
       → blocks_read rules records 8 0 xs ≡ Ok (record { kept = done; octets = at })
@@ -76,10 +69,6 @@ module _ (rules : Rules) (records : ℕ) (xs : List ℕ) where
 pub record ReadsSome (rules : Rules) (records : ℕ) (xs : List ℕ) (c at : ℕ) : Type 0 where
   pub done : List (Option Last)
   pub reads : ReadsTo rules records xs c at done
-
-is_ok : (x : Result ReadBlocks StateFault) (all : ReadBlocks) → x ≡ Ok all → IsOk x
-is_ok (Ok rest) all e = refl
-is_ok (Err found) all e = absurd (cc)
 
 -- the octets from a place on, as the code takes them, and whether a channel is chosen, as it asks
 as_asked : (rules : Rules) (records : ℕ) (xs : List ℕ) (c at : ℕ) (b : Bool) (x : Result ReadBlock StateFault)
@@ -108,7 +97,7 @@ module _ (rules : Rules) (records : ℕ) (xs : List ℕ) where
       reads_fault rules records xs c at r.done found r.reads h (as_asked rules records xs c at b _ same e)
 
   pub some_all : (c at : ℕ) → ReadsSome rules records xs c at → 8 ≤ c → IsOk (blocks_read rules records 8 0 xs)
-  some_all c at r h = is_ok (blocks_read rules records 8 0 xs) _ (reads_all rules records xs c at r.done r.reads h)
+  some_all c at r h = rw (reads_all rules records xs c at r.done r.reads h)
 
 module _ (rules : Rules) (records : ℕ) (xs : List ℕ) where
   -- what is kept of the channels up to c is what was read

@@ -8,7 +8,7 @@ use Rattle.tm_reassembly.specs.Readings.{Reading}
 use Rattle.tm_reassembly.specs.Chain.{ChainMember, Run, Runs, stem_of, stem_with, chain, frames, member_of, has_frame_gap, runs, runs_after, with_member, cut_before}
 use Rattle.tm_reassembly.specs.code.Fits.{AllReadingsFit, PlaceFits, PlacesFit, IsPlaced}
 use Rattle.tm_reassembly.proofs.Each.{Each, Each-append, Each-split, Each-at, Each-weaken}
-use Rattle.tm_reassembly.specs.Verdict.{Verdict, verdict, completed_at_once, Grow, GrowFrom, is_whole}
+use Rattle.tm_reassembly.specs.Verdict.{Verdict, verdict, completed_at_once, Grow, GrowFrom, IsSettledIn, is_whole}
 use Rattle.tm_reassembly.specs.Parts.{text, far_end, begins_packet}
 use Rattle.tm_items.specs.OnePacket.{packet_length}
 use Rattle.tm_items.proofs.Reaching.{packet_length-settled, packet_length-unsettled}
@@ -163,9 +163,7 @@ module _ (limit : ℕ) where
 pub verdicts-stay : (s : State) (c : ℕ) (rs qs : List Reading) → AllReadingsFit rs
     → (i : ℕ) (r : Run) → slice_get (runs (chain s c rs)) i ≡ Some r
     → (before between later : List ChainMember) (f m : ChainMember) → r.members ≡ before ++ f ∷ (between ++ m ∷ later)
-    → (q : Run) × (more : List ChainMember) × (slice_get (runs (chain s c (rs ++ qs))) i ≡ Some q)
-    × (q.members ≡ before ++ f ∷ (between ++ m ∷ (later ++ more)))
-    × ((limit : ℕ) (start : List ℕ) → verdict limit start between m (later ++ more) ≡ verdict limit start between m later)
+    → IsSettledIn (runs (chain s c (rs ++ qs))) i before f between m later
 verdicts-stay s c rs qs fits i r at before between later f m split =
     let grown : Become r (runs (chain s c (rs ++ qs))) i =
     grown-at (runs_after None (chain s c rs)).current (runs_after None (chain s c rs)).others (runs (chain s c (rs ++ qs))) i r (runs-grow s c rs qs) at in

@@ -104,27 +104,17 @@ module _ (limit : ℕ) where
       rw (p, lt-leb (packet_length (x ∷ xs)) (suc (length xs)) less) (field_spots number place (x ∷ xs), refl, (octets-field number place (x ∷ xs), (refl, back))))
       (λ whole.
       let rest = field_lays number (place + 1) stop (pred (packet_length (x ∷ xs))) xs (omega arith) in
-      rw (p, le-leb (packet_length (x ∷ xs)) (suc (length xs)) whole) (
-        rest.0,
-        (
-          drop (pred (packet_length (x ∷ xs))) (field_spots number (place + 1) xs),
-          (
-            take (packet_length (x ∷ xs)) (field_spots number place (x ∷ xs)),
-            sym (take_next (packet_length (x ∷ xs)) _ (field_spots number (place + 1) xs) some),
-            ap spot_octets (take-field (packet_length (x ∷ xs)) number place (x ∷ xs)) ∙ octets-field number place (take (packet_length (x ∷ xs)) (x ∷ xs)),
-            begins-take (packet_length (x ∷ xs)) number (stop - suc (length xs)) _ (field_spots number (place + 1) xs) some (refl, back),
-          ),
-          rest.1,
-        ),
-        rest.2,
-      ))
+      let n : ℕ = packet_length (x ∷ xs) in
+      let spot : Spot = record { record_number = number; place = place; octet = x } in
+      let later : List Spot = field_spots number (place + 1) xs in
+      let octets = ap spot_octets (take-field n number place (x ∷ xs)) ∙ octets-field number place (take n (x ∷ xs)) in
+      let begins = begins-take n number (stop - suc (length xs)) spot later some (refl, back) in
+      rw (p, le-leb (packet_length (x ∷ xs)) (suc (length xs)) whole)
+      (rest.0, (drop (pred n) later, (take n (spot ∷ later), sym (take_next n spot later some), octets, begins), rest.1), rest.2))
       (cases_lt (suc (length xs)) (packet_length (x ∷ xs))))
       (λ (p : begins_packet limit (x ∷ xs) ≡ false).
-      rw p (
-        [],
-        ([], (field_spots number place (x ∷ xs), sym (append-nil (field_spots number place (x ∷ xs))), octets-field number place (x ∷ xs), (refl, back)), refl),
-        refl,
-      ))
+      let all : List Spot = field_spots number place (x ∷ xs) in
+      rw p ([], ([], (all, sym (append-nil all), octets-field number place (x ∷ xs), (refl, back)), refl), refl))
       (cases_Bool (begins_packet limit (x ∷ xs)))
   field_lays number place stop skip o h = ([], refl, refl)
 
@@ -136,25 +126,18 @@ module _ (limit : ℕ) where
       (middle : List Spot) × (field_spots m.number m.base m.field ≡ field_spots m.number m.base (front_of v m.field) ++ middle)
       × Laid middle (parts_in limit m.number (end_place_of m) v m.field) (tail_at m.number (end_place_of m) (left_in limit v m.field))) [
         | None ↦ ([], sym (append-nil (field_spots m.number m.base m.field)), ([], refl, refl))
-        | Some place ↦ (
-          drop place (field_spots m.number m.base m.field),
-          sym (take-append-drop place (field_spots m.number m.base m.field))
-              ∙ ap (λ (s : List Spot). s ++ drop place (field_spots m.number m.base m.field)) (take-field place m.number m.base m.field),
-          field_lays m.number m.base (end_place_of m) place m.field refl,
-        )
+        | Some place ↦
+            let taken = take-field place m.number m.base m.field in
+            (drop place (spots_of m), rw (← taken) (sym (take-append-drop place (spots_of m))), field_lays m.number m.base (end_place_of m) place m.field refl)
       ]
 
   frame_lays : (m : ChainMember) (reason : Reason)
       → Laid (spots_of m) (lead_part m reason (front_of m.place m.field) ++ frame_parts limit m) (frame_tail limit m)
   frame_lays m reason =
-      let f = front_lays m in (
-        f.2.0,
-        subst (λ (s : List Spot). Lay s (lead_part m reason (front_of m.place m.field) ++ frame_parts limit m) f.2.0) (sym f.1)
-            (Lay-append _ f.0 f.2.0 (lead_part m reason (front_of m.place m.field)) (frame_parts limit m)
-            (Lay-more (field_spots m.number m.base (front_of m.place m.field)) [] f.0 (lead_part m reason (front_of m.place m.field)) (lead_lays m reason (front_of m.place m.field)))
-            f.2.1),
-        f.2.2,
-      )
+      let f = front_lays m in
+      let front : List ℕ = front_of m.place m.field in
+      let lead = Lay-more (field_spots m.number m.base front) [] f.0 (lead_part m reason front) (lead_lays m reason front) in
+      (f.2.0, rw f.1 (Lay-append _ f.0 f.2.0 (lead_part m reason front) (frame_parts limit m) lead f.2.1), f.2.2)
 
   -- a tail and a frame
   tail_lays : (t : Tail) (m : ChainMember) (h : List Spot) → IsHeld (Some t) h
@@ -163,33 +146,19 @@ module _ (limit : ℕ) where
       let d : ℕ = packet_length (t.octets ++ m.field) in
       let a : ℕ = length t.octets in
       let whole : ℕ = length (t.octets ++ m.field) in
-      let len : length (t.octets ++ m.field) ≡ length t.octets + length m.field = length-append t.octets m.field in
       ⊎_elim
       (λ (agree : agrees limit d a m ≡ true).
       ⊎_elim
       (λ past.
-      rw (agree, lt-leb d whole past) (
-        h ++ spots_of m,
-        refl,
-        (both_octets h (spots_of m) t.octets m.field held.0 (octets-field m.number m.base m.field), begins-more t.first t.place h (spots_of m) held.1),
-      ))
+      let octets = both_octets h (spots_of m) t.octets m.field held.0 (octets-field m.number m.base m.field) in
+      rw (agree, lt-leb d whole past) (h ++ spots_of m, refl, (octets, begins-more t.first t.place h (spots_of m) held.1)))
       (λ within.
-      let front = front_taken m.place d t.octets m.field (agrees-place limit d a m agree) (omega arith) in
+      let front : List Spot = field_spots m.number m.base (front_of m.place m.field) in
       let f = front_lays m in
-      rw (agree, le-leb d whole within) (
-        f.2.0,
-        (
-          f.0,
-          (
-            h ++ field_spots m.number m.base (front_of m.place m.field),
-            ap (λ (s : List Spot). h ++ s) f.1 ∙ sym (append_assoc h (field_spots m.number m.base (front_of m.place m.field)) f.0),
-            both_octets h _ t.octets (front_of m.place m.field) held.0 (octets-field m.number m.base (front_of m.place m.field)) ∙ sym front,
-            begins-more t.first t.place h _ held.1,
-          ),
-          f.2.1,
-        ),
-        f.2.2,
-      ))
+      let split = ap (λ (s : List Spot). h ++ s) f.1 ∙ sym (append_assoc h front f.0) in
+      let octets = both_octets h front t.octets (front_of m.place m.field) held.0 (octets-field m.number m.base (front_of m.place m.field))
+      ∙ sym (front_taken m.place d t.octets m.field (agrees-place limit d a m agree) (omega (arith, length-append t.octets m.field))) in
+      rw (agree, le-leb d whole within) (f.2.0, (f.0, (h ++ front, split, octets, begins-more t.first t.place h front held.1), f.2.1), f.2.2))
       (cases_lt whole d))
       (λ (differ : agrees limit d a m ≡ false).
       let f = frame_lays m (reason_at d a m) in

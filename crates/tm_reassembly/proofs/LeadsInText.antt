@@ -33,8 +33,7 @@ only-one c [] [] cs e one = e
 only-one c [] (y ∷ b) cs e one = let len = ap (λ (z : List Claim). length z) e in absurd (omega arith)
 only-one c (x ∷ a) b cs e one =
     let len = ap (λ (z : List Claim). length z) e in
-    let more : length (a ++ c ∷ b) ≡ length a + length (c ∷ b) = length-append a (c ∷ b) in
-    absurd (omega arith)
+    absurd (omega (arith, length-append a (c ∷ b)))
 
 -- the text, split at the frame of a start
 text-at : (before later earlier between : List ChainMember) (f m : ChainMember) → before ≡ earlier ++ f ∷ between

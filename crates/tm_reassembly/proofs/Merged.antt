@@ -126,10 +126,8 @@ pub seen-in_time : (rules : Rules) (s : State) (records : List (List ℕ)) → I
 seen-in_time rules s records v c x a =
     let rs : List Reading = readings rules.layout records in
     let f = among-each (λ y. IsFrame c s.records rs (seen_of y)) x _ (channel-seen rules s v c rs (readings-fit rules.layout records)) a in
-    let at : seen_of x ≡ s.records + f.0 = f.2 in
     let inside : f.0 < length (readings rules.layout records) = slice_get_within (readings rules.layout records) f.0 (Ok f.1) f.3 in
-    let len : length (readings rules.layout records) ≡ length records = length-map records (frame_reading_of rules.layout) in
-    (omega arith, omega arith)
+    (omega (arith, f.2, length-map records (frame_reading_of rules.layout)), omega (arith, f.2, length-map records (frame_reading_of rules.layout)))
 
 module _ (limit : ℕ) where
   pub channel-of : (c : ℕ) (ms : List ChainMember) → AllOf c (channel_items limit c ms)
@@ -266,7 +264,7 @@ module _ (limit : ℕ) where
         ⊎_elim
         (λ e.
         at_it k r rs e
-        (⊎_elim (λ h. absurd (let f = h.0 in let at : n ≡ (k + 1) + f.0 = f.2 in omega arith)) (λ h. h.1) (either (k + 1) rs)))
+        (⊎_elim (λ h. absurd (omega (arith, h.0.2))) (λ h. h.1) (either (k + 1) rs)))
         (λ ne. before-it k r rs ne (either (k + 1) rs))
         (cases_eq k n)
 

@@ -1,13 +1,13 @@
 -- The older form of a spelling, and what is lost with the last master channel count.
-use Rattle.std.proofs.Common.{◌≡◌, ◌⊎◌, Ok, Err, Result, ℕ, ◌+◌, ◌<◌, ◌≤◌, Bool, false, None, List, [], ◌∷◌, ◌++◌, length, refl, sym, ap, subst, ◌∙◌, inl, inr, ⊎_elim, arith, append_assoc, ltb}
-use Rattle.std.proofs.lemmas.Bool.{cases_Bool, cond-false, eq-eqb, le-ltb}
+use Rattle.std.proofs.Common.{◌≡◌, ◌⊎◌, Ok, Err, Result, ℕ, ◌+◌, ◌<◌, ◌≤◌, Bool, false, None, List, [], ◌∷◌, ◌++◌, length, refl, sym, ap, subst, ◌∙◌, inl, inr, ⊎_elim, arith, append_assoc}
+use Rattle.std.proofs.lemmas.Bool.{cases_Bool, eq-eqb, le-ltb}
 use Rattle.std.specs.Prelude.{◌||◌, not}
 use Rattle.tm_frame.specs.Frame.{GoodFrame}
 use Rattle.tm_reassembly.specs.declared.fault.StateFault.{StateFault}
 use Rattle.tm_reassembly.specs.Readings.{Reading}
 use Rattle.tm_reassembly.specs.State.{State}
 use Rattle.tm_reassembly.specs.Chain.{master_frames, master_member}
-use Rattle.tm_reassembly.specs.Checkpoint.{ReadBlocks, four_at, blocks_read, master_read, with_channels, state_decoding_of, old_decoding_of}
+use Rattle.tm_reassembly.specs.Checkpoint.{ReadBlocks, four_at, master_read, with_channels, state_decoding_of, old_decoding_of}
 use Rattle.tm_items.specs.Among.{is_master_gap}
 use Rattle.tm_items.specs.Item.{Item, Bad, seen_of}
 use Rattle.tm_reassembly.specs.Items.{master_gap_item, gap_at, items_of_readings, merged, record_items, seen_at, state_after_readings}
@@ -34,20 +34,11 @@ one-more records (Ok all) =
     ap (λ (n : ℕ). Ok (record { state = record { records = records; master = None; channels = all.kept }; octets = n })) more
 one-more records (Err found) = refl
 
-new-form : (rules : Rules) (w x y z : ℕ) (b : List ℕ) → state_decoding_of rules (w ∷ x ∷ y ∷ z ∷ 0 ∷ b)
-    ≡ with_channels (four_at (w ∷ x ∷ y ∷ z ∷ b) 0) None 5 (blocks_read rules (four_at (w ∷ x ∷ y ∷ z ∷ b) 0) 8 0 b)
-unfolding state_decoding_of master_read
-new-form rules w x y z b = cond-false (ltb (length (w ∷ x ∷ y ∷ z ∷ 0 ∷ b)) 4) _ _ (le-ltb (length (w ∷ x ∷ y ∷ z ∷ 0 ∷ b)) 4 (omega arith))
-
-old-form : (rules : Rules) (w x y z : ℕ) (b : List ℕ) → old_decoding_of rules (w ∷ x ∷ y ∷ z ∷ b)
-    ≡ with_channels (four_at (w ∷ x ∷ y ∷ z ∷ b) 0) None 4 (blocks_read rules (four_at (w ∷ x ∷ y ∷ z ∷ b) 0) 8 0 b)
-unfolding old_decoding_of
-old-form rules w x y z b = cond-false (ltb (length (w ∷ x ∷ y ∷ z ∷ b)) 4) _ _ (le-ltb (length (w ∷ x ∷ y ∷ z ∷ b)) 4 (omega arith))
-
 -- with a 0 put in behind the number of records, the newer form reads what the older one reads without
 pub one-form : (rules : Rules) (a b : List ℕ) → length a ≡ 4 → state_decoding_of rules (a ++ 0 ∷ b) ≡ one_octet_more (old_decoding_of rules (a ++ b))
+unfolding state_decoding_of old_decoding_of master_read
 one-form rules (w ∷ x ∷ y ∷ z ∷ []) b h =
-    new-form rules w x y z b ∙ one-more (four_at (w ∷ x ∷ y ∷ z ∷ b) 0) _ ∙ sym (ap one_octet_more (old-form rules w x y z b))
+    rw (le-ltb (length (w ∷ x ∷ y ∷ z ∷ 0 ∷ b)) 4 (omega arith), le-ltb (length (w ∷ x ∷ y ∷ z ∷ b)) 4 (omega arith)) (one-more (four_at (w ∷ x ∷ y ∷ z ∷ b) 0) _)
 one-form rules a b h = absurd (omega arith)
 
 -- ---- items

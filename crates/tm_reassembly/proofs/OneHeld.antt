@@ -82,9 +82,7 @@ module _ (limit : ℕ) where
           cond_both (leb (far_end start later) (length (start ++ text later))) _ _ (λ (p : Part). OneTail (tails (p ∷ [])) later end)
           (λ v. inl refl)
           (λ v.
-          let past = leb-false (far_end start later) (length (start ++ text later)) v in
-          let len : length (start ++ text later) ≡ length start + length (text later) = length-append start (text later) in
-          by_end end (start, e, omega arith))
+          by_end end (start, e, omega (arith, leb-false (far_end start later) (length (start ++ text later)) v, length-append start (text later))))
 
   module _ (m : ChainMember) (later : List ChainMember) (end : End) where
     -- a frame's starts leave no tail, or its last one does

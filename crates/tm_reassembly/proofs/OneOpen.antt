@@ -44,8 +44,7 @@ module _ (limit : ℕ) where
       by_place : (v : Option ℕ) → agrees_at far at (length m.field) v ≡ true → starts_from limit m.base v m.field ≡ []
       by_place None e = refl
       by_place (Some place) e =
-          let same : far ≡ at + place = eqb-true far (at + place) e in
-          starts-past limit m.base place m.field (omega arith)
+          starts-past limit m.base place m.field (omega (arith, eqb-true far (at + place) e))
 
   -- and where an earlier start stays open past it, none
   step-one : (m : ChainMember) (later : List ChainMember) (c : Claim)

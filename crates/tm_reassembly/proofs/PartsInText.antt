@@ -63,7 +63,7 @@ module _ (limit : ℕ) where
   breaks-off far at (f ∷ between) more m o a =
       let both = and_parts (agrees limit far at f) (open_after limit far (at + length f.field) between) o in
       let past = open-to limit far (at + length f.field) between both.1 in
-      let reaches : ltb at far ≡ true = lt-ltb at far (let p = past.0 in omega arith) in
+      let reaches : ltb at far ≡ true = lt-ltb at far (omega (arith, past.0)) in
       let len : length (f.field ++ text between) ≡ length f.field + length (text between) = length-append f.field (text between) in
       let rest = breaks-off far (at + length f.field) between more m both.1 (ap (λ (k : ℕ). agrees limit far k m) (omega arith) ∙ a) in
       (rw (reaches, both.0) rest.0, rw (reaches, both.0) (ap (λ (ms : List ChainMember). f ∷ ms) rest.1))

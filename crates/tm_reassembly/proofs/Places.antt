@@ -54,9 +54,7 @@ module _ (limit : ℕ) where
         let past = ltb-true limit far both.1 in
         (omega arith, omega arith),
     λ h.
-        let past = h.0 in
-        let there = h.1 in
-        and_from (leb 6 at) (ltb limit far) (le-leb 6 at (omega arith)) (lt-ltb limit far (omega arith)),
+        and_from (leb 6 at) (ltb limit far) (le-leb 6 at (omega (arith, h.0, h.1))) (lt-ltb limit far (omega (arith, h.0, h.1))),
   )
 
   -- each frame between agrees
@@ -72,9 +70,8 @@ module _ (limit : ℕ) where
   each-cons far at m between a h (x ∷ earlier) later g e =
       let same : m ≡ x = cc in
       let rest : between ≡ earlier ++ g ∷ later = cc in
-      let len : length (x.field ++ text earlier) ≡ length x.field + length (text earlier) = length-append x.field (text earlier) in
       let size : length m.field ≡ length x.field = ap (λ (z : ChainMember). length z.field) same in
-      ap (λ (k : ℕ). agrees limit far k g) (omega arith) ∙ h earlier later g rest
+      ap (λ (k : ℕ). agrees limit far k g) (omega (arith, length-append x.field (text earlier))) ∙ h earlier later g rest
 
   each-first : (far at : ℕ) (m : ChainMember) (between : List ChainMember) → AllAgree far at (m ∷ between) → agrees limit far at m ≡ true
   each-first far at m between h = let z : at ≡ at + 0 = omega arith in ap (λ (k : ℕ). agrees limit far k m) z ∙ h [] between m refl
@@ -89,15 +86,13 @@ module _ (limit : ℕ) where
   open-to far at (m ∷ between) h =
       let both = and_parts (agrees limit far at m) (open_after limit far (at + length m.field) between) h in
       let rest = open-to far (at + length m.field) between both.1 in
-      let len : length (m.field ++ text between) ≡ length m.field + length (text between) = length-append m.field (text between) in
-      (let r = rest.0 in omega arith, each-cons far at m between both.0 rest.1)
+      (let r = rest.0 in omega (arith, length-append m.field (text between)), each-cons far at m between both.0 rest.1)
 
   open-from : (far at : ℕ) (between : List ChainMember) → at + length (text between) < far → AllAgree far at between → open_after limit far at between ≡ true
   open-from far at [] h each = lt-ltb at far (omega arith)
   open-from far at (m ∷ between) h each =
-      let len : length (m.field ++ text between) ≡ length m.field + length (text between) = length-append m.field (text between) in
       and_from (agrees limit far at m) (open_after limit far (at + length m.field) between) (each-first far at m between each)
-      (open-from far (at + length m.field) between (omega arith) (each-rest far at m between each))
+      (open-from far (at + length m.field) between (omega (arith, length-append m.field (text between))) (each-rest far at m between each))
 
   -- no frame breaks
   abbrev pub Unbroken : ℕ → ℕ → List ChainMember → Type 0
@@ -117,11 +112,10 @@ module _ (limit : ℕ) where
       let both = and_parts (agrees limit far at x) (open_after limit far (at + length x.field) between) o in
       let past = open-to far (at + length x.field) between both.1 in
       let size : length f.field ≡ length x.field = ap (λ (z : ChainMember). length z.field) same in
-      let len : length (x.field ++ text between) ≡ length x.field + length (text between) = length-append x.field (text between) in
       let agreed : agrees limit far at f ≡ true = ap (agrees limit far at) same ∙ both.0 in
-      let here : at < far = let p = past.0 in omega arith in
+      let here : at < far = let p = past.0 in omega (arith, length-append x.field (text between)) in
       let none : breaker limit far (at + length f.field) later ≡ None = rw (lt-ltb at far here, agreed) at h in
-      ap (λ (k : ℕ). agrees limit far k m) (omega arith)
+      ap (λ (k : ℕ). agrees limit far k m) (omega (arith, length-append x.field (text between)))
       ∙ unbroken-to far (at + length f.field) later none between more m rest (ap (λ (k : ℕ). open_after limit far (at + k) between) size ∙ both.1)
 
   pub unbroken-from : (far at : ℕ) (later : List ChainMember) → Unbroken far at later → breaker limit far at later ≡ None
@@ -134,8 +128,7 @@ module _ (limit : ℕ) where
       rw (here, agreed)
       (unbroken-from far (at + length f.field) later
       (λ between more m e o.
-      let len : length (f.field ++ text between) ≡ length f.field + length (text between) = length-append f.field (text between) in
-      ap (λ (k : ℕ). agrees limit far k m) (omega arith)
+      ap (λ (k : ℕ). agrees limit far k m) (omega (arith, length-append f.field (text between)))
       ∙ h (f ∷ between) more m (ap (λ (ms : List ChainMember). f ∷ ms) e) (and_from (agrees limit far at f) _ agreed o))))
       (λ (past : ltb at far ≡ false). rw past)
       (cases_Bool (ltb at far))
@@ -247,7 +240,7 @@ module _ (limit : ℕ) where
         λ h.
             and_from (begins_packet limit start) (open_after limit (far_end start later) (length start) between) ((packet-begins later).1 h.0)
             (open-from (far_end start later) (length start) between
-            (let past = rw (ends-at later, begins-at between) at h.1 in omega arith)
+            (omega (arith, rw (ends-at later, begins-at between) at h.1))
             (λ earlier more g e. (agreement-at earlier later g).1 (h.2 earlier more g e))),
       )
 
@@ -279,5 +272,5 @@ module _ (limit : ℕ) where
             (λ between more m e o.
             (agreement-at between later m).1
             (h.2 between more m e ((open-at between later).0 (and_from (begins_packet limit start) (open_after limit (far_end start later) (length start) between) ((packet-begins later).1 h.0) o))))))
-            (le-leb (far_end start later) (length (start ++ text later)) (let fits = rw (ends-at later, text-length later) at h.1 in omega arith))),
+            (le-leb (far_end start later) (length (start ++ text later)) (omega (arith, rw (ends-at later, text-length later) at h.1)))),
       )

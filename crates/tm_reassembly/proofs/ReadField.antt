@@ -35,44 +35,18 @@ module _ (limit : ℕ) where
       let least : 0 < packet_length (x ∷ xs) = omega (arith, packet_length-least (x ∷ xs)) in
       rw (p, le-leb (packet_length (x ∷ xs)) (suc (length xs)) fits, drop-pred (packet_length (x ∷ xs)) x xs least, unfinished-skip (pred (packet_length (x ∷ xs))) xs)
 
-  -- one packet in a field
-  pub items_from-packet : (seen channel : ℕ) (field : List ℕ) (at r : ℕ) → at < length field → begins_packet limit (drop at field) ≡ true
-      → r ≡ packet_length (drop at field) → r ≤ length field - at
-      → items_from limit seen channel field at ≡ Packet seen channel seen at (take r (drop at field)) ∷ items_from limit seen channel field (at + r)
-  items_from-packet seen channel field at r h p e fits =
-      let o = drop at field in
-      let len : length (drop at field) ≡ length field - at = length-drop at field in
-      let some : 0 < length (drop at field) = omega arith in
-      let inside : packet_length (drop at field) ≤ length (drop at field) = omega arith in
-      let place : length field - length (drop at field) ≡ at = omega arith in
-      ap (part_items channel) (field_parts-packet seen (length field) o some p inside)
-      ∙ rw (place, ← e, drop-drop r at field) refl
-
-  pub unfinished_from-packet : (field : List ℕ) (at r : ℕ) → at < length field → begins_packet limit (drop at field) ≡ true
-      → r ≡ packet_length (drop at field) → r ≤ length field - at → unfinished limit 0 (drop at field) ≡ unfinished limit 0 (drop (at + r) field)
-  unfinished_from-packet field at r h p e fits =
-      let len : length (drop at field) ≡ length field - at = length-drop at field in
-      let some : 0 < length (drop at field) = omega arith in
-      let inside : packet_length (drop at field) ≤ length (drop at field) = omega arith in
-      unfinished-packet (drop at field) some p inside ∙ rw (← e, drop-drop r at field) refl
-
   -- what the code tests, and what follows
   pub read_packet : (seen channel : ℕ) (field : List ℕ) (at n : ℕ) (t : List ℕ) → t ≡ take (length field - at) (drop at field)
       → at < length field → begins_packet limit t ≡ true → n ≡ packet_length t → n ≤ length t
       → (items_from limit seen channel field at ≡ Packet seen channel seen at (take n t) ∷ items_from limit seen channel field (at + n))
       × (unfinished limit 0 (drop at field) ≡ unfinished limit 0 (drop (at + n) field))
   read_packet seen channel field at n t e h p r fits =
-      let len : length (drop at field) ≡ length field - at = length-drop at field in
-      let e' : t ≡ drop at field = e ∙ take_rest field at in
-      let here : drop at field ≡ t = sym e' in
-      let same : length t ≡ length (drop at field) = ap length e' in
-      let p' : begins_packet limit (drop at field) ≡ true = ap (begins_packet limit) here ∙ p in
-      let r' : n ≡ packet_length (drop at field) = r ∙ ap packet_length e' in
-      let short : n ≤ length field - at = omega arith in (
-        items_from-packet seen channel field at n h p' r' short
-            ∙ ap (λ (o : List ℕ). Packet seen channel seen at (take n o) ∷ items_from limit seen channel field (at + n)) here,
-        unfinished_from-packet field at n h p' r' short,
-      )
+      let all : t ≡ drop at field = e ∙ take_rest field at in
+      let len : length t ≡ length field - at = ap length all ∙ length-drop at field in
+      let some : 0 < length t = omega arith in
+      let whole : packet_length t ≤ length t = omega arith in
+      let place : length field - length t ≡ at = omega arith in
+      rw (← drop-drop n at field, ← all, r) (rw (field_parts-packet seen (length field) t some p whole, place), unfinished-packet t some p whole)
 
   -- up to here a field was read, from a place on: whole packets lie end to end there
   pub record IsReadTo (seen channel : ℕ) (field : List ℕ) (place at : ℕ) : Type 0 where

@@ -1,6 +1,6 @@
 -- What is read is the spelling of what it is read as.
 use Rattle.std.proofs.Common.{◌≡◌, ℕ, zero, suc, ◌+◌, ◌-◌, ◌*◌, ◌/◌, ◌%◌, ◌<◌, ◌≤◌, Bool, true, false, not, ◌||◌, Ok, Err, Result, Option, Some, None, List, [], ◌∷◌, ◌++◌, length, take, drop, refl, sym, ap, subst, ◌∙◌, arith, length-drop, ltb, leb, eqb}
-use Rattle.std.specs.Prelude.{slice_index, slice_range}
+use Rattle.std.specs.Prelude.{IfOk, slice_index, slice_range}
 use Rattle.std.specs.List.{flat_map, slice_get}
 use Rattle.std.proofs.lemmas.Bool.{and_parts, cond_both, ltb-true, ltb-false, eqb-true, eqb-false, not-false, or_parts}
 use Rattle.std.proofs.lemmas.List.{length-take-le}
@@ -101,12 +101,10 @@ none_spelled [] e long = absurd (omega arith)
 
 module _ (limit : ℕ) (layout : LayoutParts) (records : ℕ) (chosen : Bool) (xs : List ℕ) where
   -- the octets at the front are the block of what was read, which may be kept
-  IsSpelled : Result ReadBlock StateFault → Type 0
-  IsSpelled (Ok one) = Begins xs one.octets (block one.kept) × Kept limit layout records chosen one.kept
-  IsSpelled (Err found) = Unit {0}
+  abbrev IsSpelled : Result ReadBlock StateFault → Type 0
+  IsSpelled r = IfOk r (λ one. Begins xs one.octets (block one.kept) × Kept limit layout records chosen one.kept)
 
   tail_sound : AreOctets xs → chosen ≡ true → 12 ≤ length xs → slice_index xs 0 ≡ 2 → IsSpelled (tail_block limit layout records xs)
-  unfolding IsSpelled
   tail_sound h is_chosen enough flag =
       let size : ℕ = four_at xs 8 in
       cond_both (not (ltb (four_at xs 2) records) || ltb layout.frame_length (two_at xs 6 + 7)) _ _ IsSpelled (λ u. tt)
@@ -135,7 +133,7 @@ module _ (limit : ℕ) (layout : LayoutParts) (records : ℕ) (chosen : Bool) (x
       )))))
 
   block_spelled : AreOctets xs → IsSpelled (block_read limit layout chosen records xs)
-  unfolding block_read IsSpelled
+  unfolding block_read
   block_spelled h =
       let flag : ℕ = slice_index xs 0 in
       cond_both (eqb (length xs) 0) _ _ IsSpelled (λ p. tt)
@@ -167,14 +165,12 @@ pub record SoundAll (rules : Rules) (records : ℕ) (n c : ℕ) (kept : List (Op
   pub each : (i : ℕ) (x : Option Last) → slice_get kept i ≡ Some x → Kept rules.max_packet rules.layout records (chooses rules (c + i)) x
 
 -- the octets at the front are the blocks of what was read, which may be kept
-AllSpelled : Rules → ℕ → ℕ → ℕ → List ℕ → Result ReadBlocks StateFault → Type 0
-AllSpelled rules records n c xs (Ok all) = Begins xs all.octets (flat_map block all.kept) × SoundAll rules records n c all.kept
-AllSpelled rules records n c xs (Err found) = Unit {0}
+abbrev AllSpelled : Rules → ℕ → ℕ → ℕ → List ℕ → Result ReadBlocks StateFault → Type 0
+AllSpelled rules records n c xs r = IfOk r (λ all. Begins xs all.octets (flat_map block all.kept) × SoundAll rules records n c all.kept)
 
 module _ (rules : Rules) (records n c : ℕ) (xs : List ℕ) where
   then_spelled : (x : Result ReadBlock StateFault) (others : ℕ → Result ReadBlocks StateFault) → IsSpelled rules.max_packet rules.layout records (chooses rules c) xs x
       → ((used : ℕ) → AllSpelled rules records n (c + 1) (drop used xs) (others used)) → AllSpelled rules records (suc n) c xs (and_then_blocks x others)
-  unfolding AllSpelled IsSpelled
   then_spelled (Err found) others h g = tt
   then_spelled (Ok one) others h g = by_rest (others one.octets) (g one.octets)
     where
@@ -193,7 +189,7 @@ module _ (rules : Rules) (records n c : ℕ) (xs : List ℕ) where
               subst (λ (k : ℕ). Kept rules.max_packet rules.layout records (chooses rules k) x) z (k.1.each i x e)
 
 blocks_spelled : (rules : Rules) (records n c : ℕ) (xs : List ℕ) → AreOctets xs → AllSpelled rules records n c xs (blocks_read rules records n c xs)
-unfolding blocks_read AllSpelled
+unfolding blocks_read
 blocks_spelled rules records zero c xs h = (record { inside = omega arith; same = refl }, record { many = refl; each = λ i x e. absurd (cc) })
 blocks_spelled rules records (suc n) c xs h =
     then_spelled rules records n c xs (block_read rules.max_packet rules.layout (chooses rules c) records xs) (λ used. blocks_read rules records n (c + 1) (drop used xs))
@@ -202,18 +198,16 @@ blocks_spelled rules records (suc n) c xs h =
 
 pub blocks_sound : (rules : Rules) (records n c : ℕ) (xs : List ℕ) (all : ReadBlocks) → AreOctets xs → blocks_read rules records n c xs ≡ Ok all
     → SoundAll rules records n c all.kept
-unfolding AllSpelled
 blocks_sound rules records n c xs all h e = (subst (AllSpelled rules records n c xs) e (blocks_spelled rules records n c xs h)).1
 
 -- ---- the state
 
 -- the last master channel count
-MasterSpelled : List ℕ → Result ReadMaster StateFault → Type 0
-MasterSpelled xs (Ok read) = Begins xs read.octets (master_octets read.count)
-MasterSpelled xs (Err found) = Unit {0}
+abbrev MasterSpelled : List ℕ → Result ReadMaster StateFault → Type 0
+MasterSpelled xs r = IfOk r (λ read. Begins xs read.octets (master_octets read.count))
 
 master_spelled : (xs : List ℕ) → MasterSpelled xs (master_read xs)
-unfolding master_read MasterSpelled
+unfolding master_read
 master_spelled [] = tt
 master_spelled (flag ∷ xs) =
     cond_both (eqb flag 0) _ _ (MasterSpelled (flag ∷ xs))
@@ -224,7 +218,7 @@ master_spelled (flag ∷ xs) =
     cond_both (eqb (length xs) 0) _ _ (MasterSpelled (flag ∷ xs)) (λ r. tt)
     (λ r.
     let some = eqb-false (length xs) 0 r in
-    let one : flag ≡ 1 = (let a = eqb-false flag 0 p in let b = ltb-false 1 flag q in omega arith) in
+    let one : flag ≡ 1 = omega (arith, eqb-false flag 0 p, ltb-false 1 flag q) in
     record { inside = omega arith; same = counted xs one (omega arith) })))
   where
     counted : (ys : List ℕ) → flag ≡ 1 → 0 < length ys → take 2 (flag ∷ ys) ≡ 1 ∷ slice_index ys 0 ∷ []
@@ -232,13 +226,11 @@ master_spelled (flag ∷ xs) =
     counted (y ∷ ys) e h = ap (λ (n : ℕ). n ∷ y ∷ []) e
 
 -- the octets at the front are the spelling of what was read
-StateSpelled : List ℕ → Result DecodedState StateFault → Type 0
-StateSpelled xs (Ok d) = Begins xs d.octets (state_spelling d.state)
-StateSpelled xs (Err found) = Unit {0}
+abbrev StateSpelled : List ℕ → Result DecodedState StateFault → Type 0
+StateSpelled xs r = IfOk r (λ d. Begins xs d.octets (state_spelling d.state))
 
 channels_spelled : (rules : Rules) (xs : List ℕ) (read : ReadMaster) (x : Result ReadBlocks StateFault) → AreOctets xs → 4 ≤ length xs → Begins (drop 4 xs) read.octets (master_octets read.count)
     → AllSpelled rules (four_at xs 0) 8 0 (drop read.octets (drop 4 xs)) x → StateSpelled xs (with_channels (four_at xs 0) read.count (4 + read.octets) x)
-unfolding AllSpelled StateSpelled
 channels_spelled rules xs read (Ok all) h long m g =
     let n : 4 + (read.octets + all.octets) ≡ (4 + read.octets) + all.octets = omega arith in
     subst (λ (k : ℕ). Begins xs k (four_octets (four_at xs 0) ++ (master_octets read.count ++ flat_map block all.kept))) n
@@ -247,38 +239,34 @@ channels_spelled rules xs read (Err found) h long m g = tt
 
 master_then : (rules : Rules) (xs : List ℕ) (x : Result ReadMaster StateFault) → AreOctets xs → 4 ≤ length xs → MasterSpelled (drop 4 xs) x
     → StateSpelled xs (with_master rules (four_at xs 0) (drop 4 xs) x)
-unfolding StateSpelled MasterSpelled
 master_then rules xs (Ok read) h long m =
     channels_spelled rules xs read (blocks_read rules (four_at xs 0) 8 0 (drop read.octets (drop 4 xs))) h long m
     (blocks_spelled rules (four_at xs 0) 8 0 (drop read.octets (drop 4 xs)) (octets_behind read.octets (drop 4 xs) (octets_behind 4 xs h)))
 master_then rules xs (Err found) h long m = tt
 
 decoding_spelled : (rules : Rules) (xs : List ℕ) → AreOctets xs → StateSpelled xs (state_decoding_of rules xs)
-unfolding state_decoding_of StateSpelled
+unfolding state_decoding_of
 decoding_spelled rules xs h =
     cond_both (ltb (length xs) 4) _ _ (StateSpelled xs) (λ p. tt)
     (λ p. master_then rules xs (master_read (drop 4 xs)) h (ltb-false (length xs) 4 p) (master_spelled (drop 4 xs)))
 
 pub spelled-again : (rules : Rules) (octets : List ℕ) (d : DecodedState) → AreOctets octets → state_decoding_of rules octets ≡ Ok d
     → (d.octets ≤ length octets) × (take d.octets octets ≡ state_spelling d.state)
-unfolding StateSpelled
 spelled-again rules octets d h e =
     let b : Begins octets d.octets (state_spelling d.state) = subst (StateSpelled octets) e (decoding_spelled rules octets h) in (b.inside, b.same)
 
 -- ---- the same in the form of versions 1 and 2
 
-OldSpelled : List ℕ → Result DecodedState StateFault → Type 0
-OldSpelled xs (Ok d) = Begins xs d.octets (old_spelling d.state) × (d.state.master ≡ None)
-OldSpelled xs (Err found) = Unit {0}
+abbrev OldSpelled : List ℕ → Result DecodedState StateFault → Type 0
+OldSpelled xs r = IfOk r (λ d. Begins xs d.octets (old_spelling d.state) × (d.state.master ≡ None))
 
 old_channels_spelled : (rules : Rules) (xs : List ℕ) (x : Result ReadBlocks StateFault) → AreOctets xs → 4 ≤ length xs → AllSpelled rules (four_at xs 0) 8 0 (drop 4 xs) x
     → OldSpelled xs (with_channels (four_at xs 0) None 4 x)
-unfolding AllSpelled OldSpelled
 old_channels_spelled rules xs (Ok all) h long g = (both xs 4 all.octets _ _ (four_spelled xs h long) g.0, refl)
 old_channels_spelled rules xs (Err found) h long g = tt
 
 old_decoding_spelled : (rules : Rules) (xs : List ℕ) → AreOctets xs → OldSpelled xs (old_decoding_of rules xs)
-unfolding old_decoding_of OldSpelled
+unfolding old_decoding_of
 old_decoding_spelled rules xs h =
     cond_both (ltb (length xs) 4) _ _ (OldSpelled xs) (λ p. tt)
     (λ p.
@@ -287,7 +275,6 @@ old_decoding_spelled rules xs h =
 
 pub old-spelled-again : (rules : Rules) (octets : List ℕ) (d : DecodedState) → AreOctets octets → old_decoding_of rules octets ≡ Ok d
     → (d.octets ≤ length octets) × (take d.octets octets ≡ old_spelling d.state) × (d.state.master ≡ None)
-unfolding OldSpelled
 old-spelled-again rules octets d h e =
     let b : Begins octets d.octets (old_spelling d.state) × (d.state.master ≡ None) = subst (OldSpelled octets) e (old_decoding_spelled rules octets h) in
     (b.0.inside, b.0.same, b.1)

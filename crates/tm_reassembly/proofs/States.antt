@@ -49,34 +49,22 @@ Within layout records (Some t) = IsWithin layout records t
 within-more : (layout : LayoutParts) (records : ℕ) (t : Option Tail) → Within layout records t → Within layout (records + 1) t
 within-more layout records None h = tt
 within-more layout records (Some t) h =
-    record { first = (let e = h.first in omega arith); place = h.place; octets = h.octets }
+    record { first = (omega (arith, h.first)); place = h.place; octets = h.octets }
 
 module _ (limit : ℕ) where
-  -- the octets of an unfinished packet are octets of its field
-  octets_unfinished : (skip : ℕ) (o : List ℕ) → AreOctets o → AreOctets (unfinished limit skip o)
-  octets_unfinished skip [] h = h
-  octets_unfinished zero (x ∷ xs) h =
-      cond_both (begins_packet limit (x ∷ xs)) _ _ AreOctets
-      (λ p. cond_both (leb (packet_length (x ∷ xs)) (length (x ∷ xs))) _ _ AreOctets (λ q. octets_unfinished _ xs (octets_after x xs h)) (λ q. h))
-      (λ p. record { below = λ i. omega arith })
-  octets_unfinished (suc skip) (x ∷ xs) h = octets_unfinished skip xs (octets_after x xs h)
+  -- the octets of an unfinished packet are octets of its field, and no more than those
+  rest_unfinished : (skip : ℕ) (o : List ℕ) → AreOctets o → AreOctets (unfinished limit skip o) × (length (unfinished limit skip o) ≤ length o)
+  rest_unfinished skip [] h = (h, omega arith)
+  rest_unfinished zero (x ∷ xs) h =
+      cond_both (begins_packet limit (x ∷ xs)) _ _ (λ (l : List ℕ). AreOctets l × (length l ≤ suc (length xs)))
+      (λ p. cond_both (leb (packet_length (x ∷ xs)) (length (x ∷ xs))) _ _ (λ (l : List ℕ). AreOctets l × (length l ≤ suc (length xs)))
+      (λ q. let rest = rest_unfinished (pred (packet_length (x ∷ xs))) xs (octets_after x xs h) in (rest.0, omega (arith, rest.1))) (λ q. (h, omega arith)))
+      (λ p. (no_octets, omega arith))
+  rest_unfinished (suc skip) (x ∷ xs) h = let rest = rest_unfinished skip xs (octets_after x xs h) in (rest.0, omega (arith, rest.1))
 
-  octets_left : (place : Option ℕ) (field : List ℕ) → AreOctets field → AreOctets (left_in limit place field)
-  octets_left None field h = no_octets
-  octets_left (Some place) field h = octets_unfinished place field h
-
-  unfinished_most : (skip : ℕ) (o : List ℕ) → length (unfinished limit skip o) ≤ length o
-  unfinished_most skip [] = omega arith
-  unfinished_most zero (x ∷ xs) =
-      cond_both (begins_packet limit (x ∷ xs)) _ _ (λ (l : List ℕ). length l ≤ suc (length xs))
-      (λ p. cond_both (leb (packet_length (x ∷ xs)) (length (x ∷ xs))) _ _ (λ (l : List ℕ). length l ≤ suc (length xs))
-      (λ q. let n = unfinished_most (pred (packet_length (x ∷ xs))) xs in omega arith) (λ q. omega arith))
-      (λ p. omega arith)
-  unfinished_most (suc skip) (x ∷ xs) = let n = unfinished_most skip xs in omega arith
-
-  left_most : (place : Option ℕ) (field : List ℕ) → length (left_in limit place field) ≤ length field
-  left_most None field = omega arith
-  left_most (Some place) field = unfinished_most place field
+  rest_left : (place : Option ℕ) (field : List ℕ) → AreOctets field → AreOctets (left_in limit place field) × (length (left_in limit place field) ≤ length field)
+  rest_left None field h = (no_octets, omega arith)
+  rest_left (Some place) field h = rest_unfinished place field h
 
   module _ (layout : LayoutParts) (records : ℕ) (f : GoodFrame) (good : IsGood layout f) where
     within-at : (o : List ℕ) → AreOctets o → length o ≤ length (counted_field f.kind f.field) → Within layout (records + 1) (tail_at records (0 + length (counted_field f.kind f.field)) o)
@@ -88,8 +76,8 @@ module _ (limit : ℕ) where
 
     within-frame : Within layout (records + 1) (frame_tail limit (member records f))
     within-frame =
-        within-at (left_in limit (start_place_of f.kind) (counted_field f.kind f.field)) (octets_left (start_place_of f.kind) (counted_field f.kind f.field) (octets_field f.kind f.field good.octets))
-        (left_most (start_place_of f.kind) (counted_field f.kind f.field))
+        let rest = rest_left (start_place_of f.kind) (counted_field f.kind f.field) (octets_field f.kind f.field good.octets) in
+        within-at (left_in limit (start_place_of f.kind) (counted_field f.kind f.field)) rest.0 rest.1
 
     within-left : (t : Tail) (far : ℕ) → IsWithin layout records t → Within layout (records + 1) (tail_left limit t (member records f) far)
     within-left t far h =
@@ -98,7 +86,7 @@ module _ (limit : ℕ) where
         cond_both (leb far (length (t.octets ++ counted_field f.kind f.field))) _ _ (Within layout (records + 1))
         (λ q. within-frame)
         (λ q. let w : IsWithin layout (records + 1) (record { first = t.first; place = t.place; octets = t.octets ++ counted_field f.kind f.field }) = record {
-          first = (let e = h.first in omega arith);
+          first = (omega (arith, h.first));
           place = h.place;
           octets = octets_append t.octets (counted_field f.kind f.field) h.octets (octets_field f.kind f.field good.octets);
         } in w))

@@ -83,11 +83,10 @@ few-from : (numbers : List ℕ) (xs : List Item) → ((n : ℕ) → length (filt
 few-from [] xs h = rw (without-no xs) (omega arith)
 few-from (n ∷ numbers) xs h =
     let first = length-filter_both (λ x. is_gap_at (n ∷ []) x) (λ x. not (is_gap_at (n ∷ []) x)) (λ x. refl) xs in
-    let one = h n in
     let others = few-from numbers (without_gaps_at (n ∷ []) xs)
-    (λ m. let less = shorter (λ x. is_gap_at (m ∷ []) x) (λ x. not (is_gap_at (n ∷ []) x)) xs in let most = h m in omega arith) in
+    (λ m. let less = shorter (λ x. is_gap_at (m ∷ []) x) (λ x. not (is_gap_at (n ∷ []) x)) xs in let most = h m in omega (arith, h n)) in
     let same : length (without_gaps_at numbers (without_gaps_at (n ∷ []) xs)) ≡ length (without_gaps_at (n ∷ numbers) xs) = ap (λ (ys : List Item). length ys) (without-but (n ∷ []) numbers xs) in
-    omega arith
+    omega (arith, h n)
 
 pub few : (numbers : List ℕ) (xs : List Item) → ((n : ℕ) → length (seen_at n (filter is_master_gap xs)) ≤ 1) → length xs ≤ length (without_gaps_at numbers xs) + length numbers
 few numbers xs h = few-from numbers xs (λ n. subst (λ (ys : List Item). length ys ≤ 1) (at-one n xs) (h n))

@@ -14,6 +14,9 @@ use Rattle.tm_items.specs.OnePacket.{packet_length}
 use Rattle.tm_items.proofs.Reaching.{packet_length-settled, packet_length-unsettled}
 use Rattle.tm_reassembly.proofs.Settled.{open-settled, agreement-settled, long-settled, whole-settled}
 use Rattle.tm_reassembly.proofs.Split.{breaker-settled}
+use Rattle.tm_frame.specs.declared.layout.LayoutParts.{LayoutParts}
+use Rattle.tm_reassembly.specs.Recording.{readings}
+use Rattle.tm_reassembly.proofs.Fits.{readings-append, readings-fit}
 use Rattle.tm_reassembly.proofs.Joining.{FitFrom}
 use Rattle.tm_reassembly.proofs.Records.{frames-fit}
 
@@ -51,10 +54,10 @@ chain-append s c rs qs =
     ap (λ (ms : List ChainMember). stem_of (slice_get s.channels c) ++ ms) (frames-append c s.records rs qs)
     ∙ sym (append_assoc (stem_of (slice_get s.channels c)) (frames c s.records rs) _)
 
-pub runs-grow : (s : State) (c : ℕ) (rs qs : List Reading) → Grow (runs (chain s c rs)) (runs (chain s c (rs ++ qs)))
-runs-grow s c rs qs =
-    subst (λ (ms : List ChainMember). Grow (runs (chain s c rs)) (runs ms)) (sym (chain-append s c rs qs))
-    (grow-after None (chain s c rs) (frames c (s.records + length rs) qs))
+pub runs-grow : (layout : LayoutParts) (s : State) (c : ℕ) (a b : List (List ℕ)) → Grow (runs (chain s c (readings layout a))) (runs (chain s c (readings layout (a ++ b))))
+runs-grow layout s c a b =
+    subst (λ (ms : List ChainMember). Grow (runs (chain s c (readings layout a))) (runs ms))
+    (sym (ap (chain s c) (readings-append layout a b) ∙ chain-append s c (readings layout a) (readings layout b))) (grow-after None (chain s c (readings layout a)) _)
 
 -- the run at a place among the runs, and what it becomes
 abbrev Become : Run → List Run → ℕ → Type 0
@@ -160,15 +163,14 @@ module _ (limit : ℕ) where
           rw (e, breaker-settled limit (packet_length start) (length start) later whole, enough, here) (both (begins_packet limit start))
 
 -- over records
-pub verdicts-stay : (s : State) (c : ℕ) (rs qs : List Reading) → AllReadingsFit rs
-    → (i : ℕ) (r : Run) → slice_get (runs (chain s c rs)) i ≡ Some r
+pub verdicts-stay : (layout : LayoutParts) (s : State) (c : ℕ) (a b : List (List ℕ)) (i : ℕ) (r : Run) → slice_get (runs (chain s c (readings layout a))) i ≡ Some r
     → (before between later : List ChainMember) (f m : ChainMember) → r.members ≡ before ++ f ∷ (between ++ m ∷ later)
-    → IsSettledIn (runs (chain s c (rs ++ qs))) i before f between m later
-verdicts-stay s c rs qs fits i r at before between later f m split =
-    let grown : Become r (runs (chain s c (rs ++ qs))) i =
-    grown-at (runs_after None (chain s c rs)).current (runs_after None (chain s c rs)).others (runs (chain s c (rs ++ qs))) i r (runs-grow s c rs qs) at in
+    → IsSettledIn (runs (chain s c (readings layout (a ++ b)))) i before f between m later
+verdicts-stay layout s c a b i r at before between later f m split =
+    let first : Runs = runs_after None (chain s c (readings layout a)) in
+    let grown : Become r (runs (chain s c (readings layout (a ++ b)))) i = grown-at first.current first.others _ i r (runs-grow layout s c a b) at in
     let all : PlacesFit (before ++ f ∷ (between ++ m ∷ later)) =
-    subst PlacesFit split (run-places s c rs fits i r at) in
+    subst PlacesFit split (run-places s c (readings layout a) (readings-fit layout a) i r at) in
     let ahead : PlacesFit (between ++ m ∷ later) = (Each-split IsPlaced before (f ∷ (between ++ m ∷ later)) all).1.1 in
     let apart = Each-split IsPlaced between (m ∷ later) ahead in (
       grown.0,

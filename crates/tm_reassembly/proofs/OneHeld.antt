@@ -12,7 +12,7 @@ use Rattle.tm_reassembly.specs.Chain.{ChainMember, Run, Runs, End, Unended, Ende
 use Rattle.tm_reassembly.specs.Parts.{Part, Claim, Start, text, far_end, begins_packet, agrees, breaker, starts, starts_from, starts_of, fate_at, packet_part, part_from, start_part, claims, lead, lead_part, reason_at, front_of, parts_from, parts}
 use Rattle.tm_items.specs.OnePacket.{packet_length}
 use Rattle.tm_reassembly.specs.Items.{held_part, chain_parts}
-use Rattle.tm_reassembly.proofs.Split.{start_at, starts-next, starts-last, starts-unfinished, start_part-whole}
+use Rattle.tm_reassembly.proofs.Split.{start_at, starts-last, starts-unfinished, start_part-whole}
 use Rattle.tm_reassembly.proofs.OneOpen.{no-starts}
 
 abbrev tails : List Part → List Tail
@@ -91,14 +91,11 @@ module _ (limit : ℕ) where
     starts-tails at (suc skip) (x ∷ xs) = starts-tails (at + 1) skip xs
     starts-tails at zero (x ∷ xs) =
         ⊎_elim
-        (λ p.
+        (λ (p : begins_packet limit (x ∷ xs) ≡ true).
         ⊎_elim
         (λ less. alone (starts-unfinished limit at x xs p less))
         (λ whole.
-        subst (λ (ss : List Start). OneTail (tails (map (start_part limit m later end) ss)) later end) (sym (starts-next limit at x xs p))
-        (subst (λ (q : Part). OneTail (tails (q ∷ map (start_part limit m later end) (starts limit (at + 1) (pred (packet_length (x ∷ xs))) xs))) later end)
-        (sym (start_part-whole limit m later end at (x ∷ xs) p whole))
-        (starts-tails (at + 1) (pred (packet_length (x ∷ xs))) xs)))
+        rw (start_part-whole limit m later end at (x ∷ xs) p whole, p) (starts-tails (at + 1) (pred (packet_length (x ∷ xs))) xs))
         (cases_lt (suc (length xs)) (packet_length (x ∷ xs))))
         (λ p. alone (starts-last limit at x xs p))
         (cases_Bool (begins_packet limit (x ∷ xs)))

@@ -1,7 +1,7 @@
 -- Joining, over records: the items and the state after a record and more records are those of the record, and then of the others.
-use Rattle.tm_reassembly.proofs.Each.{Each, Each-append, Each-weaken}
+use Rattle.tm_reassembly.proofs.Each.{Each-append, Each-weaken}
 use Rattle.std.proofs.lemmas.Option.{slice_get_within, none-some}
-use Rattle.std.proofs.Common.{◌≡◌, Ok, Err, ◌≢◌, ℕ, suc, zero, ◌+◌, ◌<◌, Bool, true, Option, Some, None, List, [], ◌∷◌, ◌++◌, map, length, refl, sym, ap, subst, ◌∙◌, ⊎_elim, lit<, arith, append_assoc, eqb, if◌then◌else◌, ◌≤◌}
+use Rattle.std.proofs.Common.{◌≡◌, Ok, Err, ◌≢◌, ℕ, suc, zero, ◌+◌, ◌<◌, Bool, true, Option, Some, None, List, [], ◌∷◌, ◌++◌, map, length, refl, sym, ap, subst, ◌∙◌, ◌⊎◌, ⊎_elim, inl, inr, lit<, arith, append_assoc, eqb, if◌then◌else◌, ◌≤◌}
 use Rattle.std.specs.List.{flat_map, slice_get}
 use Rattle.std.proofs.lemmas.List.{append-nil}
 use Rattle.std.proofs.lemmas.List.Concat.{flat_map-append}
@@ -47,25 +47,21 @@ pub none_kept : (c : ℕ) (last : Last) → slice_get empty.channels c ≡ Some 
 none_kept c last e = let there = at_eight (λ d. None) c (slice_get_within empty.channels c (Some last) e) in cc
 
 -- a record has no frame of the channel, or one
-data FrameOf (c k : ℕ) (fs : List ChainMember) : Type 0 where
-  no_frame : fs ≡ [] → FrameOf c k fs
-  one_frame : (f : ChainMember) → fs ≡ f ∷ [] → f.number ≡ k → PlaceFits f.place (length f.field) → FrameOf c k fs
+abbrev OneFrame : ℕ → List ChainMember → Type 0
+OneFrame k fs = (f : ChainMember) × (fs ≡ f ∷ []) × (f.number ≡ k) × PlaceFits f.place (length f.field)
 
-frame_cases : (c k : ℕ) (r : Reading) → IsFit r → FrameOf c k (member_of c k r)
-frame_cases c k (Err fault) h = no_frame refl
+frame_cases : (c k : ℕ) (r : Reading) → IsFit r → (member_of c k r ≡ []) ⊎ OneFrame k (member_of c k r)
+frame_cases c k (Err fault) h = inl refl
 frame_cases c k (Ok f) h =
-    cond_both (eqb f.channel c) (member k f ∷ []) [] (FrameOf c k) (λ e. one_frame (member k f) refl refl h.1) (λ e. no_frame refl)
+    cond_both (eqb f.channel c) (member k f ∷ []) [] (λ fs. (fs ≡ []) ⊎ OneFrame k fs) (λ e. inr (member k f, refl, refl, h.1)) (λ e. inl refl)
 
 pub frames-fit : (c k : ℕ) (rs : List Reading) → AllReadingsFit rs → FitFrom k (frames c k rs)
 frames-fit c k [] h = tt
 frames-fit c k (r ∷ rs) h =
-    Each-append (λ m. (k ≤ m.number) × PlaceFits m.place (length m.field)) (member_of c k r) (frames c (k + 1) rs) (own (member_of c k r) (frame_cases c k r h.0))
+    Each-append (λ m. (k ≤ m.number) × PlaceFits m.place (length m.field)) (member_of c k r) (frames c (k + 1) rs)
+    (⊎_elim (λ (e : member_of c k r ≡ []). rw e tt) (λ (w : OneFrame k (member_of c k r)). rw w.1 ((omega (arith, w.2), w.3), tt)) (frame_cases c k r h.0))
     (Each-weaken (λ m. (k + 1 ≤ m.number) × PlaceFits m.place (length m.field)) (λ m. (k ≤ m.number) × PlaceFits m.place (length m.field)) (frames c (k + 1) rs)
     (λ m p. (let b = p.0 in omega arith, p.1)) (frames-fit c (k + 1) rs h.1))
-  where
-    own : (fs : List ChainMember) → FrameOf c k fs → Each (λ m. (k ≤ m.number) × PlaceFits m.place (length m.field)) fs
-    own fs (no_frame e) = rw e tt
-    own fs (one_frame f e n p) = rw e ((omega arith, p), tt)
 
 no_tail : (x : Option (Option Last)) → before_of x ≡ None → tail_of x ≡ None
 no_tail None h = refl
@@ -187,21 +183,19 @@ module _ (limit : ℕ) where
         → seen_at n (channel_items limit c (chain s c (r ∷ rs))) ≡ seen_at n (channel_items limit c (chain next c rs))
     items-later rs n ne =
         ap (seen_at n) (channel_items-is limit c (slice_get s.channels c) (own ++ frames c (s.records + 1) rs))
-        ∙ by_case (frame_cases c s.records r fit)
+        ∙ ⊎_elim
+        (λ (e : own ≡ []). rw (before-kept e, tail-kept e, e))
+        (λ (w : OneFrame s.records own).
+        rw (before-moved w.0 w.1 w.3, tail-moved w.0 w.1 w.3, w.1)
+        (items-there limit c before tail w.0 (frames c (s.records + 1) rs) open_tail w.3 n (λ q. ne (sym w.2 ∙ q))))
+        (frame_cases c s.records r fit)
         ∙ sym (ap (seen_at n) (channel_items-is limit c (slice_get next.channels c) (frames c (s.records + 1) rs)))
-      where
-        by_case : FrameOf c s.records own
-            → seen_at n (items_after limit c before tail (own ++ frames c (s.records + 1) rs))
-            ≡ seen_at n (items_after limit c (before_of (slice_get next.channels c)) (tail_of (slice_get next.channels c)) (frames c (s.records + 1) rs))
-        by_case (no_frame e) = rw (before-kept e, tail-kept e, e)
-        by_case (one_frame f e number place) =
-            rw (before-moved f e place, tail-moved f e place, e)
-            (items-there limit c before tail f (frames c (s.records + 1) rs) open_tail place n (λ q. ne (sym number ∙ q)))
 
     -- at this record the channel's items are the same, whatever comes later
     items-now : (rs : List Reading) → AllReadingsFit rs → own ≢ []
         → seen_at s.records (channel_items limit c (chain s c (r ∷ rs))) ≡ seen_at s.records (channel_items limit c (chain s c (r ∷ [])))
-    items-now rs fits some = by_case (frame_cases c s.records r fit)
+    items-now rs fits some =
+        ⊎_elim (λ e. absurd (some e)) (λ w. here rs fits w.0 w.1 w.2 w.3 ∙ sym (here [] tt w.0 w.1 w.2 w.3)) (frame_cases c s.records r fit)
       where
         here : (qs : List Reading) → AllReadingsFit qs → (f : ChainMember) → own ≡ f ∷ [] → f.number ≡ s.records → PlaceFits f.place (length f.field)
             → seen_at s.records (channel_items limit c (chain s c (r ∷ qs))) ≡ member_items limit c before tail f
@@ -212,32 +206,25 @@ module _ (limit : ℕ) where
             ∙ rw e (ap (λ (k : ℕ). seen_at k (items_after limit c before tail (f ∷ frames c (s.records + 1) qs))) (sym number)
             ∙ items-here limit c before tail f (frames c (s.records + 1) qs) open_tail place later)
 
-        by_case : FrameOf c s.records own
-            → seen_at s.records (channel_items limit c (chain s c (r ∷ rs))) ≡ seen_at s.records (channel_items limit c (chain s c (r ∷ [])))
-        by_case (no_frame e) = absurd (some e)
-        by_case (one_frame f e number place) = here rs fits f e number place ∙ sym (here [] tt f e number place)
-
     -- the state of the channel after more records
     pub channel-later : (rs : List Reading) → channel_after limit chosen s (r ∷ rs) c ≡ channel_after limit chosen next rs c
     channel-later rs =
-        channel_after-is chosen s (r ∷ rs) c is_chosen ∙ by_case (frame_cases c s.records r fit) ∙ sym (channel_after-is chosen next rs c is_chosen)
-      where
-        by_case : FrameOf c s.records own
-            → last_with (tail_after before tail (own ++ frames c (s.records + 1) rs)) (last_frame_count before (own ++ frames c (s.records + 1) rs))
-            ≡ last_with (tail_after (before_of (slice_get next.channels c)) (tail_of (slice_get next.channels c)) (frames c (s.records + 1) rs))
-            (last_frame_count (before_of (slice_get next.channels c)) (frames c (s.records + 1) rs))
-        by_case (no_frame e) = rw (before-kept e, tail-kept e, e)
-        by_case (one_frame f e number place) =
-            rw (before-moved f e place, tail-moved f e place, e, tail_after-step before tail f (frames c (s.records + 1) rs) open_tail place)
+        channel_after-is chosen s (r ∷ rs) c is_chosen
+        ∙ ⊎_elim
+        (λ (e : own ≡ []). rw (before-kept e, tail-kept e, e))
+        (λ (w : OneFrame s.records own).
+        rw (before-moved w.0 w.1 w.3, tail-moved w.0 w.1 w.3, w.1, tail_after-step before tail w.0 (frames c (s.records + 1) rs) open_tail w.3))
+        (frame_cases c s.records r fit)
+        ∙ sym (channel_after-is chosen next rs c is_chosen)
 
     -- and its tail stays open
     pub tail-later : IsOpenTail limit (tail_of (slice_get next.channels c))
-    tail-later = by_case (frame_cases c s.records r fit)
-      where
-        by_case : FrameOf c s.records own → IsOpenTail limit (tail_of (slice_get next.channels c))
-        by_case (no_frame e) = rw (tail-kept e) open_tail
-        by_case (one_frame f e number place) =
-            rw (tail-moved f e place) (chain_tail_at-open limit (has_frame_gap before f) f.is_vca tail f open_tail)
+    tail-later =
+        ⊎_elim
+        (λ (e : own ≡ []). rw (tail-kept e) open_tail)
+        (λ (w : OneFrame s.records own).
+        rw (tail-moved w.0 w.1 w.3) (chain_tail_at-open limit (has_frame_gap before w.0) w.0.is_vca tail w.0 open_tail))
+        (frame_cases c s.records r fit)
 
   pub record_items-now : (chosen : ℕ → Bool) (s : State) (r : Reading) → HasOpenTails chosen s → IsFit r → (rs : List Reading) → AllReadingsFit rs
       → record_items limit chosen s (r ∷ rs) s.records r ≡ record_items limit chosen s (r ∷ []) s.records r

@@ -10,6 +10,9 @@ use Rattle.tm_frame.specs.Frame.{GoodFrame, is_vca_kind}
 use Rattle.tm_frame.specs.declared.frame.Kind.TheVariants as got
 use Rattle.tm_frame.specs.declared.frame.Kind.{Kind}
 use Rattle.tm_reassembly.specs.Readings.{Reading}
+use Rattle.tm_reassembly.specs.Recording.{readings, items, after}
+use Rattle.tm_rules.specs.Rules.{Rules, chooses}
+use Rattle.tm_reassembly.proofs.Fits.{readings-fit}
 use Rattle.tm_items.specs.Item as item
 use Rattle.tm_items.specs.Item.{Item}
 use Rattle.tm_reassembly.specs.Chain.{ChainMember, has_frame_gap, member, master_member, member_of, counted_field}
@@ -179,11 +182,12 @@ module _ (limit : ℕ) where
     tails = λ c last t e f. absurd (none_kept c last e);
   }
 
-  pub tiled : (chosen : ℕ → Bool) (channel : ℕ) (records : List Reading) → channel < 8 → chosen channel ≡ true → AllReadingsFit records
-      → (rest : List Spot) × Tile (channel_spots channel 0 records) (parts_of channel (items_of_readings limit chosen empty records)) rest
-      × IsHeld (held_tail (state_after_readings limit chosen empty records) channel) rest
-  tiled chosen channel records small is_chosen fits =
-      tiles-from chosen channel small is_chosen records empty []
-      (record { tails_open = λ c k e. subst (IsOpenTail limit) (sym (empty-tail c)) tt })
-      (after-nil limit chosen empty (empty-state chosen)) fits
-      (subst (λ (t : Option Tail). IsHeld t []) (sym (empty-tail channel)) refl)
+pub tiled : (rules : Rules) (channel : ℕ) (records : List (List ℕ)) → channel < 8 → chooses rules channel ≡ true
+    → (rest : List Spot) × Tile (channel_spots channel 0 (readings rules.layout records)) (parts_of channel (items rules empty records)) rest
+    × IsHeld (held_tail (after rules empty records) channel) rest
+unfolding items after
+tiled rules channel records small is_chosen =
+    tiles-from rules.max_packet (chooses rules) channel small is_chosen (readings rules.layout records) empty []
+    (record { tails_open = λ c k e. subst (IsOpenTail rules.max_packet) (sym (empty-tail c)) tt })
+    (after-nil rules.max_packet (chooses rules) empty (empty-state rules.max_packet (chooses rules))) (readings-fit rules.layout records)
+    (subst (λ (t : Option Tail). IsHeld t []) (sym (empty-tail channel)) refl)

@@ -17,7 +17,6 @@ use Rattle.tm_reassembly.proofs.Split.{breaker-settled}
 use Rattle.tm_frame.specs.declared.layout.LayoutParts.{LayoutParts}
 use Rattle.tm_reassembly.specs.Recording.{readings}
 use Rattle.tm_reassembly.proofs.Fits.{readings-append, readings-fit}
-use Rattle.tm_reassembly.proofs.Joining.{FitFrom}
 use Rattle.tm_reassembly.proofs.Records.{frames-fit}
 
 -- one more member in front
@@ -29,18 +28,16 @@ grow-member m r (next ∷ rs) q qs h = (ap (λ (z : Run). record { members = m �
 abbrev GrowRuns : Runs → Runs → Type 0
 GrowRuns a b = GrowFrom a.current a.others (b.current ∷ b.others)
 
-grow-with : (vca : Bool) (m : ChainMember) (a b : Runs) → GrowRuns a b → GrowRuns (with_member vca m a) (with_member vca m b)
-grow-with true m a b h = (refl, h)
-grow-with false m a b h = grow-member m a.current a.others b.current b.others h
-
-grow-before : (gap : Bool) (m : ChainMember) (a b : Runs) → GrowRuns a b → GrowRuns (cut_before gap m a) (cut_before gap m b)
-grow-before true m a b h = (refl, h)
-grow-before false m a b h = h
+grow-with : (gap vca : Bool) (m : ChainMember) (a b : Runs) → GrowRuns a b → GrowRuns (cut_before gap m (with_member vca m a)) (cut_before gap m (with_member vca m b))
+grow-with true true m a b h = (refl, (refl, h))
+grow-with true false m a b h = (refl, grow-member m a.current a.others b.current b.others h)
+grow-with false true m a b h = (refl, h)
+grow-with false false m a b h = grow-member m a.current a.others b.current b.others h
 
 grow-after : (before : Option ℕ) (ms more : List ChainMember) → GrowRuns (runs_after before ms) (runs_after before (ms ++ more))
 grow-after before [] more = ((runs_after before more).current.members, refl, refl)
 grow-after before (m ∷ ms) more =
-    grow-before (has_frame_gap before m) m _ _ (grow-with m.is_vca m _ _ (grow-after (Some m.count) ms more))
+    grow-with (has_frame_gap before m) m.is_vca m _ _ (grow-after (Some m.count) ms more)
 
 frames-append : (c k : ℕ) (rs qs : List Reading) → frames c k (rs ++ qs) ≡ frames c k rs ++ frames c (k + length rs) qs
 frames-append c k [] qs = ap (λ (n : ℕ). frames c n qs) (omega arith)
@@ -72,9 +69,6 @@ grown-at first (next ∷ rs) (q ∷ qs) zero r h e = (q, [], refl, (let same : q
 grown-at first (next ∷ rs) (q ∷ qs) (suc i) r h e = grown-at next rs qs i r h.1 e
 
 -- the places of a run's frames lie in their fields
-fit-frames : (k : ℕ) (ms : List ChainMember) → FitFrom k ms → PlacesFit ms
-fit-frames k ms h = Each-weaken (λ m. (k ≤ m.number) × IsPlaced m) IsPlaced ms (λ m p. p.1) h
-
 fit-stem : (x : Option (Option Last)) → PlacesFit (stem_of x)
 fit-stem None = tt
 fit-stem (Some None) = tt
@@ -87,7 +81,7 @@ fit-stem (Some (Some last)) = with_tail last.tail
 pub chain-fit : (s : State) (c : ℕ) (rs : List Reading) → AllReadingsFit rs → PlacesFit (chain s c rs)
 chain-fit s c rs fits =
     Each-append IsPlaced (stem_of (slice_get s.channels c)) (frames c s.records rs) (fit-stem (slice_get s.channels c))
-    (fit-frames s.records (frames c s.records rs) (frames-fit c s.records rs fits))
+    (Each-weaken (λ m. (s.records ≤ m.number) × IsPlaced m) IsPlaced (frames c s.records rs) (λ m p. p.1) (frames-fit c s.records rs fits))
 
 abbrev RunsFit : List Run → Type 0
 RunsFit rs = Each (λ r. PlacesFit r.members) rs
@@ -95,18 +89,16 @@ RunsFit rs = Each (λ r. PlacesFit r.members) rs
 abbrev Fit : Runs → Type 0
 Fit rs = PlacesFit rs.current.members × RunsFit rs.others
 
-fit-with : (vca : Bool) (m : ChainMember) (rs : Runs) → PlaceFits m.place (length m.field) → Fit rs → Fit (with_member vca m rs)
-fit-with true m rs h k = (tt, k)
-fit-with false m rs h k = ((h, k.0), k.1)
-
-fit-before : (gap : Bool) (m : ChainMember) (rs : Runs) → Fit rs → Fit (cut_before gap m rs)
-fit-before true m rs k = (tt, k)
-fit-before false m rs k = k
+fit-with : (gap vca : Bool) (m : ChainMember) (rs : Runs) → PlaceFits m.place (length m.field) → Fit rs → Fit (cut_before gap m (with_member vca m rs))
+fit-with true true m rs h k = (tt, (tt, k))
+fit-with true false m rs h k = (tt, ((h, k.0), k.1))
+fit-with false true m rs h k = (tt, k)
+fit-with false false m rs h k = ((h, k.0), k.1)
 
 runs-fit : (before : Option ℕ) (ms : List ChainMember) → PlacesFit ms → Fit (runs_after before ms)
 runs-fit before [] h = (tt, tt)
 runs-fit before (m ∷ ms) h =
-    fit-before (has_frame_gap before m) m _ (fit-with m.is_vca m _ h.0 (runs-fit (Some m.count) ms h.1))
+    fit-with (has_frame_gap before m) m.is_vca m _ h.0 (runs-fit (Some m.count) ms h.1)
 
 pub run-places : (s : State) (c : ℕ) (rs : List Reading) → AllReadingsFit rs → (i : ℕ) (r : Run) → slice_get (runs (chain s c rs)) i ≡ Some r
     → PlacesFit r.members

@@ -26,7 +26,7 @@ use Rattle.tm_reassembly.specs.code.Fits.{IsFit, IsOpenTail}
 use Rattle.tm_reassembly.proofs.States.{tail-short}
 use Rattle.tm_reassembly.proofs.Fits.{reading-fit}
 use Rattle.tm_reassembly.proofs.Joining.{before_of, tail_of, member_items}
-use Rattle.tm_reassembly.proofs.OneStep.{items-one, after-one, after-bad, items-other, after-other, open-at}
+use Rattle.tm_reassembly.proofs.OneStep.{items-one-valid, valid-from, after-one, after-bad, items-other, after-other, open-at}
 
 -- what is read, and whether a channel is chosen, by rules that are equal to these
 pub read_as : {inside rules : Rules} (octets : List ℕ) {r : Reading} → inside ≡ rules → r ≡ frame_reading_of inside.layout octets → frame_reading_of rules.layout octets ≡ r
@@ -106,7 +106,7 @@ module _ (rules : Rules) (s : State) (v : IsValidState rules s) where
       items_one_record c d same is_chosen =
           sym
           (as_read e
-          ∙ items-one rules.max_packet (chooses rules) s g v.shape fit (ap (chooses rules) (sym same) ∙ is_chosen)
+          ∙ items-one-valid rules.max_packet (chooses rules) s g (valid-from rules.max_packet (chooses rules) s v.shape) fit (ap (chooses rules) (sym same) ∙ is_chosen)
           ∙ ap (λ (xs : List Item). gap_at master_gap_item s.master (master_member s.records g) ++ xs)
           (ap (λ (x : Option (Option Last)). member_items rules.max_packet g.channel (before_of x) (tail_of x) (member s.records g)) (there g.channel d fit.0)
           ∙ by_entry (slice_index_or s.channels g.channel d)

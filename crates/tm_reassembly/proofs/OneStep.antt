@@ -110,12 +110,6 @@ module _ (limit : ℕ) where
       ∙ ap (λ (ms : List ChainMember). seen_at s.records (items_after limit g.channel (before_of x) (tail_of x) (ms ++ []))) one
       ∙ items-here limit g.channel (before_of x) (tail_of x) m [] (valid.tails_open g.channel fit.0 is_chosen) fit.1 tt)
 
-  pub items-one : (chosen : ℕ → Bool) (s : State) (g : GoodFrame) → HasShape limit chosen s → IsFit (Ok g) → chosen g.channel ≡ true
-      → items_of_readings limit chosen s (Ok g ∷ [])
-      ≡ gap_at master_gap_item s.master (master_member s.records g)
-      ++ member_items limit g.channel (before_of (slice_get s.channels g.channel)) (tail_of (slice_get s.channels g.channel)) (member s.records g)
-  items-one chosen s g v fit is_chosen = items-one-valid chosen s g (valid-from chosen s v) fit is_chosen
-
   -- a channel stays as it is where a record has no frame for it, and so does one that isn't chosen
   kept-at : (chosen : ℕ → Bool) (s : State) (r : Reading) → HasShape limit chosen s → IsFit r → (c : ℕ) → c < 8 → (chosen c ≡ true → member_of c s.records r ≡ [])
       → slice_get (map (channel_after limit chosen s (r ∷ [])) eight) c ≡ slice_get s.channels c

@@ -40,6 +40,10 @@ not_split : (earlier later : List ChainMember) (g : ChainMember) → [] ≡ earl
 not_split [] later g e = cc
 not_split (x ∷ earlier) later g e = cc
 
+-- where a frame ends in the text
+pub front-length : (before : List ChainMember) (f : ChainMember) → length (text (before ++ f ∷ [])) ≡ length (text before) + length f.field
+front-length before f = simp (flat_map-append, length-append, append-nil)
+
 pub none-from : (b : Option ChainMember) → is_none b ≡ true → b ≡ None
 none-from None h = refl
 none-from (Some m) h = absurd (cc)
@@ -142,27 +146,19 @@ module _ (limit : ℕ) where
     pub ends-at : (later : List ChainMember)
         → packet_length_at (text (before ++ f ∷ later)) (length (text before) + length skipped) ≡ (length (text before) + length skipped) + far_end start later
     ends-at later =
-        let len : length (text before ++ skipped) ≡ length (text before) + length skipped = length-append (text before) skipped in
-        ap (λ (t : List ℕ). packet_length_at t (length (text before) + length skipped)) (text_split later)
-        ∙ ap (packet_length_at ((text before ++ skipped) ++ (start ++ text later))) (sym len)
-        ∙ packet_length-place (text before ++ skipped) (start ++ text later)
-        ∙ ap (λ (k : ℕ). k + far_end start later) len
+        rw (text_split later, ← length-append (text before) skipped) (packet_length-place (text before ++ skipped) (start ++ text later))
 
     -- where a later frame begins
     pub begins-at : (between : List ChainMember)
         → length (text ((before ++ f ∷ []) ++ between)) ≡ (length (text before) + length skipped) + (length start + length (text between))
     begins-at between =
-        let own : length f.field ≡ length skipped + length start = ap (λ (o : List ℕ). length o) whole_field ∙ length-append skipped start in
         let all : length (text ((before ++ f ∷ []) ++ between)) ≡ (length (text before) + length f.field) + length (text between) =
         simp (flat_map-append, length-append, append-nil) in
-        omega arith
+        omega (arith, ap length whole_field, length-append skipped start)
 
     -- where the start's own frame ends, and where a later one does
     pub own-end : length (text (before ++ f ∷ [])) ≡ (length (text before) + length skipped) + length start
-    own-end =
-        let own : length f.field ≡ length skipped + length start = ap (λ (o : List ℕ). length o) whole_field ∙ length-append skipped start in
-        let all : length (text (before ++ f ∷ [])) ≡ length (text before) + length f.field = simp (flat_map-append, length-append, append-nil) in
-        omega arith
+    own-end = omega (arith, front-length before f, ap length whole_field, length-append skipped start)
 
     later-end : (between : List ChainMember) (m : ChainMember) → length (text ((before ++ f ∷ []) ++ between)) + length m.field
         ≡ (length (text before) + length skipped) + ((length start + length (text between)) + length m.field)
@@ -206,9 +202,7 @@ module _ (limit : ℕ) where
       version-at : (later : List ChainMember)
           → packet_version_of (take 1 (drop (length (text before) + length skipped) (text (before ++ f ∷ later)))) ≡ packet_version_of (take 1 start)
       version-at later =
-          ap (λ (t : List ℕ). packet_version_of (take 1 (drop (length (text before) + length skipped) t))) (text_split later)
-          ∙ ap (λ (k : ℕ). packet_version_of (take 1 (drop k ((text before ++ skipped) ++ (start ++ text later))))) (sym (length-append (text before) skipped))
-          ∙ version-place (text before ++ skipped) start (text later) some
+          rw (text_split later, ← length-append (text before) skipped) (version-place (text before ++ skipped) start (text later) some)
 
       pub zero-at : (later : List ChainMember) → Iff (is_packet start ≡ true) (IsVersionZero (text (before ++ f ∷ later)) (length (text before) + length skipped))
       zero-at later = (
@@ -246,9 +240,7 @@ module _ (limit : ℕ) where
 
       pub text-length : (later : List ChainMember) → length (text (before ++ f ∷ later)) ≡ (length (text before) + length skipped) + length (start ++ text later)
       text-length later =
-          ap (λ (t : List ℕ). length t) (text_split later)
-          ∙ length-append (text before ++ skipped) (start ++ text later)
-          ∙ ap (λ (k : ℕ). k + length (start ++ text later)) (length-append (text before) skipped)
+          rw (text_split later, length-append (text before ++ skipped) (start ++ text later), length-append (text before) skipped)
 
       pub whole-at : (later : List ChainMember)
           → Iff (is_whole limit start later ≡ true)

@@ -4,7 +4,7 @@ use Rattle.std.proofs.lemmas.List.{length-drop, length-take-le, drop-drop, take_
 use Rattle.tm_items.proofs.Reaching.{packet_length-least}
 use Rattle.std.proofs.lemmas.Bool.{le-leb}
 use Rattle.tm_reassembly.proofs.Split.{drop-pred, whole_part}
-use Rattle.tm_items.specs.Item.{Item, Packet}
+use Rattle.tm_items.specs.Item.{Packet}
 use Rattle.tm_reassembly.specs.Parts.{begins_packet}
 use Rattle.tm_items.specs.OnePacket.{IsOnePacket, packet_length}
 use Rattle.tm_items.specs.code.Spans.{IsSpan, span_items}
@@ -42,10 +42,9 @@ module _ (limit : ℕ) where
       × (unfinished limit 0 (drop at field) ≡ unfinished limit 0 (drop (at + n) field))
   read_packet seen channel field at n t e h p r fits =
       let all : t ≡ drop at field = e ∙ take_rest field at in
-      let len : length t ≡ length field - at = ap length all ∙ length-drop at field in
-      let some : 0 < length t = omega arith in
-      let whole : packet_length t ≤ length t = omega arith in
-      let place : length field - length t ≡ at = omega arith in
+      let some : 0 < length t = omega (arith, ap length all ∙ length-drop at field) in
+      let whole : packet_length t ≤ length t = omega (arith, ap length all ∙ length-drop at field) in
+      let place : length field - length t ≡ at = omega (arith, ap length all ∙ length-drop at field) in
       rw (← drop-drop n at field, ← all, r) (rw (field_parts-packet seen (length field) t some p whole, place), unfinished-packet t some p whole)
 
   -- up to here a field was read, from a place on: whole packets lie end to end there
@@ -86,14 +85,6 @@ module _ (limit : ℕ) where
         from = omega (arith, read.from);
         inside = omega (arith, whole.whole, len, read.inside);
         span = subst (λ (k : ℕ). IsSpan (take k (drop place field))) further longer.span;
-        items =
-            read.items
-            ∙ ap (λ (xs : List Item). before ++ xs) more.0
-            ∙ sym (append_assoc before (Packet seen channel seen at (take n t) ∷ []) (items_from limit seen channel field (at + n)))
-            ∙ ap (λ (xs : List Item). xs ++ items_from limit seen channel field (at + n))
-            (ap (λ (k : ℕ). before ++ Packet seen channel seen k (take n t) ∷ []) (sym there)
-            ∙ ap (λ (o : List ℕ). before ++ Packet seen channel seen (place + (at - place)) (take n o) ∷ []) (sym here)
-            ∙ sym longer.items
-            ∙ ap (λ (k : ℕ). span_items seen channel place (take k (drop place field))) further);
+        items = rw (read.items, more.0, ← further, longer.items, there, here, append_assoc);
         left = sym more.1 ∙ read.left;
       }

@@ -76,9 +76,6 @@ tail_with : (tail : Option Tail) (count : Option ℕ) → (count ≡ None → ta
 tail_with tail None h = sym (h refl)
 tail_with tail (Some count) h = refl
 
-not_empty : {A : Type 0} (x : A) (ys : List A) → x ∷ [] ≡ ys → ys ≡ [] → ⊥
-not_empty x ys e f = cc
-
 map_eight : (f g : ℕ → Option Last) → ((c : ℕ) → c < 8 → f c ≡ g c) → map f eight ≡ map g eight
 map_eight f g h =
     rw (h 0 (lit< tt), h 1 (lit< tt), h 2 (lit< tt), h 3 (lit< tt), h 4 (lit< tt), h 5 (lit< tt), h 6 (lit< tt), h 7 (lit< tt))
@@ -235,7 +232,7 @@ module _ (limit : ℕ) where
       (λ e.
       rw e
       (items-now chosen s (Ok g) valid fit g.channel fit.0 e rs fits
-      (not_empty (member s.records g) (member_of g.channel s.records (Ok g)) (sym (rw (eq-eqb g.channel g.channel refl))))))
+      (λ z. let one : member_of g.channel s.records (Ok g) ≡ member s.records g ∷ [] = rw (eq-eqb g.channel g.channel refl) in cc)))
       (λ e. rw e)
       (cases_Bool (chosen g.channel)))
 

@@ -217,9 +217,8 @@ master_spelled (flag ∷ xs) =
     (λ q.
     cond_both (eqb (length xs) 0) _ _ (MasterSpelled (flag ∷ xs)) (λ r. tt)
     (λ r.
-    let some = eqb-false (length xs) 0 r in
-    let one : flag ≡ 1 = omega (arith, eqb-false flag 0 p, ltb-false 1 flag q) in
-    record { inside = omega arith; same = counted xs one (omega arith) })))
+    let some : 0 < length xs = omega (arith, eqb-false (length xs) 0 r) in
+    record { inside = omega (arith, some); same = counted xs (omega (arith, eqb-false flag 0 p, ltb-false 1 flag q)) some })))
   where
     counted : (ys : List ℕ) → flag ≡ 1 → 0 < length ys → take 2 (flag ∷ ys) ≡ 1 ∷ slice_index ys 0 ∷ []
     counted [] e h = absurd (omega arith)

@@ -34,13 +34,9 @@ use Rattle.tm_reassembly.proofs.Fits.{IsGood, IsRead, reading-fit, reading-good,
 no_octets : AreOctets []
 no_octets = record { below = λ i. omega arith }
 
-octets_field : (kind : Kind) (field : List ℕ) → AreOctets field → AreOctets (counted_field kind field)
-octets_field got.Idle field h = no_octets
-octets_field kind field h = h
-
-field_most : (kind : Kind) (field : List ℕ) → length (counted_field kind field) ≤ length field
-field_most got.Idle field = omega arith
-field_most kind field = omega arith
+octets_field : (kind : Kind) (field : List ℕ) → AreOctets field → AreOctets (counted_field kind field) × (length (counted_field kind field) ≤ length field)
+octets_field got.Idle field h = (no_octets, omega arith)
+octets_field kind field h = (h, omega arith)
 
 abbrev Within : LayoutParts → ℕ → Option Tail → Type 0
 Within layout records None = Unit {0}
@@ -70,13 +66,13 @@ module _ (limit : ℕ) where
     within-at : (o : List ℕ) → AreOctets o → length o ≤ length (counted_field f.kind f.field) → Within layout (records + 1) (tail_at records (0 + length (counted_field f.kind f.field)) o)
     within-at [] h less = tt
     within-at (x ∷ xs) h less =
-        let most = field_most f.kind f.field in
+        let most = (octets_field f.kind f.field good.octets).1 in
         let room = good.most (omega arith) in
         record { first = omega arith; place = omega arith; octets = h }
 
     within-frame : Within layout (records + 1) (frame_tail limit (member records f))
     within-frame =
-        let rest = rest_left (start_place_of f.kind) (counted_field f.kind f.field) (octets_field f.kind f.field good.octets) in
+        let rest = rest_left (start_place_of f.kind) (counted_field f.kind f.field) (octets_field f.kind f.field good.octets).0 in
         within-at (left_in limit (start_place_of f.kind) (counted_field f.kind f.field)) rest.0 rest.1
 
     within-left : (t : Tail) (far : ℕ) → IsWithin layout records t → Within layout (records + 1) (tail_left limit t (member records f) far)
@@ -88,7 +84,7 @@ module _ (limit : ℕ) where
         (λ q. let w : IsWithin layout (records + 1) (record { first = t.first; place = t.place; octets = t.octets ++ counted_field f.kind f.field }) = record {
           first = (omega (arith, h.first));
           place = h.place;
-          octets = octets_append t.octets (counted_field f.kind f.field) h.octets (octets_field f.kind f.field good.octets);
+          octets = octets_append t.octets (counted_field f.kind f.field) h.octets (octets_field f.kind f.field good.octets).0;
         } in w))
         (λ p. within-frame)
 

@@ -1,7 +1,7 @@
 -- The loops over the blocks of channels: what was read so far, and what is still to be read.
-use Rattle.std.proofs.Common.{◌≡◌, ℕ, suc, zero, ◌+◌, ◌-◌, ◌<◌, ◌≤◌, Bool, Ok, Err, Result, Option, List, [], ◌∷◌, ◌++◌, length, take, drop, refl, sym, ap, subst, ◌∙◌, arith, append_assoc, length-drop}
+use Rattle.std.proofs.Common.{◌≡◌, ℕ, suc, ◌+◌, ◌-◌, ◌<◌, ◌≤◌, Bool, Ok, Err, Result, Option, List, [], ◌∷◌, ◌++◌, length, take, drop, refl, sym, ap, subst, ◌∙◌, arith, append_assoc, length-drop}
 use Rattle.std.specs.Prelude.{slice_set, IsOk}
-use Rattle.std.proofs.lemmas.List.{append-nil, drop-drop, take_all}
+use Rattle.std.proofs.lemmas.List.{append-nil, drop-drop, take_all, take_more_set, take_rest}
 use Rattle.tm_rules.specs.Rules.{Rules, chooses}
 use Rattle.tm_reassembly.specs.declared.fault.StateFault.{StateFault}
 use Rattle.tm_reassembly.specs.Checkpoint.{ReadBlock, ReadBlocks, block_read, blocks_read, in_front, and_then_blocks}
@@ -25,11 +25,10 @@ module _ (rules : Rules) (records : ℕ) (xs : List ℕ) where
   pub reads_none : (kept : List (Option Last)) → ReadsTo rules records xs 0 0 (take 0 kept)
   reads_none kept = record { so_far = all_of (blocks_read rules records 8 0 xs); inside = omega arith }
 
-  one_block : (n c at : ℕ) → 8 - c ≡ suc n
-      → blocks_read rules records (8 - c) c (drop at xs)
-      ≡ and_then_blocks (block_read rules.max_packet rules.layout (chooses rules c) records (drop at xs)) (λ used. blocks_read rules records n (c + 1) (drop used (drop at xs)))
+  one_block : (n c at : ℕ) (b : Result ReadBlock StateFault) → 8 - c ≡ suc n → block_read rules.max_packet rules.layout (chooses rules c) records (drop at xs) ≡ b
+      → blocks_read rules records (8 - c) c (drop at xs) ≡ and_then_blocks b (λ used. blocks_read rules records n (c + 1) (drop used (drop at xs)))
   unfolding blocks_read
-  one_block n c at e = ap (λ (k : ℕ). blocks_read rules records k c (drop at xs)) e
+  one_block n c at b e f = rw (e, f)
 
   joined : (done : List (Option Last)) (at : ℕ) (one : ReadBlock) (x : Result ReadBlocks StateFault)
       → in_fronts done at (in_front one x) ≡ in_fronts (done ++ one.kept ∷ []) (at + one.octets) x
@@ -44,25 +43,19 @@ module _ (rules : Rules) (records : ℕ) (xs : List ℕ) where
       let n : ℕ = 7 - c in
       let left : 8 - c ≡ suc n = omega arith in
       let rest : 8 - (c + 1) ≡ 7 - c = omega arith in
-      let len = length-drop at xs in
-      let within = r.inside in
       record {
         so_far =
             r.so_far
-            ∙ ap (in_fronts done at) (one_block n c at left ∙ ap (λ (b : Result ReadBlock StateFault). and_then_blocks b (λ used. blocks_read rules records n (c + 1) (drop used (drop at xs)))) e)
+            ∙ ap (in_fronts done at) (one_block n c at _ left e)
             ∙ joined done at (record { kept = kept; octets = used }) (blocks_read rules records n (c + 1) (drop used (drop at xs)))
-            ∙ ap (λ (l : List ℕ). in_fronts (done ++ kept ∷ []) (at + used) (blocks_read rules records n (c + 1) l)) (drop-drop used at xs)
-            ∙ ap (λ (k : ℕ). in_fronts (done ++ kept ∷ []) (at + used) (blocks_read rules records k (c + 1) (drop (at + used) xs))) (sym rest);
-        inside = omega arith;
+            ∙ rw (drop-drop used at xs, rest);
+        inside = omega (arith, length-drop at xs, r.inside);
       }
 
   pub reads_fault : (c at : ℕ) (done : List (Option Last)) (found : StateFault) → ReadsTo rules records xs c at done → c < 8
       → block_read rules.max_packet rules.layout (chooses rules c) records (drop at xs) ≡ Err found → blocks_read rules records 8 0 xs ≡ Err found
   reads_fault c at done found r h e =
-      let n : ℕ = 7 - c in
-      let left : 8 - c ≡ suc n = omega arith in
-      r.so_far
-      ∙ ap (in_fronts done at) (one_block n c at left ∙ ap (λ (b : Result ReadBlock StateFault). and_then_blocks b (λ used. blocks_read rules records n (c + 1) (drop used (drop at xs)))) e)
+      r.so_far ∙ ap (in_fronts done at) (one_block (7 - c) c at _ (omega arith) e)
 
   pub reads_all : (c at : ℕ) (done : List (Option Last)) → ReadsTo rules records xs c at done → 8 ≤ c
       → blocks_read rules records 8 0 xs ≡ Ok (record { kept = done; octets = at })
@@ -77,22 +70,13 @@ pub record ReadsSome (rules : Rules) (records : ℕ) (xs : List ℕ) (c at : ℕ
   pub done : List (Option Last)
   pub reads : ReadsTo rules records xs c at done
 
-is_ok : (x : Result ReadBlocks StateFault) (all : ReadBlocks) → x ≡ Ok all → IsOk x
-is_ok (Ok rest) all e = refl
-is_ok (Err found) all e = absurd (cc)
-
 -- the octets from a place on, as the code takes them, and whether a channel is chosen, as it asks
-as_asked : (rules : Rules) (records : ℕ) (xs : List ℕ) (c at : ℕ) (b : Bool) (x : Result ReadBlock StateFault) → at ≤ length xs
+as_asked : (rules : Rules) (records : ℕ) (xs : List ℕ) (c at : ℕ) (b : Bool) (x : Result ReadBlock StateFault)
     → b ≡ chooses rules c → block_read rules.max_packet rules.layout b records (take (length xs - at) (drop at xs)) ≡ x → block_read rules.max_packet rules.layout (chooses rules c) records (drop at xs) ≡ x
-as_asked rules records xs c at b x inside same e =
+as_asked rules records xs c at b x same e =
     ap (λ (a : Bool). block_read rules.max_packet rules.layout a records (drop at xs)) (sym same)
-    ∙ ap (λ (l : List ℕ). block_read rules.max_packet rules.layout b records l) (sym (take_all (length xs - at) (drop at xs) (omega (arith, length-drop at xs))))
+    ∙ ap (λ (l : List ℕ). block_read rules.max_packet rules.layout b records l) (sym (take_rest xs at))
     ∙ e
-
-used_fits : (xs : List ℕ) (at used : ℕ) → at ≤ length xs → used ≤ length (take (length xs - at) (drop at xs)) → used ≤ length (drop at xs)
-used_fits xs at used inside h =
-    let all : length (take (length xs - at) (drop at xs)) ≡ length (drop at xs) = ap length (take_all (length xs - at) (drop at xs) (omega (arith, length-drop at xs))) in
-    omega arith
 
 module _ (rules : Rules) (records : ℕ) (xs : List ℕ) where
   pub some_none : ReadsSome rules records xs 0 0
@@ -104,27 +88,16 @@ module _ (rules : Rules) (records : ℕ) (xs : List ℕ) where
       → ReadsSome rules records xs (c + 1) (at + used)
   some_more c at used kept b r h same e fits = record {
     done = r.done ++ kept ∷ [];
-    reads = reads_more rules records xs c at used r.done kept r.reads h (as_asked rules records xs c at b _ r.reads.inside same e) (used_fits xs at used r.reads.inside fits);
+    reads = reads_more rules records xs c at used r.done kept r.reads h (as_asked rules records xs c at b _ same e) (rw take_rest at fits);
   }
 
   pub some_fault : (c at : ℕ) (found : StateFault) (b : Bool) → ReadsSome rules records xs c at → c < 8 → b ≡ chooses rules c
       → block_read rules.max_packet rules.layout b records (take (length xs - at) (drop at xs)) ≡ Err found → blocks_read rules records 8 0 xs ≡ Err found
   some_fault c at found b r h same e =
-      reads_fault rules records xs c at r.done found r.reads h (as_asked rules records xs c at b _ r.reads.inside same e)
+      reads_fault rules records xs c at r.done found r.reads h (as_asked rules records xs c at b _ same e)
 
   pub some_all : (c at : ℕ) → ReadsSome rules records xs c at → 8 ≤ c → IsOk (blocks_read rules records 8 0 xs)
-  some_all c at r h = is_ok (blocks_read rules records 8 0 xs) _ (reads_all rules records xs c at r.done r.reads h)
-
--- the channels that are kept, one by one
-take_set_at : (kept : List (Option Last)) (c : ℕ) (x : Option Last) → c < length kept → take (suc c) (slice_set kept c x) ≡ take c kept ++ x ∷ []
-take_set_at [] c x h = absurd (omega arith)
-take_set_at (y ∷ ys) zero x h = refl
-take_set_at (y ∷ ys) (suc c) x h = ap (λ (l : List (Option Last)). y ∷ l) (take_set_at ys c x (omega arith))
-
-pub take_set : (kept : List (Option Last)) (c : ℕ) (x : Option Last) → c < length kept → take c kept ++ x ∷ [] ≡ take (c + 1) (slice_set kept c x)
-take_set kept c x h =
-    let one : suc c ≡ c + 1 = omega arith in
-    sym (take_set_at kept c x h) ∙ ap (λ (n : ℕ). take n (slice_set kept c x)) one
+  some_all c at r h = rw (reads_all rules records xs c at r.done r.reads h)
 
 module _ (rules : Rules) (records : ℕ) (xs : List ℕ) where
   -- what is kept of the channels up to c is what was read
@@ -134,13 +107,13 @@ module _ (rules : Rules) (records : ℕ) (xs : List ℕ) where
       → used ≤ length (take (length xs - at) (drop at xs))
       → ReadsTo rules records xs (c + 1) (at + used) (take (c + 1) (slice_set kept c x))
   kept_more kept c at used x b r eight h same e fits =
-      subst (ReadsTo rules records xs (c + 1) (at + used)) (take_set kept c x (omega arith))
-      (reads_more rules records xs c at used (take c kept) x r h (as_asked rules records xs c at b _ r.inside same e) (used_fits xs at used r.inside fits))
+      subst (ReadsTo rules records xs (c + 1) (at + used)) (sym (take_more_set kept c x (omega arith)))
+      (reads_more rules records xs c at used (take c kept) x r h (as_asked rules records xs c at b _ same e) (rw take_rest at fits))
 
   pub kept_fault : (kept : List (Option Last)) (c at : ℕ) (found : StateFault) (b : Bool) → ReadsTo rules records xs c at (take c kept) → c < 8 → b ≡ chooses rules c
       → block_read rules.max_packet rules.layout b records (take (length xs - at) (drop at xs)) ≡ Err found → blocks_read rules records 8 0 xs ≡ Err found
   kept_fault kept c at found b r h same e =
-      reads_fault rules records xs c at (take c kept) found r h (as_asked rules records xs c at b _ r.inside same e)
+      reads_fault rules records xs c at (take c kept) found r h (as_asked rules records xs c at b _ same e)
 
   pub kept_all : (kept : List (Option Last)) (c at : ℕ) → ReadsTo rules records xs c at (take c kept) → length kept ≡ 8 → 8 ≤ c
       → blocks_read rules records 8 0 xs ≡ Ok (record { kept = kept; octets = at })

@@ -1,13 +1,13 @@
 -- One step of a chain: what a member gives after a tail, and then the rest of the chain.
-use Rattle.std.proofs.Common.{◌≡◌, ℕ, ◌<◌, Bool, true, false, Option, Some, None, List, [], ◌∷◌, ◌++◌, length, refl, sym, ap, ◌∙◌, arith, append_assoc, leb}
+use Rattle.std.proofs.Common.{◌≡◌, ℕ, ◌<◌, Bool, true, false, Option, Some, None, List, [], ◌∷◌, ◌++◌, length, refl, sym, ap, ◌∙◌, arith, append_assoc}
 use Rattle.std.specs.List.{flat_map}
 use Rattle.std.proofs.lemmas.List.{append-nil}
-use Rattle.std.proofs.lemmas.Bool.{lt-leb, cond-true, cond-false}
+use Rattle.std.proofs.lemmas.Bool.{lt-leb}
 use Rattle.tm_items.specs.declared.items.Reason.TheVariants as why
 use Rattle.tm_items.specs.declared.items.Reason.{Reason}
 use Rattle.tm_reassembly.specs.State.{Tail}
 use Rattle.tm_reassembly.specs.Chain.{ChainMember, End, Ended, Unended, Run, Runs, stem_with, runs_after, has_frame_gap, with_member, cut_before}
-use Rattle.tm_reassembly.specs.Parts.{Part, fate_at, far_end, begins_packet, lead, parts}
+use Rattle.tm_reassembly.specs.Parts.{Part, fate_at, far_end, lead, parts}
 use Rattle.tm_reassembly.specs.Items.{chain_parts}
 pub use Rattle.tm_reassembly.specs.Valid.{IsTail}
 pub use Rattle.tm_reassembly.specs.code.Fits.{IsOpenTail}
@@ -52,11 +52,7 @@ module _ (limit : ℕ) where
       at_octets (x ∷ xs) h =
           let nil : (x ∷ xs) ++ [] ≡ x ∷ xs = append-nil (x ∷ xs) in
           let past : length ((x ∷ xs) ++ []) < far_end (x ∷ xs) [] = let p = far-past limit x xs [] h in omega (arith, ap length nil) in
-          stem_sweep limit count t.first t.place x xs [] end h
-          ∙ ap (λ (p : Part). p ∷ [])
-          (cond-true (begins_packet limit (x ∷ xs)) _ _ h.0
-          ∙ cond-false (leb (far_end (x ∷ xs) []) (length ((x ∷ xs) ++ []))) _ _ (lt-leb (far_end (x ∷ xs) []) (length ((x ∷ xs) ++ [])) past)
-          ∙ ap (λ (o : List ℕ). record { first = t.first; place = t.place; octets = o; fate = fate_at end }) (append-nil (x ∷ xs)))
+          rw (stem_sweep limit count t.first t.place x xs [] end h, h.0, lt-leb (far_end (x ∷ xs) []) (length ((x ∷ xs) ++ [])) past, nil)
 
   -- the parts of a chain after a member with this count, which leaves a tail
   abbrev pub runs_parts : Option Tail → Runs → List Part

@@ -8,13 +8,15 @@ use Rattle.tm_reassembly.specs.Readings.{Reading}
 use Rattle.tm_reassembly.specs.Chain.{ChainMember, Run, Runs, stem_of, stem_with, chain, frames, member_of, has_frame_gap, runs, runs_after, with_member, cut_before}
 use Rattle.tm_reassembly.specs.code.Fits.{AllReadingsFit, PlaceFits, PlacesFit, IsPlaced}
 use Rattle.tm_reassembly.proofs.Each.{Each, Each-append, Each-split, Each-at, Each-weaken}
-use Rattle.tm_reassembly.specs.Verdict.{Verdict, verdict, completed_at_once, Grow, GrowFrom, is_whole}
+use Rattle.tm_reassembly.specs.Verdict.{Verdict, verdict, completed_at_once, Grow, GrowFrom, IsSettledIn, is_whole}
 use Rattle.tm_reassembly.specs.Parts.{text, far_end, begins_packet}
 use Rattle.tm_items.specs.OnePacket.{packet_length}
 use Rattle.tm_items.proofs.Reaching.{packet_length-settled, packet_length-unsettled}
 use Rattle.tm_reassembly.proofs.Settled.{open-settled, agreement-settled, long-settled, whole-settled}
 use Rattle.tm_reassembly.proofs.Split.{breaker-settled}
-use Rattle.tm_reassembly.proofs.Joining.{FitFrom}
+use Rattle.tm_frame.specs.declared.layout.LayoutParts.{LayoutParts}
+use Rattle.tm_reassembly.specs.Recording.{readings}
+use Rattle.tm_reassembly.proofs.Fits.{readings-append, readings-fit}
 use Rattle.tm_reassembly.proofs.Records.{frames-fit}
 
 -- one more member in front
@@ -26,18 +28,16 @@ grow-member m r (next ∷ rs) q qs h = (ap (λ (z : Run). record { members = m �
 abbrev GrowRuns : Runs → Runs → Type 0
 GrowRuns a b = GrowFrom a.current a.others (b.current ∷ b.others)
 
-grow-with : (vca : Bool) (m : ChainMember) (a b : Runs) → GrowRuns a b → GrowRuns (with_member vca m a) (with_member vca m b)
-grow-with true m a b h = (refl, h)
-grow-with false m a b h = grow-member m a.current a.others b.current b.others h
-
-grow-before : (gap : Bool) (m : ChainMember) (a b : Runs) → GrowRuns a b → GrowRuns (cut_before gap m a) (cut_before gap m b)
-grow-before true m a b h = (refl, h)
-grow-before false m a b h = h
+grow-with : (gap vca : Bool) (m : ChainMember) (a b : Runs) → GrowRuns a b → GrowRuns (cut_before gap m (with_member vca m a)) (cut_before gap m (with_member vca m b))
+grow-with true true m a b h = (refl, (refl, h))
+grow-with true false m a b h = (refl, grow-member m a.current a.others b.current b.others h)
+grow-with false true m a b h = (refl, h)
+grow-with false false m a b h = grow-member m a.current a.others b.current b.others h
 
 grow-after : (before : Option ℕ) (ms more : List ChainMember) → GrowRuns (runs_after before ms) (runs_after before (ms ++ more))
 grow-after before [] more = ((runs_after before more).current.members, refl, refl)
 grow-after before (m ∷ ms) more =
-    grow-before (has_frame_gap before m) m _ _ (grow-with m.is_vca m _ _ (grow-after (Some m.count) ms more))
+    grow-with (has_frame_gap before m) m.is_vca m _ _ (grow-after (Some m.count) ms more)
 
 frames-append : (c k : ℕ) (rs qs : List Reading) → frames c k (rs ++ qs) ≡ frames c k rs ++ frames c (k + length rs) qs
 frames-append c k [] qs = ap (λ (n : ℕ). frames c n qs) (omega arith)
@@ -51,10 +51,10 @@ chain-append s c rs qs =
     ap (λ (ms : List ChainMember). stem_of (slice_get s.channels c) ++ ms) (frames-append c s.records rs qs)
     ∙ sym (append_assoc (stem_of (slice_get s.channels c)) (frames c s.records rs) _)
 
-pub runs-grow : (s : State) (c : ℕ) (rs qs : List Reading) → Grow (runs (chain s c rs)) (runs (chain s c (rs ++ qs)))
-runs-grow s c rs qs =
-    subst (λ (ms : List ChainMember). Grow (runs (chain s c rs)) (runs ms)) (sym (chain-append s c rs qs))
-    (grow-after None (chain s c rs) (frames c (s.records + length rs) qs))
+pub runs-grow : (layout : LayoutParts) (s : State) (c : ℕ) (a b : List (List ℕ)) → Grow (runs (chain s c (readings layout a))) (runs (chain s c (readings layout (a ++ b))))
+runs-grow layout s c a b =
+    subst (λ (ms : List ChainMember). Grow (runs (chain s c (readings layout a))) (runs ms))
+    (sym (ap (chain s c) (readings-append layout a b) ∙ chain-append s c (readings layout a) (readings layout b))) (grow-after None (chain s c (readings layout a)) _)
 
 -- the run at a place among the runs, and what it becomes
 abbrev Become : Run → List Run → ℕ → Type 0
@@ -69,9 +69,6 @@ grown-at first (next ∷ rs) (q ∷ qs) zero r h e = (q, [], refl, (let same : q
 grown-at first (next ∷ rs) (q ∷ qs) (suc i) r h e = grown-at next rs qs i r h.1 e
 
 -- the places of a run's frames lie in their fields
-fit-frames : (k : ℕ) (ms : List ChainMember) → FitFrom k ms → PlacesFit ms
-fit-frames k ms h = Each-weaken (λ m. (k ≤ m.number) × IsPlaced m) IsPlaced ms (λ m p. p.1) h
-
 fit-stem : (x : Option (Option Last)) → PlacesFit (stem_of x)
 fit-stem None = tt
 fit-stem (Some None) = tt
@@ -84,7 +81,7 @@ fit-stem (Some (Some last)) = with_tail last.tail
 pub chain-fit : (s : State) (c : ℕ) (rs : List Reading) → AllReadingsFit rs → PlacesFit (chain s c rs)
 chain-fit s c rs fits =
     Each-append IsPlaced (stem_of (slice_get s.channels c)) (frames c s.records rs) (fit-stem (slice_get s.channels c))
-    (fit-frames s.records (frames c s.records rs) (frames-fit c s.records rs fits))
+    (Each-weaken (λ m. (s.records ≤ m.number) × IsPlaced m) IsPlaced (frames c s.records rs) (λ m p. p.1) (frames-fit c s.records rs fits))
 
 abbrev RunsFit : List Run → Type 0
 RunsFit rs = Each (λ r. PlacesFit r.members) rs
@@ -92,18 +89,16 @@ RunsFit rs = Each (λ r. PlacesFit r.members) rs
 abbrev Fit : Runs → Type 0
 Fit rs = PlacesFit rs.current.members × RunsFit rs.others
 
-fit-with : (vca : Bool) (m : ChainMember) (rs : Runs) → PlaceFits m.place (length m.field) → Fit rs → Fit (with_member vca m rs)
-fit-with true m rs h k = (tt, k)
-fit-with false m rs h k = ((h, k.0), k.1)
-
-fit-before : (gap : Bool) (m : ChainMember) (rs : Runs) → Fit rs → Fit (cut_before gap m rs)
-fit-before true m rs k = (tt, k)
-fit-before false m rs k = k
+fit-with : (gap vca : Bool) (m : ChainMember) (rs : Runs) → PlaceFits m.place (length m.field) → Fit rs → Fit (cut_before gap m (with_member vca m rs))
+fit-with true true m rs h k = (tt, (tt, k))
+fit-with true false m rs h k = (tt, ((h, k.0), k.1))
+fit-with false true m rs h k = (tt, k)
+fit-with false false m rs h k = ((h, k.0), k.1)
 
 runs-fit : (before : Option ℕ) (ms : List ChainMember) → PlacesFit ms → Fit (runs_after before ms)
 runs-fit before [] h = (tt, tt)
 runs-fit before (m ∷ ms) h =
-    fit-before (has_frame_gap before m) m _ (fit-with m.is_vca m _ h.0 (runs-fit (Some m.count) ms h.1))
+    fit-with (has_frame_gap before m) m.is_vca m _ h.0 (runs-fit (Some m.count) ms h.1)
 
 pub run-places : (s : State) (c : ℕ) (rs : List Reading) → AllReadingsFit rs → (i : ℕ) (r : Run) → slice_get (runs (chain s c rs)) i ≡ Some r
     → PlacesFit r.members
@@ -160,17 +155,14 @@ module _ (limit : ℕ) where
           rw (e, breaker-settled limit (packet_length start) (length start) later whole, enough, here) (both (begins_packet limit start))
 
 -- over records
-pub verdicts-stay : (s : State) (c : ℕ) (rs qs : List Reading) → AllReadingsFit rs
-    → (i : ℕ) (r : Run) → slice_get (runs (chain s c rs)) i ≡ Some r
+pub verdicts-stay : (layout : LayoutParts) (s : State) (c : ℕ) (a b : List (List ℕ)) (i : ℕ) (r : Run) → slice_get (runs (chain s c (readings layout a))) i ≡ Some r
     → (before between later : List ChainMember) (f m : ChainMember) → r.members ≡ before ++ f ∷ (between ++ m ∷ later)
-    → (q : Run) × (more : List ChainMember) × (slice_get (runs (chain s c (rs ++ qs))) i ≡ Some q)
-    × (q.members ≡ before ++ f ∷ (between ++ m ∷ (later ++ more)))
-    × ((limit : ℕ) (start : List ℕ) → verdict limit start between m (later ++ more) ≡ verdict limit start between m later)
-verdicts-stay s c rs qs fits i r at before between later f m split =
-    let grown : Become r (runs (chain s c (rs ++ qs))) i =
-    grown-at (runs_after None (chain s c rs)).current (runs_after None (chain s c rs)).others (runs (chain s c (rs ++ qs))) i r (runs-grow s c rs qs) at in
+    → IsSettledIn (runs (chain s c (readings layout (a ++ b)))) i before f between m later
+verdicts-stay layout s c a b i r at before between later f m split =
+    let first : Runs = runs_after None (chain s c (readings layout a)) in
+    let grown : Become r (runs (chain s c (readings layout (a ++ b)))) i = grown-at first.current first.others _ i r (runs-grow layout s c a b) at in
     let all : PlacesFit (before ++ f ∷ (between ++ m ∷ later)) =
-    subst PlacesFit split (run-places s c rs fits i r at) in
+    subst PlacesFit split (run-places s c (readings layout a) (readings-fit layout a) i r at) in
     let ahead : PlacesFit (between ++ m ∷ later) = (Each-split IsPlaced before (f ∷ (between ++ m ∷ later)) all).1.1 in
     let apart = Each-split IsPlaced between (m ∷ later) ahead in (
       grown.0,

@@ -62,13 +62,17 @@ good-fit layout octets none = (
       (subst (λ (n : ℕ). IsPlaceBelow n (frame.kind_of octets)) (sym (field-length layout octets)) (place_inside layout octets none)),
 )
 
-pub reading-fit : (layout : LayoutParts) (octets : List ℕ) → IsFit (frame_reading_of layout octets)
-reading-fit layout octets = by_fault (fault_of layout (frame_of layout octets)) refl
+-- what holds of each fault and of the good frame holds of what is read
+reading-by : (P : Reading → Type 0) (layout : LayoutParts) (octets : List ℕ) → ((fault : FrameFault) → P (Err fault))
+    → (fault_of layout (frame_of layout octets) ≡ None → P (Ok (good_frame layout (frame_of layout octets)))) → P (frame_reading_of layout octets)
+reading-by P layout octets bad good = by_fault (fault_of layout (frame_of layout octets)) refl
   where
-    by_fault : (found : Option FrameFault) → fault_of layout (frame_of layout octets) ≡ found
-        → IsFit (good_unless found (good_frame layout (frame_of layout octets)))
-    by_fault None e = good-fit layout (frame_of layout octets) e
-    by_fault (Some fault) e = tt
+    by_fault : (found : Option FrameFault) → fault_of layout (frame_of layout octets) ≡ found → P (good_unless found (good_frame layout (frame_of layout octets)))
+    by_fault None e = good e
+    by_fault (Some fault) e = bad fault
+
+pub reading-fit : (layout : LayoutParts) (octets : List ℕ) → IsFit (frame_reading_of layout octets)
+reading-fit layout octets = reading-by IsFit layout octets (λ fault. tt) (good-fit layout (frame_of layout octets))
 
 pub readings-fit : (layout : LayoutParts) (records : List (List ℕ)) → AllReadingsFit (readings layout records)
 readings-fit layout [] = tt
@@ -100,15 +104,9 @@ good layout octets h long none = record {
 }
 
 pub reading-good : (layout : LayoutParts) (octets : List ℕ) → AreOctets octets → IsRead layout (frame_reading_of layout octets)
-reading-good layout octets h = by_fault (fault_of layout (frame_of layout octets)) refl
-  where
-    long : length (frame_of layout octets) ≤ layout.frame_length
-    long = omega (arith, length-take ((layout.skip_before + layout.frame_length) - layout.skip_before) (drop layout.skip_before octets))
-
-    inside : AreOctets (frame_of layout octets)
-    inside = octets_front ((layout.skip_before + layout.frame_length) - layout.skip_before) (drop layout.skip_before octets) (octets_behind layout.skip_before octets h)
-
-    by_fault : (found : Option FrameFault) → fault_of layout (frame_of layout octets) ≡ found
-        → IsRead layout (good_unless found (good_frame layout (frame_of layout octets)))
-    by_fault None e = good layout (frame_of layout octets) inside long e
-    by_fault (Some fault) e = tt
+reading-good layout octets h =
+    let long : length (frame_of layout octets) ≤ layout.frame_length =
+    omega (arith, length-take ((layout.skip_before + layout.frame_length) - layout.skip_before) (drop layout.skip_before octets)) in
+    let inside : AreOctets (frame_of layout octets) =
+    octets_front ((layout.skip_before + layout.frame_length) - layout.skip_before) (drop layout.skip_before octets) (octets_behind layout.skip_before octets h) in
+    reading-by (IsRead layout) layout octets (λ fault. tt) (good layout (frame_of layout octets) inside long)

@@ -1,8 +1,8 @@
 -- Where the parts of a chain lie: each begins where the one before ends, at the record and the place that it tells.
-use Rattle.std.proofs.Common.{◌≡◌, ℕ, suc, zero, pred, ◌+◌, ◌-◌, ◌<◌, ◌≤◌, Bool, true, false, Option, Some, None, List, [], ◌∷◌, ◌++◌, length, take, drop, refl, sym, ap, subst, ◌∙◌, ⊎_elim, arith, append_assoc, length-append, leb}
+use Rattle.std.proofs.Common.{◌≡◌, ℕ, suc, zero, pred, ◌+◌, ◌-◌, ◌<◌, ◌≤◌, Bool, true, false, Option, Some, None, List, [], ◌∷◌, ◌++◌, length, take, drop, refl, sym, ap, subst, ◌∙◌, ⊎_elim, arith, append_assoc, length-append}
 use Rattle.std.proofs.lemmas.List.{append-nil, take-append-drop, map-append}
 use Rattle.std.proofs.Math.Seq.{take-append-add, take-length}
-use Rattle.std.proofs.lemmas.Bool.{leb-true, eqb-true, cases_lt, cases_Bool, cond-true, cond-false, le-leb, lt-leb}
+use Rattle.std.proofs.lemmas.Bool.{leb-true, eqb-true, cases_lt, cases_Bool, le-leb, lt-leb}
 use Rattle.tm_items.specs.declared.items.Reason.TheVariants as why
 use Rattle.tm_items.specs.declared.items.Reason.{Reason}
 use Rattle.tm_reassembly.specs.State.{Tail}
@@ -13,7 +13,6 @@ use Rattle.tm_items.specs.OnePacket.{packet_length}
 use Rattle.tm_reassembly.specs.code.Field.{end_place_of, field_parts, unfinished, parts_in, left_in, tail_at, frame_parts, frame_tail, tail_parts, tail_left, step_parts, step_tail, ended_parts, chain_parts_at, chain_tail_at}
 use Rattle.tm_reassembly.specs.Tiles.{Spot, field_spots, spot_octets, BeginsAt, IsHeld}
 use Rattle.tm_items.proofs.Reaching.{packet_length-least}
-use Rattle.tm_reassembly.proofs.Split.{whole_part, unread_part, field_parts-whole, field_parts-version, field_parts-unfinished, unfinished-whole, unfinished-version, unfinished-last}
 use Rattle.tm_reassembly.proofs.Chained.{IsOpenTail}
 
 abbrev pub Piece : List Spot → ℕ → ℕ → List ℕ → List Spot → Type 0
@@ -39,10 +38,6 @@ Lay-more a b more (p ∷ ps) h = (
 -- parts that leave the octets of a tail
 abbrev pub Laid : List Spot → List Part → Option Tail → Type 0
 Laid spots ps tail = (rest : List Spot) × Lay spots ps rest × IsHeld tail rest
-
-laid_by : (spots : List Spot) (ps qs : List Part) (t u : Option Tail) → ps ≡ qs → t ≡ u → Laid spots qs u → Laid spots ps t
-laid_by spots ps qs t u e f h =
-    subst (λ (z : List Part). Laid spots z t) (sym e) (subst (λ (z : Option Tail). Laid spots qs z) (sym f) h)
 
 octets-field : (number place : ℕ) (o : List ℕ) → spot_octets (field_spots number place o) ≡ o
 octets-field number place [] = refl
@@ -101,42 +96,25 @@ module _ (limit : ℕ) where
   field_lays number place stop (suc skip) (x ∷ xs) h = field_lays number (place + 1) stop skip xs (omega arith)
   field_lays number place stop zero (x ∷ xs) h =
       let back : place ≡ stop - suc (length xs) = omega arith in
-      let spots : List Spot = field_spots number place (x ∷ xs) in
-      let r : ℕ = packet_length (x ∷ xs) in
       let some : 0 < packet_length (x ∷ xs) = omega (arith, packet_length-least (x ∷ xs)) in
       ⊎_elim
-      (λ p.
+      (λ (p : begins_packet limit (x ∷ xs) ≡ true).
       ⊎_elim
       (λ less.
-      laid_by (field_spots number place (x ∷ xs)) _ [] _ (tail_at number stop (x ∷ xs))
-      (field_parts-unfinished limit number stop x xs p less) (ap (tail_at number stop) (unfinished-last limit x xs p less))
-      (field_spots number place (x ∷ xs), refl, (octets-field number place (x ∷ xs), (refl, back))))
+      rw (p, lt-leb (packet_length (x ∷ xs)) (suc (length xs)) less) (field_spots number place (x ∷ xs), refl, (octets-field number place (x ∷ xs), (refl, back))))
       (λ whole.
       let rest = field_lays number (place + 1) stop (pred (packet_length (x ∷ xs))) xs (omega arith) in
-      laid_by (field_spots number place (x ∷ xs)) _ (whole_part limit number (stop - suc (length xs)) (x ∷ xs) ∷ field_parts limit number stop (pred (packet_length (x ∷ xs))) xs)
-      _ (tail_at number stop (unfinished limit (pred (packet_length (x ∷ xs))) xs))
-      (field_parts-whole limit number stop x xs p whole) (ap (tail_at number stop) (unfinished-whole limit x xs p whole)) (
-        rest.0,
-        (
-          drop (pred (packet_length (x ∷ xs))) (field_spots number (place + 1) xs),
-          (
-            take (packet_length (x ∷ xs)) (field_spots number place (x ∷ xs)),
-            sym (take_next (packet_length (x ∷ xs)) _ (field_spots number (place + 1) xs) some),
-            ap spot_octets (take-field (packet_length (x ∷ xs)) number place (x ∷ xs)) ∙ octets-field number place (take (packet_length (x ∷ xs)) (x ∷ xs)),
-            begins-take (packet_length (x ∷ xs)) number (stop - suc (length xs)) _ (field_spots number (place + 1) xs) some (refl, back),
-          ),
-          rest.1,
-        ),
-        rest.2,
-      ))
+      let n : ℕ = packet_length (x ∷ xs) in
+      let spot : Spot = record { record_number = number; place = place; octet = x } in
+      let later : List Spot = field_spots number (place + 1) xs in
+      let octets = ap spot_octets (take-field n number place (x ∷ xs)) ∙ octets-field number place (take n (x ∷ xs)) in
+      let begins = begins-take n number (stop - suc (length xs)) spot later some (refl, back) in
+      rw (p, le-leb (packet_length (x ∷ xs)) (suc (length xs)) whole)
+      (rest.0, (drop (pred n) later, (take n (spot ∷ later), sym (take_next n spot later some), octets, begins), rest.1), rest.2))
       (cases_lt (suc (length xs)) (packet_length (x ∷ xs))))
-      (λ p.
-      laid_by (field_spots number place (x ∷ xs)) _ (unread_part limit number (stop - suc (length xs)) (x ∷ xs) ∷ []) _ None
-      (field_parts-version limit number stop x xs p) (ap (tail_at number stop) (unfinished-version limit x xs p)) (
-        [],
-        ([], (field_spots number place (x ∷ xs), sym (append-nil (field_spots number place (x ∷ xs))), octets-field number place (x ∷ xs), (refl, back)), refl),
-        refl,
-      ))
+      (λ (p : begins_packet limit (x ∷ xs) ≡ false).
+      let all : List Spot = field_spots number place (x ∷ xs) in
+      rw p ([], ([], (all, sym (append-nil all), octets-field number place (x ∷ xs), (refl, back)), refl), refl))
       (cases_Bool (begins_packet limit (x ∷ xs)))
   field_lays number place stop skip o h = ([], refl, refl)
 
@@ -148,25 +126,18 @@ module _ (limit : ℕ) where
       (middle : List Spot) × (field_spots m.number m.base m.field ≡ field_spots m.number m.base (front_of v m.field) ++ middle)
       × Laid middle (parts_in limit m.number (end_place_of m) v m.field) (tail_at m.number (end_place_of m) (left_in limit v m.field))) [
         | None ↦ ([], sym (append-nil (field_spots m.number m.base m.field)), ([], refl, refl))
-        | Some place ↦ (
-          drop place (field_spots m.number m.base m.field),
-          sym (take-append-drop place (field_spots m.number m.base m.field))
-              ∙ ap (λ (s : List Spot). s ++ drop place (field_spots m.number m.base m.field)) (take-field place m.number m.base m.field),
-          field_lays m.number m.base (end_place_of m) place m.field refl,
-        )
+        | Some place ↦
+            let taken = take-field place m.number m.base m.field in
+            (drop place (spots_of m), rw (← taken) (sym (take-append-drop place (spots_of m))), field_lays m.number m.base (end_place_of m) place m.field refl)
       ]
 
   frame_lays : (m : ChainMember) (reason : Reason)
       → Laid (spots_of m) (lead_part m reason (front_of m.place m.field) ++ frame_parts limit m) (frame_tail limit m)
   frame_lays m reason =
-      let f = front_lays m in (
-        f.2.0,
-        subst (λ (s : List Spot). Lay s (lead_part m reason (front_of m.place m.field) ++ frame_parts limit m) f.2.0) (sym f.1)
-            (Lay-append _ f.0 f.2.0 (lead_part m reason (front_of m.place m.field)) (frame_parts limit m)
-            (Lay-more (field_spots m.number m.base (front_of m.place m.field)) [] f.0 (lead_part m reason (front_of m.place m.field)) (lead_lays m reason (front_of m.place m.field)))
-            f.2.1),
-        f.2.2,
-      )
+      let f = front_lays m in
+      let front : List ℕ = front_of m.place m.field in
+      let lead = Lay-more (field_spots m.number m.base front) [] f.0 (lead_part m reason front) (lead_lays m reason front) in
+      (f.2.0, rw f.1 (Lay-append _ f.0 f.2.0 (lead_part m reason front) (frame_parts limit m) lead f.2.1), f.2.2)
 
   -- a tail and a frame
   tail_lays : (t : Tail) (m : ChainMember) (h : List Spot) → IsHeld (Some t) h
@@ -175,44 +146,23 @@ module _ (limit : ℕ) where
       let d : ℕ = packet_length (t.octets ++ m.field) in
       let a : ℕ = length t.octets in
       let whole : ℕ = length (t.octets ++ m.field) in
-      let len : length (t.octets ++ m.field) ≡ length t.octets + length m.field = length-append t.octets m.field in
       ⊎_elim
-      (λ agree.
+      (λ (agree : agrees limit d a m ≡ true).
       ⊎_elim
       (λ past.
-      laid_by (h ++ spots_of m) _ [] _ (Some (record { first = t.first; place = t.place; octets = t.octets ++ m.field }))
-      (cond-true (agrees limit d a m) _ _ agree ∙ cond-false (leb d whole) _ _ (lt-leb d whole past))
-      (cond-true (agrees limit d a m) _ _ agree ∙ cond-false (leb d whole) _ _ (lt-leb d whole past)) (
-        h ++ spots_of m,
-        refl,
-        (both_octets h (spots_of m) t.octets m.field held.0 (octets-field m.number m.base m.field), begins-more t.first t.place h (spots_of m) held.1),
-      ))
+      let octets = both_octets h (spots_of m) t.octets m.field held.0 (octets-field m.number m.base m.field) in
+      rw (agree, lt-leb d whole past) (h ++ spots_of m, refl, (octets, begins-more t.first t.place h (spots_of m) held.1)))
       (λ within.
-      let front = front_taken m.place d t.octets m.field (agrees-place limit d a m agree) (omega arith) in
+      let front : List Spot = field_spots m.number m.base (front_of m.place m.field) in
       let f = front_lays m in
-      laid_by (h ++ spots_of m) _ _ _ (frame_tail limit m)
-      (cond-true (agrees limit d a m) _ _ agree ∙ cond-true (leb d whole) _ _ (le-leb d whole within))
-      (cond-true (agrees limit d a m) _ _ agree ∙ cond-true (leb d whole) _ _ (le-leb d whole within)) (
-        f.2.0,
-        (
-          f.0,
-          (
-            h ++ field_spots m.number m.base (front_of m.place m.field),
-            ap (λ (s : List Spot). h ++ s) f.1 ∙ sym (append_assoc h (field_spots m.number m.base (front_of m.place m.field)) f.0),
-            both_octets h _ t.octets (front_of m.place m.field) held.0 (octets-field m.number m.base (front_of m.place m.field)) ∙ sym front,
-            begins-more t.first t.place h _ held.1,
-          ),
-          f.2.1,
-        ),
-        f.2.2,
-      ))
+      let split = ap (λ (s : List Spot). h ++ s) f.1 ∙ sym (append_assoc h front f.0) in
+      let octets = both_octets h front t.octets (front_of m.place m.field) held.0 (octets-field m.number m.base (front_of m.place m.field))
+      ∙ sym (front_taken m.place d t.octets m.field (agrees-place limit d a m agree) (omega (arith, length-append t.octets m.field))) in
+      rw (agree, le-leb d whole within) (f.2.0, (f.0, (h ++ front, split, octets, begins-more t.first t.place h front held.1), f.2.1), f.2.2))
       (cases_lt whole d))
-      (λ differ.
+      (λ (differ : agrees limit d a m ≡ false).
       let f = frame_lays m (reason_at d a m) in
-      laid_by (h ++ spots_of m) _ _ _ (frame_tail limit m)
-      (cond-false (agrees limit d a m) _ _ differ)
-      (cond-false (agrees limit d a m) _ _ differ)
-      (f.0, (spots_of m, (h, refl, held.0, held.1), f.1), f.2))
+      rw differ (f.0, (spots_of m, (h, refl, held.0, held.1), f.1), f.2))
       (cases_Bool (agrees limit d a m))
     where
       both_octets : (a b : List Spot) (u v : List ℕ) → spot_octets a ≡ u → spot_octets b ≡ v → spot_octets (a ++ b) ≡ u ++ v

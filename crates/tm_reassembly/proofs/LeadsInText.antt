@@ -1,11 +1,11 @@
 -- The leads of frames, by the starts that are open there with places in the text.
-use Rattle.std.proofs.Common.{◌≡◌, ℕ, ◌+◌, ◌≤◌, true, ◌&&◌, List, [], ◌∷◌, ◌++◌, length, refl, sym, ap, subst, ◌∙◌, ⊎_elim, inl, inr, arith, append_assoc, length-append}
+use Rattle.std.proofs.Common.{◌≡◌, ℕ, ◌+◌, ◌≤◌, true, false, ◌&&◌, List, [], ◌∷◌, ◌++◌, length, refl, sym, ap, subst, ◌∙◌, inl, inr, arith, append_assoc, length-append}
 use Rattle.std.specs.List.{flat_map}
-use Rattle.std.proofs.lemmas.Bool.{cases_Bool, cond-true, cond-false}
+use Rattle.std.proofs.lemmas.Bool.{cond-true, false_from_ne_true}
 use Rattle.tm_items.specs.declared.items.Reason.TheVariants as why
 use Rattle.tm_reassembly.specs.Chain.{ChainMember}
-use Rattle.tm_reassembly.specs.Parts.{Start, Claim, text, far_end, begins_packet, agrees, agrees_at, reason_at, open_after, starts_of, claim, claims, lead, lead_part, front_of}
-use Rattle.tm_reassembly.specs.Absolute.{packet_length_at, IsLong, AgreesAt, Agrees, IsOpen, IsOpenAt, Iff, IsStart, IsIn, LiesAfter}
+use Rattle.tm_reassembly.specs.Parts.{Start, Claim, text, far_end, begins_packet, agrees, agrees_at, reason_at, open_after, starts_of, claim, claims, lead, front_lost}
+use Rattle.tm_reassembly.specs.Absolute.{packet_length_at, frame_begin, frame_end, IsLong, AgreesAt, Agrees, IsOpen, Iff, IsStart, IsIn, LiesAfter, FrameInRun, text_of_run, IsOpenIn, AgreesByPlace, lead_in}
 use Rattle.tm_reassembly.proofs.OneOpen.{one-open}
 use Rattle.tm_reassembly.proofs.Places.{place-at, agreement-at, open-at}
 use Rattle.tm_items.specs.declared.items.Reason.{Reason}
@@ -33,8 +33,7 @@ only-one c [] [] cs e one = e
 only-one c [] (y ∷ b) cs e one = let len = ap (λ (z : List Claim). length z) e in absurd (omega arith)
 only-one c (x ∷ a) b cs e one =
     let len = ap (λ (z : List Claim). length z) e in
-    let more : length (a ++ c ∷ b) ≡ length a + length (c ∷ b) = length-append a (c ∷ b) in
-    absurd (omega arith)
+    absurd (omega (arith, length-append a (c ∷ b)))
 
 -- the text, split at the frame of a start
 text-at : (before later earlier between : List ChainMember) (f m : ChainMember) → before ≡ earlier ++ f ∷ between
@@ -70,32 +69,6 @@ module _ (limit : ℕ) where
         ap (λ (cs : List Claim). first ++ cs) rest.2 ∙ sym (append_assoc first rest.0 (c ∷ rest.1)),
       )
 
-  -- no start is open
-  pub lead-no_start : (before later : List ChainMember) (m : ChainMember) → ((q : ℕ) → IsOpenAt limit (text (before ++ m ∷ later)) before q → ⊥)
-      → lead limit (claims limit before (m ∷ later)) m ≡ lead_part m why.NoStart (front_of m.place m.field)
-  lead-no_start before later m h = ap (λ (cs : List Claim). lead limit cs m) (none-claimed before (m ∷ later) none)
-    where
-      none : (earlier between : List ChainMember) (f : ChainMember) (s : Start) → before ≡ earlier ++ f ∷ between → IsIn s (starts_of limit f)
-          → claim limit between (m ∷ later) s ≡ []
-      none earlier between f s e i =
-          let there = starts-there limit earlier f (between ++ m ∷ later) s i in
-          let lies = there.1 in
-          let q : ℕ = length (text earlier) + length there.0 in
-          let same = sym (text-at before later earlier between f m e) in
-          ⊎_elim
-          (λ o.
-          absurd (h q (
-            earlier,
-            between,
-            f,
-            e,
-            subst (λ (t : List ℕ). IsStart limit t (length (text earlier)) (length (text earlier) + length f.field) f.place q) same there.2,
-            subst (λ (t : List ℕ). IsOpen limit t q (earlier ++ f ∷ []) between) same
-                ((open-at limit earlier f there.0 s.octets lies.0 lies.2 between (between ++ m ∷ later)).0 o),
-          )))
-          (λ o. cond-false (begins_packet limit s.octets && open_after limit (far_end s.octets (between ++ m ∷ later)) (length s.octets) between) _ _ o)
-          (cases_Bool (begins_packet limit s.octets && open_after limit (far_end s.octets (between ++ m ∷ later)) (length s.octets) between))
-
   -- The claims are one. The frame agrees with it, or does so by its place, if and only if it agrees so with the packet that
   -- starts at q. The frame begins at n.
   abbrev IsOne : List Claim → ChainMember → List ℕ → ℕ → ℕ → Type 0
@@ -119,61 +92,64 @@ module _ (limit : ℕ) where
         place-at limit earlier f skipped s.octets lies.0 between (between ++ m ∷ later) m,
       )
 
-  one-at : (before later : List ChainMember) (m : ChainMember) (q : ℕ) → IsOpenAt limit (text (before ++ m ∷ later)) before q
-      → IsOne (claims limit before (m ∷ later)) m (text (before ++ m ∷ later)) q (length (text before))
-  one-at before later m q o =
-      moved o.0 o.1 o.2 o.3 o.4 o.5
-    where
-      moved : (earlier between : List ChainMember) (f : ChainMember) → before ≡ earlier ++ f ∷ between
-          → IsStart limit (text (before ++ m ∷ later)) (length (text earlier)) (length (text earlier) + length f.field) f.place q
-          → IsOpen limit (text (before ++ m ∷ later)) q (earlier ++ f ∷ []) between
-          → IsOne (claims limit before (m ∷ later)) m (text (before ++ m ∷ later)) q (length (text before))
-      moved earlier between f e start opened =
-          let ahead : List ChainMember = m ∷ later in
-          let all : List ℕ = text (earlier ++ f ∷ (between ++ m ∷ later)) in
-          let same = text-at before later earlier between f m e in
-          let found = starts-here limit earlier f (between ++ m ∷ later) q
-          (subst (λ (t : List ℕ). IsStart limit t (length (text earlier)) (length (text earlier) + length f.field) f.place q) same start) in
-          let place : ℕ = length (text earlier) + length found.1 in
-          let one = one-start earlier between later f m found.0 found.1 found.2 found.3
-          (subst (λ (k : ℕ). IsOpen limit (text (earlier ++ f ∷ (between ++ m ∷ later))) k (earlier ++ f ∷ []) between) found.4
-          (subst (λ (t : List ℕ). IsOpen limit t q (earlier ++ f ∷ []) between) same opened)) in
-          subst (λ (t : List ℕ). IsOne (claims limit before ahead) m t q (length (text before))) (sym same)
-          (subst (λ (k : ℕ). IsOne (claims limit before ahead) m all k (length (text before))) (sym found.4)
-          (subst (λ (ms : List ChainMember). IsOne (claims limit ms ahead) m all place (length (text ms))) (sym e)
-          (subst (λ (ms : List ChainMember). IsOne (claims limit (earlier ++ f ∷ between) ahead) m all place (length (text ms)))
-          (append_assoc earlier (f ∷ []) between) one)))
+  module _ (r : FrameInRun) where
+    -- no start is open
+    pub lead-no_start : ((q : ℕ) → IsOpenIn limit r q → ⊥) → lead_in limit r ≡ front_lost r.frame why.NoStart
+    lead-no_start h = ap (λ (cs : List Claim). lead limit cs r.frame) (none-claimed r.before (r.frame ∷ r.later) none)
+      where
+        none : (earlier between : List ChainMember) (f : ChainMember) (s : Start) → r.before ≡ earlier ++ f ∷ between → IsIn s (starts_of limit f)
+            → claim limit between (r.frame ∷ r.later) s ≡ []
+        none earlier between f s e i =
+            let there = starts-there limit earlier f (between ++ r.frame ∷ r.later) s i in
+            let lies = there.1 in
+            let q : ℕ = length (text earlier) + length there.0 in
+            let same = sym (text-at r.before r.later earlier between f r.frame e) in
+            let closed : (begins_packet limit s.octets && open_after limit (far_end s.octets (between ++ r.frame ∷ r.later)) (length s.octets) between) ≡ false =
+            false_from_ne_true _ (λ o.
+            let opened = (open-at limit earlier f there.0 s.octets lies.0 lies.2 between (between ++ r.frame ∷ r.later)).0 o in
+            h q (earlier, between, f, e, rw same at there.2, subst (λ (t : List ℕ). IsOpen limit t q (earlier ++ f ∷ []) between) same opened)) in
+            rw closed
 
-  -- one is, and the frame agrees with it, or doesn't
-  lead-differs : (before later : List ChainMember) (m : ChainMember) (c : Claim) (r : Reason) → claims limit before (m ∷ later) ≡ c ∷ []
-      → (agrees limit c.far c.at m ≡ true → ⊥) → reason_at c.far c.at m ≡ r
-      → lead limit (claims limit before (m ∷ later)) m ≡ lead_part m r (front_of m.place m.field)
-  lead-differs before later m c r e differs why_not =
-      ap (λ (cs : List Claim). lead limit cs m) e
-      ∙ ⊎_elim (λ agree. absurd (differs agree)) (λ differ. cond-false (agrees limit c.far c.at m) _ _ differ) (cases_Bool (agrees limit c.far c.at m))
-      ∙ ap (λ (z : Reason). lead_part m z (front_of m.place m.field)) why_not
+    one-at : (q : ℕ) → IsOpenIn limit r q → IsOne (claims limit r.before (r.frame ∷ r.later)) r.frame (text_of_run r) q (frame_begin r.before)
+    one-at q o = moved o.0 o.1 o.2 o.3 o.4 o.5
+      where
+        moved : (earlier between : List ChainMember) (f : ChainMember) → r.before ≡ earlier ++ f ∷ between
+            → IsStart limit (text_of_run r) (frame_begin earlier) (frame_end earlier f) f.place q
+            → IsOpen limit (text_of_run r) q (earlier ++ f ∷ []) between
+            → IsOne (claims limit r.before (r.frame ∷ r.later)) r.frame (text_of_run r) q (frame_begin r.before)
+        moved earlier between f e start opened =
+            let ahead : List ChainMember = r.frame ∷ r.later in
+            let all : List ℕ = text (earlier ++ f ∷ (between ++ r.frame ∷ r.later)) in
+            let same = text-at r.before r.later earlier between f r.frame e in
+            let found = starts-here limit earlier f (between ++ r.frame ∷ r.later) q (rw same at start) in
+            let place : ℕ = length (text earlier) + length found.1 in
+            let one = one-start earlier between r.later f r.frame found.0 found.1 found.2 found.3 (rw (same, found.4) at opened) in
+            subst (λ (t : List ℕ). IsOne (claims limit r.before ahead) r.frame t q (length (text r.before))) (sym same)
+            (subst (λ (k : ℕ). IsOne (claims limit r.before ahead) r.frame all k (length (text r.before))) (sym found.4)
+            (subst (λ (ms : List ChainMember). IsOne (claims limit ms ahead) r.frame all place (length (text ms))) (sym e)
+            (subst (λ (ms : List ChainMember). IsOne (claims limit (earlier ++ f ∷ between) ahead) r.frame all place (length (text ms)))
+            (append_assoc earlier (f ∷ []) between) one)))
 
-  pub lead-pointer : (before later : List ChainMember) (m : ChainMember) (q : ℕ) → IsOpenAt limit (text (before ++ m ∷ later)) before q
-      → (AgreesAt (packet_length_at (text (before ++ m ∷ later)) q) (length (text before)) (length m.field) m.place → ⊥)
-      → lead limit (claims limit before (m ∷ later)) m ≡ lead_part m why.Pointer (front_of m.place m.field)
-  lead-pointer before later m q o differs =
-      let one = one-at before later m q o in
-      lead-differs before later m one.0 why.Pointer one.1 (λ agree. differs (one.2.0 agree).0)
-      (⊎_elim (λ place. absurd (differs (one.3.0 place))) (λ place. cond-false (agrees_at one.0.far one.0.at (length m.field) m.place) _ _ place)
-      (cases_Bool (agrees_at one.0.far one.0.at (length m.field) m.place)))
+    -- one is, and the frame agrees with it, or doesn't
+    lead-differs : (c : Claim) (reason : Reason) → claims limit r.before (r.frame ∷ r.later) ≡ c ∷ []
+        → (agrees limit c.far c.at r.frame ≡ true → ⊥) → reason_at c.far c.at r.frame ≡ reason → lead_in limit r ≡ front_lost r.frame reason
+    lead-differs c reason e differs why_not =
+        ap (λ (cs : List Claim). lead limit cs r.frame) e ∙ rw (false_from_ne_true (agrees limit c.far c.at r.frame) differs, why_not)
 
-  pub lead-long : (before later : List ChainMember) (m : ChainMember) (q : ℕ) → IsOpenAt limit (text (before ++ m ∷ later)) before q
-      → AgreesAt (packet_length_at (text (before ++ m ∷ later)) q) (length (text before)) (length m.field) m.place
-      → IsLong limit (text (before ++ m ∷ later)) q (length (text before) + length m.field)
-      → lead limit (claims limit before (m ∷ later)) m ≡ lead_part m why.Length (front_of m.place m.field)
-  lead-long before later m q o place long =
-      let one = one-at before later m q o in
-      lead-differs before later m one.0 why.Length one.1 (λ agree. (one.2.0 agree).1 long)
-      (cond-true (agrees_at one.0.far one.0.at (length m.field) m.place) _ _ (one.3.1 place))
+    pub lead-pointer : (q : ℕ) → IsOpenIn limit r q → (AgreesByPlace r q → ⊥) → lead_in limit r ≡ front_lost r.frame why.Pointer
+    lead-pointer q o differs =
+        let one = one-at q o in
+        lead-differs one.0 why.Pointer one.1 (λ agree. differs (one.2.0 agree).0)
+        (rw (false_from_ne_true (agrees_at one.0.far one.0.at (length r.frame.field) r.frame.place) (λ place. differs (one.3.0 place))))
 
-  pub lead-joined : (before later : List ChainMember) (m : ChainMember) (q : ℕ) → IsOpenAt limit (text (before ++ m ∷ later)) before q
-      → Agrees limit (text (before ++ m ∷ later)) q (length (text before)) m
-      → lead limit (claims limit before (m ∷ later)) m ≡ []
-  lead-joined before later m q o agree =
-      let one = one-at before later m q o in
-      ap (λ (cs : List Claim). lead limit cs m) one.1 ∙ cond-true (agrees limit one.0.far one.0.at m) _ _ (one.2.1 agree)
+    pub lead-long : (q : ℕ) → IsOpenIn limit r q → AgreesByPlace r q → IsLong limit (text_of_run r) q (frame_end r.before r.frame)
+        → lead_in limit r ≡ front_lost r.frame why.Length
+    lead-long q o place long =
+        let one = one-at q o in
+        lead-differs one.0 why.Length one.1 (λ agree. (one.2.0 agree).1 long)
+        (cond-true (agrees_at one.0.far one.0.at (length r.frame.field) r.frame.place) _ _ (one.3.1 place))
+
+    pub lead-joined : (q : ℕ) → IsOpenIn limit r q → Agrees limit (text_of_run r) q (frame_begin r.before) r.frame → lead_in limit r ≡ []
+    lead-joined q o agree =
+        let one = one-at q o in
+        ap (λ (cs : List Claim). lead limit cs r.frame) one.1 ∙ cond-true (agrees limit one.0.far one.0.at r.frame) _ _ (one.2.1 agree)

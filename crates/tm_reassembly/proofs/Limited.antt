@@ -2,7 +2,6 @@
 use Rattle.std.proofs.Common.{Ok, Err, ℕ, ◌≤◌, Bool, Option, List, [], ◌∷◌, ◌++◌, length, sym, subst, ⊎_elim}
 use Rattle.std.specs.List.{slice_get}
 use Rattle.std.proofs.lemmas.Bool.{cases_Bool}
-use Rattle.tm_frame.specs.Frame.{GoodFrame}
 use Rattle.tm_items.specs.Among.{Among}
 use Rattle.tm_reassembly.specs.Chain.{ChainMember, has_frame_gap, member, master_member}
 use Rattle.tm_items.specs.Item.{Item, Packet}
@@ -36,8 +35,9 @@ module _ (limit : ℕ) where
       (part_items-each Limited limit channel m.number (λ p most. most) (λ p reason. tt) _ (chain_parts_at-at limit (has_frame_gap before m) m.is_vca tail m))
 
   module _ (chosen : ℕ → Bool) where
-    each-good : (s : State) (g : GoodFrame) → HasOpenTails limit chosen s → IsFit (Ok g) → Each Limited (items_of_readings limit chosen s (Ok g ∷ []))
-    each-good s g v fit =
+    each-record : (s : State) (r : Reading) → HasOpenTails limit chosen s → IsFit r → Each Limited (items_of_readings limit chosen s (r ∷ []))
+    each-record s (Err fault) v fit = (tt, tt)
+    each-record s (Ok g) v fit =
         ⊎_elim
         (λ e.
         let x = slice_get s.channels g.channel in
@@ -49,13 +49,10 @@ module _ (limit : ℕ) where
 
     each-item : (s : State) (rs : List Reading) → HasOpenTails limit chosen s → AllReadingsFit rs → Each Limited (items_of_readings limit chosen s rs)
     each-item s [] v fits = tt
-    each-item s (Err fault ∷ rs) v fits =
-        subst (Each Limited) (sym (items-cons limit chosen s (Err fault) v tt rs fits.1))
-        (tt, each-item (state_after_readings limit chosen s (Err fault ∷ [])) rs (valid-after limit chosen s (Err fault) v tt) fits.1)
-    each-item s (Ok g ∷ rs) v fits =
-        subst (Each Limited) (sym (items-cons limit chosen s (Ok g) v fits.0 rs fits.1))
-        (Each-append Limited (items_of_readings limit chosen s (Ok g ∷ [])) (items_of_readings limit chosen (state_after_readings limit chosen s (Ok g ∷ [])) rs)
-        (each-good s g v fits.0) (each-item (state_after_readings limit chosen s (Ok g ∷ [])) rs (valid-after limit chosen s (Ok g) v fits.0) fits.1))
+    each-item s (r ∷ rs) v fits =
+        subst (Each Limited) (sym (items-cons limit chosen s r v fits.0 rs fits.1))
+        (Each-append Limited (items_of_readings limit chosen s (r ∷ [])) _ (each-record s r v fits.0)
+        (each-item (state_after_readings limit chosen s (r ∷ [])) rs (valid-after limit chosen s r v fits.0) fits.1))
 
 pub packets-limited : (rules : Rules) (s : State) (records : List (List ℕ)) → IsValidState rules s
     → (seen channel first place : ℕ) (octets : List ℕ) → Among (Packet seen channel first place octets) (raw.items rules s records) → length octets ≤ rules.max_packet

@@ -15,7 +15,7 @@ not-long limit d stop h = let e : leb 6 stop ≡ false = lt-leb 6 stop h in rw e
 -- what isn't long where its header is there is within the limit
 pub within-limit : (limit far stop : ℕ) → 6 ≤ stop → is_long limit far stop ≡ false → far ≤ limit
 within-limit limit far stop there h =
-    ⊎_elim (λ e. absurd (let less = leb-false 6 stop e in omega arith)) (λ e. ltb-false limit far e) (and_cases (leb 6 stop) (ltb limit far) h)
+    ⊎_elim (λ e. absurd (omega (arith, leb-false 6 stop e))) (λ e. ltb-false limit far e) (and_cases (leb 6 stop) (ltb limit far) h)
 
 module _ (limit far at : ℕ) (m : ChainMember) (agree : agrees limit far at m ≡ true) where
   -- a frame that agrees does so by its place

@@ -1,12 +1,12 @@
 -- Merged by record, the items of the chosen channels are all there, and no others.
-use Rattle.tm_reassembly.proofs.Records.{HasOpenTails, items-cons, valid-after}
-use Rattle.tm_reassembly.proofs.Masters.{masters-is, masters-now, master-moved}
+use Rattle.tm_reassembly.proofs.Records.{HasOpenTails, good-items, items-cons, own_items, valid-after}
+use Rattle.tm_reassembly.proofs.Masters.{masters-is, master-moved}
 use Rattle.tm_reassembly.specs.Items as read
 use Rattle.std.proofs.lemmas.Option.{slice_get_within, none-some}
 use Rattle.tm_reassembly.proofs.Each.{Each, Each-every, Each-append, Each-weaken, Each-cond, Each-filter, filter-passes, filter-all, filter-none, none-filter}
 use Rattle.std.proofs.Common.{◌≡◌, ℕ, suc, zero, ◌+◌, ◌<◌, ◌≤◌, ◌⊎◌, Bool, true, false, if◌then◌else◌, Ok, Err, Option, Some, None, List, [], ◌∷◌, ◌++◌, length, refl, sym, ap, subst, ◌∙◌, ⊎_elim, inl, inr, arith, eqb}
 use Rattle.std.specs.List.{flat_map, filter, slice_get}
-use Rattle.std.proofs.lemmas.Bool.{cases_Bool, cases_eq, cond_both, cond-true, cond-false, eq-eqb, eqb-true, both_ways, true≢false, false_from_ne_true}
+use Rattle.std.proofs.lemmas.Bool.{cases_Bool, cases_eq, cond_both, cond-true, eq-eqb, eqb-true, both_ways, true≢false, false_from_ne_true}
 use Rattle.std.proofs.lemmas.List.{append-nil, length-map}
 use Rattle.std.proofs.lemmas.List.Elements.{filter-append}
 use Rattle.tm_frame.specs.Frame.{GoodFrame}
@@ -50,15 +50,6 @@ frames-numbered c k (r ∷ rs) h =
         (λ e. (((0, g, omega arith, refl, eqb-true g.channel c e), fit.1), tt))
 
 -- lists of items
-among-left : (x : Item) (xs ys : List Item) → Among x xs → Among x (xs ++ ys)
-among-left x [] ys a = absurd a
-among-left x (y ∷ xs) ys (inl e) = inl e
-among-left x (y ∷ xs) ys (inr a) = inr (among-left x xs ys a)
-
-among-right : (x : Item) (xs ys : List Item) → Among x ys → Among x (xs ++ ys)
-among-right x [] ys a = a
-among-right x (y ∷ xs) ys a = inr (among-right x xs ys a)
-
 among-either : (x : Item) (xs ys : List Item) → Among x (xs ++ ys) → Among x xs ⊎ Among x ys
 among-either x [] ys a = inr a
 among-either x (y ∷ xs) ys (inl e) = inl (inl e)
@@ -135,10 +126,8 @@ pub seen-in_time : (rules : Rules) (s : State) (records : List (List ℕ)) → I
 seen-in_time rules s records v c x a =
     let rs : List Reading = readings rules.layout records in
     let f = among-each (λ y. IsFrame c s.records rs (seen_of y)) x _ (channel-seen rules s v c rs (readings-fit rules.layout records)) a in
-    let at : seen_of x ≡ s.records + f.0 = f.2 in
     let inside : f.0 < length (readings rules.layout records) = slice_get_within (readings rules.layout records) f.0 (Ok f.1) f.3 in
-    let len : length (readings rules.layout records) ≡ length records = length-map records (frame_reading_of rules.layout) in
-    (omega arith, omega arith)
+    (omega (arith, f.2, length-map records (frame_reading_of rules.layout)), omega (arith, f.2, length-map records (frame_reading_of rules.layout)))
 
 module _ (limit : ℕ) where
   pub channel-of : (c : ℕ) (ms : List ChainMember) → AllOf c (channel_items limit c ms)
@@ -150,17 +139,12 @@ module _ (limit : ℕ) where
       (parts-of c (chain_parts limit ms))
 
   module _ (chosen : ℕ → Bool) (s : State) (all : List Reading) where
-    -- what is seen at a good frame of a chosen channel is there
-    to-merged : (k : ℕ) (rs : List Reading) (x : Item) (i : ℕ) (g : GoodFrame) → slice_get rs i ≡ Some (Ok g) → chosen g.channel ≡ true → seen_of x ≡ k + i
-        → Among x (channel_items limit g.channel (chain s g.channel all)) → Among x (merged limit chosen s all k rs)
-    to-merged k [] x i g e is_chosen at a = absurd (cc)
-    to-merged k (r ∷ rs) x zero g e is_chosen at a =
-        let same : r ≡ Ok g = cc in
-        among-left x (record_items limit chosen s all k r) (merged limit chosen s all (k + 1) rs)
-        (subst (λ (q : Reading). Among x (record_items limit chosen s all k q)) (sym same)
-        (among-right x (seen_at k (master_items (master_chain s all))) _ (subst (Among x) (sym (cond-true (chosen g.channel) _ _ is_chosen)) (among-pass (λ y. eqb (seen_of y) k) x (channel_items limit g.channel (chain s g.channel all)) (eq-eqb (seen_of x) k (omega arith)) a))))
-    to-merged k (r ∷ rs) x (suc i) g e is_chosen at a =
-        among-right x (record_items limit chosen s all k r) (merged limit chosen s all (k + 1) rs) (to-merged (k + 1) rs x i g e is_chosen (omega arith) a)
+    -- the items of a record are seen at it
+    pub record-exact : (k : ℕ) (r : Reading) → AllSeen (λ m. m ≡ k) (record_items limit chosen s all k r)
+    record-exact k (Err fault) = (refl, tt)
+    record-exact k (Ok g) =
+        Each-append (λ x. seen_of x ≡ k) (seen_at k (master_items (master_chain s all))) _ (seen-exact k (master_items (master_chain s all)))
+        (Each-cond (λ x. seen_of x ≡ k) (chosen g.channel) _ (λ e. seen-exact k (channel_items limit g.channel (chain s g.channel all))))
 
     -- what is seen at a good frame and of a channel is one of its items
     of_frame : (k : ℕ) (g : GoodFrame) (c : ℕ) (x : Item) → is_of c x ≡ true
@@ -170,11 +154,9 @@ module _ (limit : ℕ) where
         ⊎_elim
         (λ is_chosen.
         let xs : List Item = channel_items limit g.channel (chain s g.channel all) in
-        let there : Among x (channel_items limit g.channel (chain s g.channel all)) =
-        among-all (λ y. eqb (seen_of y) k) x (channel_items limit g.channel (chain s g.channel all)) (subst (Among x) (cond-true (chosen g.channel) _ _ is_chosen) a) in
-        let same : g.channel ≡ c = one_channel g.channel c x (among-each (λ y. is_of g.channel y ≡ true) x xs (channel-of g.channel (chain s g.channel all)) there) own in
-        subst (λ (d : ℕ). (chosen d ≡ true) × Among x (channel_items limit d (chain s d all))) same (is_chosen, there))
-        (λ not_chosen. absurd (subst (Among x) (cond-false (chosen g.channel) _ _ not_chosen) a))
+        let there : Among x xs = among-all (λ y. eqb (seen_of y) k) x xs (rw is_chosen at a) in
+        rw (← one_channel g.channel c x (among-each (λ y. is_of g.channel y ≡ true) x xs (channel-of g.channel (chain s g.channel all)) there) own) (is_chosen, there))
+        (λ not_chosen. absurd (rw not_chosen at a))
         (cases_Bool (chosen g.channel))
 
     -- and what is there and of a channel is one of its items
@@ -196,15 +178,6 @@ module _ (limit : ℕ) where
     from-merged k (r ∷ rs) c x own a =
         ⊎_elim (from-record k r c x own) (from-merged (k + 1) rs c x own) (among-either x (record_items limit chosen s all k r) (merged limit chosen s all (k + 1) rs) a)
 
-pub channel-told : (rules : Rules) (s : State) (records : List (List ℕ)) → IsValidState rules s
-    → (c : ℕ) → chooses rules c ≡ true → (x : Item) → Among x (channel_items rules.max_packet c (chain s c (readings rules.layout records))) → Among x (items rules s records)
-unfolding items
-channel-told rules s records v c is_chosen x a =
-    let rs : List Reading = readings rules.layout records in
-    let f = among-each (λ y. IsFrame c s.records rs (seen_of y)) x _ (channel-seen rules s v c rs (readings-fit rules.layout records)) a in
-    to-merged rules.max_packet (chooses rules) s rs s.records rs x f.0 f.1 f.3 (ap (chooses rules) f.4 ∙ is_chosen) f.2
-    (subst (λ (d : ℕ). Among x (channel_items rules.max_packet d (chain s d rs))) (sym f.4) a)
-
 pub told-channel : (rules : Rules) (s : State) (records : List (List ℕ))
     → (c : ℕ) (x : Item) → is_of c x ≡ true → Among x (items rules s records)
     → (chooses rules c ≡ true) × Among x (channel_items rules.max_packet c (chain s c (readings rules.layout records)))
@@ -223,16 +196,10 @@ module _ (limit : ℕ) where
     here-append : (xs ys : List Item) → Here (xs ++ ys) ≡ Here xs ++ Here ys
     here-append xs ys = ap (seen_at n) (filter-append (λ x. is_of c x) xs ys) ∙ filter-append (λ x. eqb (seen_of x) n) (of_channel c xs) (of_channel c ys)
 
-    record-exact : (k : ℕ) (r : Reading) → AllSeen (λ m. m ≡ k) (record_items limit chosen s all k r)
-    record-exact k (Err fault) = (refl, tt)
-    record-exact k (Ok g) =
-        Each-append (λ x. seen_of x ≡ k) (seen_at k (master_items (master_chain s all))) _ (seen-exact k (master_items (master_chain s all)))
-        (Each-cond (λ x. seen_of x ≡ k) (chosen g.channel) _ (λ e. seen-exact k (channel_items limit g.channel (chain s g.channel all))))
-
     -- another record
     record-there : (k : ℕ) (r : Reading) → (k ≡ n → ⊥) → Here (record_items limit chosen s all k r) ≡ []
     record-there k r ne =
-        none_other k n _ ne (Each-filter (λ x. seen_of x ≡ k) (λ x. is_of c x) _ (record-exact k r))
+        none_other k n _ ne (Each-filter (λ x. seen_of x ≡ k) (λ x. is_of c x) _ (record-exact limit chosen s all k r))
 
     -- what stands behind a master gap
     past-master : (k : ℕ) (xs : List Item) → Here (seen_at k (master_items (master_chain s all)) ++ xs) ≡ Here xs
@@ -255,10 +222,8 @@ module _ (limit : ℕ) where
     record-here g e =
         let xs : List Item = channel_items limit c (chain s c all) in
         past-master n _
-        ∙ ap Here
-        (cond-true (chosen g.channel) _ _ (ap chosen e ∙ is_chosen) ∙ ap (λ (d : ℕ). seen_at n (channel_items limit d (chain s d all))) e)
-        ∙ ap (seen_at n) (filter-all (λ x. is_of c x) (seen_at n xs) (Each-filter (λ x. is_of c x ≡ true) (λ x. eqb (seen_of x) n) xs (channel-of limit c (chain s c all))))
-        ∙ seen_at-all n (seen_at n xs) (seen-exact n xs)
+        ∙ rw (e, is_chosen, filter-all (λ x. is_of c x) (seen_at n xs) (Each-filter (λ x. is_of c x ≡ true) (λ x. eqb (seen_of x) n) xs (channel-of limit c (chain s c all))))
+        (seen_at-all n (seen_at n xs) (seen-exact n xs))
 
     -- the record is a frame of the channel, and its items are there, or it is none
     abbrev Either : ℕ → List Reading → Type 0
@@ -274,18 +239,8 @@ module _ (limit : ℕ) where
     at_it k (Ok g) rs e rest =
         let append = here-append (record_items limit chosen s all k (Ok g)) (merged limit chosen s all (k + 1) rs) in
         ⊎_elim
-        (λ own.
-        inl (
-          (0, g, omega arith, refl, own),
-          append ∙ ap (λ (ys : List Item). Here (record_items limit chosen s all k (Ok g)) ++ ys) rest ∙ append-nil (Here (record_items limit chosen s all k (Ok g)))
-              ∙ ap (λ (j : ℕ). Here (record_items limit chosen s all j (Ok g))) e
-              ∙ record-here g own,
-        ))
-        (λ other.
-        inr (
-          no other,
-          append ∙ ap (λ (ys : List Item). ys ++ Here (merged limit chosen s all (k + 1) rs)) (record-other k g other) ∙ rest,
-        ))
+        (λ own. inl ((0, g, omega arith, refl, own), append ∙ rw (rest, append-nil, e) (record-here g own)))
+        (λ other. inr (no other, append ∙ rw (record-other k g other) rest))
         (cases_eq g.channel c)
       where
         no : (g.channel ≡ c → ⊥) → IsFrame c k (Ok g ∷ rs) n → ⊥
@@ -309,7 +264,7 @@ module _ (limit : ℕ) where
         ⊎_elim
         (λ e.
         at_it k r rs e
-        (⊎_elim (λ h. absurd (let f = h.0 in let at : n ≡ (k + 1) + f.0 = f.2 in omega arith)) (λ h. h.1) (either (k + 1) rs)))
+        (⊎_elim (λ h. absurd (omega (arith, h.0.2))) (λ h. h.1) (either (k + 1) rs)))
         (λ ne. before-it k r rs ne (either (k + 1) rs))
         (cases_eq k n)
 
@@ -330,6 +285,15 @@ channel-in_order rules s records v c is_chosen n =
     (channel-seen rules s v c rs (readings-fit rules.layout records)))))
     (either rules.max_packet (chooses rules) s rs c is_chosen n s.records rs)
 
+-- what is among the channel's items is told
+pub channel-told : (rules : Rules) (s : State) (records : List (List ℕ)) → IsValidState rules s
+    → (c : ℕ) → chooses rules c ≡ true → (x : Item) → Among x (channel_items rules.max_packet c (chain s c (readings rules.layout records))) → Among x (items rules s records)
+channel-told rules s records v c is_chosen x a =
+    among-all (λ y. is_of c y) x (items rules s records)
+    (among-all (λ y. eqb (seen_of y) (seen_of x)) x (filter (λ y. is_of c y) (items rules s records))
+    (subst (Among x) (sym (channel-in_order rules s records v c is_chosen (seen_of x)))
+    (among-pass (λ y. eqb (seen_of y) (seen_of x)) x _ (eq-eqb (seen_of x) (seen_of x) refl) a)))
+
 -- the gaps of the master chain are all there, and no others
 abbrev masters_in : List Item → List Item
 masters_in xs = filter is_master_gap xs
@@ -340,21 +304,20 @@ not_master c (item.MasterGap seen expected found missing) h = absurd (cc)
 not_master c x h = refl
 
 module _ (limit : ℕ) (chosen : ℕ → Bool) where
-  -- one good frame
+  -- one good frame: its own items are none
+  pub own-none : (s : State) (g : GoodFrame) → Each (λ x. is_master_gap x ≡ false) (own_items limit chosen s g)
+  own-none s g =
+      Each-cond (λ x. is_master_gap x ≡ false) (chosen g.channel) _
+      (λ p. Each-weaken (λ x. is_of g.channel x ≡ true) (λ x. is_master_gap x ≡ false) _ (not_master g.channel)
+      (Each-filter (λ x. is_of g.channel x ≡ true) (λ x. eqb (seen_of x) s.records) _ (channel-of limit g.channel (chain s g.channel (Ok g ∷ [])))))
+
   good-in : (s : State) (g : GoodFrame) → masters_in (read.items_of_readings limit chosen s (Ok g ∷ [])) ≡ gap_at master_gap_item s.master (master_member s.records g)
   good-in s g =
-      let own : List Item = (if chosen g.channel then seen_at s.records (channel_items limit g.channel (chain s g.channel (Ok g ∷ []))) else []) in
-      let none : masters_in (if chosen g.channel then seen_at s.records (channel_items limit g.channel (chain s g.channel (Ok g ∷ []))) else []) ≡ [] =
-      filter-none is_master_gap own
-      (Each-cond (λ x. is_master_gap x ≡ false) (chosen g.channel) _
-      (λ p. Each-weaken (λ x. is_of g.channel x ≡ true) (λ x. is_master_gap x ≡ false) _ (not_master g.channel)
-      (Each-filter (λ x. is_of g.channel x ≡ true) (λ x. eqb (seen_of x) s.records) _ (channel-of limit g.channel (chain s g.channel (Ok g ∷ [])))))) in
-      ap masters_in (append-nil (record_items limit chosen s (Ok g ∷ []) s.records (Ok g)))
-      ∙ filter-append is_master_gap (seen_at s.records (master_items (master_chain s (Ok g ∷ [])))) own
-      ∙ ap (λ (xs : List Item). masters_in (seen_at s.records (master_items (master_chain s (Ok g ∷ [])))) ++ xs) none
-      ∙ append-nil (masters_in (seen_at s.records (master_items (master_chain s (Ok g ∷ [])))))
-      ∙ ap masters_in (masters-now s g [])
-      ∙ filter-all is_master_gap _ (gap-each (λ x. is_master_gap x ≡ true) master_gap_item s.master (master_member s.records g) (λ expected. refl))
+      let gap : List Item = gap_at master_gap_item s.master (master_member s.records g) in
+      ap masters_in (good-items limit chosen s g)
+      ∙ filter-append is_master_gap gap (own_items limit chosen s g)
+      ∙ rw (filter-none is_master_gap (own_items limit chosen s g) (own-none s g), append-nil)
+      (filter-all is_master_gap gap (gap-each (λ x. is_master_gap x ≡ true) master_gap_item s.master (master_member s.records g) (λ expected. refl)))
 
   all-in : (s : State) (rs : List Reading) → HasOpenTails limit chosen s → AllReadingsFit rs
       → masters_in (read.items_of_readings limit chosen s rs) ≡ gaps master_gap_item s.master (master_frames s.records rs)

@@ -1,31 +1,30 @@
 -- The older form of a spelling, and what is lost with the last master channel count.
-use Rattle.std.proofs.Common.{◌≡◌, ◌⊎◌, Ok, Err, Result, ℕ, ◌+◌, ◌<◌, ◌≤◌, Bool, true, false, if◌then◌else◌, None, List, [], ◌∷◌, ◌++◌, length, refl, sym, ap, subst, ◌∙◌, inl, inr, ⊎_elim, arith, append_assoc, eqb, ltb}
-use Rattle.std.proofs.lemmas.List.{append-nil}
-use Rattle.std.proofs.lemmas.Bool.{cases_Bool, cond-false, eq-eqb, le-ltb}
+use Rattle.std.proofs.Common.{◌≡◌, ◌⊎◌, Ok, Err, Result, ℕ, ◌+◌, ◌<◌, ◌≤◌, Bool, false, None, List, [], ◌∷◌, ◌++◌, length, refl, sym, ap, subst, ◌∙◌, inl, inr, ⊎_elim, arith, append_assoc}
+use Rattle.std.proofs.lemmas.Bool.{cases_Bool, eq-eqb, le-ltb}
 use Rattle.std.specs.Prelude.{◌||◌, not}
 use Rattle.tm_frame.specs.Frame.{GoodFrame}
 use Rattle.tm_reassembly.specs.declared.fault.StateFault.{StateFault}
 use Rattle.tm_reassembly.specs.Readings.{Reading}
 use Rattle.tm_reassembly.specs.State.{State}
-use Rattle.tm_reassembly.specs.Chain.{chain, master_chain, master_frames, master_member}
-use Rattle.tm_reassembly.specs.Checkpoint.{ReadBlocks, four_at, blocks_read, master_read, with_channels, state_decoding_of, old_decoding_of}
-use Rattle.tm_items.specs.Among.{is_master_gap, is_of}
+use Rattle.tm_reassembly.specs.Chain.{master_frames, master_member}
+use Rattle.tm_reassembly.specs.Checkpoint.{ReadBlocks, four_at, master_read, with_channels, state_decoding_of, old_decoding_of}
+use Rattle.tm_items.specs.Among.{is_master_gap}
 use Rattle.tm_items.specs.Item.{Item, Bad, seen_of}
-use Rattle.tm_reassembly.specs.Items.{master_gap_item, gap_at, channel_items, items_of_readings, master_items, merged, record_items, seen_at, state_after_readings}
+use Rattle.tm_reassembly.specs.Items.{master_gap_item, gap_at, items_of_readings, merged, record_items, seen_at, state_after_readings}
 use Rattle.tm_reassembly.specs.OlderForms.{without_master, first_good_record, is_gap_at, without_gaps_at, LacksFirstGap, one_octet_more}
 use Rattle.tm_reassembly.specs.Recording as raw
 use Rattle.tm_rules.specs.Rules.{Rules, chooses}
 use Rattle.tm_reassembly.specs.Valid.{HasShape, IsValidState}
 use Rattle.tm_reassembly.specs.code.Fits.{IsFit, AllReadingsFit}
-use Rattle.tm_reassembly.proofs.Each.{Each, Each-append, Each-weaken, Each-cond, Each-filter, filter-none}
+use Rattle.tm_reassembly.proofs.Each.{Each-append, Each-weaken, filter-none}
 use Rattle.tm_reassembly.proofs.WithoutGaps.{without-append, without-none, few, no-gap, not-there, one-at}
 use Rattle.tm_reassembly.proofs.Fits.{readings-fit, readings-append}
 use Rattle.tm_reassembly.proofs.Joining.{gap-each}
-use Rattle.tm_reassembly.proofs.Masters.{masters-is, masters-now}
-use Rattle.tm_reassembly.proofs.Merged.{channel-of, masters-told, not_master, seen-exact}
+use Rattle.tm_reassembly.proofs.Masters.{masters-is}
+use Rattle.tm_reassembly.proofs.Merged.{masters-told, own-none, record-exact}
 use Rattle.tm_reassembly.proofs.Seen.{AllSeen}
 use Rattle.tm_reassembly.proofs.OneStep.{valid-from, after-nil, after-one, after-bad, after-other}
-use Rattle.tm_reassembly.proofs.Records.{items-cons, after-cons}
+use Rattle.tm_reassembly.proofs.Records.{good-items, items-cons, after-cons, own_items}
 
 -- ---- reading
 
@@ -35,20 +34,11 @@ one-more records (Ok all) =
     ap (λ (n : ℕ). Ok (record { state = record { records = records; master = None; channels = all.kept }; octets = n })) more
 one-more records (Err found) = refl
 
-new-form : (rules : Rules) (w x y z : ℕ) (b : List ℕ) → state_decoding_of rules (w ∷ x ∷ y ∷ z ∷ 0 ∷ b)
-    ≡ with_channels (four_at (w ∷ x ∷ y ∷ z ∷ b) 0) None 5 (blocks_read rules (four_at (w ∷ x ∷ y ∷ z ∷ b) 0) 8 0 b)
-unfolding state_decoding_of master_read
-new-form rules w x y z b = cond-false (ltb (length (w ∷ x ∷ y ∷ z ∷ 0 ∷ b)) 4) _ _ (le-ltb (length (w ∷ x ∷ y ∷ z ∷ 0 ∷ b)) 4 (omega arith))
-
-old-form : (rules : Rules) (w x y z : ℕ) (b : List ℕ) → old_decoding_of rules (w ∷ x ∷ y ∷ z ∷ b)
-    ≡ with_channels (four_at (w ∷ x ∷ y ∷ z ∷ b) 0) None 4 (blocks_read rules (four_at (w ∷ x ∷ y ∷ z ∷ b) 0) 8 0 b)
-unfolding old_decoding_of
-old-form rules w x y z b = cond-false (ltb (length (w ∷ x ∷ y ∷ z ∷ b)) 4) _ _ (le-ltb (length (w ∷ x ∷ y ∷ z ∷ b)) 4 (omega arith))
-
 -- with a 0 put in behind the number of records, the newer form reads what the older one reads without
 pub one-form : (rules : Rules) (a b : List ℕ) → length a ≡ 4 → state_decoding_of rules (a ++ 0 ∷ b) ≡ one_octet_more (old_decoding_of rules (a ++ b))
+unfolding state_decoding_of old_decoding_of master_read
 one-form rules (w ∷ x ∷ y ∷ z ∷ []) b h =
-    new-form rules w x y z b ∙ one-more (four_at (w ∷ x ∷ y ∷ z ∷ b) 0) _ ∙ sym (ap one_octet_more (old-form rules w x y z b))
+    rw (le-ltb (length (w ∷ x ∷ y ∷ z ∷ 0 ∷ b)) 4 (omega arith), le-ltb (length (w ∷ x ∷ y ∷ z ∷ b)) 4 (omega arith)) (one-more (four_at (w ∷ x ∷ y ∷ z ∷ b) 0) _)
 one-form rules a b h = absurd (omega arith)
 
 -- ---- items
@@ -66,15 +56,9 @@ module _ (limit : ℕ) (chosen : ℕ → Bool) where
   within s all k [] = tt
   within s all k (r ∷ rs) =
       Each-append (λ x. (k ≤ seen_of x) × (seen_of x < k + length (r ∷ rs))) (record_items limit chosen s all k r) (merged limit chosen s all (k + 1) rs)
-      (Each-weaken (λ x. seen_of x ≡ k) (λ x. (k ≤ seen_of x) × (seen_of x < k + length (r ∷ rs))) _ (λ x e. (omega arith, omega arith)) (one r))
+      (Each-weaken (λ x. seen_of x ≡ k) (λ x. (k ≤ seen_of x) × (seen_of x < k + length (r ∷ rs))) _ (λ x e. (omega arith, omega arith)) (record-exact limit chosen s all k r))
       (Each-weaken (λ x. (k + 1 ≤ seen_of x) × (seen_of x < (k + 1) + length rs)) (λ x. (k ≤ seen_of x) × (seen_of x < k + length (r ∷ rs))) _
       (λ x e. let a = e.0 in let b = e.1 in (omega arith, omega arith)) (within s all (k + 1) rs))
-    where
-      one : (q : Reading) → AllSeen (λ n. n ≡ k) (record_items limit chosen s all k q)
-      one (Err fault) = (refl, tt)
-      one (Ok g) =
-          Each-append (λ x. seen_of x ≡ k) (seen_at k (master_items (master_chain s all))) _ (seen-exact k (master_items (master_chain s all)))
-          (Each-cond (λ x. seen_of x ≡ k) (chosen g.channel) _ (λ e. seen-exact k (channel_items limit g.channel (chain s g.channel all))))
 
   -- the states after records: the same, or different in the master channel count alone, no good frame having come
   abbrev StatesMeet : State → State → List Item → List Item → Type 0
@@ -84,27 +68,6 @@ module _ (limit : ℕ) (chosen : ℕ → Bool) where
     the_items : LacksFirstGap s rs (items_of_readings limit chosen s rs) (items_of_readings limit chosen (without_master s) rs)
     the_states : StatesMeet (state_after_readings limit chosen s rs) (state_after_readings limit chosen (without_master s) rs) (items_of_readings limit chosen s rs) (items_of_readings limit chosen (without_master s) rs)
     without_first : (later : List Reading) → items_of_readings limit chosen (without_master s) rs ≡ without_gaps_at (first_good_record s.records (rs ++ later)) (items_of_readings limit chosen s rs)
-
-  -- one good frame: its own items behind its master gap
-  own : State → GoodFrame → List Item
-  own s g = if chosen g.channel then seen_at s.records (channel_items limit g.channel (chain s g.channel (Ok g ∷ []))) else []
-
-  good-items : (s : State) (g : GoodFrame) → items_of_readings limit chosen s (Ok g ∷ []) ≡ gap_at master_gap_item s.master (master_member s.records g) ++ own s g
-  unfolding own
-  good-items s g =
-      append-nil (record_items limit chosen s (Ok g ∷ []) s.records (Ok g)) ∙ ap (λ (xs : List Item). xs ++ own s g) (masters-now s g [])
-
-  -- which don't rest on the last master channel count
-  own-same : (s : State) (g : GoodFrame) → own (without_master s) g ≡ own s g
-  unfolding own
-  own-same s g = refl
-
-  own-none : (s : State) (g : GoodFrame) → Each (λ x. is_master_gap x ≡ false) (own s g)
-  unfolding own
-  own-none s g =
-      Each-cond (λ x. is_master_gap x ≡ false) (chosen g.channel) _
-      (λ p. Each-weaken (λ x. is_of g.channel x ≡ true) (λ x. is_master_gap x ≡ false) _ (not_master g.channel)
-      (Each-filter (λ x. is_of g.channel x ≡ true) (λ x. eqb (seen_of x) s.records) _ (channel-of limit g.channel (chain s g.channel (Ok g ∷ [])))))
 
   -- the gap is left out
   gap-left : (s : State) (g : GoodFrame) → without_gaps_at (s.records ∷ []) (gap_at master_gap_item s.master (master_member s.records g)) ≡ []
@@ -161,24 +124,24 @@ module _ (limit : ℕ) (chosen : ℕ → Bool) where
       let left : State = state_after_readings limit chosen s (Ok g ∷ []) in
       let behind : List Item = items_of_readings limit chosen left rs in
       let gap : List Item = gap_at master_gap_item s.master (master_member s.records g) in
-      let a : items_of_readings limit chosen s (Ok g ∷ rs) ≡ gap ++ (own s g ++ behind) =
+      let a : items_of_readings limit chosen s (Ok g ∷ rs) ≡ gap ++ (own_items limit chosen s g ++ behind) =
       items-cons limit chosen s (Ok g) (valid-from limit chosen s v) fits.0 rs fits.1
-      ∙ ap (λ (xs : List Item). xs ++ behind) (good-items s g) ∙ append_assoc gap (own s g) behind in
-      let b : items_of_readings limit chosen (without_master s) (Ok g ∷ rs) ≡ own s g ++ behind =
+      ∙ ap (λ (xs : List Item). xs ++ behind) (good-items limit chosen s g) ∙ append_assoc gap (own_items limit chosen s g) behind in
+      let b : items_of_readings limit chosen (without_master s) (Ok g ∷ rs) ≡ own_items limit chosen s g ++ behind =
       items-cons limit chosen (without_master s) (Ok g) (valid-from limit chosen (without_master s) w) fits.0 rs fits.1
       ∙ ap (λ (z : State). items_of_readings limit chosen (without_master s) (Ok g ∷ []) ++ items_of_readings limit chosen z rs) same
-      ∙ ap (λ (xs : List Item). xs ++ behind) (good-items (without_master s) g ∙ own-same s g) in
+      ∙ ap (λ (xs : List Item). xs ++ behind) (good-items limit chosen (without_master s) g) in
       let here : List ℕ = s.records ∷ [] in
-      let kept : without_gaps_at here (gap ++ (own s g ++ behind)) ≡ own s g ++ behind =
-      without-append here gap (own s g ++ behind)
-      ∙ ap (λ (xs : List Item). xs ++ without_gaps_at here (own s g ++ behind)) (gap-left s g)
-      ∙ without-none here (own s g ++ behind)
-      (Each-append (λ x. is_gap_at here x ≡ false) (own s g) behind
-      (Each-weaken (λ x. is_master_gap x ≡ false) (λ x. is_gap_at here x ≡ false) (own s g) (no-gap here) (own-none s g))
+      let kept : without_gaps_at here (gap ++ (own_items limit chosen s g ++ behind)) ≡ own_items limit chosen s g ++ behind =
+      without-append here gap (own_items limit chosen s g ++ behind)
+      ∙ ap (λ (xs : List Item). xs ++ without_gaps_at here (own_items limit chosen s g ++ behind)) (gap-left s g)
+      ∙ without-none here (own_items limit chosen s g ++ behind)
+      (Each-append (λ x. is_gap_at here x ≡ false) (own_items limit chosen s g) behind
+      (Each-weaken (λ x. is_master_gap x ≡ false) (λ x. is_gap_at here x ≡ false) (own_items limit chosen s g) (no-gap here) (own-none limit chosen s g))
       (Each-weaken (λ x. (s.records + 1 ≤ seen_of x) × (seen_of x < (s.records + 1) + length rs)) (λ x. is_gap_at here x ≡ false) behind
       (λ x h. not-there s.records x (λ e. let low = h.0 in omega arith)) (within left rs (s.records + 1) rs))) in
       record {
-        the_items = record { back = own s g ++ behind; all_is = a; fewer_is = b };
+        the_items = record { back = own_items limit chosen s g ++ behind; all_is = a; fewer_is = b };
         the_states =
             inl
             (after-cons limit chosen (without_master s) (Ok g) (valid-from limit chosen (without_master s) w) fits.0 rs

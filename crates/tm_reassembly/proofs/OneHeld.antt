@@ -1,10 +1,10 @@
 -- At the end of a chain at most one part is held.
 use Rattle.std.proofs.lemmas.Option.{none-some}
-use Rattle.std.proofs.Common.{◌≡◌, ℕ, suc, zero, pred, ◌+◌, ◌<◌, ◌≤◌, ◌⊎◌, Bool, true, false, if◌then◌else◌, Option, Some, None, List, [], ◌∷◌, ◌++◌, map, length, refl, sym, ap, subst, ◌∙◌, ⊎_elim, inl, inr, arith, length-append, ltb, leb}
+use Rattle.std.proofs.Common.{◌≡◌, ℕ, suc, zero, pred, ◌+◌, ◌<◌, ◌≤◌, ◌⊎◌, Bool, true, false, Option, Some, None, List, [], ◌∷◌, ◌++◌, map, length, refl, sym, ap, subst, ◌∙◌, ⊎_elim, inl, inr, arith, length-append, ltb, leb}
 use Rattle.std.specs.List.{flat_map}
 use Rattle.std.proofs.lemmas.List.{append-nil}
 use Rattle.std.proofs.lemmas.List.Concat.{flat_map-append}
-use Rattle.std.proofs.lemmas.Bool.{cases_Bool, cases_lt, cond_both, cond-true, cond-false, lt-ltb, leb-false}
+use Rattle.std.proofs.lemmas.Bool.{cases_Bool, cases_lt, cond_both, lt-ltb, leb-false}
 use Rattle.tm_items.specs.declared.items.Reason.TheVariants as why
 use Rattle.tm_items.specs.declared.items.Reason.{Reason}
 use Rattle.tm_reassembly.specs.State.{Tail}
@@ -12,7 +12,7 @@ use Rattle.tm_reassembly.specs.Chain.{ChainMember, Run, Runs, End, Unended, Ende
 use Rattle.tm_reassembly.specs.Parts.{Part, Claim, Start, text, far_end, begins_packet, agrees, breaker, starts, starts_from, starts_of, fate_at, packet_part, part_from, start_part, claims, lead, lead_part, reason_at, front_of, parts_from, parts}
 use Rattle.tm_items.specs.OnePacket.{packet_length}
 use Rattle.tm_reassembly.specs.Items.{held_part, chain_parts}
-use Rattle.tm_reassembly.proofs.Split.{start_at, starts-next, starts-last, starts-unfinished, start_part-whole}
+use Rattle.tm_reassembly.proofs.Split.{start_at, starts-last, starts-unfinished, start_part-whole}
 use Rattle.tm_reassembly.proofs.OneOpen.{no-starts}
 
 abbrev tails : List Part → List Tail
@@ -51,14 +51,13 @@ module _ (limit : ℕ) where
   stays-alone far at [] h past before end = refl
   stays-alone far at (m ∷ later) h past before end =
       let len : length (m.field ++ text later) ≡ length m.field + length (text later) = length-append m.field (text later) in
-      let here : breaker limit far at (m ∷ later) ≡ (if agrees limit far at m then breaker limit far (at + length m.field) later else Some m) =
-      cond-true (ltb at far) _ _ (lt-ltb at far (omega arith)) in
+      let there : ltb at far ≡ true = lt-ltb at far (omega arith) in
       ⊎_elim
-      (λ agree.
+      (λ (agree : agrees limit far at m ≡ true).
       split-tails before m later end
-      ∙ ap (λ (ss : List Start). tails (map (start_part limit m later end) ss) ++ tails (parts_from limit (before ++ m ∷ []) later end)) (no-starts limit far at m agree (omega arith))
-      ∙ stays-alone far (at + length m.field) later (sym (cond-true (agrees limit far at m) _ _ agree) ∙ sym here ∙ h) (omega arith) (before ++ m ∷ []) end)
-      (λ differ. absurd (none-some m (sym h ∙ here ∙ cond-false (agrees limit far at m) _ _ differ)))
+      ∙ rw (no-starts limit far at m agree (omega arith))
+      (stays-alone far (at + length m.field) later (rw (there, agree) at h) (omega arith) (before ++ m ∷ []) end))
+      (λ (differ : agrees limit far at m ≡ false). absurd (none-some m (sym (rw (there, differ) at h))))
       (cases_Bool (agrees limit far at m))
 
   -- no tail, or one, of a start that stays
@@ -83,9 +82,7 @@ module _ (limit : ℕ) where
           cond_both (leb (far_end start later) (length (start ++ text later))) _ _ (λ (p : Part). OneTail (tails (p ∷ [])) later end)
           (λ v. inl refl)
           (λ v.
-          let past = leb-false (far_end start later) (length (start ++ text later)) v in
-          let len : length (start ++ text later) ≡ length start + length (text later) = length-append start (text later) in
-          by_end end (start, e, omega arith))
+          by_end end (start, e, omega (arith, leb-false (far_end start later) (length (start ++ text later)) v, length-append start (text later))))
 
   module _ (m : ChainMember) (later : List ChainMember) (end : End) where
     -- a frame's starts leave no tail, or its last one does
@@ -94,14 +91,11 @@ module _ (limit : ℕ) where
     starts-tails at (suc skip) (x ∷ xs) = starts-tails (at + 1) skip xs
     starts-tails at zero (x ∷ xs) =
         ⊎_elim
-        (λ p.
+        (λ (p : begins_packet limit (x ∷ xs) ≡ true).
         ⊎_elim
         (λ less. alone (starts-unfinished limit at x xs p less))
         (λ whole.
-        subst (λ (ss : List Start). OneTail (tails (map (start_part limit m later end) ss)) later end) (sym (starts-next limit at x xs p))
-        (subst (λ (q : Part). OneTail (tails (q ∷ map (start_part limit m later end) (starts limit (at + 1) (pred (packet_length (x ∷ xs))) xs))) later end)
-        (sym (start_part-whole limit m later end at (x ∷ xs) p whole))
-        (starts-tails (at + 1) (pred (packet_length (x ∷ xs))) xs)))
+        rw (start_part-whole limit m later end at (x ∷ xs) p whole, p) (starts-tails (at + 1) (pred (packet_length (x ∷ xs))) xs))
         (cases_lt (suc (length xs)) (packet_length (x ∷ xs))))
         (λ p. alone (starts-last limit at x xs p))
         (cases_Bool (begins_packet limit (x ∷ xs)))
@@ -123,12 +117,11 @@ module _ (limit : ℕ) where
       let rest : List Tail = tails (parts_from limit (before ++ m ∷ []) later end) in
       subst (λ (ts : List Tail). length ts ≤ 1) (sym (split-tails before m later end))
       (⊎_elim
-      (λ none. subst (λ (ts : List Tail). length (ts ++ rest) ≤ 1) (sym none) (run-tails (before ++ m ∷ []) later end))
+      (λ none. rw none (run-tails (before ++ m ∷ []) later end))
       (λ one.
       let s = one.2 in
       let nothing : rest ≡ [] = stays-alone (far_end s.0 later) (length s.0) later s.1 s.2 (before ++ m ∷ []) end in
-      subst (λ (ts : List Tail). length (own ++ ts) ≤ 1) (sym nothing)
-      (let same : length (own ++ []) ≡ length own = ap (λ (ts : List Tail). length ts) (append-nil own) in let l : length own ≡ 1 = one.0 in omega arith))
+      rw (nothing, append-nil own, one.0) (omega arith))
       (own-tails m later end))
 
   -- and none, if it is ended

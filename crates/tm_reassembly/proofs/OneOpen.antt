@@ -2,7 +2,7 @@
 use Rattle.std.proofs.Common.{◌≡◌, ℕ, suc, ◌+◌, ◌-◌, ◌<◌, ◌≤◌, ◌⊎◌, Bool, true, false, ◌&&◌, if◌then◌else◌, Option, Some, None, List, [], ◌∷◌, ◌++◌, length, refl, sym, ap, subst, ◌∙◌, ⊎_elim, inl, inr, arith, append_assoc, ltb}
 use Rattle.std.specs.List.{flat_map}
 use Rattle.std.proofs.lemmas.List.{append-nil}
-use Rattle.std.proofs.lemmas.Bool.{cases_Bool, cond-true, cond-false, ltb-true, eqb-true, and_parts}
+use Rattle.std.proofs.lemmas.Bool.{cases_Bool, ltb-true, eqb-true, and_parts}
 use Rattle.tm_reassembly.specs.Chain.{ChainMember}
 use Rattle.tm_reassembly.specs.Parts.{Claim, Start, text, far_end, begins_packet, open_after, agrees, agrees_at, claim, claims, starts_from, starts_of}
 use Rattle.tm_reassembly.specs.code.Field.{end_place_of, unfinished}
@@ -24,9 +24,9 @@ module _ (limit : ℕ) where
   last-one : (later : List ChainMember) (stop : ℕ) (u : List ℕ) → OpenTail limit u → length (flat_map (claim limit [] later) (last_start limit stop u)) ≤ 1
   last-one later stop [] h = omega arith
   last-one later stop (x ∷ xs) h =
+      let start : Start = start_at limit (stop - suc (length xs)) (x ∷ xs) in
       subst (λ (cs : List Claim). length cs ≤ 1)
-      (sym (ap (flat_map (claim limit [] later)) (starts-unfinished limit (stop - suc (length xs)) x xs h.0 h.1) ∙ append-nil (claim limit [] later (start_at limit (stop - suc (length xs)) (x ∷ xs)))))
-      (claim-one [] later (start_at limit (stop - suc (length xs)) (x ∷ xs)))
+      (sym (ap (flat_map (claim limit [] later)) (starts-unfinished limit start.place x xs h.0 h.1) ∙ append-nil (claim limit [] later start))) (claim-one [] later start)
 
   -- a frame leaves at most one of its own starts open
   own-one : (m : ChainMember) (later : List ChainMember) → length (own_claims limit m later) ≤ 1
@@ -44,21 +44,17 @@ module _ (limit : ℕ) where
       by_place : (v : Option ℕ) → agrees_at far at (length m.field) v ≡ true → starts_from limit m.base v m.field ≡ []
       by_place None e = refl
       by_place (Some place) e =
-          let same : far ≡ at + place = eqb-true far (at + place) e in
-          starts-past limit m.base place m.field (omega arith)
+          starts-past limit m.base place m.field (omega (arith, eqb-true far (at + place) e))
 
   -- and where an earlier start stays open past it, none
   step-one : (m : ChainMember) (later : List ChainMember) (c : Claim)
       → (step limit m c ≡ []) ⊎ ((length (step limit m c) ≡ 1) × (own_claims limit m later ≡ []))
   step-one m later c =
       ⊎_elim
-      (λ e.
+      (λ (e : (agrees limit c.far c.at m && ltb (c.at + length m.field) c.far) ≡ true).
       let both = and_parts (agrees limit c.far c.at m) (ltb (c.at + length m.field) c.far) e in
-      inr (
-        ap (λ (cs : List Claim). length cs) (cond-true (agrees limit c.far c.at m && ltb (c.at + length m.field) c.far) _ _ e),
-        ap (flat_map (claim limit [] later)) (no-starts c.far c.at m both.0 (ltb-true (c.at + length m.field) c.far both.1)),
-      ))
-      (λ e. inl (cond-false (agrees limit c.far c.at m && ltb (c.at + length m.field) c.far) _ _ e))
+      inr (rw e, ap (flat_map (claim limit [] later)) (no-starts c.far c.at m both.0 (ltb-true (c.at + length m.field) c.far both.1))))
+      (λ (e : (agrees limit c.far c.at m && ltb (c.at + length m.field) c.far) ≡ false). inl (rw e))
       (cases_Bool (agrees limit c.far c.at m && ltb (c.at + length m.field) c.far))
 
   step-all : (m : ChainMember) (later : List ChainMember) (cs : List Claim) → length cs ≤ 1 → length (flat_map (step limit m) cs ++ own_claims limit m later) ≤ 1
@@ -66,11 +62,9 @@ module _ (limit : ℕ) where
   step-all m later (c ∷ d ∷ cs) h = absurd (omega arith)
   step-all m later (c ∷ []) h =
       ⊎_elim
-      (λ e. subst (λ (s : List Claim). length ((s ++ []) ++ own_claims limit m later) ≤ 1) (sym e) (own-one m later))
-      (λ both.
-      subst (λ (o : List Claim). length ((step limit m c ++ []) ++ o) ≤ 1) (sym both.1)
-      (let len : length ((step limit m c ++ []) ++ []) ≡ length (step limit m c) = ap (λ (s : List Claim). length s) (append-nil (step limit m c ++ []) ∙ append-nil (step limit m c)) in
-      let one = both.0 in omega arith))
+      (λ (e : step limit m c ≡ []). rw e (own-one m later))
+      (λ (both : (length (step limit m c) ≡ 1) × (own_claims limit m later ≡ [])).
+      rw both.1 (omega (arith, ap length (append-nil (step limit m c ++ []) ∙ append-nil (step limit m c)), both.0)))
       (step-one m later c)
 
   one-more : (ms before later : List ChainMember) → length (claims limit before (ms ++ later)) ≤ 1 → length (claims limit (before ++ ms) later) ≤ 1

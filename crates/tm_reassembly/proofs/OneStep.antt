@@ -1,6 +1,6 @@
 -- One record: its items, and the state after it, said without looking ahead.
 use Rattle.std.proofs.lemmas.Option.{none-some, slice_get-get_or}
-use Rattle.std.proofs.Common.{◌≡◌, Ok, Err, ◌≢◌, ℕ, suc, zero, ◌+◌, ◌<◌, Bool, true, false, Option, Some, None, List, [], ◌∷◌, ◌++◌, map, length, set, refl, sym, ap, subst, ◌∙◌, ⊎_elim, arith, eqb, if◌then◌else◌}
+use Rattle.std.proofs.Common.{◌≡◌, Ok, Err, ◌≢◌, ℕ, suc, zero, ◌+◌, ◌<◌, Bool, true, false, Option, Some, None, List, [], ◌∷◌, ◌++◌, map, length, set, refl, sym, ap, ◌∙◌, ⊎_elim, arith, eqb}
 use Rattle.std.specs.List.{slice_get}
 use Rattle.std.proofs.lemmas.List.{append-nil, length-set}
 use Rattle.std.proofs.lemmas.Bool.{cases_Bool, cases_eq, eq-eqb, ne_eqb, cond-true, cond-false, both_ways}
@@ -9,15 +9,15 @@ use Rattle.tm_frame.specs.Frame.{GoodFrame, is_vca_kind}
 use Rattle.tm_frame.specs.declared.fault.FrameFault.{FrameFault}
 use Rattle.tm_reassembly.specs.Readings.{Reading}
 use Rattle.tm_items.specs.Item as item
-use Rattle.tm_reassembly.specs.Chain.{ChainMember, has_frame_gap, member, member_of, chain, master_member, master_stem}
+use Rattle.tm_reassembly.specs.Chain.{ChainMember, has_frame_gap, member, member_of, master_member, master_stem}
 use Rattle.tm_reassembly.specs.code.Field.{chain_tail_at}
 use Rattle.tm_rules.specs.Channels.{eight}
-use Rattle.tm_reassembly.specs.Items.{seen_at, channel_items, channel_after, state_after_readings, master_gap_item, gap_at, last_frame_count, record_items, items_of_readings, last_with}
+use Rattle.tm_reassembly.specs.Items.{seen_at, channel_after, state_after_readings, master_gap_item, gap_at, last_frame_count, items_of_readings, last_with}
 use Rattle.tm_reassembly.specs.Valid.{HasShape}
 use Rattle.tm_reassembly.proofs.Chained.{IsOpenTail}
-use Rattle.tm_reassembly.proofs.Masters.{master_after, masters-now, master-moved}
+use Rattle.tm_reassembly.proofs.Masters.{master_after, master-moved}
 use Rattle.tm_reassembly.proofs.Joining.{before_of, tail_of, member_items, items_after, channel_items-is, items-here}
-use Rattle.tm_reassembly.proofs.Records.{HasOpenTails, IsFit, at_eight, state_same, before-kept, tail-kept, before-moved, tail-moved, channel_after-is, tail_after-end}
+use Rattle.tm_reassembly.proofs.Records.{HasOpenTails, IsFit, at_eight, state_same, good-items, before-kept, tail-kept, before-moved, tail-moved, channel_after-is, tail_after-end}
 
 -- two lists with the same at each place
 ext_get : {A : Type 0} (xs ys : List A) → length xs ≡ length ys → ((c : ℕ) → c < length xs → slice_get xs c ≡ slice_get ys c) → xs ≡ ys
@@ -83,12 +83,9 @@ module _ (limit : ℕ) where
       at_eight (channel_after limit chosen s []) c small
       ∙ ⊎_elim
       (λ e.
-      ap (λ (x : Option Last). Some x)
-      (channel_after-is limit chosen s [] c e
-      ∙ ap (λ (t : Option Tail). last_with t (before_of (slice_get s.channels c)))
-      (tail_after-end limit (before_of (slice_get s.channels c)) (tail_of (slice_get s.channels c)) (valid.tails_open c small e)))
-      ∙ kept_again (slice_get s.channels c) (there_is s.channels c (rw v.eight_channels small)))
-      (λ e. ap (λ (x : Option Last). Some x) (cond-false (chosen c) _ _ e) ∙ sym (v.only_chosen c e small))
+      rw (channel_after-is limit chosen s [] c e, tail_after-end limit (before_of (slice_get s.channels c)) (tail_of (slice_get s.channels c)) (valid.tails_open c small e))
+      (kept_again (slice_get s.channels c) (there_is s.channels c (rw v.eight_channels small))))
+      (λ e. rw e (sym (v.only_chosen c e small)))
       (cases_Bool (chosen c))) in
       state_same (omega arith) (master-nil s.master) channels
     where
@@ -102,24 +99,16 @@ module _ (limit : ℕ) where
       ≡ gap_at master_gap_item s.master (master_member s.records g)
       ++ member_items limit g.channel (before_of (slice_get s.channels g.channel)) (tail_of (slice_get s.channels g.channel)) (member s.records g)
   items-one-valid chosen s g valid fit is_chosen =
-      let c : ℕ = g.channel in
       let m : ChainMember = member s.records g in
       let x : Option (Option Last) = slice_get s.channels g.channel in
       let one : member_of g.channel s.records (Ok g) ≡ member s.records g ∷ [] =
       cond-true (eqb g.channel g.channel) (member s.records g ∷ []) [] (eq-eqb g.channel g.channel refl) in
-      append-nil (record_items limit chosen s (Ok g ∷ []) s.records (Ok g))
-      ∙ ap (λ (xs : List item.Item). xs ++ (if chosen g.channel then seen_at s.records (channel_items limit g.channel (chain s g.channel (Ok g ∷ []))) else [])) (masters-now s g [])
+      good-items limit chosen s g
       ∙ ap (λ (xs : List item.Item). gap_at master_gap_item s.master (master_member s.records g) ++ xs)
       (cond-true (chosen g.channel) _ _ is_chosen
       ∙ ap (seen_at s.records) (channel_items-is limit g.channel x (member_of g.channel s.records (Ok g) ++ []))
       ∙ ap (λ (ms : List ChainMember). seen_at s.records (items_after limit g.channel (before_of x) (tail_of x) (ms ++ []))) one
       ∙ items-here limit g.channel (before_of x) (tail_of x) m [] (valid.tails_open g.channel fit.0 is_chosen) fit.1 tt)
-
-  pub items-one : (chosen : ℕ → Bool) (s : State) (g : GoodFrame) → HasShape limit chosen s → IsFit (Ok g) → chosen g.channel ≡ true
-      → items_of_readings limit chosen s (Ok g ∷ [])
-      ≡ gap_at master_gap_item s.master (master_member s.records g)
-      ++ member_items limit g.channel (before_of (slice_get s.channels g.channel)) (tail_of (slice_get s.channels g.channel)) (member s.records g)
-  items-one chosen s g v fit is_chosen = items-one-valid chosen s g (valid-from chosen s v) fit is_chosen
 
   -- a channel stays as it is where a record has no frame for it, and so does one that isn't chosen
   kept-at : (chosen : ℕ → Bool) (s : State) (r : Reading) → HasShape limit chosen s → IsFit r → (c : ℕ) → c < 8 → (chosen c ≡ true → member_of c s.records r ≡ [])
@@ -133,54 +122,44 @@ module _ (limit : ℕ) where
       same_view (slice_get (map (channel_after limit chosen s (r ∷ [])) eight) c) (slice_get s.channels c)
       (λ z. none-some _ (sym z ∙ there)) (there_is s.channels c (rw v.eight_channels small))
       (before-kept limit chosen s r valid fit c small e (none e)) (tail-kept limit chosen s r valid fit c small e (none e)))
-      (λ e. there ∙ ap (λ (x : Option Last). Some x) (cond-false (chosen c) _ _ e) ∙ sym (v.only_chosen c e small))
+      (λ e. there ∙ rw e (sym (v.only_chosen c e small)))
       (cases_Bool (chosen c))
 
   -- the state after it: the channel's count and tail, and all else as before
+  abbrev pub last_moved : State → GoodFrame → Last
+  last_moved s g = record {
+    count = g.count;
+    tail = chain_tail_at limit (has_frame_gap (before_of (slice_get s.channels g.channel)) (member s.records g)) (is_vca_kind g.kind)
+        (tail_of (slice_get s.channels g.channel)) (member s.records g);
+  }
+
   pub after-one : (chosen : ℕ → Bool) (s : State) (g : GoodFrame) → HasShape limit chosen s → IsFit (Ok g) → chosen g.channel ≡ true
       → state_after_readings limit chosen s (Ok g ∷ [])
-      ≡ record {
-        records = s.records + 1;
-        master = Some g.master_count;
-        channels = set s.channels g.channel
-            (Some (record {
-              count = g.count;
-              tail = chain_tail_at limit (has_frame_gap (before_of (slice_get s.channels g.channel)) (member s.records g)) (is_vca_kind g.kind)
-                  (tail_of (slice_get s.channels g.channel)) (member s.records g);
-            }));
-      }
+      ≡ record { records = s.records + 1; master = Some g.master_count; channels = set s.channels g.channel (Some (last_moved s g)) }
   after-one chosen s g v fit is_chosen =
       state_same (omega arith) (master-moved s (Ok g))
-      (ext_get (map (channel_after limit chosen s (Ok g ∷ [])) eight) (set s.channels g.channel (Some kept))
-      (sym v.eight_channels ∙ sym (length-set s.channels g.channel (Some kept)))
+      (ext_get (map (channel_after limit chosen s (Ok g ∷ [])) eight) (set s.channels g.channel (Some (last_moved s g)))
+      (sym v.eight_channels ∙ sym (length-set s.channels g.channel (Some (last_moved s g))))
       (λ c small. ⊎_elim (at_it c small) (other c small) (cases_eq c g.channel)))
     where
-      kept : Last
-      kept = record {
-        count = g.count;
-        tail = chain_tail_at limit (has_frame_gap (before_of (slice_get s.channels g.channel)) (member s.records g)) (is_vca_kind g.kind)
-            (tail_of (slice_get s.channels g.channel)) (member s.records g);
-      }
-
       valid : HasOpenTails limit chosen s
       valid = valid-from chosen s v
 
       at_it : (c : ℕ) → c < 8 → c ≡ g.channel
-          → slice_get (map (channel_after limit chosen s (Ok g ∷ [])) eight) c ≡ slice_get (set s.channels g.channel (Some kept)) c
+          → slice_get (map (channel_after limit chosen s (Ok g ∷ [])) eight) c ≡ slice_get (set s.channels g.channel (Some (last_moved s g))) c
       at_it c small e =
-          subst (λ (k : ℕ). slice_get (map (channel_after limit chosen s (Ok g ∷ [])) eight) k ≡ slice_get (set s.channels g.channel (Some kept)) k) (sym e)
-          (let one : member_of g.channel s.records (Ok g) ≡ member s.records g ∷ [] =
+          rw e (let one : member_of g.channel s.records (Ok g) ≡ member s.records g ∷ [] =
           cond-true (eqb g.channel g.channel) (member s.records g ∷ []) [] (eq-eqb g.channel g.channel refl) in
-          from_view (slice_get (map (channel_after limit chosen s (Ok g ∷ [])) eight) g.channel) g.count kept.tail
+          from_view (slice_get (map (channel_after limit chosen s (Ok g ∷ [])) eight) g.channel) g.count (last_moved s g).tail
           (before-moved limit chosen s (Ok g) valid fit g.channel fit.0 is_chosen (member s.records g) one fit.1)
           (tail-moved limit chosen s (Ok g) valid fit g.channel fit.0 is_chosen (member s.records g) one fit.1)
-          ∙ sym (get_set-same s.channels g.channel (Some kept) (rw v.eight_channels fit.0)))
+          ∙ sym (get_set-same s.channels g.channel (Some (last_moved s g)) (rw v.eight_channels fit.0)))
 
       other : (c : ℕ) → c < 8 → (c ≡ g.channel → ⊥)
-          → slice_get (map (channel_after limit chosen s (Ok g ∷ [])) eight) c ≡ slice_get (set s.channels g.channel (Some kept)) c
+          → slice_get (map (channel_after limit chosen s (Ok g ∷ [])) eight) c ≡ slice_get (set s.channels g.channel (Some (last_moved s g))) c
       other c small ne =
           kept-at chosen s (Ok g) v fit c small (λ e. cond-false (eqb g.channel c) _ _ (ne_eqb g.channel c (λ z. ne (sym z))))
-          ∙ sym (get_set-other s.channels g.channel c (Some kept) ne)
+          ∙ sym (get_set-other s.channels g.channel c (Some (last_moved s g)) ne)
 
   -- a record that has no frame of a chosen channel leaves all channels as they are
   channels-kept : (chosen : ℕ → Bool) (s : State) (r : Reading) → HasShape limit chosen s → IsFit r
@@ -198,10 +177,7 @@ module _ (limit : ℕ) where
   -- a good frame of a channel that isn't chosen
   pub items-other : (chosen : ℕ → Bool) (s : State) (g : GoodFrame) → chosen g.channel ≡ false → items_of_readings limit chosen s (Ok g ∷ []) ≡ gap_at master_gap_item s.master (master_member s.records g)
   items-other chosen s g e =
-      append-nil (record_items limit chosen s (Ok g ∷ []) s.records (Ok g))
-      ∙ ap (λ (xs : List item.Item). xs ++ (if chosen g.channel then seen_at s.records (channel_items limit g.channel (chain s g.channel (Ok g ∷ []))) else [])) (masters-now s g [])
-      ∙ ap (λ (xs : List item.Item). gap_at master_gap_item s.master (master_member s.records g) ++ xs) (cond-false (chosen g.channel) _ _ e)
-      ∙ append-nil (gap_at master_gap_item s.master (master_member s.records g))
+      good-items limit chosen s g ∙ rw e (append-nil (gap_at master_gap_item s.master (master_member s.records g)))
 
   pub after-other : (chosen : ℕ → Bool) (s : State) (g : GoodFrame) → HasShape limit chosen s → IsFit (Ok g) → chosen g.channel ≡ false
       → state_after_readings limit chosen s (Ok g ∷ []) ≡ record { records = s.records + 1; master = Some g.master_count; channels = s.channels }

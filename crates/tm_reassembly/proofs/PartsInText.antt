@@ -1,31 +1,28 @@
 -- Where a packet ends or is broken off, and the parts that starts become, with places in the text.
 use Rattle.std.proofs.lemmas.Option.{none-some, same_Some}
 use Rattle.tm_reassembly.proofs.Split.{holder-settled}
-use Rattle.std.proofs.Common.{◌≡◌, ℕ, ◌+◌, ◌-◌, Bool, true, false, ◌&&◌, Option, Some, None, List, [], ◌∷◌, ◌++◌, length, take, drop, refl, sym, ap, ◌∙◌, ⊎_elim, arith, ◌<◌, ◌≤◌, length-append, leb, ltb}
+use Rattle.std.proofs.Common.{◌≡◌, ℕ, ◌+◌, ◌-◌, Bool, true, false, ◌&&◌, Option, Some, None, List, [], ◌∷◌, ◌++◌, length, take, refl, ap, ◌∙◌, ⊎_elim, arith, ◌<◌, ◌≤◌, length-append, leb, ltb}
 use Rattle.std.specs.Prelude.{is_none}
-use Rattle.std.specs.List.{slice_range}
-use Rattle.std.proofs.Math.Seq.{take-append_seam, take-append-add, take-length}
+use Rattle.std.proofs.Math.Seq.{drop-append_seam, take-append_seam, take-append-add, take-length}
 use Rattle.std.proofs.lemmas.List.Concat.{flat_map-append}
-use Rattle.std.proofs.lemmas.Bool.{cases_Bool, cond-true, cond-false, lt-ltb, and_right, and_from, and_parts, both_ways, lt-leb}
+use Rattle.std.proofs.lemmas.Bool.{cases_Bool, cond-true, lt-ltb, and_from, and_parts, both_ways, false_from_ne_true, lt-leb}
 use Rattle.tm_items.specs.declared.items.Reason.TheVariants as why
 use Rattle.tm_reassembly.specs.Chain.{ChainMember, End}
-use Rattle.tm_reassembly.specs.Parts.{Part, Fate, Given, Lost, Start, text, far_end, is_long, begins_packet, reason_at, unread_reason, agrees_at, broken_part, start_part, packet_part, fate_at, agrees, open_after, joined, breaker, holder}
+use Rattle.tm_reassembly.specs.Parts.{Part, Fate, Given, Lost, text, is_long, begins_packet, reason_at, unread_reason, agrees_at, fate_at, agrees, open_after, joined, breaker, holder}
 use Rattle.tm_items.specs.OnePacket.{packet_length, is_packet}
-use Rattle.tm_reassembly.specs.Absolute.{packet_length_at, IsVersionZero, IsLong, BeginsPacket, AgreesAt, Agrees, IsOpen, IsWhole, LiesAfter, part_at}
+use Rattle.tm_reassembly.specs.Absolute.{packet_length_at, frame_begin, frame_end, IsVersionZero, BeginsPacket, StartInRun, text_with, place_of_start, far_of_start, frames_up_to, start_of, part_of_start, part_up_to, part_in_frame, part_before, IsLongUpTo, IsOpenBehind, GoesOnByPlace, GoesOnWith, IsWholeIn}
 use Rattle.tm_reassembly.proofs.Long.{begins-zero, begins-short}
 use Rattle.tm_items.specs.declared.items.Reason.{Reason}
-use Rattle.tm_reassembly.proofs.Places.{drop-place, none-from, open-to, unbroken-from, text_split, text-length, begins-at, ends-at, place-at, agreement-at, own-long-at, zero-to, zero-from, begins-from, open-at, whole-at}
+use Rattle.tm_reassembly.proofs.Places.{none-from, open-to, unbroken-from, text_split, text-length, begins-at, ends-at, place-at, agreement-at, own-long-at, zero-at, packet-begins, open-at, whole-at}
 
 -- a packet is seen at the record that holds its last octet
 pub holder-is : (far at number : ℕ) (between more : List ChainMember) (m : ChainMember)
     → at + length (text between) < far → far ≤ (at + length (text between)) + length m.field
     → holder far at number (between ++ m ∷ more) ≡ m.number
-holder-is far at number [] more m h k =
-    cond-false (leb far at) _ _ (lt-leb far at (omega arith)) ∙ holder-settled far (at + length m.field) m.number more (omega arith)
+holder-is far at number [] more m h k = rw (lt-leb far at (omega arith)) (holder-settled far (at + length m.field) m.number more (omega arith))
 holder-is far at number (f ∷ between) more m h k =
     let len : length (f.field ++ text between) ≡ length f.field + length (text between) = length-append f.field (text between) in
-    cond-false (leb far at) _ _ (lt-leb far at (omega arith))
-    ∙ holder-is far (at + length f.field) f.number between more m (omega arith) (omega arith)
+    rw (lt-leb far at (omega arith)) (holder-is far (at + length f.field) f.number between more m (omega arith) (omega arith))
 
 module _ (limit : ℕ) where
   -- the frame that breaks a start off: the start is open there, the frame doesn't agree, and those between are the ones that joined
@@ -38,30 +35,20 @@ module _ (limit : ℕ) where
   breaker-is far at [] m h = absurd (none-some m h)
   breaker-is far at (f ∷ later) m h =
       ⊎_elim
-      (λ past.
+      (λ (past : ltb at far ≡ true).
       ⊎_elim
-      (λ agree.
-      let rest = breaker-is far (at + length f.field) later m (sym (cond-true (ltb at far) _ _ past ∙ cond-true (agrees limit far at f) _ _ agree) ∙ h) in
-      let len : length (f.field ++ text rest.0) ≡ length f.field + length (text rest.0) = length-append f.field (text rest.0) in (
-        f ∷ rest.0,
-        rest.1,
-        ap (λ (ms : List ChainMember). f ∷ ms) rest.2,
-        and_from (agrees limit far at f) _ agree rest.3,
-        ap (λ (k : ℕ). agrees limit far k m) (omega arith) ∙ rest.4,
-        cond-true (ltb at far && agrees limit far at f) _ _ (and_from (ltb at far) (agrees limit far at f) past agree) ∙ ap (λ (ms : List ChainMember). f ∷ ms) rest.5,
-      ))
-      (λ differ.
-      let same : f ≡ m = same_Some f m (sym (cond-true (ltb at far) _ _ past ∙ cond-false (agrees limit far at f) _ _ differ) ∙ h) in
-      let z : at + 0 ≡ at = omega arith in (
-        [],
-        later,
-        ap (λ (x : ChainMember). x ∷ later) same,
-        past,
-        ap (λ (k : ℕ). agrees limit far k m) z ∙ ap (agrees limit far at) (sym same) ∙ differ,
-        cond-false (ltb at far && agrees limit far at f) _ _ (and_right (ltb at far) (agrees limit far at f) differ),
-      ))
+      (λ (agree : agrees limit far at f ≡ true).
+      let rest = breaker-is far (at + length f.field) later m (rw (past, agree) at h) in
+      let more = λ (ms : List ChainMember). f ∷ ms in
+      let len : length (f.field ++ text rest.0) ≡ length f.field + length (text rest.0) = length-append f.field (text rest.0) in
+      let there : at + length (f.field ++ text rest.0) ≡ (at + length f.field) + length (text rest.0) = omega arith in
+      (f ∷ rest.0, rest.1, ap more rest.2, and_from (agrees limit far at f) _ agree rest.3, rw there rest.4, cond-true (ltb at far && agrees limit far at f) _ _ (and_from (ltb at far) _ past agree) ∙ ap more rest.5))
+      (λ (differ : agrees limit far at f ≡ false).
+      let same : f ≡ m = same_Some f m (rw differ at (rw past at h)) in
+      let z : at + 0 ≡ at = omega arith in
+      ([], later, ap (λ (x : ChainMember). x ∷ later) same, past, rw (z, ← same) differ, rw (past, differ)))
       (cases_Bool (agrees limit far at f)))
-      (λ past. absurd (none-some m (sym (cond-false (ltb at far) _ _ past) ∙ h)))
+      (λ (past : ltb at far ≡ false). absurd (none-some m (rw past at h)))
       (cases_Bool (ltb at far))
 
   -- a start is broken off at the first frame that doesn't agree with it
@@ -69,174 +56,115 @@ module _ (limit : ℕ) where
       → agrees limit far (at + length (text between)) m ≡ false
       → (breaker limit far at (between ++ m ∷ more) ≡ Some m) × (joined limit far at (between ++ m ∷ more) ≡ between)
   breaks-off far at [] more m o a =
-      let z : at ≡ at + 0 = omega arith in
-      let differ : agrees limit far at m ≡ false = ap (λ (k : ℕ). agrees limit far k m) z ∙ a in (
-        cond-true (ltb at far) _ _ o ∙ cond-false (agrees limit far at m) _ _ differ,
-        cond-false (ltb at far && agrees limit far at m) _ _ (and_right (ltb at far) (agrees limit far at m) differ),
-      )
+      let z : at + 0 ≡ at = omega arith in
+      let differ : agrees limit far at m ≡ false = rw z at a in
+      (rw (o, differ), rw (o, differ))
   breaks-off far at (f ∷ between) more m o a =
       let both = and_parts (agrees limit far at f) (open_after limit far (at + length f.field) between) o in
       let past = open-to limit far (at + length f.field) between both.1 in
-      let reaches : ltb at far ≡ true = lt-ltb at far (let p = past.0 in omega arith) in
+      let reaches : ltb at far ≡ true = lt-ltb at far (omega (arith, past.0)) in
       let len : length (f.field ++ text between) ≡ length f.field + length (text between) = length-append f.field (text between) in
-      let rest = breaks-off far (at + length f.field) between more m both.1 (ap (λ (k : ℕ). agrees limit far k m) (omega arith) ∙ a) in (
-        cond-true (ltb at far) _ _ reaches ∙ cond-true (agrees limit far at f) _ _ both.0 ∙ rest.0,
-        cond-true (ltb at far && agrees limit far at f) _ _ (and_from (ltb at far) (agrees limit far at f) reaches both.0)
-            ∙ ap (λ (ms : List ChainMember). f ∷ ms) rest.1,
-      )
+      let rest = breaks-off far (at + length f.field) between more m both.1 (ap (λ (k : ℕ). agrees limit far k m) (omega arith) ∙ a) in
+      (rw (reaches, both.0) rest.0, rw (reaches, both.0) (ap (λ (ms : List ChainMember). f ∷ ms) rest.1))
 
-  module _ (before : List ChainMember) (f : ChainMember) (later : List ChainMember) (s : Start) (skipped : List ℕ) (lies : LiesAfter f s skipped) where
-    -- the text of the run, and the place of the start in it
-    abbrev all : List ℕ
-    all = text (before ++ f ∷ later)
+  module _ (p : StartInRun) (some : 0 < length p.octets) where
+    -- how many octets lie before the frame's end, and the octets of its packet that the text has
+    abbrev far : ℕ
+    far = far_of_start p
 
-    abbrev here : ℕ
-    here = length (text before) + length skipped
-
-    -- the text from the start on
-    slice-place : (n : ℕ) → slice_range all here (here + n) ≡ take n (s.octets ++ text later)
-    slice-place n =
-        let back : (here + n) - here ≡ n = omega arith in
-        ap (λ (k : ℕ). take k (drop here all)) back
-        ∙ ap (λ (t : List ℕ). take n (drop here t)) (text_split limit before f skipped s.octets lies.0 later)
-        ∙ ap (λ (k : ℕ). take n (drop k ((text before ++ skipped) ++ (s.octets ++ text later)))) (sym (length-append (text before) skipped))
-        ∙ ap (take n) (drop-place (text before ++ skipped) (s.octets ++ text later))
+    abbrev octets : List ℕ
+    octets = p.octets ++ text p.later
 
     -- a part by how many octets it has
-    part-place : (stop n : ℕ) (octets : List ℕ) (fate : Fate) → stop ≡ here + n → take n (s.octets ++ text later) ≡ octets
-        → ◌≡◌ {A = Part} (record { first = f.number; place = s.place; octets = octets; fate = fate }) (part_at f s all here stop fate)
-    part-place stop n octets fate e h =
-        ap (λ (o : List ℕ). record { first = f.number; place = s.place; octets = o; fate = fate })
-        (sym (ap (slice_range all here) e ∙ slice-place n ∙ h))
+    part-place : (stop n : ℕ) (o : List ℕ) (fate : Fate) → stop ≡ place_of_start p + n → take n octets ≡ o
+        → ◌≡◌ {A = Part} (record { first = p.frame.number; place = (start_of p).place; octets = o; fate = fate }) (part_up_to p stop fate)
+    part-place stop n o fate e h =
+        let back : (place_of_start p + n) - place_of_start p ≡ n = omega arith in
+        rw (e, back, text_split limit p.before p.frame p.skipped p.octets p.field p.later, ← length-append (text p.before) p.skipped)
+        (rw (drop-append_seam (text p.before ++ p.skipped) octets, h))
 
     -- a start at which no packet is read: the rest of its frame
-    unread-by : (end : End) (r : Reason) → (begins_packet limit s.octets ≡ true → ⊥) → unread_reason s.octets ≡ r
-        → start_part limit f later end s ≡ part_at f s all here (length (text before) + length f.field) (Lost r f.number)
+    unread-by : (end : End) (r : Reason) → (begins_packet limit p.octets ≡ true → ⊥) → unread_reason p.octets ≡ r → part_of_start limit p end ≡ part_in_frame p r
     unread-by end r unread reason =
-        let size : length f.field ≡ length skipped + length s.octets = ap (λ (o : List ℕ). length o) lies.0 ∙ length-append skipped s.octets in
-        ⊎_elim
-        (λ packet. absurd (unread packet))
-        (λ other.
-        cond-false (begins_packet limit s.octets) _ _ other
-        ∙ ap (λ (z : Reason). record { first = f.number; place = s.place; octets = s.octets; fate = Lost z f.number }) reason
-        ∙ part-place (length (text before) + length f.field) (length s.octets) s.octets (Lost r f.number) (omega arith)
-        (take-append_seam s.octets (text later)))
-        (cases_Bool (begins_packet limit s.octets))
+        let size : length p.frame.field ≡ length p.skipped + length p.octets = ap (λ (o : List ℕ). length o) p.field ∙ length-append p.skipped p.octets in
+        rw (false_from_ne_true (begins_packet limit p.octets) unread, reason)
+        (part-place (frame_end p.before p.frame) (length p.octets) p.octets (Lost r p.frame.number) (omega arith) (take-append_seam p.octets (text p.later)))
 
     -- another version
-    pub unread-at : (end : End) → (IsVersionZero all here → ⊥)
-        → start_part limit f later end s ≡ part_at f s all here (length (text before) + length f.field) (Lost why.Version f.number)
+    pub unread-at : (end : End) → (IsVersionZero (text_with p) (place_of_start p) → ⊥) → part_of_start limit p end ≡ part_in_frame p why.Version
     unread-at end not_zero =
-        let no_packet : is_packet s.octets ≡ true → ⊥ = (λ zero. not_zero (zero-to limit before f skipped s.octets lies.0 lies.2 later zero)) in
-        unread-by end why.Version (λ packet. no_packet (begins-zero limit s.octets packet))
-        (⊎_elim (λ zero. absurd (no_packet zero)) (λ other. cond-false (is_packet s.octets) _ _ other) (cases_Bool (is_packet s.octets)))
+        let no_packet : is_packet p.octets ≡ true → ⊥ = (λ zero. not_zero ((zero-at limit p.before p.frame p.skipped p.octets p.field some p.later).0 zero)) in
+        unread-by end why.Version (λ packet. no_packet (begins-zero limit p.octets packet)) (rw (false_from_ne_true (is_packet p.octets) no_packet))
 
     -- a packet over the limit
-    pub unread_long-at : (end : End) → IsVersionZero all here → IsLong limit all here (length (text (before ++ f ∷ [])))
-        → start_part limit f later end s ≡ part_at f s all here (length (text before) + length f.field) (Lost why.Length f.number)
+    pub unread_long-at : (end : End) → IsVersionZero (text_with p) (place_of_start p) → IsLongUpTo limit p (frame_begin (frames_up_to p))
+        → part_of_start limit p end ≡ part_in_frame p why.Length
     unread_long-at end zero long =
-        let is : is_long limit (packet_length s.octets) (length s.octets) ≡ true = (own-long-at limit before f skipped s.octets lies.0 later).1 long in
-        unread-by end why.Length (λ packet. both_ways _ (begins-short limit s.octets packet) is)
-        (cond-true (is_packet s.octets) _ _ (zero-from limit before f skipped s.octets lies.0 lies.2 later zero))
-
-    -- a start of version 0, by the frame that breaks it off, if one does
-    packet-place : (end : End) → begins_packet limit s.octets ≡ true
-        → start_part limit f later end s
-        ≡ packet_part limit f.number s.place later end s.octets (far_end s.octets later) (breaker limit (far_end s.octets later) (length s.octets) later)
-    packet-place end packet = cond-true (begins_packet limit s.octets) _ _ packet
-
-    unbroken-place : (end : End) → begins_packet limit s.octets ≡ true → breaker limit (far_end s.octets later) (length s.octets) later ≡ None
-        → start_part limit f later end s ≡ packet_part limit f.number s.place later end s.octets (far_end s.octets later) None
-    unbroken-place end packet none =
-        packet-place end packet ∙ ap (packet_part limit f.number s.place later end s.octets (far_end s.octets later)) none
+        let is : is_long limit (packet_length p.octets) (length p.octets) ≡ true = (own-long-at limit p.before p.frame p.skipped p.octets p.field p.later).1 long in
+        unread-by end why.Length (λ packet. both_ways _ (begins-short limit p.octets packet) is)
+        (rw ((zero-at limit p.before p.frame p.skipped p.octets p.field some p.later).1 zero))
 
     -- a whole packet: the octets up to where it ends
-    pub packet-at : (end : End) → IsWhole limit all here (before ++ f ∷ []) later
-        → start_part limit f later end s
-        ≡ part_at f s all here (packet_length_at all here) (Given (holder (far_end s.octets later) (length s.octets) f.number later))
+    pub packet-at : (end : End) → IsWholeIn limit p
+        → part_of_start limit p end ≡ part_up_to p (packet_length_at (text_with p) (place_of_start p)) (Given (holder far (length p.octets) p.frame.number p.later))
     packet-at end whole =
-        let far : ℕ = far_end s.octets later in
-        let fits : Bool = leb (far_end s.octets later) (length (s.octets ++ text later)) in
-        let one = and_parts (begins_packet limit s.octets) (is_none (breaker limit far (length s.octets) later) && fits) ((whole-at limit before f skipped s.octets lies.0 lies.2 later).1 whole) in
-        let two = and_parts (is_none (breaker limit far (length s.octets) later)) fits one.1 in
-        unbroken-place end one.0 (none-from _ two.0)
-        ∙ cond-true (leb (far_end s.octets later) (length (s.octets ++ text later))) _ _ two.1
-        ∙ part-place (packet_length_at all here) far (take far (s.octets ++ text later)) (Given (holder far (length s.octets) f.number later))
-        (ends-at limit before f skipped s.octets lies.0 later) refl
+        let fits : Bool = leb far (length octets) in
+        let one = and_parts (begins_packet limit p.octets) (is_none (breaker limit far (length p.octets) p.later) && fits)
+        ((whole-at limit p.before p.frame p.skipped p.octets p.field some p.later).1 whole) in
+        let two = and_parts (is_none (breaker limit far (length p.octets) p.later)) fits one.1 in
+        rw (one.0, none-from _ two.0, two.1)
+        (part-place (packet_length_at (text_with p) (place_of_start p)) far (take far octets) (Given (holder far (length p.octets) p.frame.number p.later))
+        (ends-at limit p.before p.frame p.skipped p.octets p.field p.later) refl)
 
     -- a start that a frame breaks off: the octets up to that frame
-    broken-by : (end : End) (between more : List ChainMember) (m : ChainMember) (r : Reason) → later ≡ between ++ m ∷ more
-        → IsOpen limit all here (before ++ f ∷ []) between
-        → (Agrees limit all here (length (text ((before ++ f ∷ []) ++ between))) m → ⊥)
-        → reason_at (far_end s.octets later) (length s.octets + length (text between)) m ≡ r
-        → start_part limit f later end s
-        ≡ part_at f s all here (length (text ((before ++ f ∷ []) ++ between))) (Lost r m.number)
-    broken-by end between more m r split opened differs reason =
-        let far : ℕ = far_end s.octets later in
-        let one = and_parts (begins_packet limit s.octets) (open_after limit far (length s.octets) between) ((open-at limit before f skipped s.octets lies.0 lies.2 between later).1 opened) in
-        let differ : agrees limit (far_end s.octets later) (length s.octets + length (text between)) m ≡ false =
-        ⊎_elim (λ agree. absurd (differs ((agreement-at limit before f skipped s.octets lies.0 between later m).0 agree))) (λ d. d)
-        (cases_Bool (agrees limit (far_end s.octets later) (length s.octets + length (text between)) m)) in
-        let off = breaks-off far (length s.octets) between more m one.1 differ in
-        packet-place end one.0
-        ∙ ap (packet_part limit f.number s.place later end s.octets far) (ap (breaker limit far (length s.octets)) split ∙ off.0)
-        ∙ ap (λ (ms : List ChainMember). broken_part f.number s.place (s.octets ++ text ms) far m)
-        (ap (joined limit far (length s.octets)) split ∙ off.1)
-        ∙ ap (λ (z : Reason). record { first = f.number; place = s.place; octets = s.octets ++ text between; fate = Lost z m.number })
-        (ap (λ (n : ℕ). reason_at far n m) (length-append s.octets (text between)) ∙ reason)
-        ∙ part-place (length (text ((before ++ f ∷ []) ++ between))) (length s.octets + length (text between)) (s.octets ++ text between) (Lost r m.number)
-        (begins-at limit before f skipped s.octets lies.0 between)
-        (take-append-add s.octets (text later) (length (text between))
-        ∙ ap (λ (o : List ℕ). s.octets ++ take (length (text between)) o) (ap text split ∙ flat_map-append (λ x. x.field) between (m ∷ more))
-        ∙ ap (λ (o : List ℕ). s.octets ++ o) (take-append_seam (text between) (text (m ∷ more))))
+    module _ (end : End) (between more : List ChainMember) (m : ChainMember) (split : p.later ≡ between ++ m ∷ more) (opened : IsOpenBehind limit p between) where
+      broken-by : (r : Reason) → (GoesOnWith limit p between m → ⊥) → reason_at far (length p.octets + length (text between)) m ≡ r
+          → part_of_start limit p end ≡ part_before p between m r
+      broken-by r differs reason =
+          let one = and_parts (begins_packet limit p.octets) (open_after limit far (length p.octets) between)
+          ((open-at limit p.before p.frame p.skipped p.octets p.field some between p.later).1 opened) in
+          let differ : agrees limit far (length p.octets + length (text between)) m ≡ false =
+          false_from_ne_true _ (λ agree. differs ((agreement-at limit p.before p.frame p.skipped p.octets p.field between p.later m).0 agree)) in
+          let off = breaks-off far (length p.octets) between more m one.1 differ in
+          let found : breaker limit far (length p.octets) p.later ≡ Some m = ap (breaker limit far (length p.octets)) split ∙ off.0 in
+          let kept : joined limit far (length p.octets) p.later ≡ between = ap (joined limit far (length p.octets)) split ∙ off.1 in
+          rw (one.0, found, kept, length-append p.octets (text between), reason)
+          (part-place (frame_begin (frames_up_to p ++ between)) (length p.octets + length (text between)) (p.octets ++ text between) (Lost r m.number)
+          (begins-at limit p.before p.frame p.skipped p.octets p.field between)
+          (take-append-add p.octets (text p.later) (length (text between))
+          ∙ ap (λ (o : List ℕ). p.octets ++ take (length (text between)) o) (ap text split ∙ flat_map-append (λ x. x.field) between (m ∷ more))
+          ∙ ap (λ (o : List ℕ). p.octets ++ o) (take-append_seam (text between) (text (m ∷ more)))))
 
-    -- by its place
-    pub broken-at : (end : End) (between more : List ChainMember) (m : ChainMember) → later ≡ between ++ m ∷ more
-        → IsOpen limit all here (before ++ f ∷ []) between
-        → (AgreesAt (packet_length_at all here) (length (text ((before ++ f ∷ []) ++ between))) (length m.field) m.place → ⊥)
-        → start_part limit f later end s
-        ≡ part_at f s all here (length (text ((before ++ f ∷ []) ++ between))) (Lost why.Pointer m.number)
-    broken-at end between more m split opened differs =
-        let place : Bool = agrees_at (far_end s.octets later) (length s.octets + length (text between)) (length m.field) m.place in
-        broken-by end between more m why.Pointer split opened (λ agree. differs agree.0)
-        (⊎_elim (λ e. absurd (differs ((place-at limit before f skipped s.octets lies.0 between later m).0 e)))
-        (λ e. cond-false (agrees_at (far_end s.octets later) (length s.octets + length (text between)) (length m.field) m.place) _ _ e)
-        (cases_Bool (agrees_at (far_end s.octets later) (length s.octets + length (text between)) (length m.field) m.place)))
+      -- by its place
+      pub broken-at : (GoesOnByPlace p between m → ⊥) → part_of_start limit p end ≡ part_before p between m why.Pointer
+      broken-at differs =
+          broken-by why.Pointer (λ agree. differs agree.0)
+          (rw (false_from_ne_true (agrees_at far (length p.octets + length (text between)) (length m.field) m.place)
+          (λ e. differs ((place-at limit p.before p.frame p.skipped p.octets p.field between p.later m).0 e))))
 
-    -- only because the packet is over the limit
-    pub broken_long-at : (end : End) (between more : List ChainMember) (m : ChainMember) → later ≡ between ++ m ∷ more
-        → IsOpen limit all here (before ++ f ∷ []) between
-        → AgreesAt (packet_length_at all here) (length (text ((before ++ f ∷ []) ++ between))) (length m.field) m.place
-        → IsLong limit all here (length (text ((before ++ f ∷ []) ++ between)) + length m.field)
-        → start_part limit f later end s
-        ≡ part_at f s all here (length (text ((before ++ f ∷ []) ++ between))) (Lost why.Length m.number)
-    broken_long-at end between more m split opened place long =
-        broken-by end between more m why.Length split opened (λ agree. agree.1 long)
-        (cond-true (agrees_at (far_end s.octets later) (length s.octets + length (text between)) (length m.field) m.place) _ _
-        ((place-at limit before f skipped s.octets lies.0 between later m).1 place))
+      -- only because the packet is over the limit
+      pub broken_long-at : GoesOnByPlace p between m → IsLongUpTo limit p (frame_end (frames_up_to p ++ between) m)
+          → part_of_start limit p end ≡ part_before p between m why.Length
+      broken_long-at place long =
+          broken-by why.Length (λ agree. agree.1 long) (rw ((place-at limit p.before p.frame p.skipped p.octets p.field between p.later m).1 place))
 
     -- a start that neither ends in the text nor is broken off: all the octets that follow
-    pub unended-at : (end : End) → BeginsPacket limit all here (length (text (before ++ f ∷ []))) → (IsWhole limit all here (before ++ f ∷ []) later → ⊥)
-        → ((between more : List ChainMember) (m : ChainMember) → later ≡ between ++ m ∷ more → IsOpen limit all here (before ++ f ∷ []) between
-        → Agrees limit all here (length (text ((before ++ f ∷ []) ++ between))) m)
-        → start_part limit f later end s ≡ part_at f s all here (length all) (fate_at end)
+    pub unended-at : (end : End) → BeginsPacket limit (text_with p) (place_of_start p) (frame_begin (frames_up_to p)) → (IsWholeIn limit p → ⊥)
+        → ((between more : List ChainMember) (m : ChainMember) → p.later ≡ between ++ m ∷ more → IsOpenBehind limit p between → GoesOnWith limit p between m)
+        → part_of_start limit p end ≡ part_up_to p (length (text_with p)) (fate_at end)
     unended-at end zero not_whole each =
-        let far : ℕ = far_end s.octets later in
-        let packet : begins_packet limit s.octets ≡ true = begins-from limit before f skipped s.octets lies.0 lies.2 later zero in
-        let none : breaker limit (far_end s.octets later) (length s.octets) later ≡ None =
-        unbroken-from limit (far_end s.octets later) (length s.octets) later
+        let packet : begins_packet limit p.octets ≡ true = (packet-begins limit p.before p.frame p.skipped p.octets p.field some p.later).1 zero in
+        let none : breaker limit far (length p.octets) p.later ≡ None =
+        unbroken-from limit far (length p.octets) p.later
         (λ between more m e o.
-        (agreement-at limit before f skipped s.octets lies.0 between later m).1
+        (agreement-at limit p.before p.frame p.skipped p.octets p.field between p.later m).1
         (each between more m e
-        ((open-at limit before f skipped s.octets lies.0 lies.2 between later).0
-        (and_from (begins_packet limit s.octets) (open_after limit (far_end s.octets later) (length s.octets) between) packet o)))) in
-        unbroken-place end packet none
-        ∙ ⊎_elim
-        (λ fits.
-        absurd (not_whole ((whole-at limit before f skipped s.octets lies.0 lies.2 later).0
-        (and_from (begins_packet limit s.octets) _ packet
-        (and_from (is_none (breaker limit far (length s.octets) later)) _ (ap (λ (b : Option ChainMember). is_none b) none) fits)))))
-        (λ past. cond-false (leb (far_end s.octets later) (length (s.octets ++ text later))) _ _ past)
-        (cases_Bool (leb (far_end s.octets later) (length (s.octets ++ text later))))
-        ∙ part-place (length all) (length (s.octets ++ text later)) (s.octets ++ text later) (fate_at end)
-        (text-length limit before f skipped s.octets lies.0 lies.2 later) (take-length (s.octets ++ text later))
+        ((open-at limit p.before p.frame p.skipped p.octets p.field some between p.later).0
+        (and_from (begins_packet limit p.octets) (open_after limit far (length p.octets) between) packet o)))) in
+        let past : leb far (length octets) ≡ false =
+        false_from_ne_true _ (λ fits. not_whole ((whole-at limit p.before p.frame p.skipped p.octets p.field some p.later).0
+        (and_from (begins_packet limit p.octets) _ packet
+        (and_from (is_none (breaker limit far (length p.octets) p.later)) _ (ap (λ (b : Option ChainMember). is_none b) none) fits)))) in
+        rw (packet, none, past)
+        (part-place (length (text_with p)) (length octets) octets (fate_at end)
+        (text-length limit p.before p.frame p.skipped p.octets p.field some p.later) (take-length octets))

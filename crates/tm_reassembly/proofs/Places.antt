@@ -4,9 +4,9 @@ use Rattle.std.proofs.Common.{◌≡◌, ℕ, ◌+◌, ◌<◌, ◌≤◌, true,
 use Rattle.std.specs.Prelude.{is_none}
 use Rattle.std.proofs.lemmas.List.{append-nil, take-append-le}
 use Rattle.std.proofs.lemmas.List.Concat.{flat_map-append}
-use Rattle.std.proofs.lemmas.Bool.{and_from, cases_Bool, cases_lt, cond-true, cond-false, ltb-true, leb-true, lt-ltb, le-leb, lt-leb, eqb-true, eq-eqb, and_parts, both_ways}
+use Rattle.std.proofs.lemmas.Bool.{and_from, cases_Bool, cases_lt, ltb-true, leb-true, lt-ltb, le-leb, lt-leb, eqb-true, eq-eqb, and_parts, both_ways, false_from_ne_true, true_from_ne_false}
 use Rattle.std.proofs.Math.Seq.{drop-append_seam}
-use Rattle.tm_packet.specs.Header.{packet_version_of, packet_header_of}
+use Rattle.tm_packet.specs.Header.{packet_version_of}
 use Rattle.tm_reassembly.specs.Chain.{ChainMember}
 use Rattle.tm_reassembly.specs.Parts.{text, far_end, is_long, begins_packet, agrees, agrees_at, open_after, breaker}
 use Rattle.tm_items.specs.OnePacket.{packet_length, is_packet}
@@ -16,42 +16,33 @@ use Rattle.tm_items.proofs.Reaching.{packet_length-short, packet_length-long}
 use Rattle.tm_reassembly.proofs.Long.{and_not, agrees-place, agrees-short, begins-zero, begins-short}
 use Rattle.tm_reassembly.proofs.Settled.{own-long-settled}
 
--- what follows some octets
-pub drop-place : (before t : List ℕ) → drop (length before) (before ++ t) ≡ t
-drop-place before t = drop-append_seam before t
-
 -- a packet's end, from the start on
 pub packet_length-place : (before t : List ℕ) → packet_length_at (before ++ t) (length before) ≡ length before + packet_length t
 packet_length-place before t =
-    let n : ℕ = length before in
     let len : length (before ++ t) ≡ length before + length t = length-append before t in
     ⊎_elim
-    (λ short.
-    cond-false (leb (n + 6) (length (before ++ t))) _ _ (lt-leb (n + 6) (length (before ++ t)) (omega arith))
-    ∙ ap (λ (k : ℕ). length before + k) (sym (packet_length-short t short)))
-    (λ long.
-    cond-true (leb (n + 6) (length (before ++ t))) _ _ (le-leb (n + 6) (length (before ++ t)) (omega arith))
-    ∙ ap (λ (o : List ℕ). length before + ((packet_header_of (take 6 o)).data_length + 7)) (drop-place before t)
-    ∙ ap (λ (k : ℕ). length before + k) (sym (packet_length-long t long)))
+    (λ short. rw (lt-leb (length before + 6) (length (before ++ t)) (omega arith), packet_length-short t short))
+    (λ long. rw (le-leb (length before + 6) (length (before ++ t)) (omega arith), drop-append_seam before t, packet_length-long t long))
     (cases_lt (length t) 6)
 
 pub version-place : (before start t : List ℕ) → 0 < length start
     → packet_version_of (take 1 (drop (length before) (before ++ (start ++ t)))) ≡ packet_version_of (take 1 start)
 version-place before start t some =
-    ap (λ (o : List ℕ). packet_version_of (take 1 o)) (drop-place before (start ++ t)) ∙ ap packet_version_of (take-append-le 1 start t (omega arith))
+    rw (drop-append_seam before (start ++ t), take-append-le 1 start t (omega arith))
 
 -- one frame
-agrees-to : (q far at len : ℕ) (place : Option ℕ) → agrees_at far at len place ≡ true → AgreesAt (q + far) (q + at) len place
-agrees-to q far at len None h = let e = leb-true (at + len) far h in omega arith
-agrees-to q far at len (Some place) h = let e : far ≡ at + place = eqb-true far (at + place) h in omega arith
-
-agrees-from : (q far at len : ℕ) (place : Option ℕ) → AgreesAt (q + far) (q + at) len place → agrees_at far at len place ≡ true
-agrees-from q far at len None h = le-leb (at + len) far (omega arith)
-agrees-from q far at len (Some place) h = eq-eqb far (at + place) (omega arith)
+agrees-from : (q far at len : ℕ) (place : Option ℕ) → Iff (agrees_at far at len place ≡ true) (AgreesAt (q + far) (q + at) len place)
+agrees-from q far at len None = (λ h. let e = leb-true (at + len) far h in omega arith, λ h. le-leb (at + len) far (omega arith))
+agrees-from q far at len (Some place) =
+    (λ h. let e : far ≡ at + place = eqb-true far (at + place) h in omega arith, λ h. eq-eqb far (at + place) (omega arith))
 
 not_split : (earlier later : List ChainMember) (g : ChainMember) → [] ≡ earlier ++ g ∷ later → ⊥
 not_split [] later g e = cc
 not_split (x ∷ earlier) later g e = cc
+
+-- where a frame ends in the text
+pub front-length : (before : List ChainMember) (f : ChainMember) → length (text (before ++ f ∷ [])) ≡ length (text before) + length f.field
+front-length before f = simp (flat_map-append, length-append, append-nil)
 
 pub none-from : (b : Option ChainMember) → is_none b ≡ true → b ≡ None
 none-from None h = refl
@@ -59,25 +50,16 @@ none-from (Some m) h = absurd (cc)
 
 module _ (limit : ℕ) where
   -- whether a packet is long there
-  long-to : (q r b far at : ℕ) → r ≡ q + far → b ≡ q + at → (q + limit < r) × (q + 6 ≤ b) → is_long limit far at ≡ true
-  long-to q r b far at e g h =
-      let past = h.0 in
-      let there = h.1 in
-      and_from (leb 6 at) (ltb limit far) (le-leb 6 at (omega arith)) (lt-ltb limit far (omega arith))
-
-  long-from : (q r b far at : ℕ) → r ≡ q + far → b ≡ q + at → is_long limit far at ≡ true → (q + limit < r) × (q + 6 ≤ b)
-  long-from q r b far at e g h =
-      let both = and_parts (leb 6 at) (ltb limit far) h in
-      let there = leb-true 6 at both.0 in
-      let past = ltb-true limit far both.1 in
-      (omega arith, omega arith)
-
-  short-to : (q r b far at : ℕ) → r ≡ q + far → b ≡ q + at → is_long limit far at ≡ false → (q + limit < r) × (q + 6 ≤ b) → ⊥
-  short-to q r b far at e g h l = both_ways (is_long limit far at) h (long-to q r b far at e g l)
-
-  short-from : (q r b far at : ℕ) → r ≡ q + far → b ≡ q + at → ((q + limit < r) × (q + 6 ≤ b) → ⊥) → is_long limit far at ≡ false
-  short-from q r b far at e g h =
-      ⊎_elim (λ l. absurd (h (long-from q r b far at e g l))) (λ s. s) (cases_Bool (is_long limit far at))
+  long-from : (q far at : ℕ) → Iff (is_long limit far at ≡ true) ((q + limit < q + far) × (q + 6 ≤ q + at))
+  long-from q far at = (
+    λ h.
+        let both = and_parts (leb 6 at) (ltb limit far) h in
+        let there = leb-true 6 at both.0 in
+        let past = ltb-true limit far both.1 in
+        (omega arith, omega arith),
+    λ h.
+        and_from (leb 6 at) (ltb limit far) (le-leb 6 at (omega (arith, h.0, h.1))) (lt-ltb limit far (omega (arith, h.0, h.1))),
+  )
 
   -- each frame between agrees
   abbrev pub AllAgree : ℕ → ℕ → List ChainMember → Type 0
@@ -88,13 +70,12 @@ module _ (limit : ℕ) where
   each-cons far at m between a h [] later g e =
       let same : m ≡ g = cc in
       let z : at + 0 ≡ at = omega arith in
-      ap (λ (k : ℕ). agrees limit far k g) z ∙ ap (agrees limit far at) (sym same) ∙ a
+      rw (z, ← same) a
   each-cons far at m between a h (x ∷ earlier) later g e =
       let same : m ≡ x = cc in
       let rest : between ≡ earlier ++ g ∷ later = cc in
-      let len : length (x.field ++ text earlier) ≡ length x.field + length (text earlier) = length-append x.field (text earlier) in
       let size : length m.field ≡ length x.field = ap (λ (z : ChainMember). length z.field) same in
-      ap (λ (k : ℕ). agrees limit far k g) (omega arith) ∙ h earlier later g rest
+      ap (λ (k : ℕ). agrees limit far k g) (omega (arith, length-append x.field (text earlier))) ∙ h earlier later g rest
 
   each-first : (far at : ℕ) (m : ChainMember) (between : List ChainMember) → AllAgree far at (m ∷ between) → agrees limit far at m ≡ true
   each-first far at m between h = let z : at ≡ at + 0 = omega arith in ap (λ (k : ℕ). agrees limit far k m) z ∙ h [] between m refl
@@ -109,15 +90,13 @@ module _ (limit : ℕ) where
   open-to far at (m ∷ between) h =
       let both = and_parts (agrees limit far at m) (open_after limit far (at + length m.field) between) h in
       let rest = open-to far (at + length m.field) between both.1 in
-      let len : length (m.field ++ text between) ≡ length m.field + length (text between) = length-append m.field (text between) in
-      (let r = rest.0 in omega arith, each-cons far at m between both.0 rest.1)
+      (let r = rest.0 in omega (arith, length-append m.field (text between)), each-cons far at m between both.0 rest.1)
 
   open-from : (far at : ℕ) (between : List ChainMember) → at + length (text between) < far → AllAgree far at between → open_after limit far at between ≡ true
   open-from far at [] h each = lt-ltb at far (omega arith)
   open-from far at (m ∷ between) h each =
-      let len : length (m.field ++ text between) ≡ length m.field + length (text between) = length-append m.field (text between) in
       and_from (agrees limit far at m) (open_after limit far (at + length m.field) between) (each-first far at m between each)
-      (open-from far (at + length m.field) between (omega arith) (each-rest far at m between each))
+      (open-from far (at + length m.field) between (omega (arith, length-append m.field (text between))) (each-rest far at m between each))
 
   -- no frame breaks
   abbrev pub Unbroken : ℕ → ℕ → List ChainMember → Type 0
@@ -130,76 +109,56 @@ module _ (limit : ℕ) where
   unbroken-to far at (f ∷ later) h [] more m e o =
       let same : f ≡ m = cc in
       let z : at + 0 ≡ at = omega arith in
-      ap (λ (k : ℕ). agrees limit far k m) z
-      ∙ ap (agrees limit far at) (sym same)
-      ∙ ⊎_elim (λ a. a)
-      (λ a. absurd (none-some f (sym h ∙ cond-true (ltb at far) _ _ o ∙ cond-false (agrees limit far at f) _ _ a)))
-      (cases_Bool (agrees limit far at f))
+      rw (z, ← same) (true_from_ne_false (agrees limit far at f) (λ a. none-some f (sym (rw (o, a) at h))))
   unbroken-to far at (f ∷ later) h (x ∷ between) more m e o =
       let same : f ≡ x = cc in
       let rest : later ≡ between ++ m ∷ more = cc in
       let both = and_parts (agrees limit far at x) (open_after limit far (at + length x.field) between) o in
       let past = open-to far (at + length x.field) between both.1 in
       let size : length f.field ≡ length x.field = ap (λ (z : ChainMember). length z.field) same in
-      let len : length (x.field ++ text between) ≡ length x.field + length (text between) = length-append x.field (text between) in
       let agreed : agrees limit far at f ≡ true = ap (agrees limit far at) same ∙ both.0 in
-      let here : at < far = let p = past.0 in omega arith in
-      let none : breaker limit far (at + length f.field) later ≡ None =
-      sym (cond-true (ltb at far) _ _ (lt-ltb at far here) ∙ cond-true (agrees limit far at f) _ _ agreed) ∙ h in
-      ap (λ (k : ℕ). agrees limit far k m) (omega arith)
+      let here : at < far = let p = past.0 in omega (arith, length-append x.field (text between)) in
+      let none : breaker limit far (at + length f.field) later ≡ None = rw (lt-ltb at far here, agreed) at h in
+      ap (λ (k : ℕ). agrees limit far k m) (omega (arith, length-append x.field (text between)))
       ∙ unbroken-to far (at + length f.field) later none between more m rest (ap (λ (k : ℕ). open_after limit far (at + k) between) size ∙ both.1)
 
   pub unbroken-from : (far at : ℕ) (later : List ChainMember) → Unbroken far at later → breaker limit far at later ≡ None
   unbroken-from far at [] h = refl
   unbroken-from far at (f ∷ later) h =
       ⊎_elim
-      (λ here.
+      (λ (here : ltb at far ≡ true).
       let z : at ≡ at + 0 = omega arith in
       let agreed : agrees limit far at f ≡ true = ap (λ (k : ℕ). agrees limit far k f) z ∙ h [] later f refl here in
-      cond-true (ltb at far) _ _ here ∙ cond-true (agrees limit far at f) _ _ agreed
-      ∙ unbroken-from far (at + length f.field) later
+      rw (here, agreed)
+      (unbroken-from far (at + length f.field) later
       (λ between more m e o.
-      let len : length (f.field ++ text between) ≡ length f.field + length (text between) = length-append f.field (text between) in
-      ap (λ (k : ℕ). agrees limit far k m) (omega arith)
-      ∙ h (f ∷ between) more m (ap (λ (ms : List ChainMember). f ∷ ms) e) (and_from (agrees limit far at f) _ agreed o)))
-      (λ past. cond-false (ltb at far) _ _ past)
+      ap (λ (k : ℕ). agrees limit far k m) (omega (arith, length-append f.field (text between)))
+      ∙ h (f ∷ between) more m (ap (λ (ms : List ChainMember). f ∷ ms) e) (and_from (agrees limit far at f) _ agreed o))))
+      (λ (past : ltb at far ≡ false). rw past)
       (cases_Bool (ltb at far))
 
   -- a start whose frame has the octets `skipped` before it
   module _ (before : List ChainMember) (f : ChainMember) (skipped start : List ℕ) (whole_field : f.field ≡ skipped ++ start) where
     pub text_split : (later : List ChainMember) → text (before ++ f ∷ later) ≡ (text before ++ skipped) ++ (start ++ text later)
     text_split later =
-        flat_map-append (λ m. m.field) before (f ∷ later)
-        ∙ ap (λ (o : List ℕ). text before ++ (o ++ text later)) whole_field
-        ∙ regroup (text before) skipped start (text later)
-      where
-        regroup : (a b c d : List ℕ) → a ++ ((b ++ c) ++ d) ≡ (a ++ b) ++ (c ++ d)
-        regroup a b c d = simp append_assoc
+        flat_map-append (λ m. m.field) before (f ∷ later) ∙ ap (λ (o : List ℕ). text before ++ (o ++ text later)) whole_field ∙ simp append_assoc
 
     pub ends-at : (later : List ChainMember)
         → packet_length_at (text (before ++ f ∷ later)) (length (text before) + length skipped) ≡ (length (text before) + length skipped) + far_end start later
     ends-at later =
-        let len : length (text before ++ skipped) ≡ length (text before) + length skipped = length-append (text before) skipped in
-        ap (λ (t : List ℕ). packet_length_at t (length (text before) + length skipped)) (text_split later)
-        ∙ ap (packet_length_at ((text before ++ skipped) ++ (start ++ text later))) (sym len)
-        ∙ packet_length-place (text before ++ skipped) (start ++ text later)
-        ∙ ap (λ (k : ℕ). k + far_end start later) len
+        rw (text_split later, ← length-append (text before) skipped) (packet_length-place (text before ++ skipped) (start ++ text later))
 
     -- where a later frame begins
     pub begins-at : (between : List ChainMember)
         → length (text ((before ++ f ∷ []) ++ between)) ≡ (length (text before) + length skipped) + (length start + length (text between))
     begins-at between =
-        let own : length f.field ≡ length skipped + length start = ap (λ (o : List ℕ). length o) whole_field ∙ length-append skipped start in
         let all : length (text ((before ++ f ∷ []) ++ between)) ≡ (length (text before) + length f.field) + length (text between) =
         simp (flat_map-append, length-append, append-nil) in
-        omega arith
+        omega (arith, ap length whole_field, length-append skipped start)
 
     -- where the start's own frame ends, and where a later one does
     pub own-end : length (text (before ++ f ∷ [])) ≡ (length (text before) + length skipped) + length start
-    own-end =
-        let own : length f.field ≡ length skipped + length start = ap (λ (o : List ℕ). length o) whole_field ∙ length-append skipped start in
-        let all : length (text (before ++ f ∷ [])) ≡ length (text before) + length f.field = simp (flat_map-append, length-append, append-nil) in
-        omega arith
+    own-end = omega (arith, front-length before f, ap length whole_field, length-append skipped start)
 
     later-end : (between : List ChainMember) (m : ChainMember) → length (text ((before ++ f ∷ []) ++ between)) + length m.field
         ≡ (length (text before) + length skipped) + ((length start + length (text between)) + length m.field)
@@ -209,20 +168,15 @@ module _ (limit : ℕ) where
         → Iff (agrees_at (far_end start later) (length start + length (text between)) (length m.field) m.place ≡ true)
         (AgreesAt (packet_length_at (text (before ++ f ∷ later)) (length (text before) + length skipped)) (length (text ((before ++ f ∷ []) ++ between))) (length m.field) m.place)
     place-at between later m =
-        let q : ℕ = length (text before) + length skipped in
-        let far : ℕ = far_end start later in
-        let at : ℕ = length start + length (text between) in (
-          λ h. rw (ends-at later, begins-at between) (agrees-to q far at (length m.field) m.place h),
-          λ h. agrees-from q far at (length m.field) m.place (rw (ends-at later, begins-at between) at h),
-        )
+        rw (ends-at later, begins-at between)
+        (agrees-from (length (text before) + length skipped) (far_end start later) (length start + length (text between)) (length m.field) m.place)
 
     pub long-at : (between later : List ChainMember) (m : ChainMember)
         → Iff (is_long limit (far_end start later) ((length start + length (text between)) + length m.field) ≡ true)
         (IsLong limit (text (before ++ f ∷ later)) (length (text before) + length skipped) (length (text ((before ++ f ∷ []) ++ between)) + length m.field))
-    long-at between later m = (
-      long-from _ _ _ _ ((length start + length (text between)) + length m.field) (ends-at later) (later-end between m),
-      long-to _ _ _ (far_end start later) ((length start + length (text between)) + length m.field) (ends-at later) (later-end between m),
-    )
+    long-at between later m =
+        rw (ends-at later, later-end between m)
+        (long-from (length (text before) + length skipped) (far_end start later) ((length start + length (text between)) + length m.field))
 
     pub agreement-at : (between later : List ChainMember) (m : ChainMember)
         → Iff (agrees limit (far_end start later) (length start + length (text between)) m ≡ true)
@@ -230,57 +184,41 @@ module _ (limit : ℕ) where
     agreement-at between later m =
         let at : ℕ = length start + length (text between) in
         let far : ℕ = far_end start later in (
-          λ h. (
-            (place-at between later m).0 (agrees-place limit far at m h),
-            short-to _ _ _ far (at + length m.field) (ends-at later) (later-end between m) (agrees-short limit far at m h),
-          ),
+          λ h. ((place-at between later m).0 (agrees-place limit far at m h), λ l. both_ways _ (agrees-short limit far at m h) ((long-at between later m).1 l)),
           λ h.
               and_not (agrees_at far at (length m.field) m.place) (is_long limit far (at + length m.field)) ((place-at between later m).1 h.0)
-              (short-from _ _ _ far (at + length m.field) (ends-at later) (later-end between m) h.1),
+              (false_from_ne_true (is_long limit far (at + length m.field)) (λ l. h.1 ((long-at between later m).0 l))),
         )
 
     -- in its own frame
     pub own-long-at : (later : List ChainMember)
         → Iff (is_long limit (packet_length start) (length start) ≡ true)
         (IsLong limit (text (before ++ f ∷ later)) (length (text before) + length skipped) (length (text (before ++ f ∷ []))))
-    own-long-at later = (
-      λ h. long-from _ _ _ (far_end start later) (length start) (ends-at later) own-end (own-long-settled limit start later ∙ h),
-      λ h. sym (own-long-settled limit start later) ∙ long-to _ _ _ (far_end start later) (length start) (ends-at later) own-end h,
-    )
+    own-long-at later =
+        rw (ends-at later, own-end, ← own-long-settled limit start later)
+        (long-from (length (text before) + length skipped) (far_end start later) (length start))
 
     module _ (some : 0 < length start) where
       version-at : (later : List ChainMember)
           → packet_version_of (take 1 (drop (length (text before) + length skipped) (text (before ++ f ∷ later)))) ≡ packet_version_of (take 1 start)
       version-at later =
-          ap (λ (t : List ℕ). packet_version_of (take 1 (drop (length (text before) + length skipped) t))) (text_split later)
-          ∙ ap (λ (k : ℕ). packet_version_of (take 1 (drop k ((text before ++ skipped) ++ (start ++ text later))))) (sym (length-append (text before) skipped))
-          ∙ version-place (text before ++ skipped) start (text later) some
+          rw (text_split later, ← length-append (text before) skipped) (version-place (text before ++ skipped) start (text later) some)
 
-      pub zero-to : (later : List ChainMember) → is_packet start ≡ true → IsVersionZero (text (before ++ f ∷ later)) (length (text before) + length skipped)
-      zero-to later h = version-at later ∙ eqb-true (packet_version_of (take 1 start)) 0 h
-
-      pub zero-from : (later : List ChainMember) → IsVersionZero (text (before ++ f ∷ later)) (length (text before) + length skipped) → is_packet start ≡ true
-      zero-from later h = eq-eqb (packet_version_of (take 1 start)) 0 (sym (version-at later) ∙ h)
-
-      pub begins-to : (later : List ChainMember) → begins_packet limit start ≡ true
-          → BeginsPacket limit (text (before ++ f ∷ later)) (length (text before) + length skipped) (length (text (before ++ f ∷ [])))
-      begins-to later h = (
-        zero-to later (begins-zero limit start h),
-        short-to _ _ _ (far_end start later) (length start) (ends-at later) own-end (own-long-settled limit start later ∙ begins-short limit start h),
+      pub zero-at : (later : List ChainMember) → Iff (is_packet start ≡ true) (IsVersionZero (text (before ++ f ∷ later)) (length (text before) + length skipped))
+      zero-at later = (
+        λ h. version-at later ∙ eqb-true (packet_version_of (take 1 start)) 0 h,
+        λ h. eq-eqb (packet_version_of (take 1 start)) 0 (sym (version-at later) ∙ h),
       )
 
-      pub begins-from : (later : List ChainMember)
-          → BeginsPacket limit (text (before ++ f ∷ later)) (length (text before) + length skipped) (length (text (before ++ f ∷ [])))
-          → begins_packet limit start ≡ true
-      begins-from later h =
-          and_not (is_packet start) (is_long limit (packet_length start) (length start)) (zero-from later h.0)
-          (sym (own-long-settled limit start later) ∙ short-from _ _ _ (far_end start later) (length start) (ends-at later) own-end h.1)
-
-      begins-before : (r q b far at : ℕ) → r ≡ q + far → b ≡ q + at → at < far → b < r
-      begins-before r q b far at e g h = omega arith
-
-      reaches-past : (r q b far at : ℕ) → r ≡ q + far → b ≡ q + at → b < r → at < far
-      reaches-past r q b far at e g h = omega arith
+      pub packet-begins : (later : List ChainMember)
+          → Iff (begins_packet limit start ≡ true)
+          (BeginsPacket limit (text (before ++ f ∷ later)) (length (text before) + length skipped) (length (text (before ++ f ∷ []))))
+      packet-begins later = (
+        λ h. ((zero-at later).0 (begins-zero limit start h), λ l. both_ways _ (begins-short limit start h) ((own-long-at later).1 l)),
+        λ h.
+            and_not (is_packet start) (is_long limit (packet_length start) (length start)) ((zero-at later).1 h.0)
+            (false_from_ne_true (is_long limit (packet_length start) (length start)) (λ l. h.1 ((own-long-at later).0 l))),
+      )
 
       pub open-at : (between later : List ChainMember)
           → Iff ((begins_packet limit start && open_after limit (far_end start later) (length start) between) ≡ true)
@@ -289,28 +227,20 @@ module _ (limit : ℕ) where
         λ h.
             let both = and_parts (begins_packet limit start) (open_after limit (far_end start later) (length start) between) h in
             let o = open-to (far_end start later) (length start) between both.1 in (
-              begins-to later both.0,
-              begins-before _ (length (text before) + length skipped) _ (far_end start later) (length start + length (text between)) (ends-at later) (begins-at between) o.0,
+              (packet-begins later).0 both.0,
+              rw (ends-at later, begins-at between) (omega (arith, o.0)),
               λ earlier more g e. (agreement-at earlier later g).0 (o.1 earlier more g e),
             ),
         λ h.
-            and_from (begins_packet limit start) (open_after limit (far_end start later) (length start) between) (begins-from later h.0)
+            and_from (begins_packet limit start) (open_after limit (far_end start later) (length start) between) ((packet-begins later).1 h.0)
             (open-from (far_end start later) (length start) between
-            (reaches-past _ (length (text before) + length skipped) _ (far_end start later) (length start + length (text between)) (ends-at later) (begins-at between) h.1)
+            (omega (arith, rw (ends-at later, begins-at between) at h.1))
             (λ earlier more g e. (agreement-at earlier later g).1 (h.2 earlier more g e))),
       )
 
       pub text-length : (later : List ChainMember) → length (text (before ++ f ∷ later)) ≡ (length (text before) + length skipped) + length (start ++ text later)
       text-length later =
-          ap (λ (t : List ℕ). length t) (text_split later)
-          ∙ length-append (text before ++ skipped) (start ++ text later)
-          ∙ ap (λ (k : ℕ). k + length (start ++ text later)) (length-append (text before) skipped)
-
-      fits-to : (r q b far len : ℕ) → r ≡ q + far → b ≡ q + len → far ≤ len → r ≤ b
-      fits-to r q b far len e g h = omega arith
-
-      fits-from : (r q b far len : ℕ) → r ≡ q + far → b ≡ q + len → r ≤ b → far ≤ len
-      fits-from r q b far len e g h = omega arith
+          rw (text_split later, length-append (text before ++ skipped) (start ++ text later), length-append (text before) skipped)
 
       pub whole-at : (later : List ChainMember)
           → Iff (is_whole limit start later ≡ true)
@@ -320,21 +250,19 @@ module _ (limit : ℕ) where
             let one = and_parts (begins_packet limit start) (is_none (breaker limit (far_end start later) (length start) later) && leb (far_end start later) (length (start ++ text later))) h in
             let two = and_parts (is_none (breaker limit (far_end start later) (length start) later)) (leb (far_end start later) (length (start ++ text later))) one.1 in
             let unbroken = unbroken-to (far_end start later) (length start) later (none-from _ two.0) in (
-              begins-to later one.0,
-              fits-to _ (length (text before) + length skipped) _ (far_end start later) (length (start ++ text later)) (ends-at later) (text-length later)
-                  (leb-true (far_end start later) (length (start ++ text later)) two.1),
+              (packet-begins later).0 one.0,
+              rw (ends-at later, text-length later) (omega (arith, leb-true (far_end start later) (length (start ++ text later)) two.1)),
               λ between more m e o.
                   (agreement-at between later m).0
                   (unbroken between more m e (and_parts (begins_packet limit start) (open_after limit (far_end start later) (length start) between) ((open-at between later).1 o)).1),
             ),
         λ h.
-            and_from (begins_packet limit start) _ (begins-from later h.0)
+            and_from (begins_packet limit start) _ ((packet-begins later).1 h.0)
             (and_from (is_none (breaker limit (far_end start later) (length start) later)) (leb (far_end start later) (length (start ++ text later)))
             (ap (λ (b : Option ChainMember). is_none b)
             (unbroken-from (far_end start later) (length start) later
             (λ between more m e o.
             (agreement-at between later m).1
-            (h.2 between more m e ((open-at between later).0 (and_from (begins_packet limit start) (open_after limit (far_end start later) (length start) between) (begins-from later h.0) o))))))
-            (le-leb (far_end start later) (length (start ++ text later))
-            (fits-from _ (length (text before) + length skipped) _ (far_end start later) (length (start ++ text later)) (ends-at later) (text-length later) h.1))),
+            (h.2 between more m e ((open-at between later).0 (and_from (begins_packet limit start) (open_after limit (far_end start later) (length start) between) ((packet-begins later).1 h.0) o))))))
+            (le-leb (far_end start later) (length (start ++ text later)) (omega (arith, rw (ends-at later, text-length later) at h.1)))),
       )

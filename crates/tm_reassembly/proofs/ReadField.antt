@@ -1,10 +1,11 @@
 -- The loop that reads a field: what lies before `at` is whole packets, end to end.
 use Rattle.std.proofs.Common.{◌++◌, ◌≡◌, ℕ, suc, pred, ◌+◌, ◌-◌, ◌<◌, ◌≤◌, true, List, [], ◌∷◌, length, take, drop, refl, sym, ap, subst, ◌∙◌, append_assoc, arith}
-use Rattle.std.proofs.lemmas.List.{length-drop, length-take-le, drop-drop, take_all}
+use Rattle.std.proofs.lemmas.List.{length-drop, length-take-le, drop-drop, take_rest}
 use Rattle.tm_items.proofs.Reaching.{packet_length-least}
-use Rattle.tm_reassembly.proofs.Split.{drop-pred, whole_part, field_parts-whole, unfinished-whole}
-use Rattle.tm_items.specs.Item.{Item, Packet}
-use Rattle.tm_reassembly.specs.Parts.{Part, begins_packet}
+use Rattle.std.proofs.lemmas.Bool.{le-leb}
+use Rattle.tm_reassembly.proofs.Split.{drop-pred, whole_part}
+use Rattle.tm_items.specs.Item.{Packet}
+use Rattle.tm_reassembly.specs.Parts.{begins_packet}
 use Rattle.tm_items.specs.OnePacket.{IsOnePacket, packet_length}
 use Rattle.tm_items.specs.code.Spans.{IsSpan, span_items}
 use Rattle.tm_items.proofs.Spans.{one-front, span-longer}
@@ -26,39 +27,13 @@ module _ (limit : ℕ) where
   field_parts-packet number stop [] h p fits = absurd (omega arith)
   field_parts-packet number stop (x ∷ xs) h p fits =
       let least : 0 < packet_length (x ∷ xs) = omega (arith, packet_length-least (x ∷ xs)) in
-      field_parts-whole limit number stop x xs p fits
-      ∙ ap (λ (ps : List Part). whole_part limit number (stop - suc (length xs)) (x ∷ xs) ∷ ps)
-      (field_parts-skip number stop (pred (packet_length (x ∷ xs))) xs
-      ∙ ap (field_parts limit number stop 0) (sym (drop-pred (packet_length (x ∷ xs)) x xs least)))
+      rw (p, le-leb (packet_length (x ∷ xs)) (suc (length xs)) fits, drop-pred (packet_length (x ∷ xs)) x xs least, field_parts-skip number stop (pred (packet_length (x ∷ xs))) xs)
 
   unfinished-packet : (o : List ℕ) → 0 < length o → begins_packet limit o ≡ true → packet_length o ≤ length o → unfinished limit 0 o ≡ unfinished limit 0 (drop (packet_length o) o)
   unfinished-packet [] h p fits = absurd (omega arith)
   unfinished-packet (x ∷ xs) h p fits =
       let least : 0 < packet_length (x ∷ xs) = omega (arith, packet_length-least (x ∷ xs)) in
-      unfinished-whole limit x xs p fits
-      ∙ unfinished-skip (pred (packet_length (x ∷ xs))) xs
-      ∙ ap (unfinished limit 0) (sym (drop-pred (packet_length (x ∷ xs)) x xs least))
-
-  -- one packet in a field
-  pub items_from-packet : (seen channel : ℕ) (field : List ℕ) (at r : ℕ) → at < length field → begins_packet limit (drop at field) ≡ true
-      → r ≡ packet_length (drop at field) → r ≤ length field - at
-      → items_from limit seen channel field at ≡ Packet seen channel seen at (take r (drop at field)) ∷ items_from limit seen channel field (at + r)
-  items_from-packet seen channel field at r h p e fits =
-      let o = drop at field in
-      let len : length (drop at field) ≡ length field - at = length-drop at field in
-      let some : 0 < length (drop at field) = omega arith in
-      let inside : packet_length (drop at field) ≤ length (drop at field) = omega arith in
-      let place : length field - length (drop at field) ≡ at = omega arith in
-      ap (part_items channel) (field_parts-packet seen (length field) o some p inside)
-      ∙ rw (place, ← e, drop-drop r at field) refl
-
-  pub unfinished_from-packet : (field : List ℕ) (at r : ℕ) → at < length field → begins_packet limit (drop at field) ≡ true
-      → r ≡ packet_length (drop at field) → r ≤ length field - at → unfinished limit 0 (drop at field) ≡ unfinished limit 0 (drop (at + r) field)
-  unfinished_from-packet field at r h p e fits =
-      let len : length (drop at field) ≡ length field - at = length-drop at field in
-      let some : 0 < length (drop at field) = omega arith in
-      let inside : packet_length (drop at field) ≤ length (drop at field) = omega arith in
-      unfinished-packet (drop at field) some p inside ∙ rw (← e, drop-drop r at field) refl
+      rw (p, le-leb (packet_length (x ∷ xs)) (suc (length xs)) fits, drop-pred (packet_length (x ∷ xs)) x xs least, unfinished-skip (pred (packet_length (x ∷ xs))) xs)
 
   -- what the code tests, and what follows
   pub read_packet : (seen channel : ℕ) (field : List ℕ) (at n : ℕ) (t : List ℕ) → t ≡ take (length field - at) (drop at field)
@@ -66,17 +41,11 @@ module _ (limit : ℕ) where
       → (items_from limit seen channel field at ≡ Packet seen channel seen at (take n t) ∷ items_from limit seen channel field (at + n))
       × (unfinished limit 0 (drop at field) ≡ unfinished limit 0 (drop (at + n) field))
   read_packet seen channel field at n t e h p r fits =
-      let len : length (drop at field) ≡ length field - at = length-drop at field in
-      let e' : t ≡ drop at field = e ∙ take_all (length field - at) (drop at field) (omega arith) in
-      let here : drop at field ≡ t = sym e' in
-      let same : length t ≡ length (drop at field) = ap length e' in
-      let p' : begins_packet limit (drop at field) ≡ true = ap (begins_packet limit) here ∙ p in
-      let r' : n ≡ packet_length (drop at field) = r ∙ ap packet_length e' in
-      let short : n ≤ length field - at = omega arith in (
-        items_from-packet seen channel field at n h p' r' short
-            ∙ ap (λ (o : List ℕ). Packet seen channel seen at (take n o) ∷ items_from limit seen channel field (at + n)) here,
-        unfinished_from-packet field at n h p' r' short,
-      )
+      let all : t ≡ drop at field = e ∙ take_rest field at in
+      let some : 0 < length t = omega (arith, ap length all ∙ length-drop at field) in
+      let whole : packet_length t ≤ length t = omega (arith, ap length all ∙ length-drop at field) in
+      let place : length field - length t ≡ at = omega (arith, ap length all ∙ length-drop at field) in
+      rw (← drop-drop n at field, ← all, r) (rw (field_parts-packet seen (length field) t some p whole, place), unfinished-packet t some p whole)
 
   -- up to here a field was read, from a place on: whole packets lie end to end there
   pub record IsReadTo (seen channel : ℕ) (field : List ℕ) (place at : ℕ) : Type 0 where
@@ -104,7 +73,7 @@ module _ (limit : ℕ) where
       let len : length t ≡ length field - at =
       ap length is ∙ length-take-le (length field - at) (drop at field) (omega (arith, length-drop at field)) in
       let more = read_packet seen channel field at n t is (omega (arith, whole.some, read.inside)) whole.begins whole.reaches whole.whole in
-      let all : t ≡ drop at field = is ∙ take_all (length field - at) (drop at field) (omega (arith, length-drop at field)) in
+      let all : t ≡ drop at field = is ∙ take_rest field at in
       let there : place + (at - place) ≡ at = omega (arith, read.from) in
       let here : drop (at - place) (drop place field) ≡ t = drop-drop (at - place) place field ∙ ap (λ (k : ℕ). drop k field) there ∙ sym all in
       let one : IsOnePacket (take n t) = one-front t n whole.reaches whole.whole whole.version in
@@ -116,14 +85,6 @@ module _ (limit : ℕ) where
         from = omega (arith, read.from);
         inside = omega (arith, whole.whole, len, read.inside);
         span = subst (λ (k : ℕ). IsSpan (take k (drop place field))) further longer.span;
-        items =
-            read.items
-            ∙ ap (λ (xs : List Item). before ++ xs) more.0
-            ∙ sym (append_assoc before (Packet seen channel seen at (take n t) ∷ []) (items_from limit seen channel field (at + n)))
-            ∙ ap (λ (xs : List Item). xs ++ items_from limit seen channel field (at + n))
-            (ap (λ (k : ℕ). before ++ Packet seen channel seen k (take n t) ∷ []) (sym there)
-            ∙ ap (λ (o : List ℕ). before ++ Packet seen channel seen (place + (at - place)) (take n o) ∷ []) (sym here)
-            ∙ sym longer.items
-            ∙ ap (λ (k : ℕ). span_items seen channel place (take k (drop place field))) further);
+        items = rw (read.items, more.0, ← further, longer.items, there, here, append_assoc);
         left = sym more.1 ∙ read.left;
       }

@@ -1,20 +1,21 @@
 -- Joining, over records: the items and the state after a record and more records are those of the record, and then of the others.
-use Rattle.tm_reassembly.proofs.Each.{Each, Each-append, Each-weaken}
+use Rattle.tm_reassembly.proofs.Each.{Each-append, Each-weaken}
 use Rattle.std.proofs.lemmas.Option.{slice_get_within, none-some}
-use Rattle.std.proofs.Common.{◌≡◌, Ok, Err, ◌≢◌, ℕ, suc, zero, ◌+◌, ◌<◌, Bool, true, Option, Some, None, List, [], ◌∷◌, ◌++◌, map, length, refl, sym, ap, subst, ◌∙◌, ⊎_elim, lit<, arith, append_assoc, eqb, ◌≤◌}
+use Rattle.std.proofs.Common.{◌≡◌, Ok, Err, ◌≢◌, ℕ, suc, zero, ◌+◌, ◌<◌, Bool, true, Option, Some, None, List, [], ◌∷◌, ◌++◌, map, length, refl, sym, ap, subst, ◌∙◌, ◌⊎◌, ⊎_elim, inl, inr, lit<, arith, append_assoc, eqb, if◌then◌else◌, ◌≤◌}
 use Rattle.std.specs.List.{flat_map, slice_get}
 use Rattle.std.proofs.lemmas.List.{append-nil}
 use Rattle.std.proofs.lemmas.List.Concat.{flat_map-append}
-use Rattle.std.proofs.lemmas.Bool.{cases_Bool, cond_both, eq-eqb, cond-true, cond-false}
+use Rattle.std.proofs.lemmas.Bool.{cases_Bool, cond_both, eq-eqb, cond-true}
 pub use Rattle.tm_reassembly.specs.code.Fits.{IsFit, AllReadingsFit}
+use Rattle.tm_frame.specs.Frame.{GoodFrame}
 use Rattle.tm_reassembly.specs.State.{State, Last, Tail}
 use Rattle.tm_reassembly.specs.Readings.{Reading}
 use Rattle.tm_items.specs.Item.{Item}
-use Rattle.tm_reassembly.specs.Chain.{ChainMember, has_frame_gap, stem_of, stem_with, chain, frames, member_of, member, Unended}
+use Rattle.tm_reassembly.specs.Chain.{ChainMember, has_frame_gap, stem_of, stem_with, chain, frames, member_of, member, master_member, Unended}
 use Rattle.tm_reassembly.specs.Parts.{Part}
 use Rattle.tm_reassembly.specs.code.Field.{chain_parts_at, chain_tail_at}
 use Rattle.tm_rules.specs.Channels.{eight}
-use Rattle.tm_reassembly.specs.Items.{seen_at, held_part, channel_items, chain_parts, last_frame_count, last_with, first_tail, channel_after, state_after_readings, record_items, merged, items_of_readings, empty}
+use Rattle.tm_reassembly.specs.Items.{seen_at, gap_at, master_gap_item, held_part, channel_items, chain_parts, last_frame_count, last_with, first_tail, channel_after, state_after_readings, record_items, merged, items_of_readings, empty}
 use Rattle.tm_reassembly.proofs.Step.{PlaceFits}
 use Rattle.tm_reassembly.proofs.Chained.{IsOpenTail, chained, chained_step, chained_end, chain_parts-stem, chain_parts-fresh, left_parts}
 use Rattle.tm_reassembly.proofs.Seen.{held-none, chain_parts_at-at, chain_tail_at-open}
@@ -46,25 +47,21 @@ pub none_kept : (c : ℕ) (last : Last) → slice_get empty.channels c ≡ Some 
 none_kept c last e = let there = at_eight (λ d. None) c (slice_get_within empty.channels c (Some last) e) in cc
 
 -- a record has no frame of the channel, or one
-data FrameOf (c k : ℕ) (fs : List ChainMember) : Type 0 where
-  no_frame : fs ≡ [] → FrameOf c k fs
-  one_frame : (f : ChainMember) → fs ≡ f ∷ [] → f.number ≡ k → PlaceFits f.place (length f.field) → FrameOf c k fs
+abbrev OneFrame : ℕ → List ChainMember → Type 0
+OneFrame k fs = (f : ChainMember) × (fs ≡ f ∷ []) × (f.number ≡ k) × PlaceFits f.place (length f.field)
 
-frame_cases : (c k : ℕ) (r : Reading) → IsFit r → FrameOf c k (member_of c k r)
-frame_cases c k (Err fault) h = no_frame refl
+frame_cases : (c k : ℕ) (r : Reading) → IsFit r → (member_of c k r ≡ []) ⊎ OneFrame k (member_of c k r)
+frame_cases c k (Err fault) h = inl refl
 frame_cases c k (Ok f) h =
-    cond_both (eqb f.channel c) (member k f ∷ []) [] (FrameOf c k) (λ e. one_frame (member k f) refl refl h.1) (λ e. no_frame refl)
+    cond_both (eqb f.channel c) (member k f ∷ []) [] (λ fs. (fs ≡ []) ⊎ OneFrame k fs) (λ e. inr (member k f, refl, refl, h.1)) (λ e. inl refl)
 
 pub frames-fit : (c k : ℕ) (rs : List Reading) → AllReadingsFit rs → FitFrom k (frames c k rs)
 frames-fit c k [] h = tt
 frames-fit c k (r ∷ rs) h =
-    Each-append (λ m. (k ≤ m.number) × PlaceFits m.place (length m.field)) (member_of c k r) (frames c (k + 1) rs) (own (member_of c k r) (frame_cases c k r h.0))
+    Each-append (λ m. (k ≤ m.number) × PlaceFits m.place (length m.field)) (member_of c k r) (frames c (k + 1) rs)
+    (⊎_elim (λ (e : member_of c k r ≡ []). rw e tt) (λ (w : OneFrame k (member_of c k r)). rw w.1 ((omega (arith, w.2), w.3), tt)) (frame_cases c k r h.0))
     (Each-weaken (λ m. (k + 1 ≤ m.number) × PlaceFits m.place (length m.field)) (λ m. (k ≤ m.number) × PlaceFits m.place (length m.field)) (frames c (k + 1) rs)
     (λ m p. (let b = p.0 in omega arith, p.1)) (frames-fit c (k + 1) rs h.1))
-  where
-    own : (fs : List ChainMember) → FrameOf c k fs → Each (λ m. (k ≤ m.number) × PlaceFits m.place (length m.field)) fs
-    own fs (no_frame e) = rw e tt
-    own fs (one_frame f e n p) = rw e ((omega arith, p), tt)
 
 no_tail : (x : Option (Option Last)) → before_of x ≡ None → tail_of x ≡ None
 no_tail None h = refl
@@ -78,9 +75,6 @@ before_with tail (Some count) = refl
 tail_with : (tail : Option Tail) (count : Option ℕ) → (count ≡ None → tail ≡ None) → tail_of (Some (last_with tail count)) ≡ tail
 tail_with tail None h = sym (h refl)
 tail_with tail (Some count) h = refl
-
-not_empty : {A : Type 0} (x : A) (ys : List A) → x ∷ [] ≡ ys → ys ≡ [] → ⊥
-not_empty x ys e f = cc
 
 map_eight : (f g : ℕ → Option Last) → ((c : ℕ) → c < 8 → f c ≡ g c) → map f eight ≡ map g eight
 map_eight f g h =
@@ -139,141 +133,95 @@ module _ (limit : ℕ) where
     pub tails_open : (c : ℕ) → c < 8 → chosen c ≡ true → IsOpenTail limit (tail_of (slice_get s.channels c))
 
   module _ (chosen : ℕ → Bool) (s : State) (r : Reading) (valid : HasOpenTails chosen s) (fit : IsFit r) (c : ℕ) (small : c < 8) (is_chosen : chosen c ≡ true) where
-    open_tail : IsOpenTail limit (tail_of (slice_get s.channels c))
+    abbrev before : Option ℕ
+    before = before_of (slice_get s.channels c)
+
+    abbrev tail : Option Tail
+    tail = tail_of (slice_get s.channels c)
+
+    abbrev own : List ChainMember
+    own = member_of c s.records r
+
+    abbrev next : State
+    next = state_after_readings limit chosen s (r ∷ [])
+
+    open_tail : IsOpenTail limit tail
     open_tail = valid.tails_open c small is_chosen
 
-    pub new-is : slice_get (state_after_readings limit chosen s (r ∷ [])).channels c
-        ≡ Some (last_with (tail_after (before_of (slice_get s.channels c)) (tail_of (slice_get s.channels c)) (member_of c s.records r ++ []))
-        (last_frame_count (before_of (slice_get s.channels c)) (member_of c s.records r ++ [])))
+    pub new-is : slice_get next.channels c ≡ Some (last_with (tail_after before tail (own ++ [])) (last_frame_count before (own ++ [])))
     new-is = at_eight (channel_after limit chosen s (r ∷ [])) c small ∙ ap (λ (x : Option Last). Some x) (channel_after-is chosen s (r ∷ []) c is_chosen)
 
     -- no frame of the channel: the channel's state stays
-    pub before-kept : member_of c s.records r ≡ [] → before_of (slice_get (state_after_readings limit chosen s (r ∷ [])).channels c) ≡ before_of (slice_get s.channels c)
-    before-kept e =
-        ap before_of new-is ∙ before_with _ _
-        ∙ ap (λ (fs : List ChainMember). last_frame_count (before_of (slice_get s.channels c)) (fs ++ [])) e
+    pub before-kept : own ≡ [] → before_of (slice_get next.channels c) ≡ before
+    before-kept e = ap before_of new-is ∙ rw (before_with, e)
 
-    pub tail-kept : member_of c s.records r ≡ [] → tail_of (slice_get (state_after_readings limit chosen s (r ∷ [])).channels c) ≡ tail_of (slice_get s.channels c)
+    pub tail-kept : own ≡ [] → tail_of (slice_get next.channels c) ≡ tail
     tail-kept e =
-        let t : tail_after (before_of (slice_get s.channels c)) (tail_of (slice_get s.channels c)) (member_of c s.records r ++ []) ≡ tail_of (slice_get s.channels c) =
-        ap (λ (fs : List ChainMember). tail_after (before_of (slice_get s.channels c)) (tail_of (slice_get s.channels c)) (fs ++ [])) e
-        ∙ tail_after-end (before_of (slice_get s.channels c)) (tail_of (slice_get s.channels c)) open_tail in
-        let n : last_frame_count (before_of (slice_get s.channels c)) (member_of c s.records r ++ []) ≡ before_of (slice_get s.channels c) =
-        ap (λ (fs : List ChainMember). last_frame_count (before_of (slice_get s.channels c)) (fs ++ [])) e in
+        let t : tail_after before tail (own ++ []) ≡ tail = rw e (tail_after-end before tail open_tail) in
+        let n : last_frame_count before (own ++ []) ≡ before = rw e in
         ap tail_of new-is ∙ tail_with _ _ (λ z. t ∙ no_tail (slice_get s.channels c) (sym n ∙ z)) ∙ t
 
-    module _ (f : ChainMember) (e : member_of c s.records r ≡ f ∷ []) (place : PlaceFits f.place (length f.field)) where
+    module _ (f : ChainMember) (e : own ≡ f ∷ []) (place : PlaceFits f.place (length f.field)) where
       -- one frame: its count, and the tail that it leaves
-      pub before-moved : before_of (slice_get (state_after_readings limit chosen s (r ∷ [])).channels c) ≡ Some f.count
-      before-moved =
-          ap before_of new-is ∙ before_with _ _
-          ∙ ap (λ (fs : List ChainMember). last_frame_count (before_of (slice_get s.channels c)) (fs ++ [])) e
+      pub before-moved : before_of (slice_get next.channels c) ≡ Some f.count
+      before-moved = ap before_of new-is ∙ rw (before_with, e)
 
-      pub tail-moved : tail_of (slice_get (state_after_readings limit chosen s (r ∷ [])).channels c)
-          ≡ chain_tail_at limit (has_frame_gap (before_of (slice_get s.channels c)) f) f.is_vca (tail_of (slice_get s.channels c)) f
+      pub tail-moved : tail_of (slice_get next.channels c) ≡ chain_tail_at limit (has_frame_gap before f) f.is_vca tail f
       tail-moved =
-          let left : Option Tail = chain_tail_at limit (has_frame_gap (before_of (slice_get s.channels c)) f) f.is_vca (tail_of (slice_get s.channels c)) f in
-          let t : tail_after (before_of (slice_get s.channels c)) (tail_of (slice_get s.channels c)) (member_of c s.records r ++ []) ≡ left =
-          ap (λ (fs : List ChainMember). tail_after (before_of (slice_get s.channels c)) (tail_of (slice_get s.channels c)) (fs ++ [])) e
-          ∙ tail_after-step (before_of (slice_get s.channels c)) (tail_of (slice_get s.channels c)) f [] open_tail place
-          ∙ tail_after-end (Some f.count) left (chain_tail_at-open limit (has_frame_gap (before_of (slice_get s.channels c)) f) f.is_vca (tail_of (slice_get s.channels c)) f open_tail) in
-          let n : last_frame_count (before_of (slice_get s.channels c)) (member_of c s.records r ++ []) ≡ Some f.count =
-          ap (λ (fs : List ChainMember). last_frame_count (before_of (slice_get s.channels c)) (fs ++ [])) e in
+          let left : Option Tail = chain_tail_at limit (has_frame_gap before f) f.is_vca tail f in
+          let t : tail_after before tail (own ++ []) ≡ left =
+          rw e (tail_after-step before tail f [] open_tail place
+          ∙ tail_after-end (Some f.count) left (chain_tail_at-open limit (has_frame_gap before f) f.is_vca tail f open_tail)) in
+          let n : last_frame_count before (own ++ []) ≡ Some f.count = rw e in
           ap tail_of new-is ∙ tail_with _ _ (λ z. absurd (none-some f.count (sym z ∙ n))) ∙ t
 
     -- at a later record the channel's items are as from the state after this one
     items-later : (rs : List Reading) (n : ℕ) → (s.records ≡ n → ⊥)
-        → seen_at n (channel_items limit c (chain s c (r ∷ rs))) ≡ seen_at n (channel_items limit c (chain (state_after_readings limit chosen s (r ∷ [])) c rs))
-    items-later rs n ne = by_case (frame_cases c s.records r fit)
-      where
-        moved : {a b : Option ℕ} {t u : Option Tail} → a ≡ b → t ≡ u
-            → seen_at n (items_after limit c a t (frames c (s.records + 1) rs)) ≡ seen_at n (items_after limit c b u (frames c (s.records + 1) rs))
-        moved e f = rw (e, f)
-
-        start : seen_at n (channel_items limit c (chain s c (r ∷ rs)))
-            ≡ seen_at n (items_after limit c (before_of (slice_get s.channels c)) (tail_of (slice_get s.channels c)) (member_of c s.records r ++ frames c (s.records + 1) rs))
-        start = ap (seen_at n) (channel_items-is limit c (slice_get s.channels c) (member_of c s.records r ++ frames c (s.records + 1) rs))
-
-        stop : seen_at n (items_after limit c (before_of (slice_get (state_after_readings limit chosen s (r ∷ [])).channels c)) (tail_of (slice_get (state_after_readings limit chosen s (r ∷ [])).channels c)) (frames c (s.records + 1) rs))
-            ≡ seen_at n (channel_items limit c (chain (state_after_readings limit chosen s (r ∷ [])) c rs))
-        stop = sym (ap (seen_at n) (channel_items-is limit c (slice_get (state_after_readings limit chosen s (r ∷ [])).channels c) (frames c (s.records + 1) rs)))
-
-        by_case : FrameOf c s.records (member_of c s.records r)
-            → seen_at n (channel_items limit c (chain s c (r ∷ rs))) ≡ seen_at n (channel_items limit c (chain (state_after_readings limit chosen s (r ∷ [])) c rs))
-        by_case (no_frame e) =
-            start
-            ∙ ap (λ (ms : List ChainMember). seen_at n (items_after limit c (before_of (slice_get s.channels c)) (tail_of (slice_get s.channels c)) (ms ++ frames c (s.records + 1) rs))) e
-            ∙ moved (sym (before-kept e)) (sym (tail-kept e))
-            ∙ stop
-        by_case (one_frame f e number place) =
-            start
-            ∙ ap (λ (ms : List ChainMember). seen_at n (items_after limit c (before_of (slice_get s.channels c)) (tail_of (slice_get s.channels c)) (ms ++ frames c (s.records + 1) rs))) e
-            ∙ items-there limit c (before_of (slice_get s.channels c)) (tail_of (slice_get s.channels c)) f (frames c (s.records + 1) rs) open_tail place n (λ q. ne (sym number ∙ q))
-            ∙ moved (sym (before-moved f e place)) (sym (tail-moved f e place))
-            ∙ stop
+        → seen_at n (channel_items limit c (chain s c (r ∷ rs))) ≡ seen_at n (channel_items limit c (chain next c rs))
+    items-later rs n ne =
+        ap (seen_at n) (channel_items-is limit c (slice_get s.channels c) (own ++ frames c (s.records + 1) rs))
+        ∙ ⊎_elim
+        (λ (e : own ≡ []). rw (before-kept e, tail-kept e, e))
+        (λ (w : OneFrame s.records own).
+        rw (before-moved w.0 w.1 w.3, tail-moved w.0 w.1 w.3, w.1)
+        (items-there limit c before tail w.0 (frames c (s.records + 1) rs) open_tail w.3 n (λ q. ne (sym w.2 ∙ q))))
+        (frame_cases c s.records r fit)
+        ∙ sym (ap (seen_at n) (channel_items-is limit c (slice_get next.channels c) (frames c (s.records + 1) rs)))
 
     -- at this record the channel's items are the same, whatever comes later
-    items-now : (rs : List Reading) → AllReadingsFit rs → member_of c s.records r ≢ []
+    items-now : (rs : List Reading) → AllReadingsFit rs → own ≢ []
         → seen_at s.records (channel_items limit c (chain s c (r ∷ rs))) ≡ seen_at s.records (channel_items limit c (chain s c (r ∷ [])))
-    items-now rs fits some = by_case (frame_cases c s.records r fit)
+    items-now rs fits some =
+        ⊎_elim (λ e. absurd (some e)) (λ w. here rs fits w.0 w.1 w.2 w.3 ∙ sym (here [] tt w.0 w.1 w.2 w.3)) (frame_cases c s.records r fit)
       where
-        here : (qs : List Reading) → AllReadingsFit qs → (f : ChainMember) → member_of c s.records r ≡ f ∷ [] → f.number ≡ s.records → PlaceFits f.place (length f.field)
-            → seen_at s.records (channel_items limit c (chain s c (r ∷ qs))) ≡ member_items limit c (before_of (slice_get s.channels c)) (tail_of (slice_get s.channels c)) f
+        here : (qs : List Reading) → AllReadingsFit qs → (f : ChainMember) → own ≡ f ∷ [] → f.number ≡ s.records → PlaceFits f.place (length f.field)
+            → seen_at s.records (channel_items limit c (chain s c (r ∷ qs))) ≡ member_items limit c before tail f
         here qs fitted f e number place =
             let later : FitFrom (suc f.number) (frames c (s.records + 1) qs) =
             subst (λ (k : ℕ). FitFrom k (frames c (s.records + 1) qs)) (omega arith) (frames-fit c (s.records + 1) qs fitted) in
-            ap (seen_at s.records) (channel_items-is limit c (slice_get s.channels c) (member_of c s.records r ++ frames c (s.records + 1) qs))
-            ∙ ap (λ (ms : List ChainMember). seen_at s.records (items_after limit c (before_of (slice_get s.channels c)) (tail_of (slice_get s.channels c)) (ms ++ frames c (s.records + 1) qs))) e
-            ∙ ap (λ (k : ℕ). seen_at k (items_after limit c (before_of (slice_get s.channels c)) (tail_of (slice_get s.channels c)) (f ∷ frames c (s.records + 1) qs))) (sym number)
-            ∙ items-here limit c (before_of (slice_get s.channels c)) (tail_of (slice_get s.channels c)) f (frames c (s.records + 1) qs) open_tail place later
-
-        by_case : FrameOf c s.records (member_of c s.records r)
-            → seen_at s.records (channel_items limit c (chain s c (r ∷ rs))) ≡ seen_at s.records (channel_items limit c (chain s c (r ∷ [])))
-        by_case (no_frame e) = absurd (some e)
-        by_case (one_frame f e number place) = here rs fits f e number place ∙ sym (here [] tt f e number place)
+            ap (seen_at s.records) (channel_items-is limit c (slice_get s.channels c) (own ++ frames c (s.records + 1) qs))
+            ∙ rw e (ap (λ (k : ℕ). seen_at k (items_after limit c before tail (f ∷ frames c (s.records + 1) qs))) (sym number)
+            ∙ items-here limit c before tail f (frames c (s.records + 1) qs) open_tail place later)
 
     -- the state of the channel after more records
-    pub channel-later : (rs : List Reading) → channel_after limit chosen s (r ∷ rs) c ≡ channel_after limit chosen (state_after_readings limit chosen s (r ∷ [])) rs c
-    channel-later rs = by_case (frame_cases c s.records r fit)
-      where
-        same : {a b : Option ℕ} {t u : Option Tail} → a ≡ b → t ≡ u
-            → last_with (tail_after a t (frames c (s.records + 1) rs)) (last_frame_count a (frames c (s.records + 1) rs))
-            ≡ last_with (tail_after b u (frames c (s.records + 1) rs)) (last_frame_count b (frames c (s.records + 1) rs))
-        same e f = rw (e, f)
-
-        stop : last_with
-            (tail_after (before_of (slice_get (state_after_readings limit chosen s (r ∷ [])).channels c)) (tail_of (slice_get (state_after_readings limit chosen s (r ∷ [])).channels c)) (frames c (s.records + 1) rs))
-            (last_frame_count (before_of (slice_get (state_after_readings limit chosen s (r ∷ [])).channels c)) (frames c (s.records + 1) rs))
-            ≡ channel_after limit chosen (state_after_readings limit chosen s (r ∷ [])) rs c
-        stop = sym (channel_after-is chosen (state_after_readings limit chosen s (r ∷ [])) rs c is_chosen)
-
-        by_case : FrameOf c s.records (member_of c s.records r) → channel_after limit chosen s (r ∷ rs) c ≡ channel_after limit chosen (state_after_readings limit chosen s (r ∷ [])) rs c
-        by_case (no_frame e) =
-            channel_after-is chosen s (r ∷ rs) c is_chosen
-            ∙ ap (λ (ms : List ChainMember).
-            last_with (tail_after (before_of (slice_get s.channels c)) (tail_of (slice_get s.channels c)) (ms ++ frames c (s.records + 1) rs))
-            (last_frame_count (before_of (slice_get s.channels c)) (ms ++ frames c (s.records + 1) rs))) e
-            ∙ same (sym (before-kept e)) (sym (tail-kept e))
-            ∙ stop
-        by_case (one_frame f e number place) =
-            channel_after-is chosen s (r ∷ rs) c is_chosen
-            ∙ ap (λ (ms : List ChainMember).
-            last_with (tail_after (before_of (slice_get s.channels c)) (tail_of (slice_get s.channels c)) (ms ++ frames c (s.records + 1) rs))
-            (last_frame_count (before_of (slice_get s.channels c)) (ms ++ frames c (s.records + 1) rs))) e
-            ∙ ap (λ (t : Option Tail). last_with t (last_frame_count (Some f.count) (frames c (s.records + 1) rs)))
-            (tail_after-step (before_of (slice_get s.channels c)) (tail_of (slice_get s.channels c)) f (frames c (s.records + 1) rs) open_tail place)
-            ∙ same (sym (before-moved f e place)) (sym (tail-moved f e place))
-            ∙ stop
+    pub channel-later : (rs : List Reading) → channel_after limit chosen s (r ∷ rs) c ≡ channel_after limit chosen next rs c
+    channel-later rs =
+        channel_after-is chosen s (r ∷ rs) c is_chosen
+        ∙ ⊎_elim
+        (λ (e : own ≡ []). rw (before-kept e, tail-kept e, e))
+        (λ (w : OneFrame s.records own).
+        rw (before-moved w.0 w.1 w.3, tail-moved w.0 w.1 w.3, w.1, tail_after-step before tail w.0 (frames c (s.records + 1) rs) open_tail w.3))
+        (frame_cases c s.records r fit)
+        ∙ sym (channel_after-is chosen next rs c is_chosen)
 
     -- and its tail stays open
-    pub tail-later : IsOpenTail limit (tail_of (slice_get (state_after_readings limit chosen s (r ∷ [])).channels c))
-    tail-later = by_case (frame_cases c s.records r fit)
-      where
-        by_case : FrameOf c s.records (member_of c s.records r) → IsOpenTail limit (tail_of (slice_get (state_after_readings limit chosen s (r ∷ [])).channels c))
-        by_case (no_frame e) = subst (IsOpenTail limit) (sym (tail-kept e)) open_tail
-        by_case (one_frame f e number place) =
-            subst (IsOpenTail limit) (sym (tail-moved f e place))
-            (chain_tail_at-open limit (has_frame_gap (before_of (slice_get s.channels c)) f) f.is_vca (tail_of (slice_get s.channels c)) f open_tail)
+    pub tail-later : IsOpenTail limit (tail_of (slice_get next.channels c))
+    tail-later =
+        ⊎_elim
+        (λ (e : own ≡ []). rw (tail-kept e) open_tail)
+        (λ (w : OneFrame s.records own).
+        rw (tail-moved w.0 w.1 w.3) (chain_tail_at-open limit (has_frame_gap before w.0) w.0.is_vca tail w.0 open_tail))
+        (frame_cases c s.records r fit)
 
   pub record_items-now : (chosen : ℕ → Bool) (s : State) (r : Reading) → HasOpenTails chosen s → IsFit r → (rs : List Reading) → AllReadingsFit rs
       → record_items limit chosen s (r ∷ rs) s.records r ≡ record_items limit chosen s (r ∷ []) s.records r
@@ -282,13 +230,20 @@ module _ (limit : ℕ) where
       append_same (masters-now s g rs ∙ sym (masters-now s g []))
       (⊎_elim
       (λ e.
-      cond-true (chosen g.channel) _ _ e
-      ∙ items-now chosen s (Ok g) valid fit g.channel fit.0 e rs fits
-      (not_empty (member s.records g) (member_of g.channel s.records (Ok g))
-      (sym (cond-true (eqb g.channel g.channel) (member s.records g ∷ []) [] (eq-eqb g.channel g.channel refl))))
-      ∙ sym (cond-true (chosen g.channel) _ _ e))
-      (λ e. cond-false (chosen g.channel) _ _ e ∙ sym (cond-false (chosen g.channel) _ _ e))
+      rw e
+      (items-now chosen s (Ok g) valid fit g.channel fit.0 e rs fits
+      (λ z. let one : member_of g.channel s.records (Ok g) ≡ member s.records g ∷ [] = rw (eq-eqb g.channel g.channel refl) in cc)))
+      (λ e. rw e)
       (cases_Bool (chosen g.channel)))
+
+  -- the items of one good frame: its master gap, and then those of its channel
+  abbrev pub own_items : (ℕ → Bool) → State → GoodFrame → List Item
+  own_items chosen s g = if chosen g.channel then seen_at s.records (channel_items limit g.channel (chain s g.channel (Ok g ∷ []))) else []
+
+  pub good-items : (chosen : ℕ → Bool) (s : State) (g : GoodFrame)
+      → items_of_readings limit chosen s (Ok g ∷ []) ≡ gap_at master_gap_item s.master (master_member s.records g) ++ own_items chosen s g
+  good-items chosen s g =
+      append-nil (record_items limit chosen s (Ok g ∷ []) s.records (Ok g)) ∙ ap (λ (xs : List Item). xs ++ own_items chosen s g) (masters-now s g [])
 
   module _ (chosen : ℕ → Bool) (s : State) (r : Reading) (valid : HasOpenTails chosen s) (fit : IsFit r) where
     merged-later : (rs : List Reading) (n : ℕ) (qs : List Reading) → s.records < n → AllReadingsFit qs
@@ -301,11 +256,8 @@ module _ (limit : ℕ) where
         one (Ok g) k =
             append_same (masters-later s (state_after_readings limit chosen s (r ∷ [])) r (master-moved s r) (omega arith) rs n (λ z. omega arith))
             (⊎_elim
-            (λ e.
-            cond-true (chosen g.channel) _ _ e
-            ∙ items-later chosen s r valid fit g.channel k.0 e rs n (λ z. omega arith)
-            ∙ sym (cond-true (chosen g.channel) _ _ e))
-            (λ e. cond-false (chosen g.channel) _ _ e ∙ sym (cond-false (chosen g.channel) _ _ e))
+            (λ e. rw e (items-later chosen s r valid fit g.channel k.0 e rs n (λ z. omega arith)))
+            (λ e. rw e)
             (cases_Bool (chosen g.channel)))
 
     -- the items of a record and more records: those of the record, and then those of the others
@@ -325,11 +277,7 @@ module _ (limit : ℕ) where
     after-cons rs =
         state_same (omega arith) (master-later s (state_after_readings limit chosen s (r ∷ [])) r (master-moved s r) (omega arith) rs)
         (map_eight (channel_after limit chosen s (r ∷ rs)) (channel_after limit chosen (state_after_readings limit chosen s (r ∷ [])) rs)
-        (λ c small.
-        ⊎_elim
-        (λ e. channel-later chosen s r valid fit c small e rs)
-        (λ e. cond-false (chosen c) _ _ e ∙ sym (cond-false (chosen c) _ _ e))
-        (cases_Bool (chosen c))))
+        (λ c small. ⊎_elim (λ e. channel-later chosen s r valid fit c small e rs) (λ e. rw e) (cases_Bool (chosen c))))
 
   -- joining, over any two lists of records
   pub items-append : (chosen : ℕ → Bool) (s : State) (rs qs : List Reading) → HasOpenTails chosen s → state_after_readings limit chosen s [] ≡ s → AllReadingsFit rs → AllReadingsFit qs

@@ -58,10 +58,8 @@ module _ (limit : ℕ) where
   -- a packet that isn't long where it ends has no more octets than the limit
   whole-most : (o : List ℕ) (stop : ℕ) → is_long limit (packet_length o) stop ≡ false → packet_length o ≤ length o → length o ≤ stop → length (take (packet_length o) o) ≤ limit
   whole-most o stop short fits inside =
-      let least = packet_length-least o in
-      let most = within-limit limit (packet_length o) stop (omega arith) short in
-      let l = length-take-le (packet_length o) o fits in
-      omega arith
+      let most = within-limit limit (packet_length o) stop (omega (arith, packet_length-least o)) short in
+      omega (arith, packet_length-least o, length-take-le (packet_length o) o fits)
 
   field_parts-at : (number stop skip : ℕ) (o : List ℕ) → AllAt number (field_parts limit number stop skip o)
   field_parts-at number stop skip [] = tt

@@ -83,8 +83,7 @@ module _ (limit : ℕ) where
       → breaker limit d a (between ++ m ∷ more) ≡ breaker limit d a (between ++ m ∷ [])
   breaker-within d a [] m more h = rw (breaker-settled limit d (a + length m.field) more (omega arith))
   breaker-within d a (f ∷ between) m more h =
-      let len : length (text (f ∷ between)) ≡ length f.field + length (text between) = length-append f.field (text between) in
-      rw (breaker-within d (a + length f.field) between m more (omega arith))
+      rw (breaker-within d (a + length f.field) between m more (omega (arith, length-append f.field (text between))))
 
   enough-text : (d : ℕ) (start : List ℕ) (between : List ChainMember) (m : ChainMember) (more : List ChainMember) → d ≤ (length start + length (text between)) + length m.field
       → leb d (length (start ++ text (between ++ m ∷ more))) ≡ true

@@ -2,10 +2,9 @@
 use Rattle.std.proofs.Common.{◌≡◌, ℕ, suc, zero, ◌+◌, ◌*◌, ◌<◌, min, Option, Some, List, [], ◌∷◌, ◌++◌, length, take, drop, refl, sym, ap, subst, ◌∙◌, arith}
 use Rattle.std.specs.Prelude.{slice_index_or, slice_set}
 use Rattle.std.specs.List.{flat_map, slice_get}
-use Rattle.std.proofs.lemmas.List.{append-nil, length-map}
+use Rattle.std.proofs.lemmas.List.{append-nil, drop_more, length-append, length-map, map-set, take_more}
 use Rattle.std.proofs.lemmas.Option.{slice_get-get_or}
 use Rattle.std.proofs.lemmas.List.Concat.{flat_map-append}
-use Rattle.std.proofs.Math.Seq.{take-suc}
 use Rattle.tm_reassembly.specs.Checkpoint.{block}
 use Rattle.tm_reassembly.specs.Items.{close_last, close_channels}
 use Rattle.tm_reassembly.specs.code.Slots.{Slot, HaveLimit, IsFor, lasts, rooms}
@@ -18,9 +17,7 @@ last_at (x ∷ xs) zero d = refl
 last_at (x ∷ xs) (suc c) d = last_at xs c d
 
 pub lasts_set : (slots : List Slot) (c : ℕ) (x : Slot) → lasts (slice_set slots c x) ≡ slice_set (lasts slots) c x.last
-lasts_set [] c x = refl
-lasts_set (y ∷ ys) zero x = refl
-lasts_set (y ∷ ys) (suc c) x = ap (λ (l : List (Option Last)). y.last ∷ l) (lasts_set ys c x)
+lasts_set slots c x = map-set (λ (y : Slot). y.last) slots c x
 
 pub lasts_length : (slots : List Slot) → length (lasts slots) ≡ length slots
 lasts_length slots = length-map slots (λ x. x.last)
@@ -50,17 +47,10 @@ rooms_of_eight limit slots h eight =
     let all : length slots ≡ 8 = sym (lasts_length slots) ∙ eight in
     rooms_are limit slots h ∙ ap (λ (n : ℕ). n * limit) all
 
-drop_at : (xs : List (Option Last)) (n : ℕ) (d : Option Last) → n < length xs → drop n xs ≡ slice_index_or xs n d ∷ drop (suc n) xs
-drop_at [] n d h = absurd (omega arith)
-drop_at (x ∷ xs) zero d h = refl
-drop_at (x ∷ xs) (suc n) d h = drop_at xs n d (omega arith)
-
 drop_last : (slots : List Slot) (c : ℕ) (d : Slot) → c < length slots → drop c (lasts slots) ≡ (slice_index_or slots c d).last ∷ drop (c + 1) (lasts slots)
 drop_last slots c d h =
-    let one : suc c ≡ c + 1 = omega arith in
-    drop_at (lasts slots) c d.last (omega (arith, lasts_length slots))
-    ∙ ap (λ (x : Option Last). x ∷ drop (suc c) (lasts slots)) (last_at slots c d)
-    ∙ ap (λ (n : ℕ). (slice_index_or slots c d).last ∷ drop n (lasts slots)) one
+    drop_more (lasts slots) c d.last (omega (arith, lasts_length slots))
+    ∙ ap (λ (x : Option Last). x ∷ drop (c + 1) (lasts slots)) (last_at slots c d)
 
 -- closed one by one
 pub close_more : (seen i : ℕ) (slots : List Slot) (d : Slot) → i < length slots
@@ -71,13 +61,17 @@ close_more seen i slots d h = ap (close_channels seen i) (drop_last slots i d h)
 pub spelled_more : (slots : List Slot) (c : ℕ) (d : Slot) → c < length slots
     → flat_map block (take (c + 1) (lasts slots)) ≡ flat_map block (take c (lasts slots)) ++ block (slice_index_or slots c d).last
 spelled_more slots c d h =
-    let one : c + 1 ≡ suc c = omega arith in
-    ap (λ (n : ℕ). flat_map block (take n (lasts slots))) one
-    ∙ ap (flat_map block) (take-suc (lasts slots) c d.last (omega (arith, lasts_length slots)))
-    ∙ flat_map-append block (take c (lasts slots)) (slice_index_or (lasts slots) c d.last ∷ [])
-    ∙ ap (λ (l : List ℕ). flat_map block (take c (lasts slots)) ++ l) (append-nil (block (slice_index_or (lasts slots) c d.last)))
-    ∙ ap (λ (x : Option Last). flat_map block (take c (lasts slots)) ++ block x) (last_at slots c d)
+    ap (flat_map block) (take_more (lasts slots) c d.last (omega (arith, lasts_length slots)))
+    ∙ simp (flat_map-append, append-nil, last_at slots c d)
+
+pub more_length : (slots : List Slot) (c : ℕ) (d : Slot) → c < length slots
+    → length (flat_map block (take (c + 1) (lasts slots))) ≡ length (flat_map block (take c (lasts slots))) + length (block (slice_index_or slots c d).last)
+more_length slots c d h = ap length (spelled_more slots c d h) ∙ length-append _ _
 
 pub spelled_rest : (slots : List Slot) (c : ℕ) (d : Slot) → c < length slots
     → flat_map block (drop c (lasts slots)) ≡ block (slice_index_or slots c d).last ++ flat_map block (drop (c + 1) (lasts slots))
 spelled_rest slots c d h = ap (flat_map block) (drop_last slots c d h)
+
+pub rest_length : (slots : List Slot) (c : ℕ) (d : Slot) → c < length slots
+    → length (flat_map block (drop c (lasts slots))) ≡ length (block (slice_index_or slots c d).last) + length (flat_map block (drop (c + 1) (lasts slots)))
+rest_length slots c d h = ap length (spelled_rest slots c d h) ∙ length-append _ _

@@ -21,12 +21,12 @@ use Rattle.tm_reassembly.specs.Items.{empty}
 use Rattle.tm_reassembly.specs.Items as read
 use Rattle.tm_reassembly.specs.Recording.{after, readings}
 use Rattle.tm_reassembly.specs.Valid as ok
-use Rattle.tm_reassembly.specs.Valid.{HasShape, IsCount, IsValidState, IsWithin, AllOctets}
+use Rattle.tm_reassembly.specs.Valid.{IsCount, IsValidState, IsWithin, AllOctets}
 use Rattle.tm_reassembly.proofs.Chained.{IsOpenTail, IsTail}
 use Rattle.tm_reassembly.proofs.Seen.{chain_tail_at-open}
 use Rattle.tm_reassembly.proofs.Joining.{before_of, tail_of}
 use Rattle.tm_reassembly.proofs.Records.{after-append, at_eight, none_kept}
-use Rattle.tm_reassembly.proofs.OneStep.{valid-from, after-nil, after-one, after-bad, after-other, get_set-same, get_set-other, open-at}
+use Rattle.tm_reassembly.proofs.OneStep.{last_moved, valid-from, after-nil, after-one, after-bad, after-other, get_set-same, get_set-other, open-at}
 use Rattle.tm_reassembly.proofs.Long.{begins-short, within-limit}
 use Rattle.tm_rules.specs.Rules.{Rules, IsLimit, chooses}
 use Rattle.tm_reassembly.proofs.Fits.{IsGood, IsRead, reading-fit, reading-good, octets_append}
@@ -34,13 +34,9 @@ use Rattle.tm_reassembly.proofs.Fits.{IsGood, IsRead, reading-fit, reading-good,
 no_octets : AreOctets []
 no_octets = record { below = λ i. omega arith }
 
-octets_field : (kind : Kind) (field : List ℕ) → AreOctets field → AreOctets (counted_field kind field)
-octets_field got.Idle field h = no_octets
-octets_field kind field h = h
-
-field_most : (kind : Kind) (field : List ℕ) → length (counted_field kind field) ≤ length field
-field_most got.Idle field = omega arith
-field_most kind field = omega arith
+octets_field : (kind : Kind) (field : List ℕ) → AreOctets field → AreOctets (counted_field kind field) × (length (counted_field kind field) ≤ length field)
+octets_field got.Idle field h = (no_octets, omega arith)
+octets_field kind field h = (h, omega arith)
 
 abbrev Within : LayoutParts → ℕ → Option Tail → Type 0
 Within layout records None = Unit {0}
@@ -49,47 +45,35 @@ Within layout records (Some t) = IsWithin layout records t
 within-more : (layout : LayoutParts) (records : ℕ) (t : Option Tail) → Within layout records t → Within layout (records + 1) t
 within-more layout records None h = tt
 within-more layout records (Some t) h =
-    record { first = (let e = h.first in omega arith); place = h.place; octets = h.octets }
+    record { first = (omega (arith, h.first)); place = h.place; octets = h.octets }
 
 module _ (limit : ℕ) where
-  -- the octets of an unfinished packet are octets of its field
-  octets_unfinished : (skip : ℕ) (o : List ℕ) → AreOctets o → AreOctets (unfinished limit skip o)
-  octets_unfinished skip [] h = h
-  octets_unfinished zero (x ∷ xs) h =
-      cond_both (begins_packet limit (x ∷ xs)) _ _ AreOctets
-      (λ p. cond_both (leb (packet_length (x ∷ xs)) (length (x ∷ xs))) _ _ AreOctets (λ q. octets_unfinished _ xs (octets_after x xs h)) (λ q. h))
-      (λ p. record { below = λ i. omega arith })
-  octets_unfinished (suc skip) (x ∷ xs) h = octets_unfinished skip xs (octets_after x xs h)
+  -- the octets of an unfinished packet are octets of its field, and no more than those
+  rest_unfinished : (skip : ℕ) (o : List ℕ) → AreOctets o → AreOctets (unfinished limit skip o) × (length (unfinished limit skip o) ≤ length o)
+  rest_unfinished skip [] h = (h, omega arith)
+  rest_unfinished zero (x ∷ xs) h =
+      cond_both (begins_packet limit (x ∷ xs)) _ _ (λ (l : List ℕ). AreOctets l × (length l ≤ suc (length xs)))
+      (λ p. cond_both (leb (packet_length (x ∷ xs)) (length (x ∷ xs))) _ _ (λ (l : List ℕ). AreOctets l × (length l ≤ suc (length xs)))
+      (λ q. let rest = rest_unfinished (pred (packet_length (x ∷ xs))) xs (octets_after x xs h) in (rest.0, omega (arith, rest.1))) (λ q. (h, omega arith)))
+      (λ p. (no_octets, omega arith))
+  rest_unfinished (suc skip) (x ∷ xs) h = let rest = rest_unfinished skip xs (octets_after x xs h) in (rest.0, omega (arith, rest.1))
 
-  octets_left : (place : Option ℕ) (field : List ℕ) → AreOctets field → AreOctets (left_in limit place field)
-  octets_left None field h = no_octets
-  octets_left (Some place) field h = octets_unfinished place field h
-
-  unfinished_most : (skip : ℕ) (o : List ℕ) → length (unfinished limit skip o) ≤ length o
-  unfinished_most skip [] = omega arith
-  unfinished_most zero (x ∷ xs) =
-      cond_both (begins_packet limit (x ∷ xs)) _ _ (λ (l : List ℕ). length l ≤ suc (length xs))
-      (λ p. cond_both (leb (packet_length (x ∷ xs)) (length (x ∷ xs))) _ _ (λ (l : List ℕ). length l ≤ suc (length xs))
-      (λ q. let n = unfinished_most (pred (packet_length (x ∷ xs))) xs in omega arith) (λ q. omega arith))
-      (λ p. omega arith)
-  unfinished_most (suc skip) (x ∷ xs) = let n = unfinished_most skip xs in omega arith
-
-  left_most : (place : Option ℕ) (field : List ℕ) → length (left_in limit place field) ≤ length field
-  left_most None field = omega arith
-  left_most (Some place) field = unfinished_most place field
+  rest_left : (place : Option ℕ) (field : List ℕ) → AreOctets field → AreOctets (left_in limit place field) × (length (left_in limit place field) ≤ length field)
+  rest_left None field h = (no_octets, omega arith)
+  rest_left (Some place) field h = rest_unfinished place field h
 
   module _ (layout : LayoutParts) (records : ℕ) (f : GoodFrame) (good : IsGood layout f) where
     within-at : (o : List ℕ) → AreOctets o → length o ≤ length (counted_field f.kind f.field) → Within layout (records + 1) (tail_at records (0 + length (counted_field f.kind f.field)) o)
     within-at [] h less = tt
     within-at (x ∷ xs) h less =
-        let most = field_most f.kind f.field in
+        let most = (octets_field f.kind f.field good.octets).1 in
         let room = good.most (omega arith) in
         record { first = omega arith; place = omega arith; octets = h }
 
     within-frame : Within layout (records + 1) (frame_tail limit (member records f))
     within-frame =
-        within-at (left_in limit (start_place_of f.kind) (counted_field f.kind f.field)) (octets_left (start_place_of f.kind) (counted_field f.kind f.field) (octets_field f.kind f.field good.octets))
-        (left_most (start_place_of f.kind) (counted_field f.kind f.field))
+        let rest = rest_left (start_place_of f.kind) (counted_field f.kind f.field) (octets_field f.kind f.field good.octets).0 in
+        within-at (left_in limit (start_place_of f.kind) (counted_field f.kind f.field)) rest.0 rest.1
 
     within-left : (t : Tail) (far : ℕ) → IsWithin layout records t → Within layout (records + 1) (tail_left limit t (member records f) far)
     within-left t far h =
@@ -98,9 +82,9 @@ module _ (limit : ℕ) where
         cond_both (leb far (length (t.octets ++ counted_field f.kind f.field))) _ _ (Within layout (records + 1))
         (λ q. within-frame)
         (λ q. let w : IsWithin layout (records + 1) (record { first = t.first; place = t.place; octets = t.octets ++ counted_field f.kind f.field }) = record {
-          first = (let e = h.first in omega arith);
+          first = (omega (arith, h.first));
           place = h.place;
-          octets = octets_append t.octets (counted_field f.kind f.field) h.octets (octets_field f.kind f.field good.octets);
+          octets = octets_append t.octets (counted_field f.kind f.field) h.octets (octets_field f.kind f.field good.octets).0;
         } in w))
         (λ p. within-frame)
 
@@ -186,17 +170,12 @@ module _ (rules : Rules) (s : State) (v : IsValidState rules s) (more : s.record
   read-valid (Err fault) h = subst (IsValidState rules) (sym (after-bad rules.max_packet (chooses rules) s fault v.shape)) (kept-valid s.master v.master)
   read-valid (Ok g) h =
       ⊎_elim
-      (λ e. subst (IsValidState rules) (sym (after-one rules.max_packet (chooses rules) s g v.shape h.fits e)) (set-valid (Some g.master_count) h.master g.channel _ h.fits.0 e (next e)))
+      (λ e. subst (IsValidState rules) (sym (after-one rules.max_packet (chooses rules) s g v.shape h.fits e)) (set-valid (Some g.master_count) h.master g.channel _ h.fits.0 e next))
       (λ e. subst (IsValidState rules) (sym (after-other rules.max_packet (chooses rules) s g v.shape h.fits e)) (kept-valid (Some g.master_count) h.master))
       (cases_Bool (chooses rules g.channel))
     where
-      next : chooses rules g.channel ≡ true → Keeps rules.max_packet rules.layout (s.records + 1)
-          (record {
-            count = g.count;
-            tail = chain_tail_at rules.max_packet (has_frame_gap (before_of (slice_get s.channels g.channel)) (member s.records g)) (is_vca_kind g.kind)
-                (tail_of (slice_get s.channels g.channel)) (member s.records g);
-          })
-      next e =
+      next : Keeps rules.max_packet rules.layout (s.records + 1) (last_moved rules.max_packet s g)
+      next =
           let gap = has_frame_gap (before_of (slice_get s.channels g.channel)) (member s.records g) in
           let tail = tail_of (slice_get s.channels g.channel) in
           record {

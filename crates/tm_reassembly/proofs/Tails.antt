@@ -1,13 +1,12 @@
 -- A tail and the field that comes after it.
-use Rattle.std.proofs.Common.{◌≡◌, ℕ, ◌+◌, true, false, not, ◌&&◌, ◌-◌, ◌<◌, ◌≤◌, Option, Some, None, List, [], ◌∷◌, ◌++◌, length, take, refl, sym, ap, subst, ◌∙◌, arith, length-append, leb, eqb}
+use Rattle.std.proofs.Common.{◌≡◌, ℕ, ◌+◌, true, false, ◌-◌, ◌<◌, ◌≤◌, Option, Some, None, List, [], ◌∷◌, ◌++◌, length, take, refl, sym, ap, subst, ◌∙◌, arith, length-append}
 use Rattle.std.proofs.Math.Seq.{take-append-add}
-use Rattle.std.proofs.lemmas.Bool.{le-leb, eq-eqb, eqb-true, cond-true}
+use Rattle.std.proofs.lemmas.Bool.{le-leb, eq-eqb, eqb-true}
 use Rattle.tm_reassembly.specs.State.{Tail, octets_in}
-use Rattle.tm_reassembly.specs.Parts.{Given, agrees_at, is_long}
+use Rattle.tm_reassembly.specs.Parts.{agrees_at, is_long}
 use Rattle.tm_items.specs.OnePacket.{IsOnePacket, is_packet, packet_length}
 use Rattle.tm_items.proofs.Spans.{one-front}
 use Rattle.tm_reassembly.specs.code.Field.{step_parts, frame_parts}
-use Rattle.tm_reassembly.proofs.Long.{and_not}
 use Rattle.tm_reassembly.specs.code.Slots.{tail_of_octets, grown, completed, member_at}
 
 -- the first six octets of a tail and a field
@@ -44,12 +43,7 @@ step_completed limit None seen start field some inside h short = absurd (omega a
 step_completed limit (Some t) seen start field some inside h short =
     let far : ℕ = packet_length (t.octets ++ field) in
     let l : length (t.octets ++ field) ≡ length t.octets + length field = length-append t.octets field in
-    ap (λ (o : List ℕ). record { first = t.first; place = t.place; octets = o; fate = Given seen } ∷ frame_parts limit (member_at seen (Some start) field))
-    (sym (take-append-add t.octets field start) ∙ ap (λ (n : ℕ). take n (t.octets ++ field)) h)
-    ∙ sym
-    (cond-true (eqb far (length t.octets + start) && not (is_long limit far (length t.octets + length field))) _ _
-    (and_not (eqb far (length t.octets + start)) (is_long limit far (length t.octets + length field)) (eq-eqb far (length t.octets + start) (sym h)) short)
-    ∙ cond-true (leb far (length (t.octets ++ field))) _ _ (le-leb far (length (t.octets ++ field)) (omega arith)))
+    rw (eq-eqb far (length t.octets + start) (sym h), short, le-leb far (length (t.octets ++ field)) (omega arith), ← h, take-append-add t.octets field start)
 
 -- the same, by what the code tests
 pub step_completed_at : (limit : ℕ) (tail : Option Tail) (seen start : ℕ) (field : List ℕ) (far held : ℕ) (place : Option ℕ) → place ≡ Some start

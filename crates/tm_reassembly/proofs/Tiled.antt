@@ -10,6 +10,9 @@ use Rattle.tm_frame.specs.Frame.{GoodFrame, is_vca_kind}
 use Rattle.tm_frame.specs.declared.frame.Kind.TheVariants as got
 use Rattle.tm_frame.specs.declared.frame.Kind.{Kind}
 use Rattle.tm_reassembly.specs.Readings.{Reading}
+use Rattle.tm_reassembly.specs.Recording.{readings, items, after}
+use Rattle.tm_rules.specs.Rules.{Rules, chooses}
+use Rattle.tm_reassembly.proofs.Fits.{readings-fit}
 use Rattle.tm_items.specs.Item as item
 use Rattle.tm_items.specs.Item.{Item}
 use Rattle.tm_reassembly.specs.Chain.{ChainMember, has_frame_gap, member, master_member, member_of, counted_field}
@@ -108,12 +111,8 @@ module _ (limit : ℕ) where
   quiet : (chosen : ℕ → Bool) (s : State) (r : Reading) (c : ℕ) (h : List Spot) → HasOpenTails limit chosen s → IsFit r → c < 8 → chosen c ≡ true
       → IsHeld (held_tail s c) h → parts_of c (items_of_readings limit chosen s (r ∷ [])) ≡ [] → record_spots c s.records r ≡ [] → member_of c s.records r ≡ []
       → Result chosen s r c h
-  quiet chosen s r c h valid fit small is_chosen held nothing no_spots no_frame = (
-    h,
-    subst (λ (xs : List Item). Tile (h ++ record_spots c s.records r) xs h) (sym nothing)
-        (ap (λ (z : List Spot). h ++ z) no_spots ∙ append-nil h),
-    subst (λ (t : Option Tail). IsHeld t h) (sym (tail-kept limit chosen s r valid fit c small is_chosen no_frame)) held,
-  )
+  quiet chosen s r c h valid fit small is_chosen held nothing no_spots no_frame =
+      (h, rw (nothing, no_spots) (append-nil h), rw (tail-kept limit chosen s r valid fit c small is_chosen no_frame) held)
 
   own-record : (chosen : ℕ → Bool) (s : State) (g : GoodFrame) (h : List Spot) → HasOpenTails limit chosen s → IsFit (Ok g) → chosen g.channel ≡ true
       → IsHeld (held_tail s g.channel) h → Result chosen s (Ok g) g.channel h
@@ -130,11 +129,8 @@ module _ (limit : ℕ) where
       let given : parts_of c (items_of_readings limit chosen s (Ok g ∷ [])) ≡ parts_of c (part_items c (chain_parts_at limit (has_frame_gap (before_of x) m) m.is_vca (tail_of x) m)) =
       ap (parts_of c) (items-one-valid limit chosen s g valid fit is_chosen) ∙ of-none c _ _ (gap-none c s.master (master_member s.records g)) ∙ member-parts c c (before_of x) (tail_of x) m in (
         lies.0,
-        subst (λ (xs : List Item). Tile (h ++ record_spots c s.records (Ok g)) xs lies.0) (sym given)
-            (subst (λ (z : List Spot). Tile (h ++ z) (parts_of c (part_items c (chain_parts_at limit (has_frame_gap (before_of x) m) m.is_vca (tail_of x) m))) lies.0) (sym spots)
-            (tile-parts limit c m.number _ lies.0 _ (chain_parts_at-at limit (has_frame_gap (before_of x) m) m.is_vca (tail_of x) m) lies.1)),
-        subst (λ (t : Option Tail). IsHeld t lies.0)
-            (sym (tail-moved limit chosen s (Ok g) valid fit g.channel fit.0 is_chosen (member s.records g) one fit.1)) lies.2,
+        rw (given, spots) (tile-parts limit c m.number _ lies.0 _ (chain_parts_at-at limit (has_frame_gap (before_of x) m) m.is_vca (tail_of x) m) lies.1),
+        rw (tail-moved limit chosen s (Ok g) valid fit g.channel fit.0 is_chosen (member s.records g) one fit.1) lies.2,
       )
 
   one-record : (chosen : ℕ → Bool) (s : State) (r : Reading) (c : ℕ) (h : List Spot) → HasOpenTails limit chosen s → IsFit r → c < 8 → chosen c ≡ true
@@ -142,9 +138,7 @@ module _ (limit : ℕ) where
   one-record chosen s (Err fault) c h valid fit small is_chosen held = quiet chosen s (Err fault) c h valid fit small is_chosen held refl refl refl
   one-record chosen s (Ok g) c h valid fit small is_chosen held =
       ⊎_elim
-      (λ e.
-      subst (λ (k : ℕ). Result chosen s (Ok g) k h) e
-      (own-record chosen s g h valid fit (ap chosen e ∙ is_chosen) (subst (λ (k : ℕ). IsHeld (held_tail s k) h) (sym e) held)))
+      (λ e. rw (← e) (own-record chosen s g h valid fit (ap chosen e ∙ is_chosen) (rw e held)))
       (λ ne.
       let other : eqb g.channel c ≡ false = ne_eqb g.channel c ne in
       quiet chosen s (Ok g) c h valid fit small is_chosen held
@@ -174,12 +168,10 @@ module _ (limit : ℕ) where
       ap (parts_of c) (items-cons limit chosen s r valid fits.0 rs fits.1)
       ∙ filter-append (λ x. is_part_of c x) (items_of_readings limit chosen s (r ∷ [])) (items_of_readings limit chosen (state_after_readings limit chosen s (r ∷ [])) rs) in (
         next.0,
-        subst (λ (xs : List Item). Tile (h ++ (record_spots c s.records r ++ channel_spots c (s.records + 1) rs)) xs next.0) (sym given)
-            (subst (λ (z : List Spot). Tile z (parts_of c (items_of_readings limit chosen s (r ∷ [])) ++ parts_of c (items_of_readings limit chosen (state_after_readings limit chosen s (r ∷ [])) rs)) next.0)
-            (append_assoc h (record_spots c s.records r) (channel_spots c (s.records + 1) rs))
+        rw (given, ← append_assoc h (record_spots c s.records r) (channel_spots c (s.records + 1) rs))
             (Tile-append _ (one.0 ++ channel_spots c (s.records + 1) rs) next.0 (parts_of c (items_of_readings limit chosen s (r ∷ []))) _
             (Tile-more (h ++ record_spots c s.records r) one.0 (channel_spots c (s.records + 1) rs) (parts_of c (items_of_readings limit chosen s (r ∷ []))) one.1)
-            next.1)),
+            next.1),
         subst (λ (z : State). IsHeld (held_tail z c) next.0) (sym (after-cons limit chosen s r valid fits.0 rs)) next.2,
       )
 
@@ -190,11 +182,12 @@ module _ (limit : ℕ) where
     tails = λ c last t e f. absurd (none_kept c last e);
   }
 
-  pub tiled : (chosen : ℕ → Bool) (channel : ℕ) (records : List Reading) → channel < 8 → chosen channel ≡ true → AllReadingsFit records
-      → (rest : List Spot) × Tile (channel_spots channel 0 records) (parts_of channel (items_of_readings limit chosen empty records)) rest
-      × IsHeld (held_tail (state_after_readings limit chosen empty records) channel) rest
-  tiled chosen channel records small is_chosen fits =
-      tiles-from chosen channel small is_chosen records empty []
-      (record { tails_open = λ c k e. subst (IsOpenTail limit) (sym (empty-tail c)) tt })
-      (after-nil limit chosen empty (empty-state chosen)) fits
-      (subst (λ (t : Option Tail). IsHeld t []) (sym (empty-tail channel)) refl)
+pub tiled : (rules : Rules) (channel : ℕ) (records : List (List ℕ)) → channel < 8 → chooses rules channel ≡ true
+    → (rest : List Spot) × Tile (channel_spots channel 0 (readings rules.layout records)) (parts_of channel (items rules empty records)) rest
+    × IsHeld (held_tail (after rules empty records) channel) rest
+unfolding items after
+tiled rules channel records small is_chosen =
+    tiles-from rules.max_packet (chooses rules) channel small is_chosen (readings rules.layout records) empty []
+    (record { tails_open = λ c k e. subst (IsOpenTail rules.max_packet) (sym (empty-tail c)) tt })
+    (after-nil rules.max_packet (chooses rules) empty (empty-state rules.max_packet (chooses rules))) (readings-fit rules.layout records)
+    (subst (λ (t : Option Tail). IsHeld t []) (sym (empty-tail channel)) refl)

@@ -2,7 +2,7 @@
 use Rattle.std.proofs.Common.{◌≡◌, ⊎_elim, ◌≤◌, ◌+◌, Ok, Err, Bool, true, false, Option, Some, None, ℕ, List, [], ◌∷◌, ◌++◌, length, refl, sym, ap, subst, ◌∙◌, arith}
 use Rattle.std.specs.List.{filter, list_any}
 use Rattle.std.specs.Prelude.{◌==◌, ◌||◌, ◌&&◌, not}
-use Rattle.std.proofs.lemmas.Bool.{cases_Bool, cases_eq, cond_both, cond-true, cond-false, ne_eqb}
+use Rattle.std.proofs.lemmas.Bool.{cases_Bool, cases_eq, cond_both, ne_eqb}
 pub use Rattle.std.proofs.Math.Bool.{and-false}
 use Rattle.std.proofs.Math.Bool.{or-false}
 use Rattle.std.proofs.lemmas.List.Elements.{filter-append}
@@ -37,13 +37,12 @@ filter-filter : {X : Type 0} (p q r : X → Bool) → ((x : X) → (q x && p x) 
 filter-filter p q r h [] = refl
 filter-filter {X} p q r h (x ∷ xs) =
     ⊎_elim
-    (λ e.
+    (λ (e : q x ≡ true).
     let same : p x ≡ r x = sym (ap (λ (b : Bool). b && p x) e) ∙ h x in
-    ap (filter p) (cond-true (q x) (x ∷ filter q xs) (filter q xs) e) ∙ rw (same, filter-filter p q r h xs) refl)
-    (λ e.
-    ap (filter p) (cond-false (q x) (x ∷ filter q xs) (filter q xs) e)
-    ∙ filter-filter p q r h xs
-    ∙ sym (cond-false (r x) (x ∷ filter r xs) (filter r xs) (sym (h x) ∙ ap (λ (b : Bool). b && p x) e)))
+    rw (e, same, filter-filter p q r h xs))
+    (λ (e : q x ≡ false).
+    let none : r x ≡ false = sym (h x) ∙ ap (λ (b : Bool). b && p x) e in
+    rw (e, none) (filter-filter p q r h xs))
     (cases_Bool (q x))
 
 neither : (m a b : Bool) → (not (m && a) && not (m && b)) ≡ not (m && (a || b))
@@ -69,13 +68,10 @@ shorter : (p q : Item → Bool) (xs : List Item) → length (filter p (filter q 
 shorter p q [] = omega arith
 shorter p q (x ∷ xs) =
     let less = shorter p q xs in
-    cond_both (q x) (x ∷ filter q xs) (filter q xs) (λ ys. length (filter p ys) ≤ length (filter p (x ∷ xs)))
-    (λ e.
     ⊎_elim
-    (λ f. rw (cond-true (p x) (x ∷ filter p (filter q xs)) (filter p (filter q xs)) f, cond-true (p x) (x ∷ filter p xs) (filter p xs) f) (omega arith))
-    (λ f. rw (cond-false (p x) (x ∷ filter p (filter q xs)) (filter p (filter q xs)) f, cond-false (p x) (x ∷ filter p xs) (filter p xs) f) (omega arith))
-    (cases_Bool (p x)))
-    (λ e. cond_both (p x) (x ∷ filter p xs) (filter p xs) (λ ys. length (filter p (filter q xs)) ≤ length ys) (λ f. omega arith) (λ f. omega arith))
+    (λ (e : q x ≡ true). ⊎_elim (λ (f : p x ≡ true). rw (e, f) (omega arith)) (λ (f : p x ≡ false). rw (e, f) (omega arith)) (cases_Bool (p x)))
+    (λ (e : q x ≡ false). ⊎_elim (λ (f : p x ≡ true). rw (e, f) (omega arith)) (λ (f : p x ≡ false). rw (e, f) (omega arith)) (cases_Bool (p x)))
+    (cases_Bool (q x))
 
 -- one number
 at-one : (n : ℕ) (xs : List Item) → seen_at n (filter is_master_gap xs) ≡ filter (λ x. is_gap_at (n ∷ []) x) xs
@@ -87,11 +83,10 @@ few-from : (numbers : List ℕ) (xs : List Item) → ((n : ℕ) → length (filt
 few-from [] xs h = rw (without-no xs) (omega arith)
 few-from (n ∷ numbers) xs h =
     let first = length-filter_both (λ x. is_gap_at (n ∷ []) x) (λ x. not (is_gap_at (n ∷ []) x)) (λ x. refl) xs in
-    let one = h n in
     let others = few-from numbers (without_gaps_at (n ∷ []) xs)
-    (λ m. let less = shorter (λ x. is_gap_at (m ∷ []) x) (λ x. not (is_gap_at (n ∷ []) x)) xs in let most = h m in omega arith) in
+    (λ m. let less = shorter (λ x. is_gap_at (m ∷ []) x) (λ x. not (is_gap_at (n ∷ []) x)) xs in let most = h m in omega (arith, h n)) in
     let same : length (without_gaps_at numbers (without_gaps_at (n ∷ []) xs)) ≡ length (without_gaps_at (n ∷ numbers) xs) = ap (λ (ys : List Item). length ys) (without-but (n ∷ []) numbers xs) in
-    omega arith
+    omega (arith, h n)
 
 pub few : (numbers : List ℕ) (xs : List Item) → ((n : ℕ) → length (seen_at n (filter is_master_gap xs)) ≤ 1) → length xs ≤ length (without_gaps_at numbers xs) + length numbers
 few numbers xs h = few-from numbers xs (λ n. subst (λ (ys : List Item). length ys ≤ 1) (at-one n xs) (h n))

@@ -2,7 +2,8 @@
 use Rattle.std.specs.Prelude.{◌≡◌, ◌⊎◌, ℕ, ◌+◌, ◌<◌, ◌≤◌, nat_le, Option, Some, None, List, [], ◌∷◌, ◌++◌, length, take, drop, slice_range, if◌then◌else◌}
 use Rattle.tm_packet.specs.Header.{packet_version_of, packet_header_of}
 use Rattle.tm_reassembly.specs.Chain.{ChainMember, End}
-use Rattle.tm_reassembly.specs.Parts.{Part, Fate, Start, text, far_end, claims, lead, start_part}
+use Rattle.tm_reassembly.specs.Parts.{Part, Fate, Lost, Start, text, far_end, claims, lead, start_part}
+use Rattle.tm_items.specs.declared.items.Reason.{Reason}
 
 -- the text of a run: of a frame, with those before it and those behind it
 abbrev pub text_around : List ChainMember → ChainMember → List ChainMember → List ℕ
@@ -176,3 +177,11 @@ part_of_start limit p end = start_part limit p.frame p.later end (start_of p)
 -- a part with the octets of the text from the start up to, not with, `stop`
 abbrev pub part_up_to : StartInRun → ℕ → Fate → Part
 part_up_to p stop fate = part_at p.frame (start_of p) (text_with p) (place_of_start p) stop fate
+
+-- the part up to the end of its own frame, lost there for this reason
+abbrev pub part_in_frame : StartInRun → Reason → Part
+part_in_frame p reason = part_up_to p (frame_end p.before p.frame) (Lost reason p.frame.number)
+
+-- the part up to the frame after those that follow its own, lost there for this reason
+abbrev pub part_before : StartInRun → List ChainMember → ChainMember → Reason → Part
+part_before p between m reason = part_up_to p (frame_begin (frames_up_to p ++ between)) (Lost reason m.number)

@@ -53,15 +53,15 @@ pub returns-in-Ok-take-clause-given : goal.returns-in-Ok-take-clause-given
 returns-in-Ok-take-clause-given g c =
     let e = read_as c.args.octets.now c.rules.view_is c.in-Err.ensures in
     subst (λ (xs : List Item). TakesAll g.S.Sink.takes (g.S.Sink.known c.args.sink.now) xs (g.S.Sink.known c.take.new.self))
-    (items_bad_record c.args.rules.now c.args.seen c.args.master.now _ c.requires.state c.args.octets.now c.in-Err.fault e)
+    (items_bad_record c.args.rules.now _ c.requires.state c.args.octets.now c.in-Err.fault e)
     (g.S.Sink.known c.take.new.self, c.in-Ok-take.ensures.accepted, refl)
 
 pub returns-in-Ok-take-clause-left : goal.returns-in-Ok-take-clause-left
 returns-in-Ok-take-clause-left g c =
     let e = read_as c.args.octets.now c.rules.view_is c.in-Err.ensures in
-    after_bad_record c.args.rules.now c.args.seen c.args.master.now _ c.requires.state c.args.octets.now c.in-Err.fault e
+    after_bad_record c.args.rules.now _ c.requires.state c.args.octets.now c.in-Err.fault e
 
 pub returns-in-Err-take-clause-given : goal.returns-in-Err-take-clause-given
 returns-in-Err-take-clause-given g c =
     let e = read_as c.args.octets.now c.rules.view_is c.in-Err.ensures in
-    refused_bad_record c.args.rules.now c.args.seen c.args.master.now _ c.requires.state c.args.octets.now _ _ _ _ _ c.in-Err.fault e c.in-Err-take.ensures.refused
+    refused_bad_record c.args.rules.now _ c.requires.state c.args.octets.now _ _ _ _ _ c.in-Err.fault e c.in-Err-take.ensures.refused

@@ -1,6 +1,4 @@
-use Rattle.std.proofs.Common.{ℕ, false, ap, arith}
-use Rattle.tm_reassembly.specs.code.Slots.{lasts}
-use Rattle.tm_reassembly.specs.State.{State}
+use Rattle.std.proofs.Common.{arith}
 use Rattle.tm_reassembly.proofs.Decoding.{blocks_valid}
 use Rattle.tm_reassembly.proofs.Slots.{rooms_of_eight}
 use Rattle.tm_reassembly.proofs.reassembly.decode_channels.Goals as goal
@@ -16,6 +14,4 @@ pub returns-in-Ok-restore-clause-same : goal.returns-in-Ok-restore-clause-same
 returns-in-Ok-restore-clause-same c =
     let valid = blocks_valid c.args.rules c.args.records _ _ c.args.octets.now (record { below = λ i. omega (arith, c.type_inv.octets i) }) (omega arith) c.in-Ok-restore.ensures.ok
     c.requires.limit c.args.master c.requires.count in
-    let state : State = record { records = c.args.records; master = c.args.master; channels = lasts c.restore.new.states } in
-    ap (λ (n : ℕ). record { rules = c.args.rules; state = state; failed = false; room = n })
-    (rooms_of_eight c.args.rules.max_packet c.restore.new.states c.in-Ok-restore.ensures.limit valid.shape.eight_channels)
+    rw (rooms_of_eight c.args.rules.max_packet c.restore.new.states c.in-Ok-restore.ensures.limit valid.shape.eight_channels)

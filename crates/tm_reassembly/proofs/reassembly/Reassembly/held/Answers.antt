@@ -10,7 +10,7 @@ returns-clause-short c =
     let done : c.self.inside.failed ≡ false = ap (λ (p : Progress). p.failed) c.self.view_is ∙ c.requires.done in
     let v = (c.self.invariant done).0 in
     let same : c.self.inside.rules ≡ c.args.self.now.rules = ap (λ (p : Progress). p.rules) c.self.view_is in
-    rw (c.octets.ensures, ← same, ← last_at c.self.inside.states c.args.channel c.index-self-channel.result) (held_short _ _ _ _ v c.args.channel _ c.requires.channel)
+    rw (c.octets.ensures, ← same, ← last_at c.self.inside.states c.args.channel c.index-self-channel.result) (held_short _ _ v c.args.channel _ c.requires.channel)
 
 pub returns-clause-other : goal.returns-clause-other
 returns-clause-other c = λ other.
@@ -18,4 +18,4 @@ returns-clause-other c = λ other.
     let same : c.self.inside.rules ≡ c.args.self.now.rules = ap (λ (p : Progress). p.rules) c.self.view_is in
     let v = (c.self.invariant done).0 in
     rw (c.octets.ensures, ← last_at c.self.inside.states c.args.channel c.index-self-channel.result)
-    (held_other _ _ _ _ v c.args.channel _ c.requires.channel (ap (λ (r : Rules). chooses r c.args.channel) same ∙ other))
+    (held_other _ _ v c.args.channel _ c.requires.channel (ap (λ (r : Rules). chooses r c.args.channel) same ∙ other))

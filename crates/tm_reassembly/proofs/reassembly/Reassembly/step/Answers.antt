@@ -1,8 +1,6 @@
-use Rattle.std.proofs.Common.{◌≡◌, ◌+◌, ℕ, Bool, false, sym, ap, subst, ◌∙◌, arith, rules}
+use Rattle.std.proofs.Common.{◌≡◌, false, sym, subst, ◌∙◌, arith, rules}
 use Rattle.tm_bits.specs.Bits.{AreOctets}
-use Rattle.tm_reassembly.specs.code.Slots.{lasts, rooms}
-use Rattle.tm_reassembly.specs.State.{State}
-use Rattle.tm_reassembly.specs.Steps.{Progress, stepped}
+use Rattle.tm_reassembly.specs.code.Slots.{rooms}
 use Rattle.tm_reassembly.specs.Valid.{IsValidState}
 use Rattle.tm_reassembly.proofs.Slots.{rooms_of_eight}
 use Rattle.tm_reassembly.proofs.States.{record-valid}
@@ -25,8 +23,4 @@ returns-in-Ok-clause-left g c =
     let room : rooms c.add_record.new.states ≡ rooms c.self.inside.states =
     rooms_of_eight c.self.inside.rules.max_packet c.add_record.new.states c.in-Ok.ensures.limit new.shape.eight_channels
     ∙ sym (rooms_of_eight c.self.inside.rules.max_packet c.self.inside.states old.1 old.0.shape.eight_channels) in
-    let state : State = record { records = c.self.inside.records + 1; master = c.add_record.new.master; channels = lasts c.add_record.new.states } in
-    ap (λ (b : Bool). record { rules = c.self.inside.rules; state = state; failed = b; room = rooms c.add_record.new.states }) going
-    ∙ ap (λ (n : ℕ). record { rules = c.self.inside.rules; state = state; failed = false; room = n }) room
-    ∙ ap (λ (s : State). record { rules = c.self.inside.rules; state = s; failed = false; room = rooms c.self.inside.states }) c.in-Ok.ensures.left
-    ∙ ap (λ (p : Progress). stepped p c.args.octets.now) c.self.view_is
+    rw (← c.self.view_is, going, room, c.in-Ok.ensures.left)

@@ -10,7 +10,7 @@ use crate::request::{Action, Plan, UsageFault};
 use clap::error::ErrorKind;
 use clap::{ArgMatches, Error};
 use std::alloc::{AllocError, Global};
-use tm_octets::Octets;
+use tm_bits::Octets;
 
 // A copy of a text.
 fn copy_of(alloc: Global, text: &str) -> Result<Octets, AllocError>

@@ -1,6 +1,6 @@
 //! What the arguments of the command line ask for.
 
-use tm_octets::Octets;
+use tm_bits::Octets;
 
 /// What to do.
 #[derive(Clone, Copy, Debug, PartialEq, Eq)]

@@ -1,4 +1,4 @@
-//! Octets as bits and as numbers.
+//! Octets, as lists, as bits and as numbers.
 //!
 //! Frames, packet headers and packet fields are all read as slices of the bits of octets, the most
 //! significant bit of each octet first. This crate holds the definitions (`specs/`) and the lemmas
@@ -6,5 +6,7 @@
 #![tactic(auto)]
 
 mod numbers;
+mod octets;
 
 pub use numbers::{push, push_two, two_at};
+pub use octets::Octets;

@@ -2,7 +2,7 @@
 use Rattle.std.specs.Prelude.{◌≡◌, ◌≢◌, ◌⊎◌, ◌==◌, ◌≤◌, ◌<◌, ◌&&◌, nat_le, not, ℕ, Bool, if◌then◌else◌, List, [], length, Ok, Err, IsUtf8}
 use Rattle.std.specs.Borrow.{Bor}
 use Rattle.toml.specs.Parse.{parse_document}
-use Rattle.tm_rules.specs.Rules.{Rules}
+use Rattle.tm_frame.specs.Rules.{Rules}
 use Rattle.tm_fields.specs.Columns.{ReadOrFault}
 use Rattle.tm_fields.specs.Reading.{definition_of}
 use Rattle.tm_fields.specs.declared.definition.Definition.{Definition}

@@ -18,7 +18,7 @@ use Rattle.tm_packet.proofs.SpellingLemmas as sequence_written
 use Rattle.tm_reassembly.specs.declared.fault.StateFault.{StateFault}
 use Rattle.tm_reassembly.specs.Checkpoint as reassembly
 use Rattle.tm_bits.specs.Bits.{two_octets, two_at}
-use Rattle.tm_rules.specs.Rules.{Rules, IsLimit}
+use Rattle.tm_frame.specs.Rules.{Rules, IsLimit}
 use Rattle.tm_reassembly.specs.State.{State}
 use Rattle.tm_reassembly.specs.Valid.{IsValidState}
 use Rattle.tm_reassembly.proofs.Fits.{octets_front}

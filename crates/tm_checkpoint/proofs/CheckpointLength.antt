@@ -6,7 +6,7 @@ use Rattle.tm_packet.specs.Spelling as sequence
 use Rattle.tm_packet.specs.Valid as valid
 use Rattle.tm_packet.proofs.SpellingLemmas.{length-spelled}
 use Rattle.tm_reassembly.specs.Checkpoint.{block, with_tail, master_octets, state_spelling}
-use Rattle.tm_rules.specs.Rules.{Rules}
+use Rattle.tm_frame.specs.Rules.{Rules}
 use Rattle.tm_reassembly.specs.State.{State, Last, Tail}
 use Rattle.tm_reassembly.specs.Valid.{IsValidState}
 use Rattle.tm_reassembly.proofs.States.{short-tails}

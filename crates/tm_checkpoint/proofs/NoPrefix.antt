@@ -9,9 +9,9 @@ use Rattle.tm_frame.specs.declared.layout.Presence.TheVariants.{Flag, Always, Ne
 use Rattle.tm_packet.specs.Spelling as sequence
 use Rattle.tm_packet.specs.Valid as valid
 use Rattle.tm_packet.proofs.SpellingLemmas as sequence_written
-use Rattle.tm_rules.specs.Channels.{mask_from, mask_of}
+use Rattle.tm_frame.specs.Channels.{mask_from, mask_of}
 use Rattle.tm_reassembly.specs.Checkpoint as reassembly
-use Rattle.tm_rules.specs.Rules.{Rules}
+use Rattle.tm_frame.specs.Rules.{Rules}
 use Rattle.tm_reassembly.specs.State.{State}
 use Rattle.tm_reassembly.specs.Valid.{IsValidState}
 use Rattle.tm_checkpoint.specs.declared.version.Version.{Version}

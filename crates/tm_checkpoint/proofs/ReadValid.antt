@@ -7,7 +7,7 @@ use Rattle.tm_frame.specs.declared.layout.LayoutParts.{LayoutParts}
 use Rattle.tm_reassembly.specs.declared.fault.StateFault.{StateFault}
 use Rattle.tm_reassembly.specs.declared.fault.StateFault.TheVariants as fault
 use Rattle.tm_reassembly.specs.Checkpoint.{DecodedState, ReadBlock, ReadBlocks, ReadMaster, and_then_blocks, block_read, blocks_read, channel_block, four_at, in_front, master_read, with_channels, with_master, state_decoding_of, old_decoding_of}
-use Rattle.tm_rules.specs.Rules.{Rules, IsLimit, chooses}
+use Rattle.tm_frame.specs.Rules.{Rules, IsLimit, chooses}
 use Rattle.tm_reassembly.specs.Valid.{IsCount, IsValidState}
 use Rattle.tm_reassembly.proofs.Decoding.{blocks_valid}
 use Rattle.tm_checkpoint.specs.declared.version.Version.{Version}

@@ -7,11 +7,11 @@ use Rattle.tm_frame.specs.ErrorControl.{error_control_of}
 use Rattle.tm_packet.specs.declared.tracker.TrackerFault.{TrackerFault}
 use Rattle.tm_packet.specs.Spelling as sequence
 use Rattle.tm_reassembly.specs.declared.fault.StateFault.{StateFault}
-use Rattle.tm_rules.specs.Channels.{mask_of}
+use Rattle.tm_frame.specs.Channels.{mask_of}
 use Rattle.tm_reassembly.specs.Checkpoint as reassembly
 use Rattle.tm_bits.specs.Bits.{two_octets, two_at}
 use Rattle.tm_reassembly.specs.OlderForms as forgotten
-use Rattle.tm_rules.specs.Rules.{Rules}
+use Rattle.tm_frame.specs.Rules.{Rules}
 use Rattle.tm_reassembly.specs.State.{State}
 use Rattle.tm_faults.specs.declared.fault.CheckpointFault.{CheckpointFault}
 use Rattle.tm_faults.specs.declared.fault.CheckpointFault.TheVariants as fault

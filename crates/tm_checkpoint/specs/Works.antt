@@ -2,7 +2,7 @@
 use Rattle.std.specs.Prelude.{◌≡◌, Bool, true, false, length}
 use Rattle.tm_packet.specs.Merge.{Entries, no_entries}
 use Rattle.tm_packet.specs.Valid as valid
-use Rattle.tm_rules.specs.Rules.{Rules}
+use Rattle.tm_frame.specs.Rules.{Rules}
 use Rattle.tm_reassembly.specs.Items.{empty}
 use Rattle.tm_reassembly.specs.State.{State}
 use Rattle.tm_reassembly.specs.Steps.{Progress}

@@ -4,7 +4,7 @@ ghost use Rattle.std.specs.Prelude.{◌≡◌, ◌≢◌, ◌⊎◌, ◌≤◌, 
 ghost use Rattle.tm_frame.specs.declared.layout.Presence.{Presence};
 ghost use Rattle.tm_packet.specs.Spelling as sequence;
 ghost use Rattle.tm_reassembly.specs.declared.fault.StateFault.TheVariants as found;
-ghost use Rattle.tm_rules.specs.Rules.{IsLimit, Rules};
+ghost use Rattle.tm_frame.specs.Rules.{IsLimit, Rules};
 ghost use Rattle.tm_reassembly.specs.State.{State};
 ghost use Rattle.tm_reassembly.specs.Steps.{progress_in};
 ghost use Rattle.tm_reassembly.specs.Valid.{IsValidState};

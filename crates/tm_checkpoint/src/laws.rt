@@ -2,7 +2,7 @@
 
 ghost use Rattle.std.specs.Prelude.{◌≡◌, ◌≤◌, ◌+◌, ◌*◌, ℕ, true, false, Ok, List, [], ◌++◌, length};
 ghost use Rattle.tm_bits.specs.Bits.{AreOctets};
-ghost use Rattle.tm_rules.specs.Rules.{IsLimit, Rules};
+ghost use Rattle.tm_frame.specs.Rules.{IsLimit, Rules};
 ghost use Rattle.tm_checkpoint.specs.Checkpoints.{checkpoint_of, kept_in, resumed, spelled_in, tells};
 ghost use Rattle.tm_checkpoint.specs.Works.{IsWork, JobState, Work};
 ghost use Rattle.tm_checkpoint.specs.declared.version.Version.{Version};

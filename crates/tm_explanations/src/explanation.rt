@@ -13,9 +13,9 @@ use crate::texts::NO_CHECKPOINT;
 use std::alloc::{AllocError, Global};
 use std::rt::Files;
 use tm_arguments::{Plan, UsageFault, plan};
+use tm_bits::Octets;
 use tm_faults::RunFault;
 use tm_files::{ToolFault, read_file};
-use tm_octets::Octets;
 use tm_settings::Settings;
 
 // The octets of a file that the plan names, as they are now; none if it can't be read.

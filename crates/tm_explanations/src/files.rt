@@ -11,9 +11,9 @@ use std::fs;
 use std::io::{self, ErrorKind};
 use std::rt::Files;
 use tm_arguments::{Action, Plan};
+use tm_bits::Octets;
 use tm_file_identity::{FileIdentities, FileIdentity, identity_of};
 use tm_files::identify_files;
-use tm_octets::Octets;
 
 /// The system's words for an error, by its number.
 pub(crate) fn system_words(alloc: Global, number: i32) -> Result<Vec<u8>, AllocError> {

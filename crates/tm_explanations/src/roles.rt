@@ -2,7 +2,7 @@
 
 use std::alloc::{AllocError, Global};
 use tm_arguments::Plan;
-use tm_octets::Octets;
+use tm_bits::Octets;
 
 /// What a file or a stream is for.
 #[derive(Clone, Copy, PartialEq)]

@@ -2,7 +2,7 @@
 
 ghost use Rattle.std.specs.Prelude.{◌≡◌};
 
-use tm_octets::Octets;
+use tm_bits::Octets;
 
 /// How the bits of a field are read and printed. The most significant bit comes first.
 #[derive(Clone, Copy, Debug, PartialEq, Eq)]

@@ -27,4 +27,4 @@ pub use field::{DataType, Field};
 pub use lead::Lead;
 pub use numbers::number_at;
 pub use rows::Rows;
-pub use tm_octets::Octets;
+pub use tm_bits::Octets;

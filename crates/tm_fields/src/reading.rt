@@ -10,7 +10,7 @@ use crate::field::{DataType, Field, GREATEST_END};
 use crate::words::{data_type_named, is_array_text, is_text, number_in};
 use csv::ByteRecord;
 use std::alloc::{AllocError, Global};
-use tm_octets::Octets;
+use tm_bits::Octets;
 
 // The type in a row.
 fn read_type(row: u32, text: &[u8]) -> Result<DataType, DefinitionFault>

@@ -5,8 +5,8 @@ ghost use Rattle.tm_files.specs.code.Decisions.{is_job, IsDestination, IsReportT
 
 use crate::fault::ToolFault;
 use tm_arguments::{Action, Plan};
+use tm_bits::Octets;
 use tm_faults::RunFault;
-use tm_octets::Octets;
 
 /// Where the recording comes from.
 pub enum Recording<'p> {

@@ -2,9 +2,9 @@
 
 use std::alloc::{AllocError, AllocFailed};
 use tm_arguments::UsageFault;
+use tm_bits::Octets;
 use tm_faults::{CheckpointFault, RunFault};
 use tm_fields::DefinitionFault;
-use tm_octets::Octets;
 use tm_settings::SettingsFault;
 
 /// Memory ran out.

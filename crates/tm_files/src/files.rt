@@ -9,8 +9,8 @@ use std::alloc::Global;
 use std::fs::{self, File, OpenFile, OpenOptions};
 use std::io::{self, ErrorKind, Read, Write};
 use std::rt::Files;
+use tm_bits::Octets;
 use tm_faults::RunFault;
-use tm_octets::Octets;
 
 // The octets that a file may have at the most.
 const MOST_OCTETS: usize = 1_048_576;

@@ -10,9 +10,9 @@ use crate::decisions::{Recording, Stream, choose_recording, writes_errors, write
 use crate::fault::ToolFault;
 use crate::names::temporary_checkpoint;
 use tm_arguments::Plan;
+use tm_bits::Octets;
 use tm_faults::RunFault;
 use tm_file_identity::{FileIdentities, FileIdentity, Namespace};
-use tm_octets::Octets;
 
 // What a path stands for.
 fn identify_path<N: Namespace>(names: &N, path: &str) -> Result<FileIdentity, ToolFault>

@@ -11,9 +11,9 @@ use crate::fault::ToolFault;
 use crate::files::file_fault;
 use std::alloc::Global;
 use tm_arguments::Plan;
+use tm_bits::Octets;
 use tm_faults::RunFault;
 use tm_file_identity::FileIdentities;
-use tm_octets::Octets;
 
 /// The names of a plan were checked. Only `check_names` says so, and `open_report` asks for it: so no report is opened
 /// before.

@@ -25,8 +25,8 @@ base = record { frame_length = 24; skip_before = 0; skip_after = 0; spacecraft =
 fifty_fives : ℕ → List ℕ
 fifty_fives n = replicate n 0x55
 
--- the version is 1, the spacecraft 43; a secondary header is missing, an operational control field not wanted; the version of a secondary
--- header is 1; it leaves no octet for the data field; and the pointer is 18
+-- One fault each. The version is 1; the spacecraft is 43. A secondary header is missing; an operational control field is not
+-- wanted. The version of a secondary header is 1; it leaves no octet for the data field. The pointer is 18.
 faults : (frame_reading_of base ((0x42 ∷ 0xA0 ∷ 0 ∷ 0 ∷ 0x18 ∷ 0 ∷ []) ++ fifty_fives 18) ≡ Err Version)
     × (frame_reading_of base ((0x02 ∷ 0xB0 ∷ 0 ∷ 0 ∷ 0x18 ∷ 0 ∷ []) ++ fifty_fives 18) ≡ Err Spacecraft)
     × (frame_reading_of (record base { secondary = Always }) ((0x02 ∷ 0xA0 ∷ 0 ∷ 0 ∷ 0x18 ∷ 0 ∷ []) ++ fifty_fives 18) ≡ Err SecondaryFlag)

@@ -6,4 +6,5 @@ pub mod Words
 pub mod Entries
 pub mod HeaderLemmas
 pub mod FaultLemmas
+pub mod ChannelSets
 pub mod Examples

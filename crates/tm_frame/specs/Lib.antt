@@ -4,4 +4,6 @@ pub mod Header
 pub mod Frame
 pub mod Fault
 pub mod FaultWords
+pub mod Channels
+pub mod Rules
 pub mod code

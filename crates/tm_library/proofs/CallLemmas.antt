@@ -5,7 +5,7 @@ use Rattle.std.proofs.lemmas.List.{map-append}
 use Rattle.std.specs.List.{concat}
 use Rattle.tm_frame.specs.declared.layout.LayoutParts.{LayoutParts}
 use Rattle.tm_frame.specs.Layout.{record_length_of}
-use Rattle.tm_rules.specs.Rules.{IsLimit, Rules}
+use Rattle.tm_frame.specs.Rules.{IsLimit, Rules}
 use Rattle.tm_faults.specs.declared.fault.CheckpointFault.{CheckpointFault}
 use Rattle.tm_reassembly.specs.Valid.{AllOctets}
 use Rattle.tm_checkpoint.specs.Works.{IsWork, JobState, Work, new_job}

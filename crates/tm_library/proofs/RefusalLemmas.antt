@@ -1,7 +1,7 @@
 -- Refusals by the faults that they come from.
 use Rattle.std.proofs.Common.{◌≡◌, ◌≢◌, ℕ, List, Ok, Err, IsUtf8}
 use Rattle.toml.specs.Parse.{parse_document}
-use Rattle.tm_rules.specs.Rules.{Rules}
+use Rattle.tm_frame.specs.Rules.{Rules}
 use Rattle.tm_settings.specs.declared.fault.SettingsFault.{SettingsFault}
 use Rattle.tm_settings.specs.declared.fault.SettingsFault.TheVariants as setting
 use Rattle.tm_settings.specs.Settings.{settings_from}

@@ -1,6 +1,6 @@
 -- Calls that follow one another.
 use Rattle.std.specs.Prelude.{ℕ, Bool, false, List, [], ◌∷◌, ◌++◌, length, drop}
-use Rattle.tm_rules.specs.Rules.{Rules}
+use Rattle.tm_frame.specs.Rules.{Rules}
 use Rattle.tm_checkpoint.specs.Works.{JobState}
 use Rattle.tm_output.specs.Outputs.{Piece}
 use Rattle.tm_tool.specs.Resuming.{then_pieces}

@@ -4,7 +4,7 @@ use Rattle.toml.specs.Parse.{parse_document}
 use Rattle.std.specs.List.{concat}
 use Rattle.tm_frame.specs.declared.layout.LayoutParts.{LayoutParts}
 use Rattle.tm_frame.specs.Layout.{record_length_of}
-use Rattle.tm_rules.specs.Rules.{Rules}
+use Rattle.tm_frame.specs.Rules.{Rules}
 use Rattle.tm_settings.specs.Settings.{settings_from}
 use Rattle.tm_faults.specs.declared.fault.CheckpointFault.{CheckpointFault}
 use Rattle.tm_checkpoint.specs.Checkpoints.{checkpoint_of, resumed}

@@ -2,7 +2,7 @@
 use Rattle.std.specs.Prelude.{◌≡◌, ⊤, ℕ, ◌+◌, ◌<◌, List, length, Ok, Err, IsUtf8}
 use Rattle.toml.specs.Parse.{parse_document}
 use Rattle.tm_frame.specs.Layout.{most_records}
-use Rattle.tm_rules.specs.Rules.{Rules}
+use Rattle.tm_frame.specs.Rules.{Rules}
 use Rattle.tm_settings.specs.declared.fault.SettingsFault.{SettingsFault}
 use Rattle.tm_settings.specs.declared.fault.SettingsFault.TheVariants as setting
 use Rattle.tm_settings.specs.Settings.{settings_from}

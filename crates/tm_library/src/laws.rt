@@ -3,7 +3,7 @@
 ghost use Rattle.std.specs.List.{concat};
 ghost use Rattle.std.specs.Prelude.{◌≡◌, ◌<◌, ◌^◌, ◌++◌, ℕ, Bool, true, List, [], length};
 ghost use Rattle.tm_frame.specs.Layout.{record_length_of};
-ghost use Rattle.tm_rules.specs.Rules.{IsLimit, Rules};
+ghost use Rattle.tm_frame.specs.Rules.{IsLimit, Rules};
 ghost use Rattle.tm_reassembly.specs.Valid.{AllOctets};
 ghost use Rattle.tm_checkpoint.specs.Works.{new_job};
 ghost use Rattle.tm_output.specs.declared.command.Command.{Command};

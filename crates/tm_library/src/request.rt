@@ -2,7 +2,7 @@
 
 ghost use Rattle.std.specs.Prelude.{◌≡◌, ◌≤◌, ◌<◌, ◌+◌, Ok, length, option_map, IfOk, IfErr};
 ghost use Rattle.tm_checkpoint.specs.Works.{JobState};
-ghost use Rattle.tm_rules.specs.Rules.{Rules};
+ghost use Rattle.tm_frame.specs.Rules.{Rules};
 ghost use Rattle.tm_output.specs.Outputs.{outs, reports};
 ghost use Rattle.tm_output.specs.Records.{records};
 ghost use Rattle.tm_tool.specs.RecordingPieces.{worked};

@@ -2,7 +2,7 @@
 
 ghost use Rattle.std.specs.Prelude.{◌≡◌, [], length, Ok, IfOk, IfErr, IsUtf8};
 ghost use Rattle.toml.specs.Parse.{parse_document};
-ghost use Rattle.tm_rules.specs.Rules.{Rules};
+ghost use Rattle.tm_frame.specs.Rules.{Rules};
 ghost use Rattle.tm_settings.specs.Settings.{settings_from};
 ghost use Rattle.tm_library.specs.Chunks.{IsSummary};
 ghost use Rattle.tm_library.specs.Refusals.{IsRequestRefused};

@@ -10,7 +10,7 @@ use Rattle.tm_reassembly.specs.Checkpoint.{four_at, blocks_read, with_channels, 
 use Rattle.tm_reassembly.specs.code.Blocks.{decoding_in, master_read_in}
 use Rattle.tm_reassembly.specs.declared.checkpoint.Form.{Form}
 use Rattle.tm_reassembly.specs.declared.checkpoint.Form.TheVariants as form
-use Rattle.tm_rules.specs.Rules.{Rules, IsLimit, chooses}
+use Rattle.tm_frame.specs.Rules.{Rules, IsLimit, chooses}
 use Rattle.tm_reassembly.specs.State.{Last}
 use Rattle.tm_reassembly.specs.Valid.{IsCount, IsValidState}
 use Rattle.tm_reassembly.proofs.Spelled.{Kept, blocks_sound}

@@ -11,8 +11,8 @@ use Rattle.tm_items.specs.declared.items.Reason.TheVariants as why
 use Rattle.tm_reassembly.specs.declared.fault.StateFault.TheVariants as fault
 use Rattle.tm_reassembly.specs.declared.fault.StateFault.{StateFault}
 use Rattle.tm_reassembly.specs.Checkpoint.{DecodedState, state_spelling, state_decoding_of, old_decoding_of, blocks_read, block_read, master_read}
-use Rattle.tm_rules.specs.Channels.{channels_of, all_channels, mask_of}
-use Rattle.tm_rules.specs.Rules.{Rules}
+use Rattle.tm_frame.specs.Channels.{channels_of, all_channels, mask_of}
+use Rattle.tm_frame.specs.Rules.{Rules}
 use Rattle.tm_items.specs.Item.{Item, Bad, MasterGap, Gap, Vca, Dropped, Packet, Short}
 use Rattle.tm_reassembly.specs.Items.{empty, closing}
 use Rattle.tm_reassembly.specs.State.{State}

@@ -1,9 +1,9 @@
 -- The items of records are of chosen channels, and so each channel is one of eight.
 use Rattle.std.proofs.Common.{◌≡◌, ℕ, suc, zero, ◌<◌, Bool, true, List, [], ◌∷◌, length, arith}
 use Rattle.tm_items.specs.Among.{Among, is_of}
-use Rattle.tm_rules.specs.Channels.{is_chosen}
+use Rattle.tm_frame.specs.Channels.{is_chosen}
 use Rattle.tm_items.specs.Item.{Item}
-use Rattle.tm_rules.specs.Rules.{Rules}
+use Rattle.tm_frame.specs.Rules.{Rules}
 use Rattle.tm_reassembly.specs.Recording.{items}
 use Rattle.tm_reassembly.specs.State.{State}
 use Rattle.tm_reassembly.proofs.Merged.{told-channel}

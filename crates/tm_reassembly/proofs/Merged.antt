@@ -19,7 +19,7 @@ use Rattle.tm_reassembly.specs.Chain.{ChainMember, chain, frames, master_chain, 
 use Rattle.tm_reassembly.specs.Parts.{Part, Fate, Held}
 use Rattle.tm_reassembly.specs.Items.{part_item, seen_at, gap_item, master_gap_item, gaps, gap_at, vca_at, master_items, channel_items, chain_parts, record_items, merged}
 use Rattle.tm_reassembly.specs.code.Field.{part_items}
-use Rattle.tm_rules.specs.Rules.{Rules, chooses}
+use Rattle.tm_frame.specs.Rules.{Rules, chooses}
 use Rattle.tm_reassembly.specs.Recording.{readings, items}
 use Rattle.tm_reassembly.specs.Valid.{IsValidState}
 use Rattle.tm_reassembly.specs.code.Fits.{AllReadingsFit, PlaceFits, IsFit}

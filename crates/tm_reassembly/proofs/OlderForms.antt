@@ -13,7 +13,7 @@ use Rattle.tm_items.specs.Item.{Item, Bad, seen_of}
 use Rattle.tm_reassembly.specs.Items.{master_gap_item, gap_at, items_of_readings, merged, record_items, seen_at, state_after_readings}
 use Rattle.tm_reassembly.specs.OlderForms.{without_master, first_good_record, is_gap_at, without_gaps_at, LacksFirstGap, one_octet_more}
 use Rattle.tm_reassembly.specs.Recording as raw
-use Rattle.tm_rules.specs.Rules.{Rules, chooses}
+use Rattle.tm_frame.specs.Rules.{Rules, chooses}
 use Rattle.tm_reassembly.specs.Valid.{HasShape, IsValidState}
 use Rattle.tm_reassembly.specs.code.Fits.{IsFit, AllReadingsFit}
 use Rattle.tm_reassembly.proofs.Each.{Each-append, Each-weaken, filter-none}

@@ -6,7 +6,7 @@ use Rattle.std.specs.Prelude.{slice_index_or, slice_set}
 use Rattle.std.specs.List.{slice_get}
 use Rattle.std.proofs.lemmas.Bool.{cases_Bool}
 use Rattle.std.proofs.lemmas.List.{append-nil}
-use Rattle.tm_rules.specs.Rules.{Rules, chooses}
+use Rattle.tm_frame.specs.Rules.{Rules, chooses}
 use Rattle.tm_reassembly.specs.Items.{master_gap_item, gap_at}
 use Rattle.tm_frame.specs.declared.fault.FrameFault.{FrameFault}
 use Rattle.tm_frame.specs.Fault.{frame_reading_of}

@@ -11,7 +11,7 @@ use Rattle.tm_reassembly.specs.Readings.{Reading}
 use Rattle.tm_items.specs.Item as item
 use Rattle.tm_reassembly.specs.Chain.{ChainMember, has_frame_gap, member, member_of, master_member, master_stem}
 use Rattle.tm_reassembly.specs.code.Field.{chain_tail_at}
-use Rattle.tm_rules.specs.Channels.{eight}
+use Rattle.tm_frame.specs.Channels.{eight}
 use Rattle.tm_reassembly.specs.Items.{seen_at, channel_after, state_after_readings, master_gap_item, gap_at, last_frame_count, items_of_readings, last_with}
 use Rattle.tm_reassembly.specs.Valid.{HasShape}
 use Rattle.tm_reassembly.proofs.Chained.{IsOpenTail}

@@ -14,7 +14,7 @@ use Rattle.tm_items.specs.Item.{Item}
 use Rattle.tm_reassembly.specs.Chain.{ChainMember, has_frame_gap, stem_of, stem_with, chain, frames, member_of, member, master_member, Unended}
 use Rattle.tm_reassembly.specs.Parts.{Part}
 use Rattle.tm_reassembly.specs.code.Field.{chain_parts_at, chain_tail_at}
-use Rattle.tm_rules.specs.Channels.{eight}
+use Rattle.tm_frame.specs.Channels.{eight}
 use Rattle.tm_reassembly.specs.Items.{seen_at, gap_at, master_gap_item, held_part, channel_items, chain_parts, last_frame_count, last_with, first_tail, channel_after, state_after_readings, record_items, merged, items_of_readings, empty}
 use Rattle.tm_reassembly.proofs.Step.{PlaceFits}
 use Rattle.tm_reassembly.proofs.Chained.{IsOpenTail, chained, chained_step, chained_end, chain_parts-stem, chain_parts-fresh, left_parts}

@@ -9,7 +9,7 @@ use Rattle.tm_bits.specs.Bits.{AreOctets, two_octets, two_at}
 use Rattle.tm_bits.proofs.PartLemmas.{octets_behind}
 use Rattle.tm_frame.specs.declared.layout.LayoutParts.{LayoutParts}
 use Rattle.tm_reassembly.specs.declared.fault.StateFault.{StateFault}
-use Rattle.tm_rules.specs.Rules.{Rules, chooses}
+use Rattle.tm_frame.specs.Rules.{Rules, chooses}
 use Rattle.tm_items.specs.OnePacket.{packet_length}
 use Rattle.tm_reassembly.specs.Parts.{begins_packet}
 use Rattle.tm_reassembly.specs.State.{Last, Tail}

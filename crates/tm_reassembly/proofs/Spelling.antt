@@ -8,7 +8,7 @@ use Rattle.std.proofs.lemmas.Option.{slice_get_within}
 use Rattle.std.proofs.lemmas.List.{append-nil, nil_from_length}
 use Rattle.tm_frame.specs.declared.layout.LayoutParts.{LayoutParts}
 use Rattle.tm_reassembly.specs.declared.fault.StateFault.{StateFault}
-use Rattle.tm_rules.specs.Rules.{Rules, chooses}
+use Rattle.tm_frame.specs.Rules.{Rules, chooses}
 use Rattle.tm_reassembly.specs.State.{State, Last, Tail}
 use Rattle.tm_reassembly.specs.Checkpoint.{block, with_tail, master_octets, state_spelling, old_spelling, ReadBlock, DecodedState, is_unfinished, tail_read, flagged, block_read, blocks_read, master_read, state_decoding_of, old_decoding_of}
 use Rattle.tm_reassembly.specs.OlderForms.{without_master}

@@ -28,7 +28,7 @@ use Rattle.tm_reassembly.proofs.Joining.{before_of, tail_of}
 use Rattle.tm_reassembly.proofs.Records.{after-append, at_eight, none_kept}
 use Rattle.tm_reassembly.proofs.OneStep.{last_moved, valid-from, after-nil, after-one, after-bad, after-other, get_set-same, get_set-other, open-at}
 use Rattle.tm_reassembly.proofs.Long.{begins-short, within-limit}
-use Rattle.tm_rules.specs.Rules.{Rules, IsLimit, chooses}
+use Rattle.tm_frame.specs.Rules.{Rules, IsLimit, chooses}
 use Rattle.tm_reassembly.proofs.Fits.{IsGood, IsRead, reading-fit, reading-good, octets_append}
 
 no_octets : AreOctets []

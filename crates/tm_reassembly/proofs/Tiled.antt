@@ -11,7 +11,7 @@ use Rattle.tm_frame.specs.declared.frame.Kind.TheVariants as got
 use Rattle.tm_frame.specs.declared.frame.Kind.{Kind}
 use Rattle.tm_reassembly.specs.Readings.{Reading}
 use Rattle.tm_reassembly.specs.Recording.{readings, items, after}
-use Rattle.tm_rules.specs.Rules.{Rules, chooses}
+use Rattle.tm_frame.specs.Rules.{Rules, chooses}
 use Rattle.tm_reassembly.proofs.Fits.{readings-fit}
 use Rattle.tm_items.specs.Item as item
 use Rattle.tm_items.specs.Item.{Item}

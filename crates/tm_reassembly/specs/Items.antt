@@ -5,7 +5,7 @@ use Rattle.tm_reassembly.specs.Readings.{Reading}
 use Rattle.tm_items.specs.declared.items.Reason.TheVariants as why
 use Rattle.tm_items.specs.Item.{Item, Bad, MasterGap, Gap, Vca, Dropped, Packet, Short, seen_of}
 use Rattle.tm_reassembly.specs.State.{State, Last, Tail}
-use Rattle.tm_rules.specs.Channels.{eight}
+use Rattle.tm_frame.specs.Channels.{eight}
 use Rattle.tm_reassembly.specs.Chain.{ChainMember, chain, master_chain, runs, has_frame_gap, next_frame_count}
 use Rattle.tm_reassembly.specs.Parts.{Part, Fate, Given, Lost, Held, parts}
 

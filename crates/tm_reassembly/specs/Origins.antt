@@ -1,7 +1,7 @@
 -- Records that are gone through from a state, and what they give: terms of the laws.
 use Rattle.std.specs.Prelude.{ℕ, List, length}
 use Rattle.tm_frame.specs.declared.layout.LayoutParts.{LayoutParts}
-use Rattle.tm_rules.specs.Rules.{Rules}
+use Rattle.tm_frame.specs.Rules.{Rules}
 use Rattle.tm_items.specs.Item.{Item}
 use Rattle.tm_reassembly.specs.State.{State}
 use Rattle.tm_reassembly.specs.Chain.{Run, ChainMember, chain, runs}

@@ -3,7 +3,7 @@ use Rattle.std.specs.Prelude.{◌≡◌, ◌⊎◌, ℕ, Result, Ok, Err, IsOk, 
 use Rattle.tm_reassembly.specs.declared.fault.StepFault as fault
 use Rattle.tm_reassembly.specs.declared.fault.StepFault.TheVariants.{Sink, Failed, TooMany}
 pub use Rattle.tm_frame.specs.Layout.{most_records}
-use Rattle.tm_rules.specs.Rules.{Rules}
+use Rattle.tm_frame.specs.Rules.{Rules}
 use Rattle.tm_items.specs.Item.{Item}
 use Rattle.tm_reassembly.specs.Items.{empty}
 use Rattle.tm_reassembly.specs.Recording.{items, after}

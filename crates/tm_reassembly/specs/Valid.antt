@@ -6,7 +6,7 @@ use Rattle.tm_frame.specs.declared.layout.LayoutParts.{LayoutParts}
 use Rattle.tm_reassembly.specs.State.{State, Last, Tail}
 use Rattle.tm_reassembly.specs.Parts.{begins_packet}
 use Rattle.tm_items.specs.OnePacket.{packet_length}
-use Rattle.tm_rules.specs.Rules.{Rules, IsLimit, chooses}
+use Rattle.tm_frame.specs.Rules.{Rules, IsLimit, chooses}
 
 -- ---- records
 

@@ -11,7 +11,7 @@ ghost use Rattle.tm_reassembly.specs.Items.{gap_item, master_gap_item, gap_at, v
 ghost use Rattle.tm_items.specs.Item as value;
 ghost use Rattle.tm_reassembly.specs.code.Slots.{LeavesLast, Slot, frame_count_in, tail_in, kept_items, last_after, data_items, last_with_data, slot_parts, slot_after, vca_items, counted, missed_count};
 ghost use Rattle.tm_reassembly.specs.State.{octets_in, Last};
-ghost use Rattle.tm_rules.specs.Rules.{IsLimit};
+ghost use Rattle.tm_frame.specs.Rules.{IsLimit};
 ghost use Rattle.tm_items.specs.Giving.{Gives};
 ghost use Rattle.tm_reassembly.specs.code.Fits.{IsOpenTail};
 

@@ -4,14 +4,14 @@ ghost use Rattle.std.specs.Prelude.{◌≡◌, ◌+◌, ◌<◌, ◌≤◌, ◌+
 ghost use Rattle.tm_reassembly.specs.Checkpoint.{four_octets, four_at, is_unfinished, master_octets, tail_block, flagged, channel_block};
 ghost use Rattle.tm_bits.specs.Bits.{two_at};
 ghost use Rattle.tm_reassembly.specs.code.Blocks.{block_last, IsBlock, master_read_in};
-ghost use Rattle.tm_rules.specs.Rules.{chooses};
+ghost use Rattle.tm_frame.specs.Rules.{chooses};
 ghost use Rattle.tm_reassembly.specs.Valid.{IsCount};
 ghost use Rattle.tm_reassembly.specs.declared.fault.StateFault.TheVariants as found;
 
 use crate::fault::StateFault;
 use crate::packets::measure;
 use tm_bits::{push, two_at};
-use tm_rules::Rules;
+use tm_frame::Rules;
 
 /// The form of a state's spelling: with the last master channel count, or the older one without it.
 #[derive(Clone, Copy, PartialEq, Eq)]

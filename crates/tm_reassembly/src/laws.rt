@@ -4,7 +4,7 @@ ghost use Rattle.std.specs.Prelude.{◌≡◌, ◌⊎◌, ℕ, ◌+◌, ◌^◌,
 ghost use Rattle.std.specs.List.{flat_map, filter};
 ghost use Rattle.tm_bits.specs.Bits.{AreOctets};
 ghost use Rattle.tm_frame.specs.declared.layout.LayoutParts.{LayoutParts};
-ghost use Rattle.tm_rules.specs.Rules.{Rules, IsLimit, chooses};
+ghost use Rattle.tm_frame.specs.Rules.{Rules, IsLimit, chooses};
 ghost use Rattle.tm_reassembly.specs.State.{State, Tail};
 ghost use Rattle.tm_reassembly.specs.Valid.{IsValidState, AllOctets};
 ghost use Rattle.tm_reassembly.specs.Origins.{Records, Origin, given_items, state_behind, items_forgotten, state_forgotten, runs_of, items_of_channel, read_from};

@@ -11,5 +11,5 @@ mod tail;
 
 pub use fault::{NoMemory, StateFault, StepFault};
 pub use reassembly::Reassembly;
+pub use tm_frame::Channels;
 pub use tm_items::{Item, Reason, Sink};
-pub use tm_rules::Channels;

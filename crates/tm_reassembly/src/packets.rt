@@ -7,7 +7,7 @@ ghost use Rattle.tm_reassembly.specs.code.Field.{HasNoWholePacket, IsLeft, IsWho
 ghost use Rattle.tm_reassembly.specs.code.Slots.{member_at};
 ghost use Rattle.tm_reassembly.specs.Parts as model;
 ghost use Rattle.tm_reassembly.specs.Parts.{begins_packet, unread_reason, lead_part};
-ghost use Rattle.tm_rules.specs.Rules.{IsLimit};
+ghost use Rattle.tm_frame.specs.Rules.{IsLimit};
 ghost use Rattle.tm_items.specs.Giving.{Gives};
 ghost use Rattle.tm_reassembly.specs.code.Fits.{PlaceFits};
 

@@ -9,7 +9,7 @@ ghost use Rattle.tm_reassembly.specs.Items.{closing, close_channels};
 ghost use Rattle.tm_reassembly.specs.code.Slots.{HaveLimit, lasts, rooms, state_kept, unused};
 ghost use Rattle.tm_reassembly.specs.State.{octets_in, State, Last};
 ghost use Rattle.tm_reassembly.specs.Recording.{items, after};
-ghost use Rattle.tm_rules.specs.Rules.{IsLimit, chooses};
+ghost use Rattle.tm_frame.specs.Rules.{IsLimit, chooses};
 ghost use Rattle.tm_items.specs.Giving.{Gives};
 ghost use Rattle.tm_items.specs.Sinks.{TakesAll};
 ghost use Rattle.tm_reassembly.specs.Steps.{Progress, new_progress, most_records, progress_in, step_items, stepped, StepRefused, CloseRefused, last_count_of, rules_of, IsDecoded, IsRefusal};
@@ -23,9 +23,8 @@ use crate::checkpoint::{
 use crate::fault::{NoMemory, StateFault, StepFault};
 use std::alloc::{AllocError, Global};
 use std::marker::Model;
-use tm_frame::{Layout, read};
+use tm_frame::{Channels, Layout, Rules, read};
 use tm_items::{Item, Sink};
-use tm_rules::{Channels, Rules};
 
 /// Takes the records of a recording one by one, and gives the packets of the chosen channels and what was lost.
 #[derive(Drop)]

@@ -9,7 +9,7 @@ ghost use Rattle.tm_items.specs.Item as value;
 ghost use Rattle.tm_reassembly.specs.code.Slots.{Buffer, HoldsTail, LeavesTail, tail_of_octets, grown, completed, completed_parts, member_at};
 ghost use Rattle.tm_reassembly.specs.State.{octets_in};
 ghost use Rattle.tm_reassembly.specs.Parts as model;
-ghost use Rattle.tm_rules.specs.Rules.{IsLimit};
+ghost use Rattle.tm_frame.specs.Rules.{IsLimit};
 ghost use Rattle.tm_items.specs.OnePacket.{IsOnePacket};
 ghost use Rattle.tm_items.specs.Giving.{Gives};
 ghost use Rattle.tm_reassembly.specs.State as state;

@@ -7,8 +7,8 @@ use Rattle.toml.specs.Data.{Data, Items, no_items, item, Members, no_members, me
 use Rattle.tm_frame.specs.declared.layout.LayoutParts.{LayoutParts}
 use Rattle.tm_frame.specs.declared.layout.Presence.{Presence}
 use Rattle.tm_frame.specs.declared.layout.Presence.TheVariants.{Flag, Always, Never}
-use Rattle.tm_rules.specs.Channels.{all_channels, channels_of}
-pub use Rattle.tm_rules.specs.Rules.{Rules}
+use Rattle.tm_frame.specs.Channels.{all_channels, channels_of}
+pub use Rattle.tm_frame.specs.Rules.{Rules}
 use Rattle.tm_settings.specs.declared.key.Key.{Key}
 use Rattle.tm_settings.specs.declared.key.Key.TheVariants.{Spacecraft, FrameLength, SkipBefore, SkipAfter, Secondary, Ocf, ErrorControl, Channels, MaxPacket}
 use Rattle.tm_settings.specs.declared.fault.SettingsFault.{SettingsFault}

@@ -1,7 +1,7 @@
 //! Why settings are refused.
 
 use crate::Key;
-use tm_octets::Octets;
+use tm_bits::Octets;
 
 /// Why a text is no settings.
 #[derive(Debug, Drop)]

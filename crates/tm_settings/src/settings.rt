@@ -6,7 +6,7 @@ ghost use Rattle.std.specs.String.{string_cmp};
 ghost use Rattle.toml.specs.Parse.{parse_document};
 ghost use Rattle.toml.specs.View.{table_view};
 ghost use Rattle.tm_frame.specs.Layout.{IsInRange};
-ghost use Rattle.tm_rules.specs.Rules.{IsLimit};
+ghost use Rattle.tm_frame.specs.Rules.{IsLimit};
 ghost use Rattle.tm_settings.specs.Keys.{is_name};
 ghost use Rattle.tm_settings.specs.Settings.{choices_from, layout_from, least, settings_from, unknown_keys};
 
@@ -15,9 +15,8 @@ use crate::values::{channels_at, integer_at, limit_at, presence_at, skip_at, tru
 use crate::{Key, SettingsFault};
 use std::alloc::Global;
 use std::marker::Model;
-use tm_frame::{Layout, LayoutParts};
-use tm_octets::Octets;
-use tm_rules::Channels;
+use tm_bits::Octets;
+use tm_frame::{Channels, Layout, LayoutParts};
 use toml::Table;
 
 /// The settings of a recording.
@@ -29,7 +28,7 @@ pub struct Settings {
 }
 
 impl Model for Settings {
-    ghost use Rattle.tm_rules.specs.Rules.{Rules, IsLimit};
+    ghost use Rattle.tm_frame.specs.Rules.{Rules, IsLimit};
 
     ghost Value = { Rules };
 

@@ -2,15 +2,14 @@
 
 ghost use Rattle.std.specs.Prelude.{◌≡◌, ◌≢◌, Err, Ok, option_map, map, IfOk, IfErr};
 ghost use Rattle.toml.specs.View.{view, items_view, table_view};
-ghost use Rattle.tm_rules.specs.Channels.{all_channels};
-ghost use Rattle.tm_rules.specs.Rules.{IsLimit};
+ghost use Rattle.tm_frame.specs.Channels.{all_channels};
+ghost use Rattle.tm_frame.specs.Rules.{IsLimit};
 ghost use Rattle.tm_settings.specs.Settings.{channel_number, channels_at, integers, integer_between, integer_of, optional, presence_named, presence_of, required, truth_of, value_at};
 
 use crate::key::{Limits, MAX_PACKET, SKIP};
 use crate::{Key, SettingsFault};
 use std::alloc::{AllocError, Global};
-use tm_frame::Presence;
-use tm_rules::Channels;
+use tm_frame::{Channels, Presence};
 use toml::{Table, Value};
 
 // What a document has at a key.

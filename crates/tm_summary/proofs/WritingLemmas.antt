@@ -7,7 +7,7 @@ use Rattle.std.proofs.lemmas.List.{get_or_default}
 use Rattle.tm_faults.specs.declared.fault.RunFault.{RunFault}
 use Rattle.tm_output.specs.Outputs.{Stopped, Took, View, line_pieces, octets_buffering}
 use Rattle.tm_output.proofs.LinePieces.{lines_lines, lines_more, lines_stopped}
-use Rattle.tm_rules.specs.Channels.{is_chosen}
+use Rattle.tm_frame.specs.Channels.{is_chosen}
 use Rattle.tm_summary.specs.declared.application.ApplicationCounts.{ApplicationCounts}
 use Rattle.tm_summary.specs.declared.channel.ChannelCounts.{ChannelCounts}
 use Rattle.tm_summary.specs.declared.channel.Loss.{Loss}

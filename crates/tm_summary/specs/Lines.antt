@@ -10,7 +10,7 @@ use Rattle.tm_items.specs.declared.items.Reason.{Reason}
 use Rattle.tm_items.specs.declared.items.Reason.TheVariants as why
 use Rattle.tm_items.specs.Reasons as reason
 use Rattle.tm_items.specs.Reasons.{all_reasons}
-use Rattle.tm_rules.specs.Channels.{is_chosen}
+use Rattle.tm_frame.specs.Channels.{is_chosen}
 use Rattle.tm_summary.specs.declared.application.ApplicationCounts.{ApplicationCounts}
 use Rattle.tm_summary.specs.declared.channel.ChannelCounts.{ChannelCounts}
 use Rattle.tm_summary.specs.declared.channel.Loss.{Loss}

@@ -14,11 +14,10 @@ use crate::lines::{
 };
 use tm_devices::{Drain, write_all};
 use tm_faults::RunFault;
-use tm_frame::FrameFault;
+use tm_frame::{Channels, FrameFault};
 use tm_items::Reason;
 use tm_lines::LineBuffer;
 use tm_packet::Pair;
-use tm_rules::Channels;
 
 // Writes a line.
 fn write_line<W: Drain>(line: &[u8], out: &mut W) -> Result<(), RunFault>

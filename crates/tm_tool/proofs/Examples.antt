@@ -16,7 +16,7 @@ use Rattle.tm_packet.specs.declared.notes.Why.TheVariants as why
 use Rattle.tm_packet.specs.Header.{Fields}
 use Rattle.tm_packet.specs.Merge.{no_entries}
 use Rattle.tm_items.specs.declared.items.Reason.TheVariants as reason
-use Rattle.tm_rules.specs.Channels.{all_channels}
+use Rattle.tm_frame.specs.Channels.{all_channels}
 use Rattle.tm_reassembly.specs.Recording.{items, after}
 use Rattle.tm_output.specs.declared.command.Command.TheVariants.{Extract, Packets}
 use Rattle.tm_output.specs.declared.command.Ending.TheVariants.{Close, Keep, StopAfter}

@@ -5,7 +5,7 @@ use Rattle.std.specs.List.{flat_map}
 use Rattle.tm_frame.specs.declared.fault.FrameFault.{FrameFault}
 use Rattle.tm_frame.specs.Fault.{frame_reading_of}
 use Rattle.tm_frame.specs.Frame.{GoodFrame}
-use Rattle.tm_rules.specs.Rules.{chooses}
+use Rattle.tm_frame.specs.Rules.{chooses}
 use Rattle.tm_items.specs.Item.{Item, seen_of}
 use Rattle.tm_reassembly.specs.Chain.{ChainMember, chain, has_frame_gap, master_chain, next_frame_count}
 use Rattle.tm_reassembly.specs.Items.{chain_parts, channel_items, gap_at, gap_item, gaps, master_gap_item, master_items, part_item, record_items, seen_at, vca_at}

@@ -6,7 +6,7 @@ use Rattle.tm_frame.specs.declared.layout.LayoutParts.{LayoutParts}
 use Rattle.tm_frame.specs.Fault.{frame_reading_of}
 use Rattle.tm_frame.specs.Frame.{GoodFrame}
 use Rattle.tm_frame.specs.Layout.{record_length_of}
-use Rattle.tm_rules.specs.Rules.{Rules, chooses}
+use Rattle.tm_frame.specs.Rules.{Rules, chooses}
 use Rattle.tm_items.specs.Item.{Item, Short}
 use Rattle.tm_reassembly.specs.Items.{close_channels, close_last, close_tail, closing, empty, items_of_readings, merged, record_items}
 use Rattle.tm_reassembly.specs.Readings.{Reading}

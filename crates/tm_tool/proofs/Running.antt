@@ -10,7 +10,7 @@ use Rattle.tm_frame.specs.Layout.{record_length_of}
 use Rattle.tm_items.specs.Item.{Item}
 use Rattle.tm_reassembly.specs.Items.{empty}
 use Rattle.tm_reassembly.specs.Recording.{items, after}
-use Rattle.tm_rules.specs.Rules.{Rules, IsLimit, chooses}
+use Rattle.tm_frame.specs.Rules.{Rules, IsLimit, chooses}
 use Rattle.tm_reassembly.specs.State.{State}
 use Rattle.tm_bits.specs.Bits.{AreOctets}
 use Rattle.tm_reassembly.specs.Steps.{Progress, most_records, stepped, step_items}

@@ -6,7 +6,7 @@ use Rattle.tm_packet.proofs.AfterValid.{header-range, header-fits, after-valid}
 use Rattle.tm_packet.proofs.States.{valid-none}
 use Rattle.tm_items.specs.Among.{Among, is_of}
 use Rattle.tm_items.specs.Item.{Item, Packet}
-use Rattle.tm_rules.specs.Rules.{Rules, IsLimit}
+use Rattle.tm_frame.specs.Rules.{Rules, IsLimit}
 use Rattle.tm_reassembly.specs.Valid.{AllOctets}
 use Rattle.tm_reassembly.proofs.ItemChannels.{item-channel}
 use Rattle.tm_reassembly.proofs.States.{empty-valid, records-valid}

@@ -5,7 +5,7 @@ use Rattle.std.specs.List.{count_by}
 use Rattle.tm_frame.specs.Layout.{record_length_of}
 use Rattle.tm_packet.specs.Merge.{Entries}
 use Rattle.tm_items.specs.Item.{Item}
-use Rattle.tm_rules.specs.Rules.{Rules}
+use Rattle.tm_frame.specs.Rules.{Rules}
 use Rattle.tm_reassembly.specs.OlderForms.{first_good_record, is_gap_at}
 use Rattle.tm_reassembly.specs.Recording.{readings}
 use Rattle.tm_output.specs.declared.command.Ending.{Ending}

@@ -1,7 +1,7 @@
 -- The numbers of the summary of a recording.
 use Rattle.std.specs.Prelude.{ℕ, List, length}
 use Rattle.tm_frame.specs.Layout.{record_length_of}
-use Rattle.tm_rules.specs.Rules.{Rules}
+use Rattle.tm_frame.specs.Rules.{Rules}
 use Rattle.tm_output.specs.Records.{records, rest_of}
 use Rattle.tm_summary.specs.SummaryNumbers.{SummaryNumbers, numbers_of}
 use Rattle.tm_checkpoint.specs.Works.{new_job}

@@ -4,7 +4,7 @@ ghost use Rattle.std.specs.List.{concat};
 ghost use Rattle.std.specs.Io.KnownBytes.{Appends};
 ghost use Rattle.std.specs.Prelude.{◌≡◌, ◌<◌, ◌≤◌, ◌+◌, ◌*◌, ◌^◌, ℕ, true, false, Ok, List, [], ◌++◌, length, Option, IfSome};
 ghost use Rattle.tm_frame.specs.Layout.{record_length_of};
-ghost use Rattle.tm_rules.specs.Rules.{IsLimit, Rules, chooses};
+ghost use Rattle.tm_frame.specs.Rules.{IsLimit, Rules, chooses};
 ghost use Rattle.tm_packet.specs.Merge as sequence;
 ghost use Rattle.tm_reassembly.specs.Items.{closing};
 ghost use Rattle.tm_reassembly.specs.Valid.{AllOctets, IsValidState};

@@ -12,10 +12,10 @@ mod summary;
 
 pub use job::{Done, Job, run, split};
 pub use summary::summarize;
+pub use tm_bits::Octets;
 pub use tm_devices::{
     Buffered, BufferedSource, DeviceFailed, Drain, Reading, Seeking, Shelf, Source, Writing,
 };
 pub use tm_faults::{CheckpointFault, NoMemory, RunFault};
-pub use tm_octets::Octets;
 pub use tm_output::{Command, Ending, list_frames};
 pub use tm_settings::{Key, Settings, SettingsFault};

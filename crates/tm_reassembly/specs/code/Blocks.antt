@@ -7,7 +7,7 @@ use Rattle.tm_reassembly.specs.Checkpoint.{DecodedState, ReadBlock, ReadMaster, 
 use Rattle.tm_reassembly.specs.declared.checkpoint.Form.{Form}
 use Rattle.tm_reassembly.specs.declared.checkpoint.Form.TheVariants as form
 use Rattle.tm_reassembly.specs.declared.fault.StateFault.{StateFault}
-use Rattle.tm_rules.specs.Rules.{Rules}
+use Rattle.tm_frame.specs.Rules.{Rules}
 use Rattle.tm_reassembly.specs.State.{Last, Tail}
 
 abbrev pub block_last : Block → Option Last

@@ -1,6 +1,6 @@
 use Rattle.std.proofs.Common.{◌≡◌, ap, sym, ◌∙◌}
 use Rattle.tm_frame.specs.Layout.{record_length_of}
-use Rattle.tm_rules.specs.Rules.{Rules}
+use Rattle.tm_frame.specs.Rules.{Rules}
 use Rattle.tm_library.specs.Chunks.{size_of}
 use Rattle.tm_library.proofs.ChunkLemmas.{answered, has_rules}
 use Rattle.tm_library.proofs.RefusalLemmas.{run_told}

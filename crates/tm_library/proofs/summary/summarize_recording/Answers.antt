@@ -1,6 +1,6 @@
 use Rattle.std.proofs.Common.{◌≡◌, ◌<◌, ◌∙◌, ℕ, length, arith, ap, refl, Some}
 use Rattle.tm_frame.specs.Layout.{most_records, record_length_of}
-use Rattle.tm_rules.specs.Rules.{Rules}
+use Rattle.tm_frame.specs.Rules.{Rules}
 use Rattle.tm_checkpoint.specs.Works.{new_job}
 use Rattle.tm_output.specs.Records.{record_count, records}
 use Rattle.tm_output.proofs.RecordLemmas.{records_counted}

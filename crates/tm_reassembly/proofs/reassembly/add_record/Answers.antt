@@ -1,7 +1,7 @@
 use Rattle.std.proofs.Common.{◌∙◌, List, refl, sym, ap, subst, arith}
 use Rattle.std.proofs.lemmas.Result.{on_ok_weaker}
 use Rattle.tm_items.specs.Item.{Item}
-use Rattle.tm_rules.specs.Rules.{chooses}
+use Rattle.tm_frame.specs.Rules.{chooses}
 use Rattle.tm_items.specs.Giving.{Gives}
 use Rattle.tm_items.specs.Sinks.{TakesAll, RefusesOne}
 use Rattle.tm_reassembly.proofs.OneRecord.{open_slot, items_slot, after_slot, items_good, items_unchosen, after_unchosen, limit_slot, items_bad_record, after_bad_record, refused_bad_record, read_as, chosen_as}

@@ -1,6 +1,6 @@
 use Rattle.std.proofs.Common.{◌∷◌, [], refl, ap, subst, ◌∙◌, inl, arith, rules}
 use Rattle.tm_frame.specs.Layout.{record_length_of}
-use Rattle.tm_rules.specs.Rules.{Rules}
+use Rattle.tm_frame.specs.Rules.{Rules}
 use Rattle.tm_checkpoint.specs.Works.{Work, work_of}
 use Rattle.tm_tool.specs.Runs.{WantsFurther}
 use Rattle.tm_tool.specs.code.RecordLoop.{Enough, HasPassed, PassingStopped}

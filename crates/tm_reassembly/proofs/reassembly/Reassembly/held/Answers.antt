@@ -1,5 +1,5 @@
 use Rattle.std.proofs.Common.{◌≡◌, false, ap, ◌∙◌}
-use Rattle.tm_rules.specs.Rules.{Rules, chooses}
+use Rattle.tm_frame.specs.Rules.{Rules, chooses}
 use Rattle.tm_reassembly.specs.Steps.{Progress}
 use Rattle.tm_reassembly.proofs.OneRecord.{held_short, held_other}
 use Rattle.tm_reassembly.proofs.Slots.{last_at}

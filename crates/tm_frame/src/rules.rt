@@ -1,10 +1,10 @@
 //! What the settings say of records, channels and packets.
 
-ghost use Rattle.tm_rules.specs.Rules as value;
+ghost use Rattle.tm_frame.specs.Rules as value;
 
+use crate::Layout;
 use crate::channels::Channels;
 use std::marker::Model;
-use tm_frame::Layout;
 
 /// How a record is laid out, which channels are chosen, and how many octets a packet may have at most, 7 to 65,542.
 #[derive(Clone, Copy)]

@@ -4,7 +4,7 @@ use Rattle.std.specs.Prelude.{slice_set, slice_index_or, nat_lt, Some, None}
 use Rattle.std.proofs.Math.Bool.{or-false, or_assoc}
 use Rattle.std.proofs.lemmas.List.{length-set, take_all, take_more, get_or-map, get_or-replicate, get_or_default, get_or-set_same, get_or-set_other, ext_get_or}
 use Rattle.std.proofs.lemmas.Bool.{eq-eqb, ne_eqb, eqb-true, eqb-false, cond-true, cond-false, lt-ltb, le-ltb, or_cases, or_left, or_right, or_parts, or_from, cases_eq, agree_below_at}
-use Rattle.tm_rules.specs.Channels.{holds, is_wrong, eight, channels_of}
+use Rattle.tm_frame.specs.Channels.{holds, is_wrong, eight, channels_of}
 
 split_at : (xs : List ℕ) (i : ℕ) → i < length xs → xs ≡ take i xs ++ get_or xs i 0 ∷ drop (suc i) xs
 split_at [] i h = absurd (omega arith)

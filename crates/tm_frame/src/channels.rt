@@ -1,7 +1,7 @@
 //! Sets of virtual channels.
 
 ghost use Rattle.std.specs.Prelude.{◌≡◌, ◌≤◌, Bool, List, length, if◌then◌else◌};
-ghost use Rattle.tm_rules.specs.Channels.{is_chosen, all_channels, channels_of, mask_of};
+ghost use Rattle.tm_frame.specs.Channels.{is_chosen, all_channels, channels_of, mask_of};
 
 use std::marker::Model;
 

@@ -1,7 +1,7 @@
 -- What the settings say of records, channels and packets.
 use Rattle.std.specs.Prelude.{ℕ, ◌≤◌, Bool, List}
 use Rattle.tm_frame.specs.declared.layout.LayoutParts.{LayoutParts}
-use Rattle.tm_rules.specs.Channels.{is_chosen}
+use Rattle.tm_frame.specs.Channels.{is_chosen}
 
 -- how a record is laid out; for each channel from 0 whether it is chosen; and how many octets a packet may have at most
 pub record Rules : Type 0 where

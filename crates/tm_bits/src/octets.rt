@@ -1,7 +1,5 @@
 //! Octets that contracts see as a list. Names of files and words of texts are passed on like this, however they are
 //! encoded.
-#![tactic(auto)]
-
 ghost use Rattle.std.specs.Prelude.{◌≡◌, ℕ, List};
 
 use std::marker::Model;

@@ -1,5 +1,0 @@
-use Rattle.tm_rules.proofs.ChannelSets.{KeepsMarks}
-use Rattle.tm_rules.proofs.channels.Channels.of.Given as goal
-
-abbrev pub invariant-loop-i : goal.invariant-loop-i
-invariant-loop-i l = KeepsMarks l.numbers l.chosen l.i

@@ -75,7 +75,8 @@ impl ChannelState {
     ) -> Result<(), S::Fault>
         requires channel { channel < 8 }
         requires open { IsOpenTail self.old.limit (tail_in self.old.last) }
-        ensures given { Gives S.Sink sink.old sink.new (kept_items self.old.limit channel self.old.last (member seen frame.now)) result }
+        ensures given { Gives S.Sink sink.old sink.new
+            (kept_items self.old.limit channel self.old.last (member seen frame.now)) result }
         ensures left { LeavesLast self.old self.new (last_after self.old.limit self.old.last (member seen frame.now)) result }
     {
         let count = frame.count();
@@ -100,8 +101,10 @@ impl ChannelState {
         requires channel { channel < 8 }
         requires open { IsOpenTail self.old.limit (tail_in self.old.last) }
         requires counted { frame_count_in self.old.last ≡ Some frame.now.count }
-        ensures given { Gives S.Sink sink.old sink.new (data_items self.old.limit channel self.old.last gap (member seen frame.now)) result }
-        ensures left { LeavesLast self.old self.new (last_with_data self.old.limit self.old.last gap (member seen frame.now)) result }
+        ensures given { Gives S.Sink sink.old sink.new
+            (data_items self.old.limit channel self.old.last gap (member seen frame.now)) result }
+        ensures left { LeavesLast self.old self.new
+            (last_with_data self.old.limit self.old.last gap (member seen frame.now)) result }
     {
         let (place, octets): (Option<u16>, &[u8]) = match frame.kind() {
             Kind::Vca => return self.add_vca(seen, channel, gap, sink),
@@ -144,7 +147,8 @@ impl ChannelState {
         requires field { IsDataField field }
         requires open { IsOpenTail self.old.limit (tail_in self.old.last) }
         requires counted { IsSome (frame_count_in self.old.last) }
-        ensures given { GivesParts S.Sink sink.old sink.new channel (slot_parts self.old gap (member_with seen field.entry)) result }
+        ensures given { GivesParts S.Sink sink.old sink.new channel
+            (slot_parts self.old gap (member_with seen field.entry)) result }
         ensures left { LeavesLast self.old self.new (slot_after self.old gap (member_with seen field.entry)) result }
     {
         if !gap {

@@ -177,7 +177,8 @@ fn read_tail<'a>(
     octets: &'a [u8],
 ) -> Result<(Block<'a>, usize), StateFault>
     requires { 12 ≤ length octets.now }
-    ensures ok { IfOk result (λ found. IsBlock (tail_block rules.now.max_packet rules.now.layout records octets.now) found.0 found.1) }
+    ensures ok { IfOk result (λ found. IsBlock
+        (tail_block rules.now.max_packet rules.now.layout records octets.now) found.0 found.1) }
     ensures inside { IfOk result (λ found. found.1 ≤ length octets.now) }
     ensures most { IfOk result (λ found. length found.0.tail.now ≤ rules.now.max_packet) }
     ensures refused { IfErr result (λ fault. tail_block rules.now.max_packet rules.now.layout records octets.now ≡ Err fault) }

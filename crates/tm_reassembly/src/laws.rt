@@ -25,7 +25,8 @@ ghost use Rattle.tm_reassembly.specs.Verdict.{completed_at_once, Grow, IsSettled
 /// Joining: the items of two lists of records, one after the other, are those of the first, and then those of the second from
 /// the state that the first leaves. So are the states.
 pub fn joining()
-    ensures items_join { (o : Origin) (a b : Records) → given_items o (a ++ b) ≡ given_items o a ++ items o.rules (state_behind o a) b }
+    ensures items_join { (o : Origin) (a b : Records)
+        → given_items o (a ++ b) ≡ given_items o a ++ items o.rules (state_behind o a) b }
     ensures states_join { (o : Origin) (a b : Records) → state_behind o (a ++ b) ≡ after o.rules (state_behind o a) b }
 {}
 
@@ -47,11 +48,13 @@ pub fn spellings()
         state_decoding_of o.rules (state_spelling o.state ++ rest) ≡ Ok (read_from o.state (state_spelling o.state)) }
     ensures no_prefix { (o : Origin) (t : State) (rest : List ℕ) → IsValidState o.rules t →
         state_spelling o.state ++ rest ≡ state_spelling t → (o.state ≡ t) × (rest ≡ []) }
-    ensures spelled_again { (rules : Rules) (octets : List ℕ) (d : DecodedState) → AreOctets octets →
-        state_decoding_of rules octets ≡ Ok d → (d.octets ≤ length octets) × (take d.octets octets ≡ state_spelling d.state) }
+    ensures spelled_again { (rules : Rules) (octets : List ℕ) (d : DecodedState) → AreOctets octets
+        → state_decoding_of rules octets ≡ Ok d →
+        (d.octets ≤ length octets) × (take d.octets octets ≡ state_spelling d.state) }
     ensures old_read_again { (o : Origin) (rest : List ℕ) →
         old_decoding_of o.rules (old_spelling o.state ++ rest) ≡ Ok (read_from (without_master o.state) (old_spelling o.state)) }
-    ensures old_spelled_again { (rules : Rules) (octets : List ℕ) (d : DecodedState) → AreOctets octets → old_decoding_of rules octets ≡ Ok d →
+    ensures old_spelled_again { (rules : Rules) (octets : List ℕ) (d : DecodedState) → AreOctets octets
+        → old_decoding_of rules octets ≡ Ok d →
         (d.octets ≤ length octets) × (take d.octets octets ≡ old_spelling d.state) × (d.state.master ≡ None) }
     ensures old_no_prefix { (o : Origin) (t : State) (rest : List ℕ) → IsValidState o.rules t →
         old_spelling o.state ++ rest ≡ old_spelling t → (without_master o.state ≡ without_master t) × (rest ≡ []) }
@@ -67,11 +70,13 @@ pub fn forgotten_count()
     ensures items_lack { (o : Origin) (records : Records) →
         LacksFirstGap o.state (readings o.rules.layout records) (given_items o records) (items_forgotten o records) }
     ensures without_first { (o : Origin) (records later : Records) → items_forgotten o records
-        ≡ without_gaps_at (first_good_record o.state.records (readings o.rules.layout (records ++ later))) (given_items o records) }
+        ≡ without_gaps_at (first_good_record o.state.records (readings o.rules.layout (records ++ later)))
+        (given_items o records) }
     ensures few_left_out { (o : Origin) (records : Records) (numbers : List ℕ) →
         length (given_items o records) ≤ length (without_gaps_at numbers (given_items o records)) + length numbers }
     ensures states_meet { (o : Origin) (records : Records) → (state_forgotten o records ≡ state_behind o records)
-        ⊎ ((state_forgotten o records ≡ without_master (state_behind o records)) × (items_forgotten o records ≡ given_items o records)) }
+        ⊎ ((state_forgotten o records ≡ without_master (state_behind o records))
+        × (items_forgotten o records ≡ given_items o records)) }
 {}
 
 /// Settled verdicts are the same for every extension of the records. They are whether a start is open at a frame, whether the
@@ -79,10 +84,12 @@ pub fn forgotten_count()
 /// whole, in the start's own frame. More records leave each run that was ended as it is, go on with the last one, and may add
 /// runs after it. So each frame of the first records stands in the same run of all.
 pub fn settled_verdict()
-    ensures runs_grow { (layout : LayoutParts) (s : State) (c : ℕ) (a b : Records) → Grow (runs_of layout s c a) (runs_of layout s c (a ++ b)) }
-    ensures later_frame { (layout : LayoutParts) (s : State) (c : ℕ) (a b : Records) (i : ℕ) (r : Run) →
-        slice_get (runs_of layout s c a) i ≡ Some r → (before between later : List ChainMember) (f m : ChainMember) →
-        r.members ≡ before ++ f ∷ (between ++ m ∷ later) → IsSettledIn (runs_of layout s c (a ++ b)) i before f between m later }
+    ensures runs_grow { (layout : LayoutParts) (s : State) (c : ℕ) (a b : Records)
+        → Grow (runs_of layout s c a) (runs_of layout s c (a ++ b)) }
+    ensures later_frame { (layout : LayoutParts) (s : State) (c : ℕ) (a b : Records) (i : ℕ) (r : Run)
+        → slice_get (runs_of layout s c a) i ≡ Some r →
+        (before between later : List ChainMember) (f m : ChainMember) → r.members ≡ before ++ f ∷ (between ++ m ∷ later) →
+        IsSettledIn (runs_of layout s c (a ++ b)) i before f between m later }
     ensures own_frame { (limit : ℕ) (start : List ℕ) (later : List ChainMember) →
         completed_at_once limit start later ≡ (begins_packet limit start && nat_le (packet_length start) (length start)) }
     ensures own_long { (limit : ℕ) (start : List ℕ) (later : List ChainMember) →
@@ -100,10 +107,12 @@ pub fn nothing_is_lost()
     ensures told { (o : Origin) (records : Records) (c : ℕ) → chooses o.rules c ≡ true →
         (x : Item) → Among x (items_of_channel o.rules o.state c records) → Among x (given_items o records) }
     ensures in_order { (o : Origin) (records : Records) (c : ℕ) → chooses o.rules c ≡ true → (number : ℕ) →
-        seen_at number (filter (λ x. is_of c x) (given_items o records)) ≡ seen_at number (items_of_channel o.rules o.state c records) }
+        seen_at number (filter (λ x. is_of c x) (given_items o records))
+        ≡ seen_at number (items_of_channel o.rules o.state c records) }
     ensures nothing_added { (rules : Rules) (s : State) (records : Records) (c : ℕ) (x : Item) → is_of c x ≡ true →
         Among x (items rules s records) → (chooses rules c ≡ true) × Among x (items_of_channel rules s c records) }
-    ensures masters { (o : Origin) (records : Records) → filter (λ x. is_master_gap x) (given_items o records)
+    ensures masters { (o : Origin) (records : Records) →
+        filter (λ x. is_master_gap x) (given_items o records)
         ≡ master_items (master_chain o.state (readings o.rules.layout records)) }
 {}
 
@@ -116,7 +125,8 @@ pub fn limited_packets()
 /// Tiling, from no records: take the packets and dropped parts of a chosen channel in the order given, and then its held tail.
 /// They begin at the first octet of the channel's joined data fields, each where the one before ends, and end at the last octet.
 pub fn tiling()
-    ensures tiled { (rules : Rules) (channel : ℕ) (records : Records) → channel < 8 → chooses rules channel ≡ true → (rest : List Spot)
+    ensures tiled { (rules : Rules) (channel : ℕ) (records : Records) → channel < 8 → chooses rules channel ≡ true
+        → (rest : List Spot)
         × Tile (channel_spots channel 0 (readings rules.layout records)) (parts_of channel (items rules empty records)) rest
         × IsHeld (held_tail (after rules empty records) channel) rest }
 {}
@@ -125,7 +135,8 @@ pub fn tiling()
 /// frames are.
 pub fn at_most_one()
     ensures open_starts { (limit : ℕ) (before ahead : List ChainMember) → length (claims limit before ahead) ≤ 1 }
-    ensures held_tails { (limit : ℕ) (ms : List ChainMember) → length (flat_map (λ p. held_part p p.fate) (chain_parts limit ms)) ≤ 1 }
+    ensures held_tails { (limit : ℕ) (ms : List ChainMember)
+        → length (flat_map (λ p. held_part p p.fate) (chain_parts limit ms)) ≤ 1 }
 {}
 
 /// The definitions count from a start. With places in the text of the run they say the same. That goes for which the starts are,
@@ -134,8 +145,9 @@ pub fn at_most_one()
 pub fn places_in_text()
     ensures starts_there { (limit : ℕ) (r : FrameInRun) (s : Start) → IsIn s (starts_of limit r.frame) →
         (skipped : List ℕ) × LiesAfter r.frame s skipped × IsStartIn limit r (start_in_text r.before skipped) }
-    ensures starts_here { (limit : ℕ) (r : FrameInRun) (q : ℕ) → IsStartIn limit r q → (s : Start) × (skipped : List ℕ)
-        × IsIn s (starts_of limit r.frame) × LiesAfter r.frame s skipped × (q ≡ start_in_text r.before skipped) }
+    ensures starts_here { (limit : ℕ) (r : FrameInRun) (q : ℕ) → IsStartIn limit r q →
+        (s : Start) × (skipped : List ℕ) × IsIn s (starts_of limit r.frame) × LiesAfter r.frame s skipped
+        × (q ≡ start_in_text r.before skipped) }
     ensures ends { (p : StartInRun) → packet_length_at (text_with p) (place_of_start p) ≡ place_of_start p + far_of_start p }
     ensures agreement { (limit : ℕ) (p : StartInRun) (between : List ChainMember) (m : ChainMember) →
         Iff (agrees limit (far_of_start p) (length p.octets + length (text between)) m ≡ true) (GoesOnWith limit p between m) }
@@ -143,21 +155,25 @@ pub fn places_in_text()
         Iff (is_long limit (far_of_start p) ((length p.octets + length (text between)) + length m.field) ≡ true)
         (IsLongUpTo limit p (frame_end (frames_up_to p ++ between) m)) }
     ensures own_long { (limit : ℕ) (p : StartInRun) →
-        Iff (is_long limit (packet_length p.octets) (length p.octets) ≡ true) (IsLongUpTo limit p (frame_begin (frames_up_to p))) }
+        Iff (is_long limit (packet_length p.octets) (length p.octets) ≡ true)
+        (IsLongUpTo limit p (frame_begin (frames_up_to p))) }
     ensures opened { (limit : ℕ) (p : StartInRun) (between : List ChainMember) → 0 < length p.octets →
         Iff ((begins_packet limit p.octets && open_after limit (far_of_start p) (length p.octets) between) ≡ true)
         (IsOpenBehind limit p between) }
-    ensures whole { (limit : ℕ) (p : StartInRun) → 0 < length p.octets → Iff (is_whole limit p.octets p.later ≡ true) (IsWholeIn limit p) }
+    ensures whole { (limit : ℕ) (p : StartInRun) → 0 < length p.octets
+        → Iff (is_whole limit p.octets p.later ≡ true) (IsWholeIn limit p) }
 {}
 
 /// Where parts end. A packet is seen at the frame that holds its last octet, which is a later one or the start's own. A start that a
 /// frame breaks off is open there, the frame doesn't agree with it, and the octets that it keeps are those up to that frame.
 pub fn part_ends()
-    ensures last_octet { (far at number : ℕ) (between more : List ChainMember) (m : ChainMember) → at + length (text between) < far →
-        far ≤ (at + length (text between)) + length m.field → holder far at number (between ++ m ∷ more) ≡ m.number }
+    ensures last_octet { (far at number : ℕ) (between more : List ChainMember) (m : ChainMember) →
+        at + length (text between) < far → far ≤ (at + length (text between)) + length m.field →
+        holder far at number (between ++ m ∷ more) ≡ m.number }
     ensures own_frame { (far at number : ℕ) (later : List ChainMember) → far ≤ at → holder far at number later ≡ number }
     ensures broken_off { (limit far at : ℕ) (later : List ChainMember) (m : ChainMember) → breaker limit far at later ≡ Some m →
-        (between : List ChainMember) × (more : List ChainMember) × (later ≡ between ++ m ∷ more) × (open_after limit far at between ≡ true)
+        (between : List ChainMember) × (more : List ChainMember) × (later ≡ between ++ m ∷ more)
+        × (open_after limit far at between ≡ true)
         × (agrees limit far (at + length (text between)) m ≡ false) × (joined limit far at later ≡ between) }
 {}
 
@@ -168,28 +184,35 @@ pub fn part_ends()
 /// is whole. Else, if it is open at a frame that doesn't agree with it, it is the octets up to that frame. Else it is all octets
 /// up to the end of the text, which are held, or lost as the run ends.
 pub fn parts_in_text()
-    ensures no_start { (limit : ℕ) (r : FrameInRun) → ((q : ℕ) → IsOpenIn limit r q → ⊥) → lead_in limit r ≡ front_lost r.frame why.NoStart }
+    ensures no_start { (limit : ℕ) (r : FrameInRun) → ((q : ℕ) → IsOpenIn limit r q → ⊥)
+        → lead_in limit r ≡ front_lost r.frame why.NoStart }
     ensures pointer { (limit : ℕ) (r : FrameInRun) (q : ℕ) → IsOpenIn limit r q → (AgreesByPlace r q → ⊥) →
         lead_in limit r ≡ front_lost r.frame why.Pointer }
     ensures long_lead { (limit : ℕ) (r : FrameInRun) (q : ℕ) → IsOpenIn limit r q → AgreesByPlace r q →
         IsLong limit (text_of_run r) q (frame_end r.before r.frame) → lead_in limit r ≡ front_lost r.frame why.Length }
     ensures joined { (limit : ℕ) (r : FrameInRun) (q : ℕ) → IsOpenIn limit r q →
         Agrees limit (text_of_run r) q (frame_begin r.before) r.frame → lead_in limit r ≡ [] }
-    ensures unread { (limit : ℕ) (p : StartInRun) (end : End) → 0 < length p.octets → (IsVersionZero (text_with p) (place_of_start p) → ⊥) →
+    ensures unread { (limit : ℕ) (p : StartInRun) (end : End) → 0 < length p.octets
+        → (IsVersionZero (text_with p) (place_of_start p) → ⊥) →
         part_of_start limit p end ≡ part_in_frame p why.Version }
-    ensures long_unread { (limit : ℕ) (p : StartInRun) (end : End) → 0 < length p.octets → IsVersionZero (text_with p) (place_of_start p) →
+    ensures long_unread { (limit : ℕ) (p : StartInRun) (end : End) → 0 < length p.octets
+        → IsVersionZero (text_with p) (place_of_start p) →
         IsLongUpTo limit p (frame_begin (frames_up_to p)) → part_of_start limit p end ≡ part_in_frame p why.Length }
-    ensures packet { (limit : ℕ) (p : StartInRun) (end : End) → 0 < length p.octets → IsWholeIn limit p →
-        part_of_start limit p end ≡ part_up_to p (packet_length_at (text_with p) (place_of_start p))
+    ensures packet { (limit : ℕ) (p : StartInRun) (end : End) → 0 < length p.octets → IsWholeIn limit p
+        → part_of_start limit p end
+        ≡ part_up_to p (packet_length_at (text_with p) (place_of_start p))
         (Given (holder (far_of_start p) (length p.octets) p.frame.number p.later)) }
-    ensures broken { (limit : ℕ) (p : StartInRun) (end : End) → 0 < length p.octets → (between more : List ChainMember) (m : ChainMember) →
+    ensures broken { (limit : ℕ) (p : StartInRun) (end : End) → 0 < length p.octets
+        → (between more : List ChainMember) (m : ChainMember) →
         p.later ≡ between ++ m ∷ more → IsOpenBehind limit p between → (GoesOnByPlace p between m → ⊥) →
         part_of_start limit p end ≡ part_before p between m why.Pointer }
-    ensures long_broken { (limit : ℕ) (p : StartInRun) (end : End) → 0 < length p.octets → (between more : List ChainMember) (m : ChainMember) →
+    ensures long_broken { (limit : ℕ) (p : StartInRun) (end : End) → 0 < length p.octets
+        → (between more : List ChainMember) (m : ChainMember) →
         p.later ≡ between ++ m ∷ more → IsOpenBehind limit p between → GoesOnByPlace p between m →
         IsLongUpTo limit p (frame_end (frames_up_to p ++ between) m) → part_of_start limit p end ≡ part_before p between m why.Length }
     ensures unended { (limit : ℕ) (p : StartInRun) (end : End) → 0 < length p.octets →
         BeginsPacket limit (text_with p) (place_of_start p) (frame_begin (frames_up_to p)) → (IsWholeIn limit p → ⊥) →
         ((between more : List ChainMember) (m : ChainMember) → p.later ≡ between ++ m ∷ more → IsOpenBehind limit p between →
-        GoesOnWith limit p between m) → part_of_start limit p end ≡ part_up_to p (length (text_with p)) (fate_at end) }
+        GoesOnWith limit p between m) →
+        part_of_start limit p end ≡ part_up_to p (length (text_with p)) (fate_at end) }
 {}

@@ -114,7 +114,8 @@ pub fn give_lead<S: Sink>(
 ) -> Result<(), S::Fault>
     requires channel { channel < 8 }
     requires most { length lead.now ≤ 2042 }
-    ensures given { GivesParts S.Sink sink.old sink.new channel (lead_part (member_at seen None lead.now) reason lead.now) result }
+    ensures given { GivesParts S.Sink sink.old sink.new channel
+        (lead_part (member_at seen None lead.now) reason lead.now) result }
 {
     match lead {
         [] => Ok(()),
@@ -201,7 +202,8 @@ pub fn read_field<S: Sink>(
     requires most { length field.now ≤ 2042 }
     requires inside { place ≤ length field.now }
     requires limit { IsLimit limit }
-    ensures given { GivesParts S.Sink sink.old sink.new channel (field_parts limit seen (length field.now) place field.now) result }
+    ensures given { GivesParts S.Sink sink.old sink.new channel
+        (field_parts limit seen (length field.now) place field.now) result }
     ensures left { IfOk result (λ left. IsLeft limit field.now left (unfinished limit place field.now)) }
 {
     let mut offset = place;
@@ -228,7 +230,8 @@ pub fn give_field<S: Sink>(
     requires field { IsDataField field }
     requires limit { IsLimit limit }
     ensures given { GivesParts S.Sink sink.old sink.new channel (begun_parts limit reason (member_with seen field.entry)) result }
-    ensures left { IfOk result (λ left. IsLeft limit field.entry.octets.now left (left_in limit field.entry.place field.entry.octets.now)) }
+    ensures left { IfOk result (λ left. IsLeft limit field.entry.octets.now left
+        (left_in limit field.entry.place field.entry.octets.now)) }
 {
     match field.place {
         None => match give_lead(seen, channel, reason, field.octets, sink) {

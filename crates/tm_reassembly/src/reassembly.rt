@@ -94,7 +94,8 @@ impl Reassembly {
         ensures accepted { OnOk result (TakesAll S.takes (S.known sink.old) (step_items self.old octets.now) (S.known sink.new)) }
         ensures left { OnOk result (self.new ≡ stepped self.old octets.now) }
         ensures asked { OnOk result ((self.old.failed ≡ false) × (self.old.state.records < most_records)) }
-        ensures refused { IfErr result (StepRefused S.known S.takes S.refuses self.old self.new sink.old sink.new (step_items self.old octets.now)) }
+        ensures refused { IfErr result (StepRefused S.known S.takes S.refuses self.old self.new sink.old sink.new
+            (step_items self.old octets.now)) }
     {
         if self.failed() {
             return Err(StepFault::Failed);
@@ -148,7 +149,8 @@ impl Reassembly {
         requires { rest < record_length_of self.now.rules.layout }
         ensures accepted { OnOk result (TakesAll S.takes (S.known sink.old) (closing self.now.state rest) (S.known sink.new)) }
         ensures asked { OnOk result (self.now.failed ≡ false) }
-        ensures refused { IfErr result (CloseRefused S.known S.takes S.refuses self.now sink.old sink.new (closing self.now.state rest)) }
+        ensures refused { IfErr result (CloseRefused S.known S.takes S.refuses self.now sink.old sink.new
+            (closing self.now.state rest)) }
     {
         prove!(rest < self.rules.layout.record_length());
         if self.failed {
@@ -271,9 +273,11 @@ impl Reassembly {
         octets: &[u8],
     ) -> Result<(Reassembly, usize), StateFault>
         requires { IsLimit max_packet }
-        ensures ok { IfOk result (λ read. IsDecoded (state_decoding_of (rules_of layout channels max_packet) octets.now) read.0.state read.1) }
+        ensures ok { IfOk result (λ read. IsDecoded
+            (state_decoding_of (rules_of layout channels max_packet) octets.now) read.0.state read.1) }
         ensures same { IfOk result (λ read. read.0 ≡ progress_in (rules_of layout channels max_packet) read.0.state) }
-        ensures refused { IfErr result (λ fault. IsRefusal (state_decoding_of (rules_of layout channels max_packet) octets.now) fault) }
+        ensures refused { IfErr result (λ fault. IsRefusal
+            (state_decoding_of (rules_of layout channels max_packet) octets.now) fault) }
     {
         let rules = Rules {
             layout,
@@ -297,9 +301,11 @@ impl Reassembly {
         octets: &[u8],
     ) -> Result<(Reassembly, usize), StateFault>
         requires { IsLimit max_packet }
-        ensures ok { IfOk result (λ read. IsDecoded (old_decoding_of (rules_of layout channels max_packet) octets.now) read.0.state read.1) }
+        ensures ok { IfOk result (λ read. IsDecoded
+            (old_decoding_of (rules_of layout channels max_packet) octets.now) read.0.state read.1) }
         ensures same { IfOk result (λ read. read.0 ≡ progress_in (rules_of layout channels max_packet) read.0.state) }
-        ensures refused { IfErr result (λ fault. IsRefusal (old_decoding_of (rules_of layout channels max_packet) octets.now) fault) }
+        ensures refused { IfErr result (λ fault. IsRefusal
+            (old_decoding_of (rules_of layout channels max_packet) octets.now) fault) }
     {
         let rules = Rules {
             layout,
@@ -347,9 +353,11 @@ fn decode_channels(
     requires limit { IsLimit rules.max_packet }
     requires count { IsCount master }
     requires start { start ≤ 6 }
-    ensures ok { IfOk result (λ read. IsDecoded (with_channels records master start (blocks_read rules records 8 0 octets.now)) read.0.state read.1) }
+    ensures ok { IfOk result (λ read. IsDecoded
+        (with_channels records master start (blocks_read rules records 8 0 octets.now)) read.0.state read.1) }
     ensures same { IfOk result (λ read. read.0 ≡ progress_in rules read.0.state) }
-    ensures refused { IfErr result (λ fault. IsRefusal (with_channels records master start (blocks_read rules records 8 0 octets.now)) fault) }
+    ensures refused { IfErr result (λ fault. IsRefusal
+        (with_channels records master start (blocks_read rules records 8 0 octets.now)) fault) }
 {
     if let Err(fault) = check(&rules, records, octets) {
         return Err(fault);
@@ -427,7 +435,8 @@ fn add_record<S: Sink>(
     requires record { length octets.now ≡ record_length_of rules.now.layout }
     requires state { IsValidState rules.now (state_kept seen master.old states.old) }
     requires limit { HaveLimit rules.now.max_packet states.old }
-    ensures given { Gives S.Sink sink.old sink.new (items rules.now (state_kept seen master.old states.old) (octets.now ∷ [])) result }
+    ensures given { Gives S.Sink sink.old sink.new
+        (items rules.now (state_kept seen master.old states.old) (octets.now ∷ [])) result }
     ensures left { OnOk result (state_kept (seen + 1) master.new states.new
         ≡ after rules.now (state_kept seen master.old states.old) (octets.now ∷ [])) }
     ensures limit { OnOk result (HaveLimit rules.now.max_packet states.new) }
@@ -536,7 +545,8 @@ fn restore(
     states: &mut [ChannelState; 8],
 ) -> Result<usize, StateFault>
     requires { HaveLimit rules.now.max_packet states.old }
-    ensures ok { IfOk result (λ used. blocks_read rules.now records 8 0 octets.now ≡ Ok (record { kept = lasts states.new; octets = used })) }
+    ensures ok { IfOk result (λ used. blocks_read rules.now records 8 0 octets.now
+        ≡ Ok (record { kept = lasts states.new; octets = used })) }
     ensures limit { OnOk result (HaveLimit rules.now.max_packet states.new) }
     ensures inside { IfOk result (λ used. used ≤ length octets.now) }
     ensures refused { IfErr result (λ fault. blocks_read rules.now records 8 0 octets.now ≡ Err fault) }

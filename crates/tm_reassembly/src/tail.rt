@@ -147,7 +147,8 @@ impl Tail {
     ) -> Result<(), S::Fault>
         requires channel { channel < 8 }
         requires field { IsDataField field }
-        ensures given { GivesParts S.Sink sink.old sink.new channel (begun_parts self.old.limit reason (member_with seen field.entry)) result }
+        ensures given { GivesParts S.Sink sink.old sink.new channel
+            (begun_parts self.old.limit reason (member_with seen field.entry)) result }
         ensures left { LeavesTail self.old self.new (frame_tail self.old.limit (member_with seen field.entry)) result }
     {
         match give_field(self.limit, seen, channel, reason, field, sink) {
@@ -170,8 +171,10 @@ impl Tail {
         requires channel { channel < 8 }
         requires field { IsDataField field }
         requires open { IsOpenTail self.old.limit self.old.tail }
-        ensures given { GivesParts S.Sink sink.old sink.new channel (step_parts self.old.limit self.old.tail (member_with seen field.entry)) result }
-        ensures left { LeavesTail self.old self.new (step_tail self.old.limit self.old.tail (member_with seen field.entry)) result }
+        ensures given { GivesParts S.Sink sink.old sink.new channel
+            (step_parts self.old.limit self.old.tail (member_with seen field.entry)) result }
+        ensures left { LeavesTail self.old self.new
+            (step_tail self.old.limit self.old.tail (member_with seen field.entry)) result }
     {
         if self.octets.is_empty() {
             return self.begin(seen, channel, Reason::NoStart, field, sink);
@@ -253,7 +256,8 @@ impl Tail {
         requires some { 0 < length (octets_in self.old.tail) }
         requires whole { IsOnePacket (octets_in self.old.tail ++ take start field.now) }
         requires room { length (octets_in self.old.tail) + start ≤ self.old.limit }
-        ensures given { GivesParts S.Sink sink.old sink.new channel (completed_parts self.old.limit self.old.tail seen start field.now) result }
+        ensures given { GivesParts S.Sink sink.old sink.new channel
+            (completed_parts self.old.limit self.old.tail seen start field.now) result }
         ensures left { LeavesTail self.old self.new (frame_tail self.old.limit (member_at seen (Some start) field.now)) result }
     {
         let start = start as usize;

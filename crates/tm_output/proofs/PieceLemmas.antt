@@ -75,7 +75,7 @@ module _ {A K : Type 0} (grows : K → K → List A → Type 0) (grows-nil : (k 
     done = ps ++ h.done;
     next = h.next;
     more = h.more ++ rs;
-    split = rw (h.split, append_assoc, append_assoc) refl;
+    split = rw h.split (simp append_assoc);
     mid = h.mid;
     whole = pieces_pieces old mid h.mid ps h.done whole h.whole;
     stopped = h.stopped;

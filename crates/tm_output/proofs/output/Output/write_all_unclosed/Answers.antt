@@ -16,8 +16,8 @@ loop-unclosed-init g c = record {
 
 pub loop-unclosed-smaller : goal.loop-unclosed-smaller
 loop-unclosed-smaller g c =
-    let loop = c.loop-unclosed in
-    let next = next_open loop.at (drop loop.at loop.self.tracker.now) c.in-Some.unclosed (sym c.in-Some.ensures.value) in
+    let at = c.loop-unclosed.at in
+    let next = next_open at (drop at c.loop-unclosed.self.tracker.now) c.in-Some.unclosed (sym c.in-Some.ensures.value) in
     omega (arith, next.from, c.in-Some.ensures.below)
 
 pub loop-unclosed-preserved : goal.loop-unclosed-preserved

@@ -9,8 +9,8 @@ loop-unclosed-init c = record { same = (refl, refl); tracker = refl; below = ome
 
 pub loop-unclosed-smaller : goal.loop-unclosed-smaller
 loop-unclosed-smaller c =
-    let loop = c.loop-unclosed in
-    let next = next_open loop.at (drop loop.at loop.self.tracker.now) c.in-Some.unclosed (sym c.in-Some.ensures.value) in
+    let at = c.loop-unclosed.at in
+    let next = next_open at (drop at c.loop-unclosed.self.tracker.now) c.in-Some.unclosed (sym c.in-Some.ensures.value) in
     omega (arith, next.from, c.in-Some.ensures.below)
 
 pub loop-unclosed-preserved : goal.loop-unclosed-preserved

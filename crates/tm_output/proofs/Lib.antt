@@ -1,8 +1,6 @@
 pub mod ListingLemmas
 pub mod RecordLemmas
 pub mod LinePieces
-pub mod ListingEnds
-pub mod LineLemmas
 pub mod PieceLemmas
 pub mod PacketLemmas
 pub mod OpenGroups

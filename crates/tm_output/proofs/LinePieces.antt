@@ -1,25 +1,26 @@
 -- Lines that are written one after the other to one output, and where writing stops.
-use Rattle.std.proofs.Common.{◌≡◌, ℕ, true, List, [], ◌∷◌, ◌++◌, refl, sym, ap, subst, Option, None, Result, Ok, Err}
+use Rattle.std.proofs.Common.{◌≡◌, ℕ, true, List, [], ◌∷◌, ◌++◌, refl, ap, Option, None, Result, Ok, Err}
 use Rattle.std.specs.List.{concat}
 use Rattle.std.specs.Io.KnownBytes.{Appends, Keeps}
-use Rattle.std.proofs.KnownBytes.{Appends-nil, Appends-trans}
+use Rattle.std.proofs.KnownBytes.{Appends-kept, Appends-nil, Appends-trans}
 use Rattle.std.proofs.lemmas.List.{map-append}
 use Rattle.std.specs.Result.{OnErr}
 use Rattle.tm_devices.specs.Devices.{AppendsPrefix, Counts, raised}
 use Rattle.tm_faults.specs.declared.fault.RunFault.{RunFault}
 use Rattle.tm_faults.specs.declared.fault.RunFault.TheVariants.{Write}
 use Rattle.tm_output.specs.Outputs.{AppendsCut, Piece, Stopped, Took, View, Buffering, line_piece, line_pieces, outs, reports, view}
-use Rattle.tm_output.proofs.PieceLemmas.{cut_all, cut_more, cut_none, flush_out, keeps_nil, stopped_more, stopped_put, took_failed, took_stopped, took_took}
+use Rattle.tm_output.proofs.PieceLemmas.{cut_all, cut_more, cut_none, flush_out, stopped_put, took_failed, took_stopped, took_took}
 
 pub lines_out : (ls : List (List ℕ)) → outs (line_pieces ls) ≡ concat ls
 lines_out [] = refl
 lines_out (l ∷ ls) = ap (λ (x : List ℕ). l ++ x) (lines_out ls)
 
-module _ {before after : Option (List ℕ)} {failures failures' : ℕ} (line : List ℕ) where
-  -- a call of the drain failed in it
-  pub line_stopped : {buffering : Buffering} → AppendsPrefix before after line → failures' ≡ raised failures
-      → Stopped Appends buffering (view before None failures 0) (view after None failures' 0) (line_piece line ∷ []) Write
-  line_stopped {buffering} prefix counts = stopped_put Appends Appends-nil Appends-trans buffering _ _ (line_piece line) Write (counts, prefix) tt refl
+-- a call of the drain failed in it
+pub line_stopped : {before after : Option (List ℕ)} {failures failures' : ℕ} (line : List ℕ) {buffering : Buffering}
+    → AppendsPrefix before after line → failures' ≡ raised failures
+    → Stopped Appends buffering (view before None failures 0) (view after None failures' 0) (line_piece line ∷ []) Write
+line_stopped line {buffering} prefix counts =
+    stopped_put Appends Appends-nil Appends-trans buffering _ _ (line_piece line) Write (counts, prefix) tt refl
 
 pub line_stopped_by : {T E : Type 0} (before after : Option (List ℕ)) (failures failures' : ℕ) (line : List ℕ) (buffering : Buffering) (r : Result T E)
     → OnErr r (AppendsPrefix before after line) → Counts failures failures' r
@@ -28,14 +29,16 @@ line_stopped_by before after failures failures' line buffering (Ok x) prefix cou
 line_stopped_by before after failures failures' line buffering (Err e) prefix counts = line_stopped line prefix counts
 
 -- pieces were written, and then a flush failed
-module _ {old : View (Option (List ℕ))} {mid new : Option (List ℕ)} {failures failures' : ℕ} {ps : List (Piece ℕ)}
-    (took : Took Appends old (view mid None failures 0) ps) (kept : Keeps mid new) where
-  pub flush_stopped : (buffering : Buffering) → buffering.flush ≡ true → failures' ≡ raised failures → Stopped Appends buffering old (view new None failures' 0) ps Write
-  flush_stopped buffering waits counts =
-      took_failed Appends Appends-nil Appends-trans buffering old _ _ ps Write took (flush_out Appends _ _ (keeps_nil mid new kept) tt buffering waits counts refl)
+pub flush_stopped : {old : View (Option (List ℕ))} {mid new : Option (List ℕ)} {failures failures' : ℕ} {ps : List (Piece ℕ)}
+    → Took Appends old (view mid None failures 0) ps → Keeps mid new → (buffering : Buffering) → buffering.flush ≡ true → failures' ≡ raised failures
+    → Stopped Appends buffering old (view new None failures' 0) ps Write
+flush_stopped {old = old} {mid = mid} {new = new} {ps = ps} took kept buffering waits counts =
+    took_failed Appends Appends-nil Appends-trans buffering old _ _ ps Write took
+    (flush_out Appends _ _ (Appends-kept mid mid new [] (Appends-nil mid) kept) tt buffering waits counts refl)
 
-pub flush_stopped_by : {T E : Type 0} {old : View (Option (List ℕ))} {mid : Option (List ℕ)} {failures : ℕ} {ps : List (Piece ℕ)} (new : Option (List ℕ)) (failures' : ℕ)
-    → Took Appends old (view mid None failures 0) ps → Keeps mid new → (buffering : Buffering) → buffering.flush ≡ true → (r : Result T E) → Counts failures failures' r
+pub flush_stopped_by : {T E : Type 0} {old : View (Option (List ℕ))} {mid : Option (List ℕ)} {failures : ℕ} {ps : List (Piece ℕ)}
+    (new : Option (List ℕ)) (failures' : ℕ) → Took Appends old (view mid None failures 0) ps → Keeps mid new
+    → (buffering : Buffering) → buffering.flush ≡ true → (r : Result T E) → Counts failures failures' r
     → OnErr r (Stopped Appends buffering old (view new None failures' 0) ps Write)
 flush_stopped_by new failures' took kept buffering waits (Ok x) counts = tt
 flush_stopped_by new failures' took kept buffering waits (Err e) counts = flush_stopped took kept buffering waits counts
@@ -43,33 +46,22 @@ flush_stopped_by new failures' took kept buffering waits (Err e) counts = flush_
 module _ (old new : View (Option (List ℕ))) where
   -- nothing was written
   pub same_cut : (ps : List (Piece ℕ)) → new ≡ old → AppendsCut Appends old new ps
-  same_cut ps same = subst (λ (v : View (Option (List ℕ))). AppendsCut Appends old v ps) (sym same) ([], [], cut_none ps, Appends-nil old.out, Appends-nil old.report)
+  same_cut ps same = rw same ([], [], cut_none ps, Appends-nil old.out, Appends-nil old.report)
 
   -- all was
   pub took_cut : (ps : List (Piece ℕ)) → Took Appends old new ps → AppendsCut Appends old new ps
   took_cut ps took = (outs ps, reports ps, cut_all ps, took.whole.0, took.whole.1)
 
--- ---- lines behind lines
+  pub cut_before : (xs ys : List (List ℕ)) → AppendsCut Appends old new (line_pieces xs) → AppendsCut Appends old new (line_pieces (xs ++ ys))
+  cut_before xs ys a = rw (map-append line_piece xs ys) (a.0, a.1, cut_more (line_pieces xs) (line_pieces ys) a.0 a.1 a.2, a.3, a.4)
 
-all_pieces : (xs ys : List (List ℕ)) → line_pieces xs ++ line_pieces ys ≡ line_pieces (xs ++ ys)
-all_pieces xs ys = sym (map-append line_piece xs ys)
+-- ---- lines behind lines
 
 module _ (old mid new : View (Option (List ℕ))) (xs ys : List (List ℕ)) where
   pub lines_lines : Took Appends old mid (line_pieces xs) → Took Appends mid new (line_pieces ys) → Took Appends old new (line_pieces (xs ++ ys))
-  lines_lines a b = subst (Took Appends old new) (all_pieces xs ys) (took_took Appends Appends-nil Appends-trans old mid new (line_pieces xs) (line_pieces ys) a b)
+  lines_lines a b = rw (map-append line_piece xs ys) (took_took Appends Appends-nil Appends-trans old mid new (line_pieces xs) (line_pieces ys) a b)
 
-  pub lines_stopped : {buffering : Buffering} (fault : RunFault) → Took Appends old mid (line_pieces xs) → Stopped Appends buffering mid new (line_pieces ys) fault
-      → Stopped Appends buffering old new (line_pieces (xs ++ ys)) fault
+  pub lines_stopped : {buffering : Buffering} (fault : RunFault) → Took Appends old mid (line_pieces xs)
+      → Stopped Appends buffering mid new (line_pieces ys) fault → Stopped Appends buffering old new (line_pieces (xs ++ ys)) fault
   lines_stopped {buffering} fault a b =
-      subst (λ (ps : List (Piece ℕ)). Stopped Appends buffering old new ps fault) (all_pieces xs ys)
-      (took_stopped Appends Appends-nil Appends-trans buffering old mid new (line_pieces xs) (line_pieces ys) a fault b)
-
-module _ (old new : View (Option (List ℕ))) (xs ys : List (List ℕ)) where
-  pub lines_more : {buffering : Buffering} (fault : RunFault) → Stopped Appends buffering old new (line_pieces xs) fault → Stopped Appends buffering old new (line_pieces (xs ++ ys)) fault
-  lines_more {buffering} fault a =
-      subst (λ (ps : List (Piece ℕ)). Stopped Appends buffering old new ps fault) (all_pieces xs ys)
-      (stopped_more Appends Appends-nil Appends-trans buffering old new (line_pieces xs) (line_pieces ys) fault a)
-
-  pub cut_before : AppendsCut Appends old new (line_pieces xs) → AppendsCut Appends old new (line_pieces (xs ++ ys))
-  cut_before a =
-      subst (AppendsCut Appends old new) (all_pieces xs ys) (a.0, a.1, cut_more (line_pieces xs) (line_pieces ys) a.0 a.1 a.2, a.3, a.4)
+      rw (map-append line_piece xs ys) (took_stopped Appends Appends-nil Appends-trans buffering old mid new _ _ a fault b)

@@ -1,10 +1,10 @@
 -- Pieces that are written one after the other, and where writing stops.
-use Rattle.std.proofs.Common.{◌≡◌, ℕ, true, false, List, [], ◌∷◌, ◌++◌, refl, sym, ap, subst, ◌∙◌, append_assoc, append-nil, inl, inr, Option}
-use Rattle.std.specs.Io.KnownBytes.{Appends, Keeps}
-use Rattle.std.proofs.KnownBytes.{Appends-nil, Appends-kept, Appends-trans}
+use Rattle.std.proofs.Common.{◌≡◌, ℕ, true, List, [], ◌∷◌, ◌++◌, refl, sym, ap, ◌∙◌, append_assoc, append-nil, inl, inr}
+use Rattle.std.specs.Io.KnownBytes.{Appends}
+use Rattle.std.proofs.KnownBytes.{Appends-nil, Appends-trans}
 use Rattle.tm_devices.specs.Devices.{raised, AppendsPrefix}
 use Rattle.tm_faults.specs.declared.fault.RunFault.{RunFault}
-use Rattle.tm_faults.specs.declared.fault.RunFault.TheVariants.{Read, Write, Report, ShortRecording, TooMany, NoMemory}
+use Rattle.tm_faults.specs.declared.fault.RunFault.TheVariants.{Write, Report, NoMemory}
 use Rattle.tm_output.specs.code.Outlets.{PutStopped}
 use Rattle.tm_output.specs.Outputs.{Piece, View, outs, reports, Cut, SameCounts, CausedByOutput, TakesMemory, AppendsPieces, Took, StopsAtPiece, Stopped, Buffering}
 
@@ -35,27 +35,10 @@ module _ {A : Type 0} where
 
   -- a cut of the first pieces
   pub cut_more : (ps qs : List (Piece A)) (out : List A) (report : List ℕ) → Cut ps out report → Cut (ps ++ qs) out report
-  cut_more [] qs out report h = subst (λ (o : List A). Cut qs o report) (sym h.0) (subst (λ (r : List ℕ). Cut qs [] r) (sym h.1) (cut_none qs))
+  cut_more [] qs out report h = rw (h.0, h.1) (cut_none qs)
   cut_more (p ∷ ps) qs out report (inl h) = inl h
   cut_more (p ∷ ps) qs out report (inr (inl h)) = inr (inl h)
   cut_more (p ∷ ps) qs out report (inr (inr h)) = inr (inr (h.0, h.1, h.2, h.3, cut_more ps qs h.0 h.1 h.4))
-
--- ---- faults are not one another
-
-memory_write : NoMemory ≡ Write → ⊥
-memory_write e = cc
-
-write_memory : Write ≡ NoMemory → ⊥
-write_memory e = cc
-
-report_memory : Report ≡ NoMemory → ⊥
-report_memory e = cc
-
-report_write : Report ≡ Write → ⊥
-report_write e = cc
-
-true_false : true ≡ false → ⊥
-true_false e = cc
 
 -- `out` may be anything that grows by nothing, and by one list after another
 module _ {A K : Type 0} (grows : K → K → List A → Type 0) (grows-nil : (k : K) → grows k k [])
@@ -66,8 +49,8 @@ module _ {A K : Type 0} (grows : K → K → List A → Type 0) (grows-nil : (k 
   pub pieces_pieces : (old mid new : View K) (ps qs : List (Piece A)) → AppendsPieces grows old mid ps → AppendsPieces grows mid new qs
       → AppendsPieces grows old new (ps ++ qs)
   pieces_pieces old mid new ps qs a b = (
-    subst (grows old.out new.out) (sym (outs-append ps qs)) (grows-trans old.out mid.out new.out (outs ps) (outs qs) a.0 b.0),
-    subst (Appends old.report new.report) (sym (reports-append ps qs)) (Appends-trans old.report mid.report new.report (reports ps) (reports qs) a.1 b.1),
+    rw (outs-append ps qs) (grows-trans old.out mid.out new.out (outs ps) (outs qs) a.0 b.0),
+    rw (reports-append ps qs) (Appends-trans old.report mid.report new.report (reports ps) (reports qs) a.1 b.1),
   )
 
   pub took_none : (v : View K) → Took grows v v []
@@ -80,38 +63,27 @@ module _ {A K : Type 0} (grows : K → K → List A → Type 0) (grows-nil : (k 
   }
 
   caused_after : (old mid new : View K) (fault : RunFault) → SameCounts old mid → CausedByOutput mid new fault → CausedByOutput old new fault
-  caused_after old mid new Read s c = c
   caused_after old mid new Write s c = (c.0 ∙ ap raised s.0, c.1 ∙ s.1)
   caused_after old mid new Report s c = (c.0 ∙ s.0, c.1 ∙ ap raised s.1)
-  caused_after old mid new ShortRecording s c = c
-  caused_after old mid new TooMany s c = c
   caused_after old mid new NoMemory s c = (c.0 ∙ s.0, c.1 ∙ s.1)
+  caused_after old mid new _ s c = absurd c
 
-  -- some pieces were written whole, and writing stopped in one of the next
-  pub stops_after : {stop : View K → Piece A → Type 0} (old mid : View K) (ps qs : List (Piece A)) → Took grows old mid ps
-      → StopsAtPiece grows stop mid qs → StopsAtPiece grows stop old (ps ++ qs)
-  stops_after old mid ps qs a h = record {
+  -- some pieces were written whole, writing stopped in one of the next, and more would have followed
+  stops_in : {stop : View K → Piece A → Type 0} (old mid : View K) (ps qs rs : List (Piece A)) → AppendsPieces grows old mid ps
+      → StopsAtPiece grows stop mid qs → StopsAtPiece grows stop old (ps ++ (qs ++ rs))
+  stops_in old mid ps qs rs whole h = record {
     done = ps ++ h.done;
     next = h.next;
-    more = h.more;
-    split = ap (λ (l : List (Piece A)). ps ++ l) h.split ∙ sym (append_assoc ps h.done (h.next ∷ h.more));
+    more = h.more ++ rs;
+    split = rw h.split (simp append_assoc);
     mid = h.mid;
-    whole = pieces_pieces old mid h.mid ps h.done a.whole h.whole;
+    whole = pieces_pieces old mid h.mid ps h.done whole h.whole;
     stopped = h.stopped;
   }
 
-  -- and more pieces would have followed
-  stops_more : {stop : View K → Piece A → Type 0} (old : View K) (ps qs : List (Piece A)) → StopsAtPiece grows stop old ps
-      → StopsAtPiece grows stop old (ps ++ qs)
-  stops_more old ps qs h = record {
-    done = h.done;
-    next = h.next;
-    more = h.more ++ qs;
-    split = ap (λ (l : List (Piece A)). l ++ qs) h.split ∙ append_assoc h.done (h.next ∷ h.more) qs;
-    mid = h.mid;
-    whole = h.whole;
-    stopped = h.stopped;
-  }
+  pub stops_after : {stop : View K → Piece A → Type 0} (old mid : View K) (ps qs : List (Piece A)) → Took grows old mid ps
+      → StopsAtPiece grows stop mid qs → StopsAtPiece grows stop old (ps ++ qs)
+  stops_after old mid ps qs a h = rw append-nil at (stops_in old mid ps qs [] a.whole h)
 
   pub took_stopped : (buffering : Buffering) (old mid new : View K) (ps qs : List (Piece A)) → Took grows old mid ps → (fault : RunFault)
       → Stopped grows buffering mid new qs fault → Stopped grows buffering old new (ps ++ qs) fault
@@ -135,71 +107,53 @@ module _ {A K : Type 0} (grows : K → K → List A → Type 0) (grows-nil : (k 
       let (out, report, cut, outs_new, reports_new) = b.cut in record {
         cut = (out, report, cut_more ps qs out report cut, outs_new, reports_new);
         cause = b.cause;
-        memory = λ e. stops_more old ps qs (b.memory e);
-        refused = λ e f. stops_more old ps qs (b.refused e f);
+        memory = λ e. stops_in old old [] ps qs (pieces_none old) (b.memory e);
+        refused = λ e f. stops_in old old [] ps qs (pieces_none old) (b.refused e f);
       }
 
   -- it stopped in the only piece
   stops_here : {stop : View K → Piece A → Type 0} (old mid : View K) (p : Piece A) → AppendsPieces grows old mid [] → stop mid p
       → StopsAtPiece grows stop old (p ∷ [])
-  stops_here old mid p none h = record {
-    done = [];
-    next = p;
-    more = [];
-    split = refl;
-    mid = mid;
-    whole = none;
-    stopped = h;
-  }
+  stops_here old mid p none h = record { done = []; next = p; more = []; split = refl; mid = mid; whole = none; stopped = h }
 
   -- there was no memory for a piece
-  pub no_room : (buffering : Buffering) (v : View K) (p : Piece A) → TakesMemory buffering p → Stopped grows buffering v v (p ∷ []) NoMemory
-  no_room buffering v p wanted = record {
-    cut = ([], [], inl (p.out, refl, refl), grows-nil v.out, Appends-nil v.report);
-    cause = (refl, refl);
-    memory = λ e. stops_here v v p (pieces_none v) (refl, wanted);
-    refused = λ e. absurd (memory_write e);
+  pub no_room : (buffering : Buffering) (old new : View K) (p : Piece A) → AppendsPieces grows old new [] → SameCounts old new
+      → TakesMemory buffering p → Stopped grows buffering old new (p ∷ []) NoMemory
+  no_room buffering old new p none counts wanted = record {
+    cut = ([], [], inl (p.out, refl, refl), none.0, none.1);
+    cause = counts;
+    memory = λ e. stops_here old new p none (refl, wanted);
+    refused = λ e. absurd (cc);
   }
 
   -- all pieces were written, and then a call failed without any
   pub took_failed : (buffering : Buffering) (old mid new : View K) (ps : List (Piece A)) (fault : RunFault) → Took grows old mid ps → Stopped grows buffering mid new [] fault
       → Stopped grows buffering old new ps fault
   took_failed buffering old mid new ps fault a b =
-      subst (λ (l : List (Piece A)). Stopped grows buffering old new l fault) (append-nil ps) (took_stopped buffering old mid new ps [] a fault b)
+      rw (append-nil ps) at (took_stopped buffering old mid new ps [] a fault b)
 
   -- writing stopped in what belongs to `out`
   pub stopped_put : (buffering : Buffering) (old new : View K) (p : Piece A) (fault : RunFault)
       → PutStopped grows buffering old.out new.out old.out_failures new.out_failures p.out fault → Appends old.report new.report [] → new.report_failures ≡ old.report_failures
       → Stopped grows buffering old new (p ∷ []) fault
-  stopped_put buffering old new p Read h kept report = absurd h
   stopped_put buffering old new p Write h kept report =
       let (some, rest, parts, proper, grown) = h.1 in record {
         cut = (some, [], inl (rest, parts, refl), grown, kept);
         cause = (h.0, report);
-        memory = λ e. absurd (write_memory e);
+        memory = λ e. absurd (cc);
         refused = λ e f. stops_here old old p (pieces_none old) (h.1, kept);
       }
-  stopped_put buffering old new p Report h kept report = absurd h
-  stopped_put buffering old new p ShortRecording h kept report = absurd h
-  stopped_put buffering old new p TooMany h kept report = absurd h
   stopped_put buffering old new p NoMemory h kept report =
-      let (made, some, counts, grown) = h in record {
-        cut = ([], [], inl (p.out, refl, refl), grown, kept);
-        cause = (counts, report);
-        memory = λ e. stops_here old new p (grown, kept) (refl, inl (made, some));
-        refused = λ e. absurd (memory_write e);
-      }
+      let (made, some, counts, grown) = h in no_room buffering old new p (grown, kept) (counts, report) (inl (made, some))
+  stopped_put buffering old new p _ h kept report = absurd h
 
 -- ---- one piece
-
-pub keeps_nil : (old new : Option (List ℕ)) → Keeps old new → Appends old new []
-keeps_nil old new kept = Appends-kept old old new [] (Appends-nil old) kept
 
 module _ {A K : Type 0} (grows : K → K → List A → Type 0) (old new : View K) (p : Piece A) where
   -- both of its parts were written
   pub took_piece : grows old.out new.out p.out → Appends old.report new.report p.report → SameCounts old new → Took grows old new (p ∷ [])
   took_piece a b counts = record {
-    whole = (subst (grows old.out new.out) (sym (append-nil p.out)) a, subst (Appends old.report new.report) (sym (append-nil p.report)) b);
+    whole = (rw (append-nil p.out) a, rw (append-nil p.report) b);
     counts = counts;
   }
 
@@ -210,8 +164,8 @@ module _ {A K : Type 0} (grows : K → K → List A → Type 0) (old new : View 
       let (some, rest, parts, proper, grown) = prefix in record {
         cut = (p.out, some, inr (inl (rest, refl, parts)), whole, grown);
         cause = (out, report);
-        memory = λ e. absurd (report_memory e);
-        refused = λ e. absurd (report_write e);
+        memory = λ e. absurd (cc);
+        refused = λ e. absurd (cc);
       }
 
 -- ---- flushes
@@ -223,8 +177,8 @@ module _ {A K : Type 0} (grows : K → K → List A → Type 0) (old new : View 
   flush_out buffering waits out report = record {
     cut = ([], [], (refl, refl), a, b);
     cause = (out, report);
-    memory = λ e. absurd (write_memory e);
-    refused = λ e f. absurd (true_false (sym waits ∙ f));
+    memory = λ e. absurd (cc);
+    refused = λ e f. absurd (cc);
   }
 
   pub flushed : SameCounts old new → Took grows old new []

@@ -1,18 +1,14 @@
 -- How a recording that begins with some records is cut.
-use Rattle.std.proofs.Common.{◌≡◌, ◌<◌, ◌≤◌, ℕ, zero, suc, ◌+◌, ◌*◌, ◌/◌, ◌%◌, ◌-◌, List, [], ◌∷◌, ◌++◌, length, take, drop, length-append, length-drop, length-take-le, refl, sym, ap, subst, ◌∙◌, append_assoc, append-nil, arith, add-one, Option, None, Some, IfSome, ◌^◌}
-use Rattle.std.proofs.lemmas.List.{drop-drop, take-append-drop}
-use Rattle.std.proofs.Math.Seq.{take-append_seam, drop-append_seam}
+use Rattle.std.proofs.Common.{◌≡◌, ◌<◌, ◌≤◌, ℕ, zero, suc, ◌+◌, ◌*◌, ◌/◌, ◌%◌, ◌-◌, List, [], ◌∷◌, ◌++◌, length, drop, length-append, length-drop, length-take-le, refl, sym, ap, subst, ◌∙◌, append_assoc, append-nil, arith, add-one, Option, None, Some, IfSome, ◌^◌}
+use Rattle.std.proofs.lemmas.List.{drop-drop, drop_at, take-append-drop, take_at}
+pub use Rattle.std.proofs.lemmas.List.Folds.{concat-append}
 use Rattle.std.proofs.Math.Nat.{div-eq-sub-div, div-eq_of_lt, div-mul-le_self, mod-eq-sub-div-mul, mod-lt, zero-mul}
 use Rattle.std.specs.List.{concat}
 use Rattle.std.specs.Io.KnownBytes.{Consumes, IsAtEnd}
 use Rattle.tm_output.specs.Records.{AreRecords, HasRead, first_records, record_count, records, rest_of}
 
-pub concat-append : (xs ys : List (List ℕ)) → concat (xs ++ ys) ≡ concat xs ++ concat ys
-concat-append [] ys = refl
-concat-append (x ∷ xs) ys = ap (λ (l : List ℕ). x ++ l) (concat-append xs ys) ∙ sym (append_assoc x (concat xs) (concat ys))
-
 pub concat-one : (xs : List (List ℕ)) (x : List ℕ) → concat (xs ++ x ∷ []) ≡ concat xs ++ x
-concat-one xs x = concat-append xs (x ∷ []) ∙ ap (λ (l : List ℕ). concat xs ++ l) (append-nil x)
+concat-one xs x = simp (concat-append, append-nil)
 
 pub AreRecords-append : (size : ℕ) (a b : List (List ℕ)) → AreRecords size a → AreRecords size b → AreRecords size (a ++ b)
 AreRecords-append size [] b h k = k
@@ -21,48 +17,40 @@ AreRecords-append size (r ∷ a) b h k = (h.0, AreRecords-append size a b h.1 k)
 module _ (size : ℕ) (some : 0 < size) where
   -- one record in front
   module _ (r more : List ℕ) (exact : length r ≡ size) where
-    long : length (r ++ more) ≡ length r + length more
-    long = length-append r more
-
     back : drop size (r ++ more) ≡ more
-    back = ap (λ (n : ℕ). drop n (r ++ more)) (sym exact) ∙ drop-append_seam r more
+    back = drop_at r more size exact
 
     count_one : record_count size (r ++ more) ≡ suc (record_count size more)
     count_one =
+        let long : length (r ++ more) ≡ size + length more = length-append r more ∙ ap (λ (n : ℕ). n + length more) exact in
         let fits : size ≤ length (r ++ more) = omega (arith, long) in
         let less : length (r ++ more) - size ≡ length more = omega (arith, long) in
         div-eq-sub-div some fits ∙ ap (λ (n : ℕ). n / size + 1) less ∙ add-one _
 
     records_one : records size (r ++ more) ≡ r ∷ records size more
     unfolding records
-    records_one =
-        let prefix : take size (r ++ more) ≡ r = ap (λ (n : ℕ). take n (r ++ more)) (sym exact) ∙ take-append_seam r more in
-        rw (count_one, prefix, back) refl
+    records_one = rw (count_one, take_at r more size exact, back) refl
 
     rest_one : rest_of size (r ++ more) ≡ rest_of size more
     unfolding rest_of
     rest_one =
-        let n : ℕ = record_count size more in
-        let place : suc n * size ≡ size + n * size = omega arith in
-        ap (λ (m : ℕ). drop (m * size) (r ++ more)) count_one ∙ ap (λ (m : ℕ). drop m (r ++ more)) place
-        ∙ sym (drop-drop (n * size) size (r ++ more)) ∙ ap (drop (n * size)) back
+        let place : suc (record_count size more) * size ≡ size + record_count size more * size = omega arith in
+        rw (count_one, place, ← drop-drop (record_count size more * size) size (r ++ more), back) refl
 
   -- records in front
   pub records_front : (read : List (List ℕ)) (more : List ℕ) → AreRecords size read → records size (concat read ++ more) ≡ read ++ records size more
   records_front [] more sized = refl
   records_front (r ∷ read) more sized =
-      ap (records size) (append_assoc r (concat read) more) ∙ records_one r (concat read ++ more) sized.0
-      ∙ ap (λ (l : List (List ℕ)). r ∷ l) (records_front read more sized.1)
+      rw (append_assoc r (concat read) more, records_one r (concat read ++ more) sized.0, records_front read more sized.1) refl
 
   pub rest_front : (read : List (List ℕ)) (more : List ℕ) → AreRecords size read → rest_of size (concat read ++ more) ≡ rest_of size more
   rest_front [] more sized = refl
-  rest_front (r ∷ read) more sized =
-      ap (rest_of size) (append_assoc r (concat read) more) ∙ rest_one r (concat read ++ more) sized.0 ∙ rest_front read more sized.1
+  rest_front (r ∷ read) more sized = rw (append_assoc r (concat read) more, rest_one r (concat read ++ more) sized.0) (rest_front read more sized.1)
 
   pub count_front : (read : List (List ℕ)) (more : List ℕ) → AreRecords size read → record_count size (concat read ++ more) ≡ length read + record_count size more
   count_front [] more sized = omega arith
   count_front (r ∷ read) more sized =
-      ap (record_count size) (append_assoc r (concat read) more) ∙ count_one r (concat read ++ more) sized.0 ∙ omega (arith, count_front read more sized.1)
+      rw (append_assoc r (concat read) more, count_one r (concat read ++ more) sized.0) (omega (arith, count_front read more sized.1))
 
 -- less than a record
 module _ (size : ℕ) (rest : List ℕ) (short : length rest < size) where
@@ -79,17 +67,14 @@ module _ (size : ℕ) (rest : List ℕ) (short : length rest < size) where
 
 -- records, and then less than a record
 module _ (size : ℕ) (read : List (List ℕ)) (rest : List ℕ) (sized : AreRecords size read) (short : length rest < size) where
-  some : 0 < size
-  some = omega (arith, short)
-
   pub records_all : records size (concat read ++ rest) ≡ read
-  records_all = records_front size some read rest sized ∙ ap (λ (l : List (List ℕ)). read ++ l) (records_short size rest short) ∙ append-nil read
+  records_all = rw (records_front size (omega arith) read rest sized, records_short size rest short) (append-nil read)
 
   pub rest_all : rest_of size (concat read ++ rest) ≡ rest
-  rest_all = rest_front size some read rest sized ∙ rest_short size rest short
+  rest_all = rest_front size (omega arith) read rest sized ∙ rest_short size rest short
 
   pub count_all : record_count size (concat read ++ rest) ≡ length read
-  count_all = omega (arith, count_front size some read rest sized, count_short size rest short)
+  count_all = omega (arith, count_front size (omega arith) read rest sized, count_short size rest short)
 
 -- ---- a recording is its records and its rest
 
@@ -97,18 +82,14 @@ cut_whole : (size n : ℕ) (octets : List ℕ) → concat (first_records size n 
 cut_whole size zero octets = rw (zero-mul size) refl
 cut_whole size (suc n) octets =
     let place : suc n * size ≡ size + n * size = omega arith in
-    let others : drop (suc n * size) octets ≡ drop (n * size) (drop size octets) = ap (λ (m : ℕ). drop m octets) place ∙ sym (drop-drop (n * size) size octets) in
-    append_assoc (take size octets) (concat (first_records size n (drop size octets))) (drop (suc n * size) octets)
-    ∙ ap (λ (l : List ℕ). take size octets ++ (concat (first_records size n (drop size octets)) ++ l)) others
-    ∙ ap (λ (l : List ℕ). take size octets ++ l) (cut_whole size n (drop size octets)) ∙ take-append-drop size octets
+    rw (place, ← drop-drop (n * size) size octets, append_assoc, cut_whole size n (drop size octets)) (take-append-drop size octets)
 
 cut_sized : (size n : ℕ) (octets : List ℕ) → n * size ≤ length octets → AreRecords size (first_records size n octets)
 cut_sized size zero octets fits = tt
 cut_sized size (suc n) octets fits =
-    let place : suc n * size ≡ size + n * size = omega arith in (
-      length-take-le size octets (omega (arith, fits, place)),
-      cut_sized size n (drop size octets) (omega (arith, fits, place, length-drop size octets)),
-    )
+    let place : suc n * size ≡ size + n * size = omega arith in
+    let inside : size ≤ length octets = omega (arith, fits, place) in
+    (length-take-le size octets inside, cut_sized size n (drop size octets) (omega (arith, fits, place, length-drop size octets)))
 
 cut_counted : (size n : ℕ) (octets : List ℕ) → length (first_records size n octets) ≡ n
 cut_counted size zero octets = refl

@@ -1,5 +1,5 @@
--- The row of a packet.
-use Rattle.std.proofs.Common.{◌≡◌, ◌≢◌, ◌<◌, ℕ, Bool, true, false, List, [], ◌++◌, refl, sym, ap, subst, ◌∙◌, Ok, Err}
+-- The row of a packet, and the line of one that is too short.
+use Rattle.std.proofs.Common.{◌≡◌, ◌≢◌, ◌<◌, ℕ, Bool, true, false, List, [], ◌++◌, refl, ap, Ok, Err}
 use Rattle.std.specs.Prelude.{◌==◌, if◌then◌else◌, nat_lt}
 use Rattle.std.specs.List.{flat_map}
 use Rattle.std.proofs.lemmas.Bool.{ltb-true}
@@ -11,6 +11,7 @@ use Rattle.tm_fields.specs.Rows.{bits_needed, lead_texts, printed, row_from, row
 use Rattle.tm_fields.proofs.LineLemmas.{some_text}
 use Rattle.tm_packet.specs.Header.{Fields, packet_header_of}
 use Rattle.tm_items.specs.Item.{Packet}
+use Rattle.tm_lines.specs.Lines.{short_packet_line}
 use Rattle.tm_output.specs.FieldRows.{lead_of, row_in, tabled}
 
 -- what is made under the numbers of a packet's header is its row
@@ -20,12 +21,9 @@ pub tabled_is : (fields : List Field) (wanted seen channel first place applicati
     → tabled fields wanted (Packet seen channel first place octets) ≡ row
 unfolding tabled
 tabled_is fields wanted seen channel first place application count octets row h is test same_application same_count made =
-    let here : ((packet_header_of octets).application == wanted) ≡ true = subst (λ (k : Fields). (k.application == wanted) ≡ true) is test in
-    let lead : record { seen = seen; channel = channel; application = application; count = count } ≡ lead_of seen channel octets =
-    ap (λ (n : ℕ). record { seen = seen; channel = channel; application = n; count = count }) (same_application ∙ ap (λ (k : Fields). k.application) is)
-    ∙ ap (λ (n : ℕ). record { seen = seen; channel = channel; application = (packet_header_of octets).application; count = n }) (same_count ∙ ap (λ (k : Fields). k.count) is) in
-    ap (λ (b : Bool). if b then row_in (row_from fields (lead_of seen channel octets) octets) else []) here
-    ∙ ap (λ (l : Lead). row_in (row_from fields l octets)) (sym lead) ∙ ap row_in made
+    let application_is : h.application ≡ (packet_header_of octets).application = ap (λ (k : Fields). k.application) is in
+    let count_is : h.count ≡ (packet_header_of octets).count = ap (λ (k : Fields). k.count) is in
+    rw (← application_is, ← count_is, test, ← same_application, ← same_count, made) refl
 
 -- a packet that isn't too short has a row
 some_made : (fields : List Field) (lead : Lead) (octets : List ℕ) (short : Bool) → nat_lt (bits_in octets) (bits_needed fields) ≡ short
@@ -39,6 +37,9 @@ pub some_tabled : (fields : List Field) (wanted seen channel first place : ℕ) 
     → (h.application == wanted) ≡ true → (bits_in octets < bits_needed fields → ⊥) → tabled fields wanted (Packet seen channel first place octets) ≢ []
 unfolding tabled
 some_tabled fields wanted seen channel first place octets h is test long none =
-    let here : ((packet_header_of octets).application == wanted) ≡ true = subst (λ (k : Fields). (k.application == wanted) ≡ true) is test in
-    some_made fields (lead_of seen channel octets) octets _ refl long
-    (sym (ap (λ (b : Bool). if b then row_in (row_from fields (lead_of seen channel octets) octets) else []) here) ∙ none)
+    let here : ((packet_header_of octets).application == wanted) ≡ true = rw is at test in
+    some_made fields (lead_of seen channel octets) octets _ refl long (rw here at none)
+
+pub some_short_packet : (seen channel first place needed found : ℕ) → short_packet_line seen channel first place needed found ≢ []
+unfolding short_packet_line
+some_short_packet seen channel first place needed found e = cc

@@ -5,15 +5,12 @@ use Rattle.tm_devices.specs.Devices.{PutsPrefix, raised}
 use Rattle.tm_faults.specs.declared.fault.RunFault.TheVariants.{Write}
 use Rattle.tm_output.specs.code.Outlets.{PutStopped}
 use Rattle.tm_output.specs.Outputs.{Buffering}
-use Rattle.tm_output.specs.Shelves.{Shelved, shelved, Shelves}
+use Rattle.tm_output.specs.Shelves.{shelved, Shelves}
 use Rattle.tm_output.specs.code.ShelfLaws.{shelves_put}
 
 no_shelved : (application : ℕ) (octets : List ℕ) → shelved application octets ≡ [] → octets ≡ []
 no_shelved application [] none = refl
-no_shelved application (octet ∷ octets) none = absurd (some_none none)
-  where
-    some_none : {x : Shelved} {xs : List Shelved} → x ∷ xs ≡ [] → ⊥
-    some_none e = cc
+no_shelved application (octet ∷ octets) none = cc
 
 pub shelf_stopped : (buffering : Buffering) (old new : Option (ℕ → List ℕ)) (failures failures' : ℕ) (application : ℕ) (octets : List ℕ)
     → PutsPrefix old new application octets → failures' ≡ raised failures

@@ -2,17 +2,17 @@
 use Rattle.std.proofs.Common.{◌≡◌, ◌≢◌, ℕ, ◌+◌, ◌-◌, ◌<◌, ◌≤◌, Ok, Err, Result, List, [], ◌∷◌, ◌++◌, length, take, drop, refl, sym, ap, subst, ◌∙◌, append-nil, arith, inl, inr, ⊎_elim}
 use Rattle.std.proofs.KnownBytes.{Appends-nil}
 use Rattle.std.proofs.lemmas.Bool.{cases_lt, eqb-true}
-use Rattle.std.proofs.lemmas.List.{take_all, length-drop, length-take-le, drop-drop}
+use Rattle.std.proofs.lemmas.List.{drop-append-le, drop-drop, drop_at, length-drop, length-take-le, take-append-drop, take-append-le, take_at, take_rest}
 use Rattle.tm_packet.specs.declared.header.PacketFault.{PacketFault}
 use Rattle.tm_packet.specs.Header.{Fields, packet_header_of, header_reading_of, packet_version_of}
 use Rattle.tm_items.specs.Item.{Item, Packet}
 use Rattle.tm_items.specs.OnePacket.{IsOnePacket, packet_length}
 use Rattle.tm_items.specs.Sinks.{RefusesOne, TakesAll}
-use Rattle.tm_items.specs.code.Spans.{ArePackets, IsSpan, placed, packets_in, span_items}
+use Rattle.tm_items.specs.code.Spans.{IsSpan, placed, packets_in, span_items}
 use Rattle.tm_items.proofs.Headers.{header-front, packet_length_read, reading-ok, reading-err}
 use Rattle.tm_items.proofs.Reaching.{packet_length-least}
 use Rattle.tm_items.proofs.Leads.{RefusesOne-left}
-use Rattle.tm_items.proofs.Spans.{joined, joined-all, packets-first, packets-one, span-both, span-first, span-longer}
+use Rattle.tm_items.proofs.Spans.{joined, joined-all, packets-first, packets-one, span-both, span-first, span-longer, span-next}
 use Rattle.tm_devices.specs.Devices.{raised}
 use Rattle.tm_faults.specs.declared.fault.RunFault.TheVariants.{Write}
 use Rattle.tm_output.specs.Outputs.{PutsPart, SameCounts, Buffering, view}
@@ -24,27 +24,26 @@ use Rattle.tm_output.specs.code.Packets.{item_with}
 use Rattle.tm_output.specs.code.Quiet.{AreQuiet, HasNoted, IsFirstPacket, IsQuiet, IsAccepted, outs_of}
 use Rattle.tm_lines.specs.declared.packet.Packet as lent
 use Rattle.tm_output.specs.code.Sinking.{Refuses, Takes}
-use Rattle.tm_output.proofs.PacketLemmas.{version_front}
+use Rattle.tm_output.proofs.PacketLemmas.{none_both, version_front}
 use Rattle.tm_output.proofs.PieceLemmas.{stopped_put, took_piece}
 
 -- ---- the first
 
 pub record IsFirstReach (far : ℕ) (octets : List ℕ) (header : Fields) : Type 0 where
   pub reached : far ≡ packet_length octets
-  pub inside : far ≤ length octets
+  pub long : length (take far octets) ≡ far
   pub own : header ≡ packet_header_of (take far octets)
-  pub length_is : length (take far octets) ≡ packet_length octets
 
 pub first_is : (far : ℕ) (octets : List ℕ) (h : Fields) → 0 < length octets → IsSpan octets → header_reading_of octets ≡ Ok h → far ≡ h.data_length + 7
     → IsFirstReach far octets h
 first_is far octets h some span read far_is =
     let first = span-first octets some span in
     let reached : far ≡ packet_length octets = far_is ∙ packet_length_read octets h read in
+    let inside : far ≤ length octets = omega (arith, first.inside) in
     record {
       reached = reached;
-      inside = omega (arith, first.inside);
-      own = (reading-ok octets h read).1 ∙ sym (header-front far octets (omega (arith, first.inside)) (omega (arith, packet_length-least octets)));
-      length_is = length-take-le far octets (omega (arith, first.inside)) ∙ reached;
+      long = length-take-le far octets inside;
+      own = (reading-ok octets h read).1 ∙ sym (header-front far octets inside (omega (arith, packet_length-least octets)));
     }
 
 pub first_not : (octets : List ℕ) (r : Result Fields PacketFault) (fault : PacketFault) → 0 < length octets → IsSpan octets
@@ -79,13 +78,7 @@ quiet_more text entries (y ∷ ys) x quiet none = (quiet.0, quiet_more text (not
 
 module _ {A : Type 0} (text : Texts A) (old : Entries) (seen channel place : ℕ) (octets : List ℕ) where
   pub noted_none : IsSpan octets → HasNoted text old old seen channel place octets 0
-  noted_none span = record {
-    inside = omega arith;
-    prefix = tt;
-    rest = span;
-    noted_is = refl;
-    quiet = tt;
-  }
+  noted_none span = record { inside = omega arith; prefix = tt; rest = span; noted_is = refl; quiet = tt }
 
   -- and the next one
   pub noted_next : (now next : Entries) (at : ℕ) (left : List ℕ) (packet : lent.Packet) → left ≡ take (length octets - at) (drop at octets) → at < length octets
@@ -94,72 +87,49 @@ module _ {A : Type 0} (text : Texts A) (old : Entries) (seen channel place : ℕ
       → HasNoted text old next seen channel place octets (at + length packet.octets.now)
   noted_next now next at left packet is some done head silent after =
       let far = length packet.octets.now in
-      let len : length (drop at octets) ≡ length octets - at = length-drop at octets in
-      let all : left ≡ drop at octets = is ∙ take_all (length octets - at) (drop at octets) (omega arith) in
-      let there : 0 < length left = omega (arith, ap length all) in
-      let first = span-first left there (subst IsSpan (sym all) done.rest) in
-      let reached : packet_length left ≡ far = sym head.length_is in
+      let all : left ≡ drop at octets = is ∙ take_rest octets at in
+      let step = span-next seen channel place at far octets left is head.length_is some done.rest in
       let x = Packet seen channel seen (place + at) (take far left) in
-      let own : item_with packet ≡ x = head.item ∙ ap (λ (n : ℕ). Packet seen channel seen (place + at) (take n left)) reached in
-      let one : IsOnePacket (take far (drop at octets)) = rw (← all, ← reached) first.one in
-      let longer = span-longer seen channel place at far octets (omega arith) done.prefix one in
+      let own : item_with packet ≡ x = rw head.length_is head.item in
+      let longer = span-longer seen channel place at far octets (omega arith) done.prefix (rw all at step.one) in
       let before = span_items seen channel place (take at octets) in
-      let items : span_items seen channel place (take (at + far) octets) ≡ before ++ x ∷ [] =
-      longer.items ∙ ap (λ (o : List ℕ). before ++ Packet seen channel seen (place + at) (take far o) ∷ []) (sym all) in
+      let items : span_items seen channel place (take (at + far) octets) ≡ before ++ x ∷ [] = rw all longer.items in
       record {
-        inside = omega (arith, first.inside, reached, ap length all);
+        inside = step.inside;
         prefix = longer.span;
-        rest = subst IsSpan (rw (reached, all) (drop-drop far at octets)) first.others;
-        noted_is =
-            after
-            ∙ ap (noted now) own
-            ∙ ap (λ (e : Entries). noted e x) done.noted_is
-            ∙ sym (noted_more old before x)
-            ∙ ap (noted_all old) (sym items);
-        quiet = subst (AreQuiet text old) (sym items)
-            (quiet_more text old before x done.quiet (subst (λ (e : Entries). IsQuiet text e x) done.noted_is (subst (IsQuiet text now) own silent)));
+        rest = step.others;
+        noted_is = rw (after, own, done.noted_is, items, noted_more) refl;
+        quiet = rw items (quiet_more text old before x done.quiet (rw (own, done.noted_is) at silent));
       }
 
 -- no octets were noted, and so nothing
 pub nothing_noted : {A : Type 0} (text : Texts A) (old new : Entries) (seen channel place : ℕ) (octets : List ℕ) (many : ℕ)
     → HasNoted text old new seen channel place octets many → many ≡ 0 → new ≡ old
-nothing_noted text old new seen channel place octets many done none =
-    done.noted_is ∙ ap (λ (n : ℕ). noted_all old (span_items seen channel place (take n octets))) none
+nothing_noted text old new seen channel place octets many done none = rw none at done.noted_is
 
 -- ---- taken
 
 -- the list is a front and what is behind it, by where the front ends
 front_by : {A : Type 0} (xs ys prefix rest : List A) → xs ++ ys ≡ prefix ++ rest → length xs ≤ length prefix
     → (more : List A) × (prefix ≡ xs ++ more) × (ys ≡ more ++ rest)
-front_by [] ys prefix rest e h = (prefix, refl, e)
-front_by (x ∷ xs) ys [] rest e h = absurd (omega arith)
-front_by {A = A} (x ∷ xs) ys (z ∷ prefix) rest e h =
-    let r = front_by xs ys prefix rest (behind e) (omega arith) in
-    (r.0, joined_at r.0 (first e) r.1, r.2)
-  where
-    first : x ∷ xs ++ ys ≡ z ∷ prefix ++ rest → x ≡ z
-    first p = cc
-
-    behind : x ∷ xs ++ ys ≡ z ∷ prefix ++ rest → xs ++ ys ≡ prefix ++ rest
-    behind p = cc
-
-    joined_at : (more : List A) → x ≡ z → prefix ≡ xs ++ more → z ∷ prefix ≡ x ∷ xs ++ more
-    joined_at more p q = cc
+front_by {A} xs ys prefix rest e h =
+    let n : ℕ = length xs in
+    let same : take n prefix ≡ xs = sym (take-append-le n prefix rest h) ∙ ap (take n) (sym e) ∙ take_at xs ys n refl in (
+      drop n prefix,
+      sym (take-append-drop n prefix) ∙ ap (λ (l : List A). l ++ drop n prefix) same,
+      sym (drop_at xs ys n refl) ∙ ap (drop n) e ∙ drop-append-le n prefix rest h,
+    )
 
 longer_some : {A : Type 0} (xs prefix more : List A) → xs ≡ prefix ++ more → length prefix < length xs → more ≢ []
 longer_some xs prefix more e short none =
-    let same : length xs ≡ length prefix = ap length e ∙ ap (λ l. length (prefix ++ l)) none ∙ ap length (append-nil prefix) in
+    let same : length xs ≡ length prefix = rw (e, none, append-nil) refl in
     omega arith
-
-none_behind : {A : Type 0} (xs ys : List A) → xs ++ ys ≡ [] → ys ≡ []
-none_behind [] ys e = e
-none_behind (x ∷ xs) ys e = cc
 
 module _ {A K M : Type 0} (grows : K → K → List A → Type 0) (grows-nil : (k : K) → grows k k [])
     (grows-trans : (j k l : K) (xs ys : List A) → grows j k xs → grows k l ys → grows j l (xs ++ ys))
     (grows-split : (j l : K) (xs ys : List A) → grows j l (xs ++ ys) → (k : K) × grows j k xs × grows k l ys)
     (text : M → Texts A) (buffering : Buffering) where
-  module _ (s t : OutputState K M) (seen channel place : ℕ) (octets : List ℕ) (packet : lent.Packet) (some : 0 < length octets)
+  module _ (s t : OutputState K M) {seen channel place : ℕ} {octets : List ℕ} {packet : lent.Packet} (some : 0 < length octets)
       (head : IsFirstPacket seen channel place octets packet) where
     -- the first packet, alone
     pub one_taken : IsSpan octets → Takes grows text buffering s (item_with packet) t → IsAccepted (Takes grows text buffering) s t seen channel place octets (length packet.octets.now)
@@ -167,13 +137,11 @@ module _ {A K M : Type 0} (grows : K → K → List A → Type 0) (grows-nil : (
         let first = span-first octets some span in
         let far = length packet.octets.now in
         let one : IsOnePacket (take far octets) = rw head.length_is first.one in
-        let alone = packets-one (take far octets) one in
-        let own : item_with packet ≡ Packet seen channel seen place (take far octets) = head.item ∙ ap (λ (n : ℕ). Packet seen channel seen place (take n octets)) (sym head.length_is) in
+        let own : item_with packet ≡ Packet seen channel seen place (take far octets) = rw head.length_is head.item in
         record {
-          prefix = subst ArePackets (sym alone) (one, tt);
+          prefix = rw (packets-one (take far octets) one) (one, tt);
           rest = rw head.length_is first.others;
-          accepted = subst (λ (ps : List (List ℕ)). TakesAll (Takes grows text buffering) s (placed seen channel place ps) t) (sym alone)
-              (t, subst (λ (x : Item). Takes grows text buffering s x t) own accepted, refl);
+          accepted = rw (packets-one (take far octets) one) (t, rw own at accepted, refl);
         }
 
   module _ (s : OutputState K M) (x : Item) (quiet : IsQuiet (text s.fixture.texts) s.entries x) where
@@ -234,21 +202,21 @@ module _ {A K M : Type 0} (grows : K → K → List A → Type 0) (grows-nil : (
         mid,
         quiet_taken s x quiet.0 mid refl refl refl (refl, refl) before,
         one_stopped mid t y ys quiet.1 same report out_failed report_failed
-            (more, rest, left, (λ some. proper (λ none. some (none_behind own others none))), behind),
+            (more, rest, left, (λ some. proper (λ none. some (none_both own others none).1)), behind),
       ))
       (cases_lt (length prefix) (length own))
 
-  module _ (s t : OutputState K M) (seen channel place many : ℕ) (octets : List ℕ) (some : many ≡ 0 → ⊥)
+  module _ (s t : OutputState K M) {seen channel place many : ℕ} {octets : List ℕ} (some : many ≡ 0 → ⊥)
       (done : HasNoted (text s.fixture.texts) s.entries t.entries seen channel place octets many)
       (same : t.fixture ≡ s.fixture) (report : t.view.report ≡ s.view.report) where
     abbrev items : List Item
     items = placed seen channel place (take (packet_length (take many octets)) (take many octets) ∷ packets_in (drop (packet_length (take many octets)) (take many octets)))
 
-    there : 0 < length (take many octets)
-    there = omega (arith, length-take-le many octets done.inside)
-
     first : span_items seen channel place (take many octets) ≡ items
-    first = ap (placed seen channel place) (packets-first (take many octets) there)
+    first = ap (placed seen channel place) (packets-first (take many octets) (omega (arith, length-take-le many octets done.inside)))
+
+    quiet : AreQuiet (text s.fixture.texts) s.entries items
+    quiet = rw first at done.quiet
 
     -- the packets in front that are noted
     pub span_taken : SameCounts s.view t.view
@@ -257,23 +225,17 @@ module _ {A K M : Type 0} (grows : K → K → List A → Type 0) (grows-nil : (
     span_taken counts grown = record {
       prefix = done.prefix;
       rest = done.rest;
-      accepted = subst (λ (xs : List Item). TakesAll (Takes grows text buffering) s xs t) (sym first)
-          (all_taken s t _ _ (subst (AreQuiet (text s.fixture.texts) s.entries) first done.quiet) same
-          (done.noted_is ∙ ap (noted_all s.entries) first) report counts
-          (subst (λ (xs : List Item). grows s.view.out t.view.out (outs_of (text s.fixture.texts) xs)) first grown));
+      accepted = rw first (all_taken s t _ _ quiet same (rw first at done.noted_is) report counts (rw first at grown));
     }
 
     pub span_stopped : t.view.out_failures ≡ raised s.view.out_failures → t.view.report_failures ≡ s.view.report_failures
         → PutsPart grows s.view.out t.view.out (outs_of (text s.fixture.texts) (span_items seen channel place (take many octets)))
         → RefusesOne (Takes grows text buffering) (Refuses grows text buffering) s (span_items seen channel place octets) Write t
     span_stopped out_failed report_failed part =
-        subst (λ (xs : List Item). RefusesOne (Takes grows text buffering) (Refuses grows text buffering) s xs Write t)
-        (sym (span-both seen channel place many octets done.inside done.prefix))
+        rw (span-both seen channel place many octets done.inside done.prefix)
         (RefusesOne-left (Takes grows text buffering) (Refuses grows text buffering) s t (span_items seen channel place (take many octets))
         (span_items seen channel (place + many) (drop many octets)) Write
-        (subst (λ (xs : List Item). RefusesOne (Takes grows text buffering) (Refuses grows text buffering) s xs Write t) (sym first)
-        (one_stopped s t _ _ (subst (AreQuiet (text s.fixture.texts) s.entries) first done.quiet) same report out_failed report_failed
-        (subst (λ (xs : List Item). PutsPart grows s.view.out t.view.out (outs_of (text s.fixture.texts) xs)) first part))))
+        (rw first (one_stopped s t _ _ quiet same report out_failed report_failed (rw first at part))))
 
 -- what is left of packets that lie end to end, once so many octets of them were taken
 pub record IsLeft (seen channel place at many : ℕ) (octets left : List ℕ) : Type 0 where
@@ -285,8 +247,7 @@ pub record IsLeft (seen channel place at many : ℕ) (octets left : List ℕ) : 
 pub span_left : (seen channel place at many : ℕ) (octets left : List ℕ) → left ≡ take (length octets - at) (drop at octets) → at ≤ length octets
     → many ≤ length left → IsSpan (take many left) → IsSpan (drop many left) → IsLeft seen channel place at many octets left
 span_left seen channel place at many octets left is inside fits prefix rest =
-    let len : length (drop at octets) ≡ length octets - at = length-drop at octets in
-    let all : left ≡ drop at octets = is ∙ take_all (length octets - at) (drop at octets) (omega arith) in
+    let all : left ≡ drop at octets = is ∙ take_rest octets at in
     let behind : drop many left ≡ drop (at + many) octets = ap (drop many) all ∙ drop-drop many at octets in
     let next : (place + at) + many ≡ place + (at + many) = omega arith in
     record {
@@ -294,6 +255,6 @@ span_left seen channel place at many octets left is inside fits prefix rest =
           ap (span_items seen channel (place + at)) (sym all)
           ∙ span-both seen channel (place + at) many left fits prefix
           ∙ rw (behind, next) refl;
-      rest = subst IsSpan behind rest;
-      inside = omega (arith, fits, ap length all);
+      rest = rw behind at rest;
+      inside = omega (arith, fits, ap length all, length-drop at octets);
     }

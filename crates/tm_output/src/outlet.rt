@@ -407,7 +407,7 @@ impl<W: Drain> Outlet for PacketRows<'_, '_, '_, W> {
         !self.is_of_application(&packet.header)
     }
 
-    #[tactic(auto, using(crate::proofs::LineLemmas::some_short_packet), unfolding(crate::specs::FieldRows::too_short))]
+    #[tactic(auto, using(crate::proofs::RowLemmas::some_short_packet), unfolding(crate::specs::FieldRows::too_short))]
     fn remark(&self, lines: &mut Vec<u8>, packet: &Packet<'_>) -> Result<(), AllocError> {
         let needed = self.rows.bits_needed();
         let octets = packet.octets.len();

@@ -3,7 +3,6 @@ pub mod OneMore
 pub mod WithOne
 pub mod WritingLemmas
 pub mod Examples
-pub mod OpenCounted
 pub mod Tallied
 pub mod Summed
 pub mod Taken

@@ -10,9 +10,9 @@ use Rattle.tm_items.specs.declared.items.Reason.{Reason}
 use Rattle.tm_items.specs.declared.items.Reason.TheVariants as why
 use Rattle.tm_items.specs.Item.{Item, Gap, Vca, Dropped, Packet, seen_of}
 use Rattle.tm_summary.specs.declared.channel.Loss.{Loss}
-use Rattle.tm_summary.specs.Adding.{drop_more, frame_more, gap_more, loss_more, no_loss, note_more, packet_more, whole_more}
+use Rattle.tm_summary.specs.Adding.{drop_more, frame_more, gap_more, loss_more, more_at, no_loss, note_more, packet_more, whole_more}
 use Rattle.tm_items.specs.Reasons.{reason_place}
-use Rattle.tm_summary.specs.Kinds.{is_idle_kind, is_joined_kind, is_gap, gap_missing, is_packet_item, packet_item_length, is_drop, drop_octets, has_reason, is_sequence_gap, sequence_missing, is_whole_group, is_broken, is_stray}
+use Rattle.tm_summary.specs.Kinds.{is_idle_kind, is_joined_kind, drop_octets, has_reason}
 use Rattle.tm_summary.specs.SummaryNumbers.{application_of, capped, channel_counts, count_capped, first_seen, how_many, in_all, joined_frames, loss_of, for_numbers}
 use Rattle.tm_summary.proofs.Tables.{table-more, table-same}
 
@@ -42,6 +42,16 @@ module _ {A : Type 0} where
       → how_many test (xs ++ x ∷ []) ≡ (if test x then capped (how_many test xs + 1) else how_many test xs)
   how_many_more test xs x = how_many_by test xs x (test x) refl
 
+  -- a table of what passes a test for each number, where one thing more passes one of the tests
+  pub table_filtered : {B : Type 0} (n : ℕ) (test : ℕ → A → Bool) (value : ℕ → List A → B) (xs : List A) (x : A) (place : ℕ) (none : B) (more : B → B)
+      → ((c : ℕ) → test c x ≡ (place == c)) → place < n → ((ys : List A) → value place (ys ++ x ∷ []) ≡ more (value place ys))
+      → for_numbers n (λ c. value c (filter (test c) (xs ++ x ∷ []))) ≡ more_at (for_numbers n (λ c. value c (filter (test c) xs))) place none more
+  table_filtered n test value xs x place none more own below gives =
+      table-more n place (λ c. value c (filter (test c) (xs ++ x ∷ []))) (λ c. value c (filter (test c) xs)) none more
+      (λ c other. ap (value c) (filter_no (test c) xs x (own c ∙ ne_eqb place c (λ e. other (sym e)))))
+      below
+      (ap (value place) (filter_yes (test place) xs x (own place ∙ eq-eqb place place refl)) ∙ gives (filter (test place) xs))
+
   pub counted_more : (xs : List A) (x : A) → count_capped (xs ++ x ∷ []) ≡ capped (count_capped xs + 1)
   counted_more xs x = in_all_more (λ y. 1) xs x
 
@@ -49,6 +59,9 @@ module _ {A : Type 0} where
   some_counted : (x : A) (xs : List A) → 0 < count_capped (x ∷ xs)
   unfolding in_all
   some_counted x xs = rw (sum_by-cons (λ y. 1) x xs) (omega arith)
+
+-- an item or a note more, whose tests compute
+pub ruleset with_one = (in_all_same, filter_no, in_all_more)
 
 -- ---- records of numbers, part by part
 
@@ -60,12 +73,7 @@ loss_is a b = rw (a, b) refl
 
 place_below : (reason : Reason) → reason_place reason < 7
 place_below why.Pointer = omega arith
-place_below why.Gap = omega arith
-place_below why.Vca = omega arith
-place_below why.Close = omega arith
-place_below why.NoStart = omega arith
-place_below why.Version = omega arith
-place_below why.Length = omega arith
+place_below _ = omega arith
 
 -- ---- a channel with one frame or item more
 
@@ -96,41 +104,14 @@ module _ (frames : List GoodFrame) (items : List Item) where
 
   pub channel_gap : (seen channel expected found missing : ℕ)
       → channel_counts frames (items ++ Gap seen channel expected found missing ∷ []) ≡ gap_more (channel_counts frames items) missing
-  channel_gap seen channel expected found missing =
-      rw (
-        how_many_more is_gap items (Gap seen channel expected found missing),
-        in_all_more gap_missing items (Gap seen channel expected found missing),
-        how_many_more is_packet_item items (Gap seen channel expected found missing),
-        in_all_same packet_item_length items (Gap seen channel expected found missing) refl,
-        how_many_more is_drop items (Gap seen channel expected found missing),
-        in_all_same drop_octets items (Gap seen channel expected found missing) refl,
-        losses-same (Gap seen channel expected found missing) (λ n. refl),
-      ) refl
+  channel_gap seen channel expected found missing = rw (losses-same (Gap seen channel expected found missing) (λ n. refl)) (simp with_one)
 
   pub channel_vca : (seen channel : ℕ) → channel_counts frames (items ++ Vca seen channel ∷ []) ≡ channel_counts frames items
-  channel_vca seen channel =
-      rw (
-        how_many_more is_gap items (Vca seen channel),
-        in_all_same gap_missing items (Vca seen channel) refl,
-        how_many_more is_packet_item items (Vca seen channel),
-        in_all_same packet_item_length items (Vca seen channel) refl,
-        how_many_more is_drop items (Vca seen channel),
-        in_all_same drop_octets items (Vca seen channel) refl,
-        losses-same (Vca seen channel) (λ n. refl),
-      ) refl
+  channel_vca seen channel = rw (losses-same (Vca seen channel) (λ n. refl)) (simp with_one)
 
   pub channel_packet : (seen channel first place : ℕ) (octets : List ℕ)
       → channel_counts frames (items ++ Packet seen channel first place octets ∷ []) ≡ packet_more (channel_counts frames items) (length octets)
-  channel_packet seen channel first place octets =
-      rw (
-        how_many_more is_gap items (Packet seen channel first place octets),
-        in_all_same gap_missing items (Packet seen channel first place octets) refl,
-        how_many_more is_packet_item items (Packet seen channel first place octets),
-        in_all_more packet_item_length items (Packet seen channel first place octets),
-        how_many_more is_drop items (Packet seen channel first place octets),
-        in_all_same drop_octets items (Packet seen channel first place octets) refl,
-        losses-same (Packet seen channel first place octets) (λ n. refl),
-      ) refl
+  channel_packet seen channel first place octets = rw (losses-same (Packet seen channel first place octets) (λ n. refl)) (simp with_one)
 
   module _ (seen channel first place octets : ℕ) (reason : Reason) where
     abbrev dropped : Item
@@ -150,15 +131,8 @@ module _ (frames : List GoodFrame) (items : List Item) where
 
     pub channel_drop : channel_counts frames (items ++ dropped ∷ []) ≡ drop_more (channel_counts frames items) octets reason
     channel_drop =
-        rw (
-          how_many_more is_gap items dropped,
-          in_all_same gap_missing items dropped refl,
-          how_many_more is_packet_item items dropped,
-          in_all_same packet_item_length items dropped refl,
-          how_many_more is_drop items dropped,
-          in_all_more drop_octets items dropped,
-          table-more 7 (reason_place reason) (loss_of (items ++ dropped ∷ [])) (loss_of items) no_loss (λ l. loss_more l octets) other_loss (place_below reason) own_loss,
-        ) refl
+        rw (table-more 7 (reason_place reason) (loss_of (items ++ dropped ∷ [])) (loss_of items) no_loss (λ l. loss_more l octets)
+        other_loss (place_below reason) own_loss) (simp with_one)
 
 -- ---- a channel and application with one packet or note more
 
@@ -172,43 +146,13 @@ pub application_packet : (packets : List Item) (notes : List Note) (seen channel
     → application_of (packets ++ Packet seen channel first place octets ∷ []) notes ≡ whole_more (application_of packets notes) seen (length octets)
 application_packet packets notes seen channel first place octets =
     rw (
-      counted_more packets (Packet seen channel first place octets),
-      in_all_more packet_item_length packets (Packet seen channel first place octets),
       first_more packets (Packet seen channel first place octets),
       fold_push (λ (before : ℕ) (x : Item). seen_of x) 0 packets (Packet seen channel first place octets),
-    ) refl
+    ) (simp with_one)
 
-module _ (packets : List Item) (notes : List Note) where
-  pub notes_more : (n : Note) → application_of packets (notes ++ n ∷ []) ≡ note_more (application_of packets notes) n
-  notes_more (note.Gap expected found missing) =
-      rw (
-        how_many_more is_sequence_gap notes (note.Gap expected found missing),
-        in_all_more sequence_missing notes (note.Gap expected found missing),
-        how_many_more is_whole_group notes (note.Gap expected found missing),
-        how_many_more is_broken notes (note.Gap expected found missing),
-        how_many_more is_stray notes (note.Gap expected found missing),
-      ) refl
-  notes_more (note.Broken first last why) =
-      rw (
-        how_many_more is_sequence_gap notes (note.Broken first last why),
-        in_all_same sequence_missing notes (note.Broken first last why) refl,
-        how_many_more is_whole_group notes (note.Broken first last why),
-        how_many_more is_broken notes (note.Broken first last why),
-        how_many_more is_stray notes (note.Broken first last why),
-      ) refl
-  notes_more (note.Whole first last) =
-      rw (
-        how_many_more is_sequence_gap notes (note.Whole first last),
-        in_all_same sequence_missing notes (note.Whole first last) refl,
-        how_many_more is_whole_group notes (note.Whole first last),
-        how_many_more is_broken notes (note.Whole first last),
-        how_many_more is_stray notes (note.Whole first last),
-      ) refl
-  notes_more (note.Stray count flags) =
-      rw (
-        how_many_more is_sequence_gap notes (note.Stray count flags),
-        in_all_same sequence_missing notes (note.Stray count flags) refl,
-        how_many_more is_whole_group notes (note.Stray count flags),
-        how_many_more is_broken notes (note.Stray count flags),
-        how_many_more is_stray notes (note.Stray count flags),
-      ) refl
+pub notes_more : (packets : List Item) (notes : List Note) (n : Note)
+    → application_of packets (notes ++ n ∷ []) ≡ note_more (application_of packets notes) n
+notes_more packets notes (note.Gap expected found missing) = simp with_one
+notes_more packets notes (note.Broken first last why) = simp with_one
+notes_more packets notes (note.Whole first last) = simp with_one
+notes_more packets notes (note.Stray count flags) = simp with_one

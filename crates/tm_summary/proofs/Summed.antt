@@ -1,8 +1,8 @@
 -- The numbers of a table add up to the number of all.
-use Rattle.std.proofs.Common.{◌≡◌, ◌≢◌, ◌<◌, ◌≤◌, ◌+◌, ◌-◌, ◌^◌, ℕ, zero, suc, Bool, true, false, List, [], ◌∷◌, length, map, get_or, refl, sym, ap, subst, ◌∙◌, arith, ⊎_elim, ne_eqb, eq-eqb, lt-ltb}
+use Rattle.std.proofs.Common.{◌≡◌, ◌≢◌, ◌<◌, ◌≤◌, ◌+◌, ◌-◌, ◌^◌, ℕ, zero, suc, Bool, true, false, List, [], ◌∷◌, length, map, get_or, refl, sym, ap, subst, ◌∙◌, arith, ⊎_elim, ne_eqb, lt-ltb}
 use Rattle.std.specs.Prelude.{◌==◌, nat_lt, filter, sum, sum_by, if◌then◌else◌}
 use Rattle.std.proofs.lemmas.Bool.{cases_lt}
-use Rattle.std.proofs.lemmas.Bool.Decides.{eqb_tells}
+use Rattle.std.proofs.lemmas.Bool.Decides.{nat_tests}
 use Rattle.std.proofs.lemmas.List.Sums.{sum-map, sum_by-cons, sum_by_push}
 use Rattle.tm_frame.specs.declared.fault.FrameFault.TheVariants as fault
 use Rattle.tm_packet.specs.Header.{packet_header_of}
@@ -10,7 +10,7 @@ use Rattle.tm_packet.specs.Merge.{pair_key}
 use Rattle.tm_packet.proofs.AfterValid.{header-range}
 use Rattle.tm_items.specs.declared.items.Reason.{Reason}
 use Rattle.tm_items.specs.declared.items.Reason.TheVariants as why
-use Rattle.tm_items.specs.Item.{Item, Bad, MasterGap, Gap, Vca, Dropped, Packet, Short}
+use Rattle.tm_items.specs.Item.{Item, Bad, Dropped, Packet}
 use Rattle.tm_items.specs.Among.{is_of}
 use Rattle.tm_summary.specs.declared.application.ApplicationCounts.{ApplicationCounts}
 use Rattle.tm_summary.specs.declared.channel.ChannelCounts.{ChannelCounts}
@@ -32,17 +32,12 @@ values_sum part f (k ∷ ks) =
 total_same : (f g : ℕ → ℕ) (n : ℕ) → ((k : ℕ) → k < n → f k ≡ g k) → sum_by f (below n) ≡ sum_by g (below n)
 total_same f g zero same = refl
 total_same f g (suc n) same =
-    sum_by_push f (below n) n
-    ∙ ap (λ (m : ℕ). m + f n) (total_same f g n (λ k h. same k (omega arith)))
-    ∙ ap (λ (m : ℕ). sum_by g (below n) + m) (same n (omega arith))
-    ∙ sym (sum_by_push g (below n) n)
+    rw (sum_by_push f (below n) n, sum_by_push g (below n) n)
+    (omega (arith, total_same f g n (λ k h. same k (omega arith)), same n (omega arith)))
 
 total_none : (f : ℕ → ℕ) (n : ℕ) → ((k : ℕ) → k < n → f k ≡ 0) → sum_by f (below n) ≡ 0
 total_none f zero none = refl
-total_none f (suc n) none =
-    let before : sum_by f (below n) ≡ 0 = total_none f n (λ k h. none k (omega arith)) in
-    let last : f n ≡ 0 = none n (omega arith) in
-    sum_by_push f (below n) n ∙ omega (arith, before, last)
+total_none f (suc n) none = sum_by_push f (below n) n ∙ omega (arith, total_none f n (λ k h. none k (omega arith)), none n (omega arith))
 
 -- one of them has all
 total_only : (f : ℕ → ℕ) (place part n : ℕ) → ((k : ℕ) → k < n → k ≢ place → f k ≡ 0) → place < n → f place ≡ part → sum_by f (below n) ≡ part
@@ -51,21 +46,17 @@ total_only f place part (suc n) others h here =
     sum_by_push f (below n) n
     ∙ ⊎_elim
     (λ (less : place < n).
-    let before : sum_by f (below n) ≡ part = total_only f place part n (λ k inside other. others k (omega arith) other) less here in
-    let last : f n ≡ 0 = others n (omega arith) (λ (e : n ≡ place). omega (arith, less, e)) in
-    omega (arith, before, last))
+    let last : f n ≡ 0 = others n (omega arith) (λ (e : n ≡ place). omega arith) in
+    omega (arith, total_only f place part n (λ k inside other. others k (omega arith) other) less here, last))
     (λ (more : n ≤ place).
     let same : n ≡ place = omega (arith, h, more) in
-    let before : sum_by f (below n) ≡ 0 = total_none f n (λ k inside. others k (omega arith) (λ (e : k ≡ place). omega (arith, inside, e, more))) in
-    let last : f n ≡ part = ap f same ∙ here in
-    omega (arith, before, last))
+    omega (arith, total_none f n (λ k inside. others k (omega arith) (λ (e : k ≡ place). omega arith)), ap f same ∙ here))
     (cases_lt place n)
 
 total_both : (f g : ℕ → ℕ) (n : ℕ) → sum_by (λ k. f k + g k) (below n) ≡ sum_by f (below n) + sum_by g (below n)
 total_both f g zero = refl
 total_both f g (suc n) =
-    let before : sum_by (λ k. f k + g k) (below n) ≡ sum_by f (below n) + sum_by g (below n) = total_both f g n in
-    rw (sum_by_push (λ k. f k + g k) (below n) n, sum_by_push f (below n) n, sum_by_push g (below n) n) (omega (arith, before))
+    rw (sum_by_push (λ k. f k + g k) (below n) n, sum_by_push f (below n) n, sum_by_push g (below n) n) (omega (arith, total_both f g n))
 
 -- where the sum is below the greatest, so is each
 total_capped : (f : ℕ → ℕ) (n : ℕ) → sum_by f (below n) < 2 ^ 64 - 1 → sum_by (λ k. capped (f k)) (below n) ≡ sum_by f (below n)
@@ -82,9 +73,7 @@ exchanged table whole n each [] = total_none (λ k. 0) n (λ k h. refl)
 exchanged table whole n each (x ∷ xs) =
     total_same (λ k. sum_by (table k) (x ∷ xs)) (λ k. table k x + sum_by (table k) xs) n (λ k h. sum_by-cons (table k) x xs)
     ∙ total_both (λ k. table k x) (λ k. sum_by (table k) xs) n
-    ∙ ap (λ (m : ℕ). m + sum_by (λ k. sum_by (table k) xs) (below n)) (each x)
-    ∙ ap (λ (m : ℕ). whole x + m) (exchanged table whole n each xs)
-    ∙ sym (sum_by-cons whole x xs)
+    ∙ omega (arith, each x, exchanged table whole n each xs, sum_by-cons whole x xs)
 
 -- ---- tables
 
@@ -147,56 +136,30 @@ lines_added {A} {B} shows part f table whole n xs are none each count =
 fault_each : (x : Item) → sum (for_numbers 8 (λ k. if has_fault (k + 1) x then 1 else 0)) ≡ (if is_bad x then 1 else 0)
 unfolding for_numbers
 fault_each (Bad seen fault.Crc) = refl
-fault_each (Bad seen fault.Version) = refl
-fault_each (Bad seen fault.Spacecraft) = refl
-fault_each (Bad seen fault.SecondaryFlag) = refl
-fault_each (Bad seen fault.OcfFlag) = refl
-fault_each (Bad seen fault.SecondaryVersion) = refl
-fault_each (Bad seen fault.Layout) = refl
-fault_each (Bad seen fault.Pointer) = refl
-fault_each (MasterGap seen expected found missing) = refl
-fault_each (Gap seen channel expected found missing) = refl
-fault_each (Vca seen channel) = refl
-fault_each (Dropped seen channel first place octets reason) = refl
-fault_each (Packet seen channel first place octets) = refl
-fault_each (Short seen octets) = refl
+fault_each (Bad seen _) = refl
+fault_each _ = refl
 
 -- so much for a part of any reason
 reason_part : (n : ℕ) (reason : Reason) → sum (for_numbers 7 (λ k. if reason_place reason == k then n else 0)) ≡ n
 unfolding for_numbers
 reason_part n why.Pointer = omega arith
-reason_part n why.Gap = omega arith
-reason_part n why.Vca = omega arith
-reason_part n why.Close = omega arith
-reason_part n why.NoStart = omega arith
-reason_part n why.Version = omega arith
-reason_part n why.Length = omega arith
+reason_part n _ = omega arith
 
 none_each : (n : ℕ) → sum (for_numbers n (λ k. 0)) ≡ 0
 unfolding for_numbers
 none_each n = sum-map (λ (k : ℕ). 0) (below n) ∙ total_none (λ k. 0) n (λ k h. refl)
 
 parts_each : (x : Item) → sum (for_numbers 7 (λ k. if has_reason k x then 1 else 0)) ≡ (if is_drop x then 1 else 0)
-parts_each (Bad seen fault) = none_each 7
-parts_each (MasterGap seen expected found missing) = none_each 7
-parts_each (Gap seen channel expected found missing) = none_each 7
-parts_each (Vca seen channel) = none_each 7
 parts_each (Dropped seen channel first place octets reason) = reason_part 1 reason
-parts_each (Packet seen channel first place octets) = none_each 7
-parts_each (Short seen octets) = none_each 7
+parts_each _ = none_each 7
 
 same_if : (b : Bool) (n : ℕ) → (if b then n else n) ≡ n
 same_if true n = refl
 same_if false n = refl
 
 octets_each : (x : Item) → sum (for_numbers 7 (λ k. if has_reason k x then drop_octets x else 0)) ≡ drop_octets x
-octets_each (Bad seen fault) = none_each 7
-octets_each (MasterGap seen expected found missing) = none_each 7
-octets_each (Gap seen channel expected found missing) = none_each 7
-octets_each (Vca seen channel) = none_each 7
 octets_each (Dropped seen channel first place octets reason) = reason_part octets reason
-octets_each (Packet seen channel first place octets) = none_each 7
-octets_each (Short seen octets) = none_each 7
+octets_each _ = none_each 7
 
 -- so much for a packet of any application
 application_part : (n channel own application part : ℕ) → n ≤ 2048 → application < n
@@ -205,18 +168,11 @@ unfolding for_numbers
 application_part n channel own application part most inside =
     let f : ℕ → ℕ = λ a. if pair_key own application == pair_key channel a then part else 0 in
     sum-map f (below n)
-    ∙ ⊎_elim
-    (λ (same : ((own == channel) ≡ true) × (own ≡ channel)).
-    total_only f application part n
-    (λ a h other. rw (ne_eqb (pair_key own application) (pair_key channel a) (λ (e : pair_key own application ≡ pair_key channel a). other (omega (arith, e, same.1)))) refl)
-    inside
-    (rw (eq-eqb (pair_key own application) (pair_key channel application) (omega (arith, same.1))) refl)
-    ∙ rw same.0 refl)
-    (λ (differs : ((own == channel) ≡ false) × (own ≢ channel)).
-    total_none f n
-    (λ a h. rw (ne_eqb (pair_key own application) (pair_key channel a) (λ (e : pair_key own application ≡ pair_key channel a). differs.1 (omega (arith, e, h, most, inside)))) refl)
-    ∙ rw differs.0 refl)
-    (eqb_tells own channel)
+    ∙ total_only f application (if own == channel then part else 0) n
+    (λ a h other.
+    rw (ne_eqb (pair_key own application) (pair_key channel a)
+    (λ (e : pair_key own application ≡ pair_key channel a). other (omega (arith, e, h, most, inside)))) refl)
+    inside (grind (arith, nat_tests))
 
 module _ (channel : ℕ) where
   abbrev number_on : (Item → ℕ) → Item → ℕ
@@ -226,24 +182,14 @@ module _ (channel : ℕ) where
   number_at part a x = if has_key (pair_key channel a) x then part x else 0
 
   packets_each : (x : Item) → sum (for_numbers 2048 (λ a. number_at (λ y. 1) a x)) ≡ number_on (λ y. if is_packet_item y then 1 else 0) x
-  packets_each (Bad seen fault) = none_each 2048
-  packets_each (MasterGap seen expected found missing) = none_each 2048
-  packets_each (Gap seen own expected found missing) = none_each 2048 ∙ sym (same_if (own == channel) 0)
-  packets_each (Vca seen own) = none_each 2048 ∙ sym (same_if (own == channel) 0)
-  packets_each (Dropped seen own first place octets reason) = none_each 2048 ∙ sym (same_if (own == channel) 0)
   packets_each (Packet seen own first place octets) =
       application_part 2048 channel own (packet_header_of octets).application 1 (omega arith) ((header-range octets).application)
-  packets_each (Short seen octets) = none_each 2048
+  packets_each _ = simp (none_each 2048, same_if)
 
   lengths_each : (x : Item) → sum (for_numbers 2048 (λ a. number_at packet_item_length a x)) ≡ number_on packet_item_length x
-  lengths_each (Bad seen fault) = none_each 2048
-  lengths_each (MasterGap seen expected found missing) = none_each 2048
-  lengths_each (Gap seen own expected found missing) = none_each 2048 ∙ sym (same_if (own == channel) 0)
-  lengths_each (Vca seen own) = none_each 2048 ∙ sym (same_if (own == channel) 0)
-  lengths_each (Dropped seen own first place octets reason) = none_each 2048 ∙ sym (same_if (own == channel) 0)
   lengths_each (Packet seen own first place octets) =
       application_part 2048 channel own (packet_header_of octets).application (length octets) (omega arith) ((header-range octets).application)
-  lengths_each (Short seen octets) = none_each 2048
+  lengths_each _ = simp (none_each 2048, same_if)
 
 -- ---- what adds up
 
@@ -292,28 +238,29 @@ module _ (t : Tally) (channel : ℕ) (below_eight : channel < 8) where
   application_is a h =
       table-get 16384 (pair_key channel a) (λ key. application_of (packets_of key t.items) (notes_at_key key t.notes)) no_application (omega (arith, below_eight, h))
 
+  -- a number of them, each of a part of the packets, adds up to a number of the channel
+  keyed_added : (part : ApplicationCounts → ℕ) (one whole : Item → ℕ) (n : ℕ) → in_all whole own_items ≡ n
+      → ((a : ℕ) → part (application a) ≡ in_all one (packets_of (pair_key channel a) t.items))
+      → ((x : Item) → sum (for_numbers 2048 (λ a. number_at channel one a x)) ≡ number_on channel whole x)
+      → IsBelowGreatest n → sum_by part (application_counts channel (numbers_of t)) ≡ n
+  keyed_added part one whole n total are each =
+      let P : ℕ → Type 0 = λ m. IsBelowGreatest m → sum_by part (application_counts channel (numbers_of t)) ≡ m in
+      subst P (sym (filter_all (is_of channel) whole t.items) ∙ total)
+      (lines_added (λ (a : ApplicationCounts). a.packets) part given (number_at channel one) (number_on channel whole) 2048 t.items
+      (λ a h. ap part (application_is a h) ∙ are a ∙ filter_all (has_key (pair_key channel a)) one t.items)
+      (λ a h none.
+      ap part (application_is a h) ∙ are a
+      ∙ none_counted one (packets_of (pair_key channel a) t.items) (ap (λ (c : ApplicationCounts). c.packets) (sym (application_is a h)) ∙ none))
+      each)
+
   pub packets_added : IsBelowGreatest (counts_on channel (numbers_of t)).packets
       → sum_by (λ a. a.packets) (application_counts channel (numbers_of t)) ≡ (counts_on channel (numbers_of t)).packets
   packets_added =
-      let all : in_all (number_on channel (λ y. if is_packet_item y then 1 else 0)) t.items ≡ here.packets
-      = sym (filter_all (is_of channel) (λ y. if is_packet_item y then 1 else 0) t.items) in
-      let P : ℕ → Type 0 = λ n. IsBelowGreatest n → sum_by (λ (a : ApplicationCounts). a.packets) (application_counts channel (numbers_of t)) ≡ n in
-      subst P (all ∙ ap (λ (c : ChannelCounts). c.packets) (sym counts_are))
-      (lines_added (λ (a : ApplicationCounts). a.packets) (λ (a : ApplicationCounts). a.packets) given (number_at channel (λ y. 1))
-      (number_on channel (λ y. if is_packet_item y then 1 else 0)) 2048 t.items
-      (λ a h. ap (λ (c : ApplicationCounts). c.packets) (application_is a h) ∙ filter_all (has_key (pair_key channel a)) (λ y. 1) t.items)
-      (λ a h none. none) (packets_each channel))
+      keyed_added (λ (a : ApplicationCounts). a.packets) (λ y. 1) (λ y. if is_packet_item y then 1 else 0) (counts_on channel (numbers_of t)).packets
+      (ap (λ (c : ChannelCounts). c.packets) (sym counts_are)) (λ a. refl) (packets_each channel)
 
   pub octets_added : IsBelowGreatest (counts_on channel (numbers_of t)).octets
       → sum_by (λ a. a.octets) (application_counts channel (numbers_of t)) ≡ (counts_on channel (numbers_of t)).octets
   octets_added =
-      let all : in_all (number_on channel packet_item_length) t.items ≡ here.octets = sym (filter_all (is_of channel) packet_item_length t.items) in
-      let P : ℕ → Type 0 = λ n. IsBelowGreatest n → sum_by (λ (a : ApplicationCounts). a.octets) (application_counts channel (numbers_of t)) ≡ n in
-      subst P (all ∙ ap (λ (c : ChannelCounts). c.octets) (sym counts_are))
-      (lines_added (λ (a : ApplicationCounts). a.packets) (λ (a : ApplicationCounts). a.octets) given (number_at channel packet_item_length)
-      (number_on channel packet_item_length) 2048 t.items
-      (λ a h. ap (λ (c : ApplicationCounts). c.octets) (application_is a h) ∙ filter_all (has_key (pair_key channel a)) packet_item_length t.items)
-      (λ a h none.
-      ap (λ (c : ApplicationCounts). c.octets) (application_is a h)
-      ∙ none_counted packet_item_length (packets_of (pair_key channel a) t.items) (ap (λ (c : ApplicationCounts). c.packets) (sym (application_is a h)) ∙ none))
-      (lengths_each channel))
+      keyed_added (λ (a : ApplicationCounts). a.octets) packet_item_length packet_item_length (counts_on channel (numbers_of t)).octets
+      (ap (λ (c : ChannelCounts). c.octets) (sym counts_are)) (λ a. refl) (lengths_each channel)

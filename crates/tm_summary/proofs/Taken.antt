@@ -1,5 +1,5 @@
 -- What a sink that counts has counted of the items that it took.
-use Rattle.std.proofs.Common.{◌≡◌, ◌||◌, Bool, true, false, List, [], ◌∷◌, refl, sym, ap, subst, ◌∙◌, inl, inr}
+use Rattle.std.proofs.Common.{◌≡◌, ◌||◌, Bool, true, false, List, [], ◌∷◌, refl, ap, ◌∙◌, inl, inr}
 use Rattle.tm_items.specs.Item.{Item}
 use Rattle.tm_items.specs.Sinks.{RefusesOne, TakesAll}
 use Rattle.tm_faults.specs.declared.fault.RunFault.{RunFault}
@@ -27,22 +27,18 @@ or_first true true c = refl
 or_first true false c = refl
 or_first false b c = refl
 
-took_none : (s : Counting) → TookTally s [] s
-took_none s = record { same_tracker = refl; same_counts = refl; noted_is = refl; counted_is = refl; bad_is = refl; fit = tt }
-
-took_more : (s mid t : Counting) (x : Item) (xs : List Item) → TakesTally s x mid → TookTally mid xs t → TookTally s (x ∷ xs) t
-took_more s mid t x xs one more = record {
-  same_tracker = more.same_tracker ∙ one.same_tracker;
-  same_counts = more.same_counts ∙ one.same_counts;
-  noted_is = more.noted_is ∙ ap (λ (e : Entries). noted_all e xs) one.noted_is;
-  counted_is = more.counted_is ∙ rw (one.noted_is, one.counted_is) refl;
-  bad_is = more.bad_is ∙ ap (λ (b : Bool). any_bad xs || b) one.bad_is ∙ or_first (is_bad x) (any_bad xs) s.bad;
-  fit = (one.fits, more.fit);
-}
-
 pub took_tally : (s : Counting) (xs : List Item) (t : Counting) → TakesAll TakesTally s xs t → TookTally s xs t
-took_tally s [] t h = subst (TookTally s []) (sym h) (took_none s)
-took_tally s (x ∷ xs) t h = took_more s h.0 t x xs h.1 (took_tally h.0 xs t h.2)
+took_tally s [] t h = rw h (record { same_tracker = refl; same_counts = refl; noted_is = refl; counted_is = refl; bad_is = refl; fit = tt })
+took_tally s (x ∷ xs) t h =
+    let one = h.1 in
+    let more = took_tally h.0 xs t h.2 in record {
+      same_tracker = more.same_tracker ∙ one.same_tracker;
+      same_counts = more.same_counts ∙ one.same_counts;
+      noted_is = more.noted_is ∙ ap (λ (e : Entries). noted_all e xs) one.noted_is;
+      counted_is = more.counted_is ∙ rw (one.noted_is, one.counted_is) refl;
+      bad_is = more.bad_is ∙ ap (λ (b : Bool). any_bad xs || b) one.bad_is ∙ or_first (is_bad x) (any_bad xs) s.bad;
+      fit = (one.fits, more.fit);
+    }
 
 -- it refuses none
 pub none_refused : (s : Counting) (xs : List Item) (fault : RunFault) (t : Counting) → RefusesOne TakesTally RefusesTally s xs fault t → ⊥

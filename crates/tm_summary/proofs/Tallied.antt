@@ -6,7 +6,7 @@ use Rattle.tm_packet.specs.declared.tracker.Unclosed.{Unclosed}
 use Rattle.tm_packet.specs.Header.{packet_header_of}
 use Rattle.tm_packet.specs.Merge as sequence
 use Rattle.tm_packet.proofs.AfterValid.{header-range}
-use Rattle.tm_items.specs.Item.{Item, Bad, MasterGap, Gap, Vca, Dropped, Packet, Short}
+use Rattle.tm_items.specs.Item.{Item, Packet}
 use Rattle.tm_items.specs.Sinks.{ItemFits}
 use Rattle.tm_output.specs.Pieces.{noted, notes_of, sent}
 use Rattle.tm_summary.specs.Tallies.{AllFit, and_items, and_notes, noted_at, notes_among, notes_in, open_notes, with_all, with_given, noted_numbers, with_open}
@@ -62,12 +62,7 @@ given_counted t e (Packet seen channel first place octets) fits =
     ap (λ (n : SummaryNumbers). noted_numbers n (pair_key channel (packet_header_of octets).application) (notes_of e (sent channel octets))) (sym (item_counted t x fits))
     ∙ notes_counted t.frames (t.items ++ x ∷ []) t.notes (pair_key channel (packet_header_of octets).application) (notes_of e (sent channel octets)) inside
     ∙ ap (λ (l : List Noted). numbers_of (tally t.frames (t.items ++ x ∷ []) (t.notes ++ l))) (sym (append-nil (notes_in e x)))
-given_counted t e (Bad seen fault) fits = sym (item_counted t (Bad seen fault) fits) ∙ none_noted t (Bad seen fault)
-given_counted t e (MasterGap seen expected found missing) fits = sym (item_counted t (MasterGap seen expected found missing) fits) ∙ none_noted t (MasterGap seen expected found missing)
-given_counted t e (Gap seen channel expected found missing) fits = sym (item_counted t (Gap seen channel expected found missing) fits) ∙ none_noted t (Gap seen channel expected found missing)
-given_counted t e (Vca seen channel) fits = sym (item_counted t (Vca seen channel) fits) ∙ none_noted t (Vca seen channel)
-given_counted t e (Dropped seen channel first place octets reason) fits = sym (item_counted t (Dropped seen channel first place octets reason) fits) ∙ none_noted t (Dropped seen channel first place octets reason)
-given_counted t e (Short seen octets) fits = sym (item_counted t (Short seen octets) fits) ∙ none_noted t (Short seen octets)
+given_counted t e x fits = sym (item_counted t x fits) ∙ none_noted t x
 
 -- and so with all items
 pub all_counted : (t : Tally) (e : Entries) (xs : List Item) → AllFit xs → with_all e (numbers_of t) xs ≡ numbers_of (and_items t e xs)

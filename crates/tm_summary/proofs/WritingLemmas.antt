@@ -1,19 +1,21 @@
 -- Lines that are written one after the other, and where writing stops.
-use Rattle.std.proofs.Common.{◌≡◌, ◌<◌, ◌≤◌, ◌+◌, ℕ, zero, suc, List, [], ◌∷◌, ◌++◌, length, refl, sym, ap, subst, ◌∙◌, append_assoc, append-nil, arith, ⊎_elim, Option, Bool, true, get_or, ltb, lt-ltb}
+use Rattle.std.proofs.Common.{◌≡◌, ◌<◌, ◌≤◌, ◌+◌, ℕ, zero, suc, List, [], ◌∷◌, ◌++◌, length, append-nil, add-one, refl, arith, ⊎_elim, Option, Bool, true, get_or, ltb, lt-ltb}
 use Rattle.std.specs.List.{flat_map}
 use Rattle.std.specs.Io.KnownBytes.{Appends}
+use Rattle.std.proofs.KnownBytes.{Appends-nil, Appends-trans}
 use Rattle.std.proofs.lemmas.Bool.{cases_lt}
-use Rattle.std.proofs.lemmas.List.{get_or_default}
+use Rattle.std.proofs.lemmas.List.{get_or_default, map-append}
+use Rattle.std.proofs.lemmas.List.Concat.{flat_map-append}
+use Rattle.tm_devices.specs.declared.device.Drain as drain
 use Rattle.tm_faults.specs.declared.fault.RunFault.{RunFault}
-use Rattle.tm_output.specs.Outputs.{Stopped, Took, View, line_pieces, octets_buffering}
-use Rattle.tm_output.proofs.LinePieces.{lines_lines, lines_more, lines_stopped}
+use Rattle.tm_output.specs.Outputs.{Piece, Stopped, Took, View, line_piece, line_pieces, octets_buffering}
+use Rattle.tm_output.specs.Seen.{out_alone}
+use Rattle.tm_output.proofs.PieceLemmas.{stopped_more, took_stopped, took_took}
 use Rattle.tm_frame.specs.Channels.{is_chosen}
-use Rattle.tm_summary.specs.declared.application.ApplicationCounts.{ApplicationCounts}
 use Rattle.tm_summary.specs.declared.channel.ChannelCounts.{ChannelCounts}
 use Rattle.tm_summary.specs.declared.channel.Loss.{Loss}
-use Rattle.tm_summary.specs.Adding.{no_application, no_channel, no_loss}
-use Rattle.tm_summary.specs.Lines.{application_lines_at, application_lines_of, channel_line, channel_lines_at, channel_lines_of, line_if, loss_line, loss_lines, loss_lines_at, loss_reason_at}
-use Rattle.tm_summary.specs.SummaryNumbers.{below}
+use Rattle.tm_summary.specs.Lines.{application_lines, channel_line, channel_lines, channel_lines_of, fault_at, fault_line, fault_lines, line_if, loss_line, loss_lines, loss_reason_at, master_line, recording_line, summary_lines}
+use Rattle.tm_summary.specs.SummaryNumbers.{SummaryNumbers, below}
 
 abbrev pub TookLines : View (Option (List ℕ)) → View (Option (List ℕ)) → List (List ℕ) → Type 0
 TookLines old new lines = Took Appends old new (line_pieces lines)
@@ -21,97 +23,67 @@ TookLines old new lines = Took Appends old new (line_pieces lines)
 abbrev pub StoppedLines : View (Option (List ℕ)) → View (Option (List ℕ)) → List (List ℕ) → RunFault → Type 0
 StoppedLines old new lines fault = Stopped Appends octets_buffering old new (line_pieces lines) fault
 
--- ---- the lines of the numbers below one
+-- the lines of the numbers below one were written
+abbrev pub TookBelow : {W : Type 0} → drain.Ghosts W → W → W → (ℕ → List (List ℕ)) → ℕ → Type 0
+TookBelow w old new f n = TookLines (out_alone w old) (out_alone w new) (flat_map f (below n))
 
-flat-append : {A B : Type 0} (f : A → List B) (xs ys : List A) → flat_map f (xs ++ ys) ≡ flat_map f xs ++ flat_map f ys
-flat-append f [] ys = refl
-flat-append {A} {B} f (x ∷ xs) ys = ap (λ (l : List B). f x ++ l) (flat-append f xs ys) ∙ sym (append_assoc (f x) (flat_map f xs) (flat_map f ys))
+-- ---- pieces, and then others
 
-module _ (f : ℕ → List (List ℕ)) where
-  pub one_more : (n : ℕ) → flat_map f (below (suc n)) ≡ flat_map f (below n) ++ f n
-  one_more n = flat-append f (below n) (n ∷ []) ∙ ap (λ (l : List (List ℕ)). flat_map f (below n) ++ l) (append-nil (f n))
+pub then_took : {u v w : View (Option (List ℕ))} {ps qs : List (Piece ℕ)} → Took Appends u v ps → Took Appends v w qs → Took Appends u w (ps ++ qs)
+then_took {u} {v} {w} {ps} {qs} a b = took_took Appends Appends-nil Appends-trans u v w ps qs a b
 
-  record Parted (n m : ℕ) : Type 0 where
-    rest : List (List ℕ)
-    parts : flat_map f (below m) ≡ (flat_map f (below n) ++ f n) ++ rest
+pub then_stopped : {u v w : View (Option (List ℕ))} {ps qs : List (Piece ℕ)} {fault : RunFault} → Took Appends u v ps
+    → Stopped Appends octets_buffering v w qs fault → Stopped Appends octets_buffering u w (ps ++ qs) fault
+then_stopped {u} {v} {w} {ps} {qs} {fault} a b = took_stopped Appends Appends-nil Appends-trans octets_buffering u v w ps qs a fault b
 
-  parted_by : (n m : ℕ) (rest : List (List ℕ)) → flat_map f (below m) ≡ (flat_map f (below n) ++ f n) ++ rest → Parted n m
-  parted_by n m rest parts = record { rest = rest; parts = parts }
+pub stopped_first : {u v : View (Option (List ℕ))} {ps : List (Piece ℕ)} {fault : RunFault} (qs : List (Piece ℕ))
+    → Stopped Appends octets_buffering u v ps fault → Stopped Appends octets_buffering u v (ps ++ qs) fault
+stopped_first {u} {v} {ps} {fault} qs h = stopped_more Appends Appends-nil Appends-trans octets_buffering u v ps qs fault h
 
-  parted : (n m : ℕ) → n < m → Parted n m
-  parted n zero h = absurd (omega arith)
-  parted n (suc m) h =
-      ⊎_elim
-      (λ (less : n < m).
-      let before : Parted n m = parted n m less in
-      parted_by n (suc m) (before.rest ++ f m) (one_more m ∙ ap (λ (l : List (List ℕ)). l ++ f m) before.parts ∙ append_assoc (flat_map f (below n) ++ f n) before.rest (f m)))
-      (λ (more : m ≤ n).
-      let same : m ≡ n = omega (arith, h, more) in
-      parted_by n (suc m) [] (one_more m ∙ ap (λ (k : ℕ). flat_map f (below k) ++ f k) same ∙ sym (append-nil (flat_map f (below n) ++ f n))))
-      (cases_lt n m)
+-- ---- the lines of the places of a list, by what stands there, whatever stands for a place that isn't there
 
-  module _ (old now new : View (Option (List ℕ))) (n : ℕ) (done : TookLines old now (flat_map f (below n))) where
-    pub place_more : TookLines now new (f n) → TookLines old new (flat_map f (below (n + 1)))
-    place_more one =
-        let next : suc n ≡ n + 1 = omega arith in
-        subst (TookLines old new) (sym (one_more n) ∙ ap (λ (k : ℕ). flat_map f (below k)) next)
-        (lines_lines old now new (flat_map f (below n)) (f n) done one)
+pieces_more : (f : ℕ → List (List ℕ)) (n : ℕ) → line_pieces (flat_map f (below (suc n))) ≡ line_pieces (flat_map f (below n)) ++ line_pieces (f n)
+pieces_more f n = simp (flat_map-append, append-nil, map-append)
 
-    pub place_stopped : (m : ℕ) (fault : RunFault) → n < m → StoppedLines now new (f n) fault → StoppedLines old new (flat_map f (below m)) fault
-    place_stopped m fault less stopped =
-        let split : Parted n m = parted n m less in
-        subst (λ (lines : List (List ℕ)). StoppedLines old new lines fault) (sym split.parts)
-        (lines_more old new (flat_map f (below n) ++ f n) split.rest fault (lines_stopped old now new (flat_map f (below n)) (f n) fault done stopped))
+module _ {A : Type 0} (F : ℕ → A → List (List ℕ)) (xs : List A) (d : A) where
+  abbrev lines_at : ℕ → List (List ℕ)
+  lines_at n = F n (get_or xs n d)
 
--- ---- the lines of one place, whatever stands for a place that isn't there
+  module _ {old now new : View (Option (List ℕ))} (n : ℕ) (inside : n < length xs) (e : A)
+      (done : TookLines old now (flat_map lines_at (below n))) where
+    pub place_more : TookLines now new (F n (get_or xs n e)) → TookLines old new (flat_map lines_at (below (n + 1)))
+    place_more one = rw (add-one n, pieces_more lines_at n) (then_took done (rw (get_or_default xs n e d inside) at one))
 
-pub loss_one : (channel n : ℕ) (losses : List Loss) (d : Loss) → n < length losses
-    → line_if (ltb 0 (get_or losses n d).parts) (loss_line channel (loss_reason_at n) (get_or losses n d)) ≡ loss_lines_at channel losses n
-loss_one channel n losses d inside =
-    ap (λ (l : Loss). line_if (ltb 0 l.parts) (loss_line channel (loss_reason_at n) l)) (get_or_default losses n d no_loss inside)
+    pub place_stopped : {fault : RunFault} (m : ℕ) → n < m → StoppedLines now new (F n (get_or xs n e)) fault
+        → StoppedLines old new (flat_map lines_at (below m)) fault
+    place_stopped zero h stopped = absurd (omega arith)
+    place_stopped (suc m) h stopped =
+        rw (pieces_more lines_at m)
+        (⊎_elim
+        (λ (less : n < m). stopped_first (line_pieces (lines_at m)) (place_stopped m less stopped))
+        (λ (more : m ≤ n).
+        let same : m ≡ n = omega (arith, h, more) in
+        rw same (then_stopped done (rw (get_or_default xs n e d inside) at stopped)))
+        (cases_lt n m))
 
-pub channel_one : (chosen : List Bool) (channels : List ChannelCounts) (n : ℕ) (d : ChannelCounts) → n < length channels
-    → channel_lines_of chosen n (get_or channels n d) ≡ channel_lines_at chosen channels n
-channel_one chosen channels n d inside = ap (channel_lines_of chosen n) (get_or_default channels n d no_channel inside)
+-- of a fault and of a reason
+abbrev pub fault_lines_of : ℕ → ℕ → List (List ℕ)
+fault_lines_of n records = line_if (ltb 0 records) (fault_line (fault_at n) records)
 
-pub application_one : (applications : List ApplicationCounts) (n : ℕ) (d : ApplicationCounts) → n < length applications
-    → application_lines_of n (get_or applications n d) ≡ application_lines_at applications n
-application_one applications n d inside = ap (application_lines_of n) (get_or_default applications n d no_application inside)
+abbrev pub loss_lines_of : ℕ → ℕ → Loss → List (List ℕ)
+loss_lines_of channel n l = line_if (ltb 0 l.parts) (loss_line channel (loss_reason_at n) l)
 
 -- a channel that is chosen and had a good frame
 pub channel_has : (chosen : List Bool) (channel : ℕ) (c : ChannelCounts) → is_chosen chosen channel ≡ true → 0 < c.frames
-    → channel_line channel c ∷ loss_lines channel c.losses ≡ channel_lines_of chosen channel c
+    → channel_lines_of chosen channel c ≡ channel_line channel c ∷ loss_lines channel c.losses
 channel_has chosen channel c is some = rw (is, lt-ltb 0 c.frames some) refl
 
--- ---- five lists of lines, one after the other
+-- ---- the five parts of a summary, one after the other
 
-module _ (ks ls ms ns os : List (List ℕ)) where
-  pub stop_first : {u v : View (Option (List ℕ))} (fault : RunFault) → StoppedLines u v ks fault → StoppedLines u v (ks ++ (ls ++ (ms ++ (ns ++ os)))) fault
-  stop_first {u} {v} fault h = lines_more u v ks (ls ++ (ms ++ (ns ++ os))) fault h
-
-  pub stop_second : {u v w : View (Option (List ℕ))} (fault : RunFault) → TookLines u v ks → StoppedLines v w ls fault → StoppedLines u w (ks ++ (ls ++ (ms ++ (ns ++ os)))) fault
-  stop_second {u} {v} {w} fault a h = lines_stopped u v w ks (ls ++ (ms ++ (ns ++ os))) fault a (lines_more v w ls (ms ++ (ns ++ os)) fault h)
-
-  pub stop_third : {u v w x : View (Option (List ℕ))} (fault : RunFault) → TookLines u v ks → TookLines v w ls → StoppedLines w x ms fault
-      → StoppedLines u x (ks ++ (ls ++ (ms ++ (ns ++ os)))) fault
-  stop_third {u} {v} {w} {x} fault a b h =
-      lines_stopped u v x ks (ls ++ (ms ++ (ns ++ os))) fault a
-      (lines_stopped v w x ls (ms ++ (ns ++ os)) fault b (lines_more w x ms (ns ++ os) fault h))
-
-  pub stop_fourth : {u v w x y : View (Option (List ℕ))} (fault : RunFault) → TookLines u v ks → TookLines v w ls → TookLines w x ms → StoppedLines x y ns fault
-      → StoppedLines u y (ks ++ (ls ++ (ms ++ (ns ++ os)))) fault
-  stop_fourth {u} {v} {w} {x} {y} fault a b c h =
-      lines_stopped u v y ks (ls ++ (ms ++ (ns ++ os))) fault a
-      (lines_stopped v w y ls (ms ++ (ns ++ os)) fault b (lines_stopped w x y ms (ns ++ os) fault c (lines_more x y ns os fault h)))
-
-  pub stop_fifth : {u v w x y z : View (Option (List ℕ))} (fault : RunFault) → TookLines u v ks → TookLines v w ls → TookLines w x ms → TookLines x y ns → StoppedLines y z os fault
-      → StoppedLines u z (ks ++ (ls ++ (ms ++ (ns ++ os)))) fault
-  stop_fifth {u} {v} {w} {x} {y} {z} fault a b c d h =
-      lines_stopped u v z ks (ls ++ (ms ++ (ns ++ os))) fault a
-      (lines_stopped v w z ls (ms ++ (ns ++ os)) fault b (lines_stopped w x z ms (ns ++ os) fault c (lines_stopped x y z ns os fault d h)))
-
-  pub took_five : {u v w x y z : View (Option (List ℕ))} → TookLines u v ks → TookLines v w ls → TookLines w x ms → TookLines x y ns → TookLines y z os
-      → TookLines u z (ks ++ (ls ++ (ms ++ (ns ++ os))))
-  took_five {u} {v} {w} {x} {y} {z} a b c d e =
-      lines_lines u v z ks (ls ++ (ms ++ (ns ++ os))) a
-      (lines_lines v w z ls (ms ++ (ns ++ os)) b (lines_lines w x z ms (ns ++ os) c (lines_lines x y z ns os d e)))
+pub summary_pieces : (chosen : List Bool) (records : ℕ) {m n : SummaryNumbers} → m ≡ n → line_pieces (summary_lines chosen records n)
+    ≡ (line_piece (recording_line records n.good n.bad n.rest) ∷ [])
+    ++ (line_pieces (fault_lines m.faults)
+    ++ ((line_piece (master_line m.master_gaps m.master_missing) ∷ [])
+    ++ (line_pieces (channel_lines chosen m.channels)
+    ++ line_pieces (application_lines m.applications))))
+summary_pieces chosen records {m} {n} same = rw same (simp map-append)

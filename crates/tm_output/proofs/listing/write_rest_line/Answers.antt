@@ -1,5 +1,4 @@
-use Rattle.std.proofs.Common.{rules, ◌∙◌, subst, refl}
-use Rattle.tm_devices.specs.Devices.{AppendsPrefix}
+use Rattle.std.proofs.Common.{refl, rules, ◌∙◌}
 use Rattle.tm_output.specs.Outputs.{Took, line_pieces, octets_buffering}
 use Rattle.std.specs.Io.KnownBytes.{Appends}
 use Rattle.tm_output.specs.Listing.{rest_lines}
@@ -10,8 +9,7 @@ use Rattle.tm_output.proofs.listing.write_rest_line.Goals as goal
 pub returns-in_err-write_all-clause-stopped : goal.returns-in_err-write_all-clause-stopped
 returns-in_err-write_all-clause-stopped g c =
     let line = c.as_slice.ensures ∙ c.format_short.ensures in
-    let prefix = subst (AppendsPrefix (g.W.Drain.written c.args.out.now) (g.W.Drain.written c.write_all.new.out)) line c.in_err-write_all.ensures.prefix in
-    let stopped = line_stopped _ {buffering = octets_buffering} prefix c.in_err-write_all.ensures.counts in
+    let stopped = line_stopped _ {buffering = octets_buffering} (rw line at c.in_err-write_all.ensures.prefix) c.in_err-write_all.ensures.counts in
     search (rules, stopped)
 
 pub returns-clause-stopped : goal.returns-clause-stopped

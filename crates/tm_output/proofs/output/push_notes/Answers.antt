@@ -3,12 +3,8 @@ use Rattle.std.specs.Prelude.{slice_get}
 use Rattle.std.proofs.lemmas.List.{drop_more}
 use Rattle.std.proofs.lemmas.Option.{get_or_from_slice_get, slice_get_cases}
 use Rattle.tm_lines.specs.Lines.{note_lines}
-use Rattle.tm_output.proofs.PacketLemmas.{some_notes}
 use Rattle.tm_output.proofs.output.push_notes.Goals.{in-Some+in_default-push_note, in_default}
 use Rattle.tm_output.proofs.output.push_notes.Goals as goal
-
-pub returns-in-Err-clause-memory : goal.returns-in-Err-clause-memory
-returns-in-Err-clause-memory c = some_notes _ _ _ _ c.loop-i.i c.in-Some.note (sym c.get.ensures ∙ c.in-Some.is)
 
 none_past : {X : Type 0} (xs : List X) (i : ℕ) → i < length xs → slice_get xs i ≡ None → ⊥
 none_past xs i within none = grind (arith, slice_get_cases)

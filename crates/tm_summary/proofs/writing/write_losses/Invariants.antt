@@ -1,10 +1,7 @@
 -- The lines of those before are written.
-use Rattle.std.specs.List.{flat_map}
 use Rattle.tm_summary.specs.Lines.{loss_lines_at}
-use Rattle.tm_summary.specs.SummaryNumbers.{below}
-use Rattle.tm_output.specs.Seen.{out_alone}
-use Rattle.tm_summary.proofs.WritingLemmas.{TookLines}
+use Rattle.tm_summary.proofs.WritingLemmas.{TookBelow}
 use Rattle.tm_summary.proofs.writing.write_losses.Given as goal
 
 abbrev pub invariant-loop-place : goal.invariant-loop-place
-invariant-loop-place g l = TookLines (out_alone g.W.Drain l.fn.out) (out_alone g.W.Drain l.out) (flat_map (loss_lines_at l.channel l.losses) (below l.place))
+invariant-loop-place g l = TookBelow g.W.Drain l.fn.out l.out (loss_lines_at l.channel l.losses) l.place

@@ -1,7 +1,6 @@
-use Rattle.std.proofs.Common.{◌≡◌, ◌∙◌, refl, sym, subst, true, rules}
+use Rattle.std.proofs.Common.{◌≡◌, ◌∙◌, refl, sym, true, rules}
 use Rattle.std.specs.Prelude.{◌==◌}
 use Rattle.std.proofs.KnownBytes.{Appends-nil}
-use Rattle.tm_devices.specs.Devices.{AppendsPrefix}
 use Rattle.tm_output.proofs.RowLemmas.{some_tabled, tabled_is}
 use Rattle.tm_output.proofs.outlet.PacketRowsOutlet.write.Goals as goal
 
@@ -11,7 +10,7 @@ returns-in-Err-clause-stopped g c =
     let row =
     tabled_is c.args.self.now.rows.now.fields c.args.self.now.application c.args.packet.now.seen c.args.packet.now.channel c.args.packet.now.first c.args.packet.now.place _ _ c.args.packet.now.octets.now c.write.new.self.row c.args.packet.now.header
     c.requires wanted c.application.ensures.value c.count.ensures.value c.in-Ok.ensures.ok in
-    (c.in-Err.ensures.counts, subst (AppendsPrefix (g.W.Drain.written c.args.self.now.out.now) (g.W.Drain.written c.write_all.new.out)) (c.row.ensures ∙ sym row) c.in-Err.ensures.prefix)
+    (c.in-Err.ensures.counts, rw (c.row.ensures ∙ sym row) at c.in-Err.ensures.prefix)
 
 pub returns-in-Err-NoMemory-clause-stopped : goal.returns-in-Err-NoMemory-clause-stopped
 returns-in-Err-NoMemory-clause-stopped g c =

@@ -1,6 +1,5 @@
+use Rattle.std.proofs.Common.{ap, ◌∙◌}
 use Rattle.tm_packet.specs.Header.{Fields}
-use Rattle.std.proofs.Common.{ap, ◌∙◌, subst}
-use Rattle.tm_devices.specs.Devices.{PutsPrefix}
 use Rattle.tm_output.specs.Shelves.{shelf_buffering, shelved_of}
 use Rattle.tm_output.proofs.ShelfLemmas.{shelf_stopped}
 use Rattle.tm_output.proofs.outlet.PacketShelfOutlet.write.Goals as goal
@@ -9,5 +8,4 @@ pub returns-in-Err-clause-stopped : goal.returns-in-Err-clause-stopped
 unfolding shelved_of
 returns-in-Err-clause-stopped g c =
     let application = c.application.ensures.value ∙ ap (λ (h : Fields). h.application) c.requires in
-    let prefix = subst (λ n. PutsPrefix (g.H.Shelf.kept c.args.self.now.shelf.now) (g.H.Shelf.kept c.put.new.self) n c.args.packet.now.octets.now) application c.in-Err.ensures.prefix in
-    shelf_stopped shelf_buffering _ _ _ _ _ _ prefix c.in-Err.ensures.counts
+    shelf_stopped shelf_buffering _ _ _ _ _ _ (rw application at c.in-Err.ensures.prefix) c.in-Err.ensures.counts

@@ -1,11 +1,7 @@
-use Rattle.std.proofs.Common.{◌++◌, ◌∷◌, [], List, drop, refl, sym, ap, subst, ◌∙◌, arith}
-use Rattle.tm_packet.specs.declared.tracker.Unclosed.{Unclosed}
-use Rattle.tm_packet.specs.Merge.{Entries, next_unclosed_of}
-use Rattle.tm_output.specs.Outputs.{Took}
-use Rattle.tm_output.specs.Pieces.{unclosed_pieces}
-use Rattle.tm_output.specs.Seen.{output_both}
-use Rattle.tm_output.proofs.PieceLemmas.{took_none}
-use Rattle.tm_output.proofs.OpenGroups.{next_open, parted_first, parted_more, parted_all, unclosed_more, unclosed_stopped}
+use Rattle.std.proofs.Common.{◌++◌, ◌∷◌, [], drop, refl, sym, ◌∙◌, arith}
+use Rattle.std.proofs.lemmas.List.{map-append}
+use Rattle.tm_output.proofs.PieceLemmas.{stopped_more, took_none, took_stopped, took_took}
+use Rattle.tm_output.proofs.OpenGroups.{next_open, parted_more, parted_all}
 use Rattle.tm_output.proofs.output.Output.write_all_unclosed.Goals as goal
 
 pub loop-unclosed-init : goal.loop-unclosed-init
@@ -14,43 +10,41 @@ loop-unclosed-init g c = record {
   tracker = refl;
   below = omega arith;
   done = [];
-  parted = parted_first _;
+  parted = record { parts = refl };
   took = took_none g.O.Outlet.grows g.met.O.Outlet.grows_nil g.met.O.Outlet.grows_trans _;
 }
 
 pub loop-unclosed-smaller : goal.loop-unclosed-smaller
 loop-unclosed-smaller g c =
-    let inv = c.loop-unclosed.invariant in
-    let is = sym (c.in-Some.ensures.value ∙ ap (λ (e : Entries). next_unclosed_of e c.loop-unclosed.at) inv.tracker) in
-    let next = next_open c.loop-unclosed.at (drop c.loop-unclosed.at c.args.self.now.tracker.now) c.in-Some.unclosed is in
+    let at = c.loop-unclosed.at in
+    let next = next_open at (drop at c.loop-unclosed.self.tracker.now) c.in-Some.unclosed (sym c.in-Some.ensures.value) in
     omega (arith, next.from, c.in-Some.ensures.below)
 
 pub loop-unclosed-preserved : goal.loop-unclosed-preserved
 loop-unclosed-preserved g c =
     let inv = c.loop-unclosed.invariant in
     let ens = c.in_default-write_unclosed.ensures in
-    let is = sym (c.in-Some.ensures.value ∙ ap (λ (e : Entries). next_unclosed_of e c.loop-unclosed.at) inv.tracker) in
+    let more = parted_more c.loop-unclosed.self.tracker.now inv.done c.loop-unclosed.at c.in-Some.unclosed inv.parted (sym c.in-Some.ensures.value) in
     record {
       same = ens.same ∙ inv.same;
       tracker = ens.tracker ∙ inv.tracker;
       below = omega (arith, c.in-Some.ensures.below);
       done = inv.done ++ c.in-Some.unclosed ∷ [];
-      parted = parted_more c.args.self.now.tracker.now inv.done c.loop-unclosed.at c.in-Some.unclosed inv.parted is;
-      took = unclosed_more g.O.Outlet.grows g.met.O.Outlet.grows_nil g.met.O.Outlet.grows_trans _ _ _
-          c.args.seen inv.done c.in-Some.unclosed inv.took ens.written;
+      parted = rw ens.tracker more;
+      took = rw map-append (took_took g.O.Outlet.grows g.met.O.Outlet.grows_nil g.met.O.Outlet.grows_trans _ _ _ _ _ inv.took ens.written);
     }
 
 pub returns-in-Err-clause-written : goal.returns-in-Err-clause-written
 returns-in-Err-clause-written g c =
     let inv = c.loop-unclosed.invariant in
-    let is = sym (c.in-Some.ensures.value ∙ ap (λ (e : Entries). next_unclosed_of e c.loop-unclosed.at) inv.tracker) in
-    let stopped = c.in-Err.ensures.written in
-    unclosed_stopped g.O.Outlet.grows g.met.O.Outlet.grows_nil g.met.O.Outlet.grows_trans _ _ _
-    c.args.seen inv.done c.in-Some.unclosed inv.took c.args.self.now.tracker.now c.loop-unclosed.at g.O.Outlet.buffering c.in-Err.fault inv.parted is stopped
+    let more = parted_more c.loop-unclosed.self.tracker.now inv.done c.loop-unclosed.at c.in-Some.unclosed inv.parted (sym c.in-Some.ensures.value) in
+    rw (← inv.tracker, more.parts, map-append, map-append)
+    (stopped_more g.O.Outlet.grows g.met.O.Outlet.grows_nil g.met.O.Outlet.grows_trans g.O.Outlet.buffering _ _ _ _ c.in-Err.fault
+    (took_stopped g.O.Outlet.grows g.met.O.Outlet.grows_nil g.met.O.Outlet.grows_trans g.O.Outlet.buffering _ _ _ _ _ inv.took c.in-Err.fault
+    c.in-Err.ensures.written))
 
 pub returns-clause-written : goal.returns-clause-written
 returns-clause-written g c =
     let inv = c.loop-unclosed.invariant in
-    let is = sym (c.in_default.ensures.value ∙ ap (λ (e : Entries). next_unclosed_of e c.loop-unclosed.at) inv.tracker) in
-    subst (λ (us : List Unclosed). Took g.O.Outlet.grows (output_both g.O.Outlet g.V.Drain c.args.self.now) (output_both g.O.Outlet g.V.Drain c.loop-unclosed.self) (unclosed_pieces c.args.seen us))
-    (parted_all c.args.self.now.tracker.now inv.done c.loop-unclosed.at inv.parted is) inv.took
+    let all = parted_all c.loop-unclosed.self.tracker.now inv.done c.loop-unclosed.at inv.parted (sym c.in_default.ensures.value) in
+    rw (← inv.tracker, ← all) inv.took

@@ -13,7 +13,7 @@ invariant-loop-unclosed g l = record {
   tracker : l.self.tracker.now ≡ l.initial.self.tracker.now;
   below : l.at ≤ 16384;
   done : List Unclosed;
-  parted : Parted l.initial.self.tracker.now done l.at;
+  parted : Parted l.self.tracker.now done l.at;
   took : Took g.O.Outlet.grows (output_both g.O.Outlet g.V.Drain l.initial.self) (output_both g.O.Outlet g.V.Drain l.self) (unclosed_pieces l.seen done);
 }
 

@@ -1,5 +1,4 @@
-use Rattle.std.proofs.Common.{◌≡◌, ap, arith, refl, rules, subst, sym, ◌∙◌}
-use Rattle.tm_packet.specs.Merge.{Entries}
+use Rattle.std.proofs.Common.{◌≡◌, arith, refl, rules, subst, sym, ◌∙◌}
 use Rattle.tm_output.specs.Seen.{OutputState, output_state}
 use Rattle.tm_output.specs.code.Packets.{item_with}
 use Rattle.tm_output.specs.code.Sinking.{Takes}
@@ -10,32 +9,28 @@ use Rattle.tm_output.proofs.output.Output.write_first.Goals as goal
 pub returns-in-Ok-clause-accepted : goal.returns-in-Ok-clause-accepted
 returns-in-Ok-clause-accepted g c =
     let s = output_state g.O.Outlet g.V.Drain c.args.self.now in
-    let t = output_state g.O.Outlet g.V.Drain c.write_packet.new.self in
     let same : output_state g.O.Outlet g.V.Drain c.if-can_join.self ≡ s =
     elim c.if-can_join.branch [
       | then-can_join+else-quiet-gt0 w ↦
-          ap (output_state g.O.Outlet g.V.Drain) w.self-is
-          ∙ ap (λ (e : Entries). record { fixture = s.fixture; entries = e; view = s.view })
-          (nothing_noted _ _ _ _ _ _ _ _ w.note_quiet-quiet.ensures (omega (arith, w.if-quiet-gt0.false)))
-      | else-can_join w ↦ ap (output_state g.O.Outlet g.V.Drain) w.self-is
+          rw (w.self-is, nothing_noted _ _ _ _ _ _ _ _ w.note_quiet-quiet.ensures (omega (arith, w.if-quiet-gt0.false))) refl
+      | else-can_join w ↦ rw w.self-is refl
     ] in
-    one_taken g.O.Outlet.grows g.met.O.Outlet.grows_nil g.met.O.Outlet.grows_trans g.met.O.Outlet.grows_split g.O.Outlet.text g.O.Outlet.buffering s t
-    c.args.seen c.args.channel c.args.place c.args.octets.now c.first_packet-packet.result c.requires.some c.first_packet-packet.ensures c.requires.packets
-    (subst (λ (x : OutputState g.O.Outlet.Held g.O.Outlet.Fixed). Takes g.O.Outlet.grows g.O.Outlet.text g.O.Outlet.buffering x (item_with c.first_packet-packet.result) t) same
+    one_taken g.O.Outlet.grows g.met.O.Outlet.grows_nil g.met.O.Outlet.grows_trans g.met.O.Outlet.grows_split g.O.Outlet.text g.O.Outlet.buffering s _
+    c.requires.some c.first_packet-packet.ensures c.requires.packets
+    (subst (λ (x : OutputState g.O.Outlet.Held g.O.Outlet.Fixed). Takes g.O.Outlet.grows g.O.Outlet.text g.O.Outlet.buffering x
+    (item_with c.first_packet-packet.result) (output_state g.O.Outlet g.V.Drain c.write_packet.new.self)) same
     (record { same = c.in-Ok.ensures.same; noted_is = c.in-Ok.ensures.noted; took = c.in-Ok.ensures.written }))
 
 pub returns-in-Ok-true-clause-accepted : goal.returns-in-Ok-true-clause-accepted
 returns-in-Ok-true-clause-accepted g c =
     let whole = c.in-Ok-true.ensures.whole (c.in-Ok-true.ensures.joined ∙ sym c.can_join.ensures ∙ c.if-can_join.true) in
     span_taken g.O.Outlet.grows g.met.O.Outlet.grows_nil g.met.O.Outlet.grows_trans g.met.O.Outlet.grows_split g.O.Outlet.text g.O.Outlet.buffering
-    (output_state g.O.Outlet g.V.Drain c.args.self.now) _
-    c.args.seen c.args.channel c.args.place c.note_quiet-quiet.result c.args.octets.now (λ none. omega (arith, c.if-quiet-gt0.true)) c.note_quiet-quiet.ensures (search rules) refl
+    (output_state g.O.Outlet g.V.Drain c.args.self.now) _ (λ none. omega (arith, c.if-quiet-gt0.true)) c.note_quiet-quiet.ensures (search rules) refl
     (whole.1, refl) whole.0
 
 pub returns-in-Err-clause-refused : goal.returns-in-Err-clause-refused
 returns-in-Err-clause-refused g c =
     let stopped = c.in-Err.ensures.stopped in
     span_stopped g.O.Outlet.grows g.met.O.Outlet.grows_nil g.met.O.Outlet.grows_trans g.met.O.Outlet.grows_split g.O.Outlet.text g.O.Outlet.buffering
-    (output_state g.O.Outlet g.V.Drain c.args.self.now) _
-    c.args.seen c.args.channel c.args.place c.note_quiet-quiet.result c.args.octets.now (λ none. omega (arith, c.if-quiet-gt0.true)) c.note_quiet-quiet.ensures (search rules) refl
+    (output_state g.O.Outlet g.V.Drain c.args.self.now) _ (λ none. omega (arith, c.if-quiet-gt0.true)) c.note_quiet-quiet.ensures (search rules) refl
     stopped.0 refl stopped.1

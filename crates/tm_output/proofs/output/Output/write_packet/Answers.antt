@@ -1,5 +1,4 @@
-use Rattle.std.proofs.Common.{refl, sym, subst}
-use Rattle.std.specs.Io.KnownBytes.{Appends}
+use Rattle.std.proofs.Common.{refl}
 use Rattle.std.proofs.KnownBytes.{Appends-nil}
 use Rattle.tm_output.proofs.PieceLemmas.{stopped_put, took_piece}
 use Rattle.tm_output.proofs.output.Output.write_packet.Goals as goal
@@ -10,7 +9,6 @@ returns-in-Err-clause-written g c =
 
 pub returns-clause-written : goal.returns-clause-written
 returns-clause-written g c =
-    let report = g.V.Drain.written c.args.self.now.report.now in
     let none = c.note_if_quiet.ensures.quiet c.if-not-note_if_quiet.false in
     let whole = c.in_default.ensures.whole in
-    took_piece g.O.Outlet.grows _ _ _ whole.0 (subst (Appends report report) (sym none) (Appends-nil report)) (whole.1, refl)
+    took_piece g.O.Outlet.grows _ _ _ whole.0 (rw none (Appends-nil _)) (whole.1, refl)

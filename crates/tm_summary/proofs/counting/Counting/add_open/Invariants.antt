@@ -2,17 +2,16 @@
 use Rattle.std.proofs.Common.{◌≡◌, ◌≤◌, ◌-◌, List}
 use Rattle.tm_packet.specs.declared.tracker.Unclosed.{Unclosed}
 use Rattle.tm_output.proofs.OpenGroups.{Parted}
-use Rattle.tm_summary.specs.Tallies.{with_open}
+use Rattle.tm_summary.specs.Tallies.{SameReferences, with_open}
 use Rattle.tm_summary.proofs.counting.Counting.add_open.Given as goal
 
 abbrev pub invariant-loop-unclosed : goal.invariant-loop-unclosed
 invariant-loop-unclosed l = record {
-  same_tracker : l.self.tracker.ghost_name ≡ l.initial.self.tracker.ghost_name;
-  same_counts : l.self.counts.ghost_name ≡ l.initial.self.counts.ghost_name;
+  same : SameReferences l.initial.self l.self;
   tracker : l.self.tracker.now ≡ l.initial.self.tracker.now;
   below : l.at ≤ 16384;
   done : List Unclosed;
-  parted : Parted l.initial.self.tracker.now done l.at;
+  parted : Parted l.self.tracker.now done l.at;
   counted : l.self.counts.now ≡ with_open l.initial.self.counts.now done;
 }
 

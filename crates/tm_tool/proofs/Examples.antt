@@ -1,8 +1,7 @@
 -- Worked examples: what the definitions say is written of known recordings.
-use Rattle.std.proofs.Common.{◌≡◌, ℕ, ◌-◌, ◌/◌, ◌%◌, true, false, List, [], ◌∷◌, ◌++◌, take, drop, refl, codes}
+use Rattle.std.proofs.Common.{◌≡◌, ℕ, ◌-◌, ◌/◌, ◌%◌, true, false, List, [], ◌∷◌, ◌++◌, take, drop, refl, codes, replicate}
 use Rattle.std.specs.Fmt.{digits}
 use Rattle.std.specs.List.{concat}
-use Rattle.std.specs.Prelude.{replicate}
 use Rattle.tm_bits.specs.Bits.{bits_of, low_bits, number, part}
 use Rattle.tm_fields.specs.declared.field.DataType.TheVariants.{Uint, Int, Float, Str, Fill}
 use Rattle.tm_fields.specs.declared.field.Field.{Field}
@@ -65,18 +64,6 @@ header count data_length = record {
   data_length = data_length;
 }
 
-two_packets : outs (pieces (text_of Packets) Close (job 24) (0x02 ∷ 0xA0 ∷ 0x00 ∷ 0x00 ∷ 0x18 ∷ 0x00 ∷ (packet 7 0 ++ packet 11 1)))
-    ≡ packet_line 0 0 0 0 (header 0 0) 7 ++ (packet_line 0 0 0 7 (header 1 4) 11 ++ [])
-unfolding pieces records rest_of items after packet_octets listed noted no_entries header layout job fifty_fives packet cut fault_of part number bits_of low_bits
-two_packets = refl
-
-pointer_drop_and_sequence_gap : reports (pieces (text_of Extract) Close (job 24)
-    ((0x02 ∷ 0xA0 ∷ 0x00 ∷ 0x00 ∷ 0x18 ∷ 0x00 ∷ (packet 10 0 ++ cut 0 8 (packet 14 1)))
-    ++ (0x02 ∷ 0xA0 ∷ 0x01 ∷ 0x01 ∷ 0x18 ∷ 0x08 ∷ (fifty_fives 8 ++ packet 10 2))))
-    ≡ drop_line 1 0 0 10 8 reason.Pointer ++ (drop_line 1 0 1 0 8 reason.Pointer ++ ((note_line 1 0 100 (note.Gap 1 2 1) ++ []) ++ []))
-unfolding pieces records rest_of items after packet_octets listed report_of item_line drop_line note_line short_line digits noted notes_of no_entries unclosed_piece layout job fifty_fives packet cut fault_of part number bits_of low_bits
-pointer_drop_and_sequence_gap = refl
-
 -- a frame is missing: of the master channel, and of its own
 before_gap : List (List ℕ)
 before_gap =
@@ -90,18 +77,50 @@ with_gap = concat before_gap ++ (0x02 ∷ 0xA0 ∷ 0x02 ∷ 0x02 ∷ 0x18 ∷ 0x
 behind_master : List ℕ
 behind_master = gap_line 3 0 1 2 1 ++ (drop_line 3 0 2 10 8 reason.Gap ++ (drop_line 3 0 3 0 6 reason.NoStart ++ note_line 3 0 100 (note.Gap 3 4 1)))
 
-frame_gap : reports (pieces (text_of Extract) Close (job 24) with_gap) ≡ master_gap_line 3 1 2 1 ++ behind_master
-unfolding pieces records rest_of items after packet_octets listed report_of item_line master_gap_line gap_line drop_line note_line short_line digits noted notes_of no_entries unclosed_piece layout job fifty_fives packet cut before_gap with_gap behind_master fault_of part number bits_of low_bits
-frame_gap = refl
+record PacketExamples : Type 0 where
+  two_packets : outs (pieces (text_of Packets) Close (job 24) (0x02 ∷ 0xA0 ∷ 0x00 ∷ 0x00 ∷ 0x18 ∷ 0x00 ∷ (packet 7 0 ++ packet 11 1)))
+      ≡ packet_line 0 0 0 0 (header 0 0) 7 ++ (packet_line 0 0 0 7 (header 1 4) 11 ++ [])
+  pointer_drop_and_sequence_gap : reports (pieces (text_of Extract) Close (job 24)
+      ((0x02 ∷ 0xA0 ∷ 0x00 ∷ 0x00 ∷ 0x18 ∷ 0x00 ∷ (packet 10 0 ++ cut 0 8 (packet 14 1)))
+      ++ (0x02 ∷ 0xA0 ∷ 0x01 ∷ 0x01 ∷ 0x18 ∷ 0x08 ∷ (fifty_fives 8 ++ packet 10 2))))
+      ≡ drop_line 1 0 0 10 8 reason.Pointer ++ (drop_line 1 0 1 0 8 reason.Pointer ++ ((note_line 1 0 100 (note.Gap 1 2 1) ++ []) ++ []))
+  two_channels : outs (pieces (text_of Extract) Close (job 24)
+      ((0x02 ∷ 0xA0 ∷ 0x00 ∷ 0x00 ∷ 0x18 ∷ 0x00 ∷ cut 0 18 (packet 26 0))
+      ++ ((0x02 ∷ 0xA2 ∷ 0x01 ∷ 0x00 ∷ 0x18 ∷ 0x00 ∷ cut 0 18 (packet 22 0))
+      ++ ((0x02 ∷ 0xA2 ∷ 0x02 ∷ 0x01 ∷ 0x18 ∷ 0x04 ∷ (cut 18 22 (packet 22 0) ++ packet 14 1))
+      ++ (0x02 ∷ 0xA0 ∷ 0x03 ∷ 0x01 ∷ 0x18 ∷ 0x08 ∷ (cut 18 26 (packet 26 0) ++ packet 10 1))))))
+      ≡ packet 22 0 ++ (packet 14 1 ++ (packet 26 0 ++ packet 10 1))
 
--- from before that frame: all of it; and without the last master channel count, as from an older checkpoint, all but the line of the master channel
-gap_resumed : reports (pieces (text_of Extract) Close (worked (job 24) before_gap) with_gap) ≡ master_gap_line 3 1 2 1 ++ behind_master
-unfolding pieces records rest_of items after packet_octets listed report_of item_line master_gap_line gap_line drop_line note_line short_line digits noted notes_of no_entries unclosed_piece layout job fifty_fives packet cut before_gap with_gap behind_master fault_of part number bits_of low_bits
-gap_resumed = refl
+packet_examples : PacketExamples
+unfolding pieces records rest_of items after packet_octets listed report_of item_line drop_line note_line short_line digits noted notes_of no_entries unclosed_piece header layout job fifty_fives packet cut fault_of part number bits_of low_bits
+packet_examples = assumption
 
-gap_resumed_without : reports (pieces (text_of Extract) Close (work_without_master (worked (job 24) before_gap)) with_gap) ≡ behind_master
+record GapExamples : Type 0 where
+  frame_gap : reports (pieces (text_of Extract) Close (job 24) with_gap) ≡ master_gap_line 3 1 2 1 ++ behind_master
+  -- from before that frame: all of it; and without the last master channel count, as from an older checkpoint, all but the line of the master channel
+  gap_resumed : reports (pieces (text_of Extract) Close (worked (job 24) before_gap) with_gap) ≡ master_gap_line 3 1 2 1 ++ behind_master
+  gap_resumed_without : reports (pieces (text_of Extract) Close (work_without_master (worked (job 24) before_gap)) with_gap) ≡ behind_master
+
+gap_examples : GapExamples
 unfolding pieces records rest_of items after packet_octets listed report_of item_line master_gap_line gap_line drop_line note_line short_line digits noted notes_of no_entries unclosed_piece layout job fifty_fives packet cut before_gap with_gap behind_master fault_of part number bits_of low_bits
-gap_resumed_without = refl
+gap_examples = assumption
+
+record EndExamples : Type 0 where
+  groups : reports (pieces (text_of Extract) Close (job 27)
+      ((0x02 ∷ 0xA0 ∷ 0x00 ∷ 0x00 ∷ 0x18 ∷ 0x00
+      ∷ (0x00 ∷ 0x64 ∷ 0x40 ∷ 0x05 ∷ 0x00 ∷ 0x00 ∷ 0x55 ∷ 0x00 ∷ 0x64 ∷ 0x00 ∷ 0x06 ∷ 0x00 ∷ 0x00 ∷ 0x55 ∷ 0x00 ∷ 0x64 ∷ 0x80 ∷ 0x07 ∷ 0x00 ∷ 0x00 ∷ 0x55 ∷ []))
+      ++ ((0x02 ∷ 0xA0 ∷ 0x01 ∷ 0x01 ∷ 0x18 ∷ 0x00 ∷ (0x00 ∷ 0x64 ∷ 0x40 ∷ 0x08 ∷ 0x00 ∷ 0x00 ∷ 0x55 ∷ packet 14 9))
+      ++ (0x02 ∷ 0xA0 ∷ 0x02 ∷ 0x02 ∷ 0x18 ∷ 0x00 ∷ (0x00 ∷ 0x64 ∷ 0x40 ∷ 0x0A ∷ 0x00 ∷ 0x00 ∷ 0x55 ∷ 0x07 ∷ 0xFF ∷ 0xC0 ∷ 0x00 ∷ 0x00 ∷ 0x07 ∷ fifty_fives 8)))))
+      ≡ (note_line 0 0 100 (note.Whole 5 7) ++ [])
+      ++ ((note_line 1 0 100 (note.Broken 8 8 why.Unsegmented) ++ []) ++ (note_line 3 0 100 (note.Broken 10 10 why.Close) ++ []))
+  short_rest : reports (pieces (text_of Extract) Close (job 24)
+      ((0x02 ∷ 0xA0 ∷ 0x00 ∷ 0x00 ∷ 0x18 ∷ 0x00 ∷ cut 0 18 (packet 26 0))
+      ++ ((0x02 ∷ 0xA2 ∷ 0x01 ∷ 0x00 ∷ 0x18 ∷ 0x00 ∷ cut 0 18 (packet 22 0)) ++ replicate 10 0)))
+      ≡ short_line 2 10 ++ (drop_line 2 0 0 0 18 reason.Close ++ (drop_line 2 1 1 0 18 reason.Close ++ []))
+
+end_examples : EndExamples
+unfolding pieces records rest_of items after packet_octets listed report_of item_line drop_line note_line short_line digits noted notes_of no_entries unclosed_piece header layout job fifty_fives packet cut fault_of part number bits_of low_bits
+end_examples = assumption
 
 -- stopped behind each of the three, and resumed through checkpoints of the versions 1, 3 and 2: for one run just that line is
 -- left out
@@ -118,44 +137,15 @@ mixed_follows = (
   (refl, (refl, (refl, tt))),
 )
 
-mixed_lost : lost_gaps (job 24).rules with_gap 0 mixed_stops ≡ 1 ∷ 3 ∷ []
-unfolding records layout job fifty_fives packet cut before_gap with_gap mixed_stops fault_of part number bits_of low_bits
-mixed_lost = refl
+record StopExamples : Type 0 where
+  mixed_lost : lost_gaps (job 24).rules with_gap 0 mixed_stops ≡ 1 ∷ 3 ∷ []
+  mixed_one_run : reports (run_pieces_without_gaps (head_pieces Extract) (text_of Extract) (1 ∷ 3 ∷ []) Close (new_job (job 24).rules) with_gap) ≡ behind_master
+  -- so the runs themselves, with their checkpoints
+  mixed_runs : reports (resumed_pieces (head_pieces Extract) (text_of Extract) Close with_gap (job 24).rules (new_job (job 24).rules) mixed_stops) ≡ behind_master
 
-mixed_one_run : reports (run_pieces_without_gaps (head_pieces Extract) (text_of Extract) (1 ∷ 3 ∷ []) Close (new_job (job 24).rules) with_gap) ≡ behind_master
-unfolding run_pieces_without_gaps records rest_of items after packet_octets listed report_of item_line master_gap_line gap_line drop_line note_line short_line digits noted notes_of no_entries unclosed_piece layout job fifty_fives packet cut before_gap with_gap behind_master fault_of part number bits_of low_bits
-mixed_one_run = refl
-
--- so the runs themselves, with their checkpoints
-mixed_runs : reports (resumed_pieces (head_pieces Extract) (text_of Extract) Close with_gap (job 24).rules (new_job (job 24).rules) mixed_stops) ≡ behind_master
-unfolding resumed version_in spelled_in mixed_stops pieces state_of block_read blocks_read master_read state_decoding_of old_decoding_of error_control_of long_division subtract records rest_of items after packet_octets listed report_of item_line master_gap_line gap_line drop_line note_line short_line digits noted notes_of no_entries unclosed_piece layout job fifty_fives packet cut before_gap with_gap behind_master fault_of part number bits_of low_bits
-mixed_runs = refl
-
-groups : reports (pieces (text_of Extract) Close (job 27)
-    ((0x02 ∷ 0xA0 ∷ 0x00 ∷ 0x00 ∷ 0x18 ∷ 0x00
-    ∷ (0x00 ∷ 0x64 ∷ 0x40 ∷ 0x05 ∷ 0x00 ∷ 0x00 ∷ 0x55 ∷ 0x00 ∷ 0x64 ∷ 0x00 ∷ 0x06 ∷ 0x00 ∷ 0x00 ∷ 0x55 ∷ 0x00 ∷ 0x64 ∷ 0x80 ∷ 0x07 ∷ 0x00 ∷ 0x00 ∷ 0x55 ∷ []))
-    ++ ((0x02 ∷ 0xA0 ∷ 0x01 ∷ 0x01 ∷ 0x18 ∷ 0x00 ∷ (0x00 ∷ 0x64 ∷ 0x40 ∷ 0x08 ∷ 0x00 ∷ 0x00 ∷ 0x55 ∷ packet 14 9))
-    ++ (0x02 ∷ 0xA0 ∷ 0x02 ∷ 0x02 ∷ 0x18 ∷ 0x00 ∷ (0x00 ∷ 0x64 ∷ 0x40 ∷ 0x0A ∷ 0x00 ∷ 0x00 ∷ 0x55 ∷ 0x07 ∷ 0xFF ∷ 0xC0 ∷ 0x00 ∷ 0x00 ∷ 0x07 ∷ fifty_fives 8)))))
-    ≡ (note_line 0 0 100 (note.Whole 5 7) ++ [])
-    ++ ((note_line 1 0 100 (note.Broken 8 8 why.Unsegmented) ++ []) ++ (note_line 3 0 100 (note.Broken 10 10 why.Close) ++ []))
-unfolding pieces records rest_of items after packet_octets listed report_of item_line drop_line note_line short_line digits noted notes_of no_entries unclosed_piece layout job fifty_fives packet cut fault_of part number bits_of low_bits
-groups = refl
-
-short_rest : reports (pieces (text_of Extract) Close (job 24)
-    ((0x02 ∷ 0xA0 ∷ 0x00 ∷ 0x00 ∷ 0x18 ∷ 0x00 ∷ cut 0 18 (packet 26 0))
-    ++ ((0x02 ∷ 0xA2 ∷ 0x01 ∷ 0x00 ∷ 0x18 ∷ 0x00 ∷ cut 0 18 (packet 22 0)) ++ replicate 10 0)))
-    ≡ short_line 2 10 ++ (drop_line 2 0 0 0 18 reason.Close ++ (drop_line 2 1 1 0 18 reason.Close ++ []))
-unfolding pieces records rest_of items after packet_octets listed report_of item_line drop_line note_line short_line digits noted notes_of no_entries unclosed_piece layout job fifty_fives packet cut fault_of part number bits_of low_bits
-short_rest = refl
-
-two_channels : outs (pieces (text_of Extract) Close (job 24)
-    ((0x02 ∷ 0xA0 ∷ 0x00 ∷ 0x00 ∷ 0x18 ∷ 0x00 ∷ cut 0 18 (packet 26 0))
-    ++ ((0x02 ∷ 0xA2 ∷ 0x01 ∷ 0x00 ∷ 0x18 ∷ 0x00 ∷ cut 0 18 (packet 22 0))
-    ++ ((0x02 ∷ 0xA2 ∷ 0x02 ∷ 0x01 ∷ 0x18 ∷ 0x04 ∷ (cut 18 22 (packet 22 0) ++ packet 14 1))
-    ++ (0x02 ∷ 0xA0 ∷ 0x03 ∷ 0x01 ∷ 0x18 ∷ 0x08 ∷ (cut 18 26 (packet 26 0) ++ packet 10 1))))))
-    ≡ packet 22 0 ++ (packet 14 1 ++ (packet 26 0 ++ packet 10 1))
-unfolding pieces records rest_of items after packet_octets listed noted no_entries layout job fifty_fives packet cut fault_of part number bits_of low_bits
-two_channels = refl
+stop_examples : StopExamples
+unfolding run_pieces_without_gaps resumed version_in spelled_in mixed_stops pieces state_of block_read blocks_read master_read state_decoding_of old_decoding_of error_control_of long_division subtract records rest_of items after packet_octets listed report_of item_line master_gap_line gap_line drop_line note_line short_line digits noted notes_of no_entries unclosed_piece layout job fifty_fives packet cut before_gap with_gap behind_master fault_of part number bits_of low_bits
+stop_examples = assumption
 
 -- ---- rows of fields
 
@@ -172,17 +162,14 @@ one_packet =
     0x02 ∷ 0xA0 ∷ 0x00 ∷ 0x00 ∷ 0x18 ∷ 0x00
     ∷ 0x00 ∷ 0x64 ∷ 0xC0 ∷ 0x00 ∷ 0x00 ∷ 0x09 ∷ 0x07 ∷ 0xFF ∷ 0xF0 ∷ 0x61 ∷ 0x2C ∷ 0x62 ∷ 0x3F ∷ 0x80 ∷ 0x00 ∷ 0x00 ∷ []
 
-head_and_row : outs (rows_head five_fields true ++ pieces (rows_text five_fields 100) Close (job 22) one_packet)
-    ≡ head_of five_fields ++ (row_of five_fields (record { seen = 0; channel = 0; application = 100; count = 0 }) (drop 6 one_packet) ++ [])
-unfolding pieces records rest_of items after tabled noted no_entries layout job five_fields one_packet fault_of part number bits_of low_bits
-head_and_row = refl
+record RowExamples : Type 0 where
+  head_and_row : outs (rows_head five_fields true ++ pieces (rows_text five_fields 100) Close (job 22) one_packet)
+      ≡ head_of five_fields ++ (row_of five_fields (record { seen = 0; channel = 0; application = 100; count = 0 }) (drop 6 one_packet) ++ [])
+  other_application : outs (rows_head five_fields true ++ pieces (rows_text five_fields 101) Close (job 22) one_packet)
+      ≡ head_of five_fields ++ []
+  one_bit_short : reports (pieces (rows_text (record { name = codes "EXTRA"; data_type = Uint; begin = 128; length = 1 } ∷ five_fields) 100) Close (job 22) one_packet)
+      ≡ short_packet_line 0 0 0 0 129 128
 
-other_application : outs (rows_head five_fields true ++ pieces (rows_text five_fields 101) Close (job 22) one_packet)
-    ≡ head_of five_fields ++ []
-unfolding pieces records rest_of items after tabled noted no_entries layout job five_fields one_packet fault_of part number bits_of low_bits
-other_application = refl
-
-one_bit_short : reports (pieces (rows_text (record { name = codes "EXTRA"; data_type = Uint; begin = 128; length = 1 } ∷ five_fields) 100) Close (job 22) one_packet)
-    ≡ short_packet_line 0 0 0 0 129 128
-unfolding pieces records rest_of items after too_short report_of item_line short_packet_line noted notes_of no_entries unclosed_piece layout job five_fields one_packet fault_of part number bits_of low_bits digits
-one_bit_short = refl
+row_examples : RowExamples
+unfolding pieces records rest_of items after tabled too_short report_of item_line short_packet_line noted notes_of no_entries unclosed_piece layout job five_fields one_packet fault_of part number bits_of low_bits digits
+row_examples = assumption

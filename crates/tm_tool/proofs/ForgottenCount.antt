@@ -1,10 +1,8 @@
 -- What a work's pieces lack without its last master channel count: the gap of the master channel that the first good frame has.
 use Rattle.std.proofs.Common.{◌≡◌, ⊎_elim, ℕ, ◌+◌, Ok, Err, Option, List, [], ◌∷◌, ◌++◌, length, refl, sym, ap, ◌∙◌, append_assoc, append-nil}
-use Rattle.std.specs.Prelude.{⊤}
 use Rattle.tm_frame.specs.Layout.{record_length_of}
 use Rattle.tm_items.specs.Item.{Item, Bad, MasterGap}
-use Rattle.tm_reassembly.specs.OlderForms as forgotten
-use Rattle.tm_reassembly.specs.OlderForms.{leading_bad_items, first_master_gap, LacksFirstGap}
+use Rattle.tm_reassembly.specs.OlderForms.{leading_bad_items, first_master_gap, without_master}
 use Rattle.tm_reassembly.specs.Items.{master_gap_item}
 use Rattle.tm_reassembly.specs.Chain.{master_member}
 use Rattle.tm_reassembly.specs.Readings.{Reading}
@@ -12,27 +10,24 @@ use Rattle.tm_reassembly.specs.Recording.{readings}
 use Rattle.tm_reassembly.proofs.Each.{Each}
 use Rattle.tm_reassembly.proofs.Joining.{gap-each}
 use Rattle.tm_reassembly.proofs.OlderForms.{items-lack, states-meet}
-use Rattle.tm_output.specs.declared.command.Command.{Command}
 use Rattle.tm_output.specs.declared.command.Ending.{Ending}
 use Rattle.tm_output.specs.declared.command.Ending.TheVariants.{Close}
 use Rattle.tm_checkpoint.specs.Checkpoints.{work_without_master}
 use Rattle.tm_tool.specs.OlderVersions.{LacksGapLine, report_line_pieces}
-use Rattle.tm_output.specs.code.Outlets.{GivesNone, no_text}
+use Rattle.tm_output.specs.code.Outlets.{GivesNone}
 use Rattle.tm_output.specs.Outputs.{Piece}
 use Rattle.tm_packet.specs.Merge.{Entries}
-use Rattle.tm_output.specs.Pieces.{HasLine, Texts, item_line, noted, noted_all, piece_of, pieces_of, report_of, text_of}
+use Rattle.tm_output.specs.Pieces.{HasLine, Texts, item_line, noted, noted_all, piece_of, pieces_of, report_of}
 use Rattle.tm_checkpoint.specs.Works.{Work}
 use Rattle.tm_tool.specs.RecordingPieces.{records_for, end_pieces, further, items_of, pieces, record_pieces, worked}
 use Rattle.tm_output.specs.Records.{rest_of}
-use Rattle.tm_output.specs.Shelves.{shelf_text}
-use Rattle.tm_output.specs.code.ShelfLaws.{no_shelf}
 use Rattle.tm_tool.proofs.Running.{IsValid, noted-append}
 
 -- ---- items that are a line for the report, and nothing else
 
 abbrev OnlyLine : Item → Type 0
-OnlyLine (Bad seen fault) = ⊤
-OnlyLine (MasterGap seen expected found missing) = ⊤
+OnlyLine (Bad seen fault) = Unit {0}
+OnlyLine (MasterGap seen expected found missing) = Unit {0}
 OnlyLine _ = ⊥
 
 bad-lines : (number : ℕ) (rs : List Reading) → Each OnlyLine (leading_bad_items number rs)
@@ -75,17 +70,13 @@ module _ (w : Work) (rs : List (List ℕ)) (valid : IsValid w) where
   gap-are : Each OnlyLine gap
   gap-are = gap-lines w.state.master w.state.records (readings w.rules.layout rs)
 
-  -- the items of records from a work, and from it without its last master channel count
-  lacks_item : LacksFirstGap w.state (readings w.rules.layout rs) (items_of w rs) (items_of (work_without_master w) rs)
-  lacks_item = items-lack w.rules w.state rs valid
-
-  states_same : forgotten.without_master (worked w rs).state ≡ forgotten.without_master (worked (work_without_master w) rs).state
+  states_same : without_master (worked w rs).state ≡ without_master (worked (work_without_master w) rs).state
   states_same =
-      ⊎_elim (λ e. sym (ap forgotten.without_master e)) (λ e. sym (ap forgotten.without_master e.0)) (states-meet w.rules w.state rs valid)
+      ⊎_elim (λ e. sym (ap without_master e)) (λ e. sym (ap without_master e.0)) (states-meet w.rules w.state rs valid)
 
   entries_same : noted_all w.entries (items_of w rs) ≡ noted_all w.entries (items_of (work_without_master w) rs)
   entries_same =
-      let h = lacks_item in
+      let h = items-lack w.rules w.state rs valid in
       ap (noted_all w.entries) h.all_is
       ∙ lines-first w.entries bad (gap ++ h.back) bad-are ∙ lines-first w.entries gap h.back gap-are
       ∙ sym (ap (noted_all w.entries) h.fewer_is ∙ lines-first w.entries bad h.back bad-are)
@@ -119,38 +110,27 @@ module _ {A : Type 0} (text : Texts A) (none : (x : Item) → HasLine x → Give
   lines-are : (entries : Entries) (xs ys : List Item) → Each OnlyLine xs → pieces_of text entries (xs ++ ys) ≡ report_line_pieces xs ++ pieces_of text entries ys
   lines-are entries [] ys h = refl
   lines-are entries (x ∷ xs) ys h =
-      ap (λ (e : Entries). piece_of text entries x ∷ pieces_of text e (xs ++ ys)) (one-noted entries x h.0)
-      ∙ ap (λ (p : Piece A). p ∷ pieces_of text entries (xs ++ ys)) (line_piece entries x h.0)
-      ∙ ap (λ (ps : List (Piece A)). record { out = []; report = item_line x } ∷ ps) (lines-are entries xs ys h.1)
+      rw (one-noted entries x h.0, lines-are entries xs ys h.1)
+      (ap (λ (p : Piece A). p ∷ (report_line_pieces xs ++ pieces_of text entries ys)) (line_piece entries x h.0))
 
-  lacks_gap : (ending : Ending) (w : Work) (recording : List ℕ) → IsValid w
+  pub lacks_gap : (ending : Ending) (w : Work) (recording : List ℕ) → IsValid w
       → LacksGapLine w (records_for ending (further w recording)) (pieces text ending w recording) (pieces text ending (work_without_master w) recording)
   unfolding pieces
   lacks_gap ending w recording valid =
       let rs : List (List ℕ) = records_for ending (further w recording) in
       let rest : ℕ = length (rest_of (record_length_of w.rules.layout) recording) in
-      let h = lacks_item w rs valid in
+      let h = items-lack w.rules w.state rs valid in
       let end : List (Piece A) = end_pieces text ending (worked w rs) rest in
       let fore : List (Piece A) = report_line_pieces (bad w rs valid) in
       let line : List (Piece A) = report_line_pieces (gap w rs valid) in
       let back : List (Piece A) = pieces_of text w.entries h.back in
       let all : record_pieces text w rs ≡ fore ++ (line ++ back) =
-      ap (pieces_of text w.entries) h.all_is
-      ∙ lines-are w.entries (bad w rs valid) (gap w rs valid ++ h.back) (bad-are w rs valid)
+      ap (pieces_of text w.entries) h.all_is ∙ lines-are w.entries (bad w rs valid) (gap w rs valid ++ h.back) (bad-are w rs valid)
       ∙ ap (λ (ps : List (Piece A)). fore ++ ps) (lines-are w.entries (gap w rs valid) h.back (gap-are w rs valid)) in
       let some : record_pieces text (work_without_master w) rs ≡ fore ++ back =
       ap (pieces_of text w.entries) h.fewer_is ∙ lines-are w.entries (bad w rs valid) h.back (bad-are w rs valid) in
       record {
         back = back ++ end;
-        all_is = ap (λ (ps : List (Piece A)). ps ++ end) all ∙ append_assoc fore (line ++ back) end ∙ ap (λ (ps : List (Piece A)). fore ++ ps) (append_assoc line back end);
-        fewer_is = ap (λ (ps : List (Piece A)). record_pieces text (work_without_master w) rs ++ ps) (ends_same text ending w rs rest valid)
-            ∙ ap (λ (ps : List (Piece A)). ps ++ end) some ∙ append_assoc fore back end;
+        all_is = rw (all, append_assoc fore (line ++ back) end, append_assoc line back end) refl;
+        fewer_is = rw (ends_same text ending w rs rest valid, some, append_assoc fore back end) refl;
       }
-
-pub command_lacks : (command : Command) (ending : Ending) (w : Work) (recording : List ℕ) → IsValid w
-    → LacksGapLine w (records_for ending (further w recording)) (pieces (text_of command) ending w recording) (pieces (text_of command) ending (work_without_master w) recording)
-command_lacks command ending w recording valid = lacks_gap (text_of command) (no_text command) ending w recording valid
-
-pub shelf_lacks : (ending : Ending) (w : Work) (recording : List ℕ) → IsValid w
-    → LacksGapLine w (records_for ending (further w recording)) (pieces shelf_text ending w recording) (pieces shelf_text ending (work_without_master w) recording)
-shelf_lacks ending w recording valid = lacks_gap shelf_text no_shelf ending w recording valid

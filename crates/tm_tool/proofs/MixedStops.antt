@@ -1,44 +1,91 @@
 -- Runs that are stopped and resumed, each through a checkpoint of its own version, write what one run writes, but for the gaps that are lost.
-use Rattle.std.proofs.Common.{◌≡◌, ⊎_elim, ◌<◌, ◌≤◌, ◌+◌, ◌^◌, ℕ, suc, if◌then◌else◌, Bool, true, false, List, [], ◌∷◌, ◌++◌, length, drop, refl, sym, ap, subst, ◌∙◌, append_assoc, append-nil, length-append, arith, Ok, Err}
-use Rattle.std.specs.Prelude.{◌==◌, ◌||◌, ◌&&◌, not, Result}
+use Rattle.std.proofs.Common.{◌≡◌, ⊎_elim, ◌<◌, ◌≤◌, ◌+◌, ◌^◌, ℕ, suc, if◌then◌else◌, Bool, true, false, List, [], ◌∷◌, ◌++◌, length, drop, refl, sym, ap, subst, ◌∙◌, append_assoc, append-nil, length-append, arith, Ok, Err, ◌==◌, ◌||◌, ◌&&◌, not, ◌-◌, take, length-take, take-append-drop}
 use Rattle.std.specs.List.{list_any}
-use Rattle.std.proofs.lemmas.Bool.{cases_Bool, cond-true, cond-false, ne_eqb}
+use Rattle.std.proofs.lemmas.Bool.{cases_Bool, ne_eqb}
 use Rattle.std.proofs.lemmas.List.{length-map}
 use Rattle.std.proofs.lemmas.List.Sums.{sum_by-cons}
-use Rattle.std.proofs.Math.Seq.{drop-append_seam}
+use Rattle.std.proofs.Math.Seq.{drop-append_seam, take-append_seam}
 use Rattle.tm_frame.specs.Fault.{frame_reading_of}
 use Rattle.tm_frame.specs.Layout.{record_length_of}
-use Rattle.tm_packet.specs.Merge.{Entries}
+use Rattle.tm_packet.specs.Merge.{Entries, no_entries}
 use Rattle.tm_items.specs.Among.{is_master_gap}
 use Rattle.tm_items.specs.Item.{Item, MasterGap, seen_of}
-use Rattle.tm_frame.specs.Rules.{Rules}
+use Rattle.tm_frame.specs.Rules.{IsLimit, Rules, chooses}
+use Rattle.tm_reassembly.specs.Items.{empty}
 use Rattle.tm_reassembly.specs.OlderForms.{without_master, first_good_record, is_gap_at, without_gaps_at}
 use Rattle.tm_reassembly.specs.Readings.{Reading}
 use Rattle.tm_reassembly.specs.Recording.{readings}
 use Rattle.tm_reassembly.specs.State.{State}
-use Rattle.tm_reassembly.specs.Valid.{AllOctets, IsValidState}
+use Rattle.tm_reassembly.specs.Valid.{AllOctets, HasShape, IsValidState}
 use Rattle.tm_reassembly.proofs.Each.{Each, Each-append, Each-weaken}
 use Rattle.tm_reassembly.proofs.WithoutGaps.{and-false, without-append, without-but, without-no, without-none}
 use Rattle.tm_reassembly.proofs.OlderForms.{without-first, few-left-out, items-within}
 use Rattle.tm_reassembly.proofs.Raw.{items-join}
-use Rattle.tm_faults.specs.declared.fault.CheckpointFault.{CheckpointFault}
 use Rattle.tm_output.specs.declared.command.Ending.{Ending}
-use Rattle.tm_output.specs.declared.command.Ending.TheVariants.{Close}
+use Rattle.tm_output.specs.declared.command.Ending.TheVariants.{Close, StopAfter}
 use Rattle.tm_output.specs.Outputs.{Piece}
-use Rattle.tm_output.specs.Pieces.{Texts, noted, piece_of, pieces_of}
+use Rattle.tm_output.specs.Pieces.{Texts, noted, pieces_of}
 use Rattle.tm_output.specs.Records.{records, rest_of}
 use Rattle.tm_checkpoint.specs.declared.version.Version.{Version}
-use Rattle.tm_checkpoint.specs.declared.version.Version.TheVariants.{One, Two, Three}
-use Rattle.tm_checkpoint.specs.Checkpoints.{form_of, kept_in, kept_state, resumed, spelled_in, work_without_master}
-use Rattle.tm_checkpoint.specs.Works.{IsWork, JobState, Work}
+use Rattle.tm_checkpoint.specs.declared.version.Version.TheVariants.{Three}
+use Rattle.tm_checkpoint.specs.Checkpoints.{form_of, kept_in, kept_state, resumed, spelled_in, work_without_master, tells}
+use Rattle.tm_checkpoint.specs.Works.{IsWork, JobState, Work, new_job}
 use Rattle.tm_checkpoint.proofs.CheckpointLemmas.{older_again}
 use Rattle.tm_tool.specs.LostGaps.{AllTell, lost_gaps, done_at, lost_gap_at, older_count, item_pieces_without_gaps, run_pieces_without_gaps}
 use Rattle.tm_tool.specs.RecordingPieces.{records_for, end_pieces, further, items_of, pieces, record_pieces, worked}
-use Rattle.tm_tool.specs.Resuming.{Follows, KeepsJob, Stop, done_after, done_in_all, in_one, work_left, resumed_pieces, run_pieces, then_pieces}
+use Rattle.tm_tool.specs.Resuming.{Follows, KeepsJob, Stop, done_after, done_in_all, in_one, work_left, resumed_pieces, run_pieces, AllOfToday}
 use Rattle.tm_tool.proofs.ForgottenCount.{ends_same}
 use Rattle.tm_tool.proofs.Running.{IsValid, pieces-append, records-counted, worked-append}
-use Rattle.tm_tool.proofs.Stops.{records_for-counted, records_for_all, taken, whole}
-use Rattle.tm_tool.proofs.WorkValid.{worked-work}
+use Rattle.tm_tool.proofs.WorkValid.{begun-work, worked-work}
+
+-- ---- the records that are taken at stops
+
+-- how many records an ending takes
+pub records_for-counted : (ending : Ending) (done more : List (List ℕ)) → length (done ++ records_for ending more) ≡ done_after ending (length done) (length (done ++ more))
+records_for-counted (StopAfter n) done more =
+    let left : length (done ++ more) - length done ≡ length more = omega (arith, length-append done more) in
+    rw (length-append done (take n more), length-take n more, left) refl
+records_for-counted _ done more = refl
+
+-- what an ending takes comes first, and a closed end takes all
+records_for-front : (ending : Ending) (more : List (List ℕ)) → (others : List (List ℕ)) × (more ≡ records_for ending more ++ others) × (ending ≡ Close → others ≡ [])
+records_for-front (StopAfter n) more = (drop n more, sym (take-append-drop n more), λ (e : StopAfter n ≡ Close). cc)
+records_for-front _ more = ([], sym (append-nil more), λ e. refl)
+
+module _ (size : ℕ) (ending : Ending) (last : List ℕ) where
+  -- the records that are taken behind those that are done
+  abbrev pub taken : (done : List (List ℕ)) (stops : List Stop) → Follows size last done stops → List (List ℕ)
+  taken done [] (more, is) = records_for ending more
+  taken done (stop ∷ stops) (more, is, keeps, rest) = records_for stop.ending more ++ taken (done ++ records_for stop.ending more) stops rest
+
+  -- the last recording begins with the records that are done, and with all that are taken; a closed end takes all of them
+  pub whole : (done : List (List ℕ)) (stops : List Stop) (h : Follows size last done stops)
+      → (others : List (List ℕ)) × (records size last ≡ (done ++ taken done stops h) ++ others) × (ending ≡ Close → others ≡ [])
+  whole done [] (more, is) =
+      let (others, split, all) = records_for-front ending more in
+      (others, is ∙ ap (λ (l : List (List ℕ)). done ++ l) split ∙ sym (append_assoc done (records_for ending more) others), all)
+  whole done (stop ∷ stops) (more, is, keeps, rest) =
+      let (others, split, all) = whole (done ++ records_for stop.ending more) stops rest in
+      (others, simp append_assoc (simp append_assoc at split), all)
+
+  -- how many they are
+  counted : (done : List (List ℕ)) (stops : List Stop) (h : Follows size last done stops)
+      → done_in_all size ending last (length done) stops ≡ length (done ++ taken done stops h)
+  counted done [] (more, is) = rw is (sym (records_for-counted ending done more))
+  counted done (stop ∷ stops) (more, is, keeps, rest) =
+      let here : done_after stop.ending (length done) (length (records size stop.recording)) ≡ length (done ++ records_for stop.ending more) =
+      rw is (sym (records_for-counted stop.ending done more)) in
+      rw (here, counted (done ++ records_for stop.ending more) stops rest, append_assoc done (records_for stop.ending more) (taken (done ++ records_for stop.ending more) stops rest)) refl
+
+-- all of them, in one run
+pub records_for_all : (size : ℕ) (ending : Ending) (last : List ℕ) (stops : List Stop) (h : Follows size last [] stops)
+    → records_for (in_one ending (done_in_all size ending last 0 stops)) (records size last) ≡ taken size ending last [] stops h
+records_for_all size Close last stops h =
+    let (others, split, all) = whole size Close last [] stops h in
+    rw (split, all refl) (append-nil (taken size Close last [] stops h))
+records_for_all size ending last stops h =
+    let (others, split, all) = whole size ending last [] stops h in
+    rw (split, counted size ending last [] stops h) (take-append_seam (taken size ending last [] stops h) others)
 
 -- ---- items but for gaps
 
@@ -77,46 +124,29 @@ gap-noted lost entries x e = absurd (cc)
 pub without-pieces : {A : Type 0} (text : Texts A) (lost : List ℕ) (entries : Entries) (xs : List Item)
     → item_pieces_without_gaps text lost entries xs ≡ pieces_of text entries (without_gaps_at lost xs)
 without-pieces text lost entries [] = refl
-without-pieces {A} text lost entries (x ∷ xs) =
-    let rest : List (Piece A) = item_pieces_without_gaps text lost (noted entries x) xs in
-    ⊎_elim
-    (λ e.
-    ap (λ (ps : List (Piece A)). ps ++ rest) (cond-true (is_gap_at lost x) [] (piece_of text entries x ∷ []) e)
-    ∙ without-pieces text lost (noted entries x) xs
-    ∙ ap (λ (f : Entries). pieces_of text f (without_gaps_at lost xs)) (gap-noted lost entries x e)
-    ∙ sym (ap (pieces_of text entries) (cond-false (not (is_gap_at lost x)) (x ∷ without_gaps_at lost xs) (without_gaps_at lost xs) (ap not e))))
-    (λ e.
-    ap (λ (ps : List (Piece A)). ps ++ rest) (cond-false (is_gap_at lost x) [] (piece_of text entries x ∷ []) e)
-    ∙ ap (λ (ps : List (Piece A)). piece_of text entries x ∷ ps) (without-pieces text lost (noted entries x) xs)
-    ∙ sym (ap (pieces_of text entries) (cond-true (not (is_gap_at lost x)) (x ∷ without_gaps_at lost xs) (without_gaps_at lost xs) (ap not e))))
-    (cases_Bool (is_gap_at lost x))
+without-pieces text lost entries (x ∷ xs) =
+    ⊎_elim (λ (e : is_gap_at lost x ≡ true). rw (e, without-pieces text lost (noted entries x) xs, gap-noted lost entries x e) refl)
+    (λ (e : is_gap_at lost x ≡ false). rw (e, without-pieces text lost (noted entries x) xs) refl) (cases_Bool (is_gap_at lost x))
 
 -- ---- the work that a version keeps
 
 without-state : (rules : Rules) (s : State) → IsValidState rules s → IsValidState rules (without_master s)
-without-state rules s v = record {
-  limit = v.limit;
-  records = v.records;
-  master = tt;
-  shape = record { eight_channels = v.shape.eight_channels; only_chosen = v.shape.only_chosen; tails = v.shape.tails };
-  counts = v.counts;
-  within = v.within;
-}
+without-state rules s v =
+    let shape : HasShape rules.max_packet (chooses rules) (without_master s) =
+    record { eight_channels = v.shape.eight_channels; only_chosen = v.shape.only_chosen; tails = v.shape.tails } in
+    record { limit = v.limit; records = v.records; master = tt; shape = shape; counts = v.counts; within = v.within }
 
 kept-work : (v : Version) (w : Work) → IsWork w → IsWork (kept_in v w)
 kept-work Three w h = h
-kept-work One w h = record { eight = h.eight; state = without-state w.rules w.state h.state; entries = h.entries }
-kept-work Two w h = record { eight = h.eight; state = without-state w.rules w.state h.state; entries = h.entries }
+kept-work _ w h = record { eight = h.eight; state = without-state w.rules w.state h.state; entries = h.entries }
 
 kept-counted : (v : Version) (s : State) → (kept_state v s).records ≡ s.records
-kept-counted One s = refl
-kept-counted Two s = refl
 kept-counted Three s = refl
+kept-counted _ s = refl
 
 lost-from : (settings : Rules) (last : List ℕ) (v : Version) (done : ℕ) → AllFrom done (lost_gap_at settings last v done)
 lost-from settings last Three done = tt
-lost-from settings last One done = good-from done (readings settings.layout (drop done (records (record_length_of settings.layout) last)))
-lost-from settings last Two done = good-from done (readings settings.layout (drop done (records (record_length_of settings.layout) last)))
+lost-from settings last _ done = good-from done (readings settings.layout (drop done (records (record_length_of settings.layout) last)))
 
 -- what it gives of items
 module _ (w : Work) (valid : IsValid w) (last : List ℕ) (done : ℕ) (count : w.state.records ≡ done) (t others : List (List ℕ))
@@ -130,14 +160,12 @@ module _ (w : Work) (valid : IsValid w) (last : List ℕ) (done : ℕ) (count : 
 
   items-kept : (v : Version) → items_of (kept_in v w) t ≡ without_gaps_at (lost_gap_at w.rules last v done) (items_of w t)
   items-kept Three = sym (without-no (items_of w t))
-  items-kept One = without-lost
-  items-kept Two = without-lost
+  items-kept _ = without-lost
 
 ends-kept : {A : Type 0} (text : Texts A) (ending : Ending) (v : Version) (w : Work) (t : List (List ℕ)) (rest : ℕ) → IsValid w
     → end_pieces text ending (worked (kept_in v w) t) rest ≡ end_pieces text ending (worked w t) rest
 ends-kept text ending Three w t rest valid = refl
-ends-kept text ending One w t rest valid = ends_same text ending w t rest valid
-ends-kept text ending Two w t rest valid = ends_same text ending w t rest valid
+ends-kept text ending _ w t rest valid = ends_same text ending w t rest valid
 
 -- ---- all runs
 
@@ -180,10 +208,11 @@ module _ {A : Type 0} (head : Bool → List (Piece A)) (none : head false ≡ []
       let now : done_after s.ending (length done) (length (records size s.recording)) ≡ length (done ++ c) =
       rw is (sym (records_for-counted s.ending done more)) in
       let k : ℕ = length (done ++ c) in
-      let long : length done ≤ length (done ++ c) = omega (arith, length-append done c) in
-      subst (λ (n : ℕ). AllFrom (length done) (lost_gap_at settings last s.version n ++ lost_gaps settings last n stops)) (sym now)
-      (Each-weaken (λ n. length (done ++ c) ≤ n) (λ n. length done ≤ n) (lost_gap_at settings last s.version k ++ lost_gaps settings last k stops) (λ n e. omega (arith, long))
-      (Each-append (λ n. length (done ++ c) ≤ n) (lost_gap_at settings last s.version k) (lost_gaps settings last k stops) (lost-from settings last s.version k) (all-from (done ++ c) stops rest)))
+      let long : length done ≤ k = omega (arith, length-append done c) in
+      let here : List ℕ = lost_gap_at settings last s.version k in
+      let later : List ℕ = lost_gaps settings last k stops in
+      rw now (Each-weaken (λ n. k ≤ n) (λ n. length done ≤ n) (here ++ later) (λ n e. omega (arith, long))
+      (Each-append (λ n. k ≤ n) here later (lost-from settings last s.version k) (all-from (done ++ c) stops rest)))
 
   chain : (s : State) (e : Entries) (done : List (List ℕ)) (fresh : Bool) (stops : List Stop) (h : Follows size last done stops) → AllTell settings stops
       → s.records ≡ length done → IsWork (work s e)
@@ -191,10 +220,7 @@ module _ {A : Type 0} (head : Bool → List (Piece A)) (none : head false ≡ []
       ≡ head fresh ++ (pieces_of text e (without_gaps_at (lost_gaps settings last (length done) stops) (items_of (work s e) (taken size ending last done stops h)))
       ++ end_pieces text ending (worked (work s e) (taken size ending last done stops h)) (length (rest_of size last)))
   chain s e done fresh [] (more, is) told count v =
-      let rs : List (List ℕ) = records_for ending more in
-      ap (λ (ps : List (Piece A)). head fresh ++ ps)
-      (pieces_is s e done count last more is ending
-      ∙ ap (λ (xs : List Item). pieces_of text e xs ++ end_pieces text ending (worked (work s e) rs) (length (rest_of size last))) (sym (without-no (items_of (work s e) rs))))
+      rw (pieces_is s e done count last more is ending, without-no (items_of (work s e) (records_for ending more))) refl
   chain s e done fresh (one ∷ stops) (more, is, keeps, rest) told count v =
       let c : List (List ℕ) = records_for one.ending more in
       let t : List (List ℕ) = taken size ending last (done ++ c) stops rest in
@@ -216,93 +242,61 @@ module _ {A : Type 0} (head : Bool → List (Piece A)) (none : head false ≡ []
       let end : List (Piece A) = end_pieces text ending (worked next t) (length (rest_of size last)) in
       -- the run up to the stop
       let here : run_pieces head text one.ending (record { work = w; fresh = fresh }) one.recording ≡ head fresh ++ record_pieces text w c =
-      ap (λ (ps : List (Piece A)). head fresh ++ ps)
-      (pieces_is s e done count one.recording more is one.ending
-      ∙ ap (λ (ps : List (Piece A)). record_pieces text w c ++ ps) (no_end text one.ending next (length (rest_of size one.recording)) keeps)
-      ∙ append-nil (record_pieces text w c)) in
-      let left : work_left one.ending w one.recording ≡ next =
-      ap (λ (rs : List (List ℕ)). worked w (records_for one.ending rs)) (further_is s e done count one.recording more is) in
+      rw (pieces_is s e done count one.recording more is one.ending, no_end text one.ending next (length (rest_of size one.recording)) keeps)
+      (rw (append-nil (record_pieces text w c)) refl) in
       let again : resumed settings (spelled_in one.version (work_left one.ending w one.recording)) ≡ Ok (record { work = kept; fresh = false }) =
-      ap (λ (x : Work). resumed settings (spelled_in one.version x)) left ∙ older_again one.version next next_work told.0 in
+      rw (further_is s e done count one.recording more is) (older_again one.version next next_work told.0) in
       -- the runs behind it
+      let items_kept : items_of kept t ≡ without_gaps_at lost (items_of next t) =
+      items-kept next next_work.state last k next_count t others (ap (drop k) behind ∙ drop-append_seam (done ++ c) (t ++ others)) one.version in
       let there : resumed_pieces head text ending last settings (record { work = kept; fresh = false }) stops
       ≡ pieces_of text next.entries (without_gaps_at (lost ++ later) (items_of next t)) ++ end =
       chain (kept_state one.version next.state) next.entries (done ++ c) false stops rest told.1
       (kept-counted one.version next.state ∙ next_count) (kept-work one.version next next_work)
-      ∙ ap (λ (ps : List (Piece A)). ps ++ (pieces_of text next.entries (without_gaps_at later (items_of kept t)) ++ end_pieces text ending (worked kept t) (length (rest_of size last)))) none
-      ∙ ap (λ (ps : List (Piece A)). pieces_of text next.entries (without_gaps_at later (items_of kept t)) ++ ps)
-      (ends-kept text ending one.version next t (length (rest_of size last)) next_work.state)
-      ∙ ap (λ (xs : List Item). pieces_of text next.entries xs ++ end)
-      (ap (without_gaps_at later)
-      (items-kept next next_work.state last k next_count t others
-      (ap (drop k) behind ∙ drop-append_seam (done ++ c) (t ++ others)) one.version)
-      ∙ without-but lost later (items_of next t)) in
+      ∙ rw (none, ends-kept text ending one.version next t (length (rest_of size last)) next_work.state, items_kept)
+      (rw (without-but lost later (items_of next t)) refl) in
       -- for one run
       let early : without_gaps_at (lost ++ later) (items_of w c) ≡ items_of w c =
       without-early k (lost ++ later) (items_of w c)
       (Each-append (λ n. length (done ++ c) ≤ n) lost later (lost-from settings last one.version k) (all-from (done ++ c) stops rest))
       (Each-weaken (λ x. (s.records ≤ seen_of x) × (seen_of x < s.records + length (readings settings.layout c))) (λ x. seen_of x < length (done ++ c)) (items_of w c)
       (λ x h. let a = h.1 in omega (arith, a, count, length-append done c, length-map c (frame_reading_of settings.layout))) (items-within settings s c)) in
-      let joined : without_gaps_at (lost ++ later) (items_of w (c ++ t)) ≡ items_of w c ++ without_gaps_at (lost ++ later) (items_of next t) =
-      ap (without_gaps_at (lost ++ later)) (items-join settings s c t v.state)
-      ∙ without-append (lost ++ later) (items_of w c) (items_of next t)
-      ∙ ap (λ (xs : List Item). xs ++ without_gaps_at (lost ++ later) (items_of next t)) early in
       let in_one_run : pieces_of text e (without_gaps_at (lost ++ later) (items_of w (c ++ t))) ++ end_pieces text ending (worked w (c ++ t)) (length (rest_of size last))
       ≡ record_pieces text w c ++ (pieces_of text next.entries (without_gaps_at (lost ++ later) (items_of next t)) ++ end) =
-      ap (λ (x : Work). pieces_of text e (without_gaps_at (lost ++ later) (items_of w (c ++ t))) ++ end_pieces text ending x (length (rest_of size last))) (worked-append w v.state c t)
-      ∙ ap (λ (ps : List (Piece A)). ps ++ end)
-      (ap (pieces_of text e) joined ∙ pieces-append text e (items_of w c) (without_gaps_at (lost ++ later) (items_of next t)))
-      ∙ append_assoc (record_pieces text w c) (pieces_of text next.entries (without_gaps_at (lost ++ later) (items_of next t))) end in
-      let both : run_pieces head text one.ending (record { work = w; fresh = fresh }) one.recording
-      ++ then_pieces (resumed settings (spelled_in one.version (work_left one.ending w one.recording))) (λ job. resumed_pieces head text ending last settings job stops)
-      ≡ head fresh ++ (record_pieces text w c ++ (pieces_of text next.entries (without_gaps_at (lost ++ later) (items_of next t)) ++ end)) =
-      ap (λ (ps : List (Piece A)). ps ++ then_pieces (resumed settings (spelled_in one.version (work_left one.ending w one.recording))) (λ job. resumed_pieces head text ending last settings job stops)) here
-      ∙ ap (λ (r : Result JobState CheckpointFault). (head fresh ++ record_pieces text w c) ++ then_pieces r (λ job. resumed_pieces head text ending last settings job stops)) again
-      ∙ ap (λ (ps : List (Piece A)). (head fresh ++ record_pieces text w c) ++ ps) there
-      ∙ append_assoc (head fresh) (record_pieces text w c) (pieces_of text next.entries (without_gaps_at (lost ++ later) (items_of next t)) ++ end) in
-      both
-      ∙ ap (λ (ps : List (Piece A)). head fresh ++ ps) (sym in_one_run)
-      ∙ ap (λ (n : ℕ). head fresh ++ (pieces_of text e (without_gaps_at (lost_gap_at settings last one.version n ++ lost_gaps settings last n stops) (items_of w (c ++ t)))
-      ++ end_pieces text ending (worked w (c ++ t)) (length (rest_of size last)))) (sym now)
+      rw (worked-append w v.state c t, items-join settings s c t v.state, without-append (lost ++ later) (items_of w c) (items_of next t), early)
+      (rw (pieces-append text e (items_of w c) (without_gaps_at (lost ++ later) (items_of next t)))
+      (append_assoc (record_pieces text w c) (pieces_of text next.entries (without_gaps_at (lost ++ later) (items_of next t))) end)) in
+      rw (here, again, there, now, in_one_run)
+      (append_assoc (head fresh) (record_pieces text w c) (pieces_of text next.entries (without_gaps_at (lost ++ later) (items_of next t)) ++ end))
 
-  -- from a job without a record done
-  pub mixed : (s : State) (e : Entries) (fresh : Bool) (stops : List Stop) → Follows size last [] stops → AllTell settings stops
-      → s.records ≡ 0 → IsWork (work s e)
-      → resumed_pieces head text ending last settings (record { work = work s e; fresh = fresh }) stops
-      ≡ run_pieces_without_gaps head text (lost_gaps settings last 0 stops) (in_one ending (done_in_all size ending last 0 stops)) (record { work = work s e; fresh = fresh }) last
+  -- from a new job
+  pub mixed : (stops : List Stop) → length settings.channels ≡ 8 → IsLimit settings.max_packet → Follows size last [] stops → AllTell settings stops
+      → resumed_pieces head text ending last settings (new_job settings) stops
+      ≡ run_pieces_without_gaps head text (lost_gaps settings last 0 stops) (in_one ending (done_in_all size ending last 0 stops))
+      (new_job settings) last
   unfolding run_pieces_without_gaps
-  mixed s e fresh stops h told zero v =
-      let w : Work = work s e in
-      let one : Ending = in_one ending (done_in_all size ending last 0 stops) in
+  mixed stops eight range h told =
+      let w : Work = (new_job settings).work in
       let t : List (List ℕ) = taken size ending last [] stops h in
-      let lost : List ℕ = lost_gaps settings last 0 stops in
-      let rest : ℕ = length (rest_of size last) in
-      let records_are : records_for one (further w last) ≡ t =
-      ap (λ (n : ℕ). records_for one (drop n (records size last))) zero ∙ records_for_all size ending last stops h in
-      chain s e [] fresh stops h told zero v
-      ∙ ap (λ (ps : List (Piece A)). head fresh ++ ps)
-      (ap (λ (ps : List (Piece A)). ps ++ end_pieces text ending (worked w t) rest) (sym (without-pieces text lost e (items_of w t)))
-      ∙ ap (λ (ps : List (Piece A)). item_pieces_without_gaps text lost e (items_of w t) ++ ps)
-      (sym (same_end text ending (done_in_all size ending last 0 stops) (worked w t) rest))
-      ∙ sym (ap (λ (rs : List (List ℕ)). item_pieces_without_gaps text lost e (items_of w rs) ++ end_pieces text one (worked w rs) rest) records_are))
+      chain empty no_entries [] true stops h told refl (begun-work settings eight range)
+      ∙ rw (records_for_all size ending last stops h, without-pieces text (lost_gaps settings last 0 stops) no_entries (items_of w t))
+      (rw (same_end text ending (done_in_all size ending last 0 stops) (worked w t) (length (rest_of size last))) refl)
 
 -- ---- how many are left out
 
 lost-one : (settings : Rules) (last : List ℕ) (v : Version) (done : ℕ) → length (lost_gap_at settings last v done) ≤ (if not (form_of v).with_master then 1 else 0)
 lost-one settings last Three done = omega arith
-lost-one settings last One done = good-one done (readings settings.layout (drop done (records (record_length_of settings.layout) last)))
-lost-one settings last Two done = good-one done (readings settings.layout (drop done (records (record_length_of settings.layout) last)))
+lost-one settings last _ done = good-one done (readings settings.layout (drop done (records (record_length_of settings.layout) last)))
 
 -- for each stop of an older version one at most
 lost-few : (settings : Rules) (last : List ℕ) (done : ℕ) (stops : List Stop) → length (lost_gaps settings last done stops) ≤ older_count stops
 lost-few settings last done [] = omega arith
 lost-few settings last done (s ∷ stops) =
     let now : ℕ = done_at settings done s in
-    let one : length (lost_gap_at settings last s.version (done_at settings done s)) ≤ (if not (form_of s.version).with_master then 1 else 0) = lost-one settings last s.version now in
-    let more : length (lost_gaps settings last (done_at settings done s) stops) ≤ older_count stops = lost-few settings last now stops in
     let sum : older_count (s ∷ stops) ≡ (if not (form_of s.version).with_master then 1 else 0) + older_count stops =
     sum_by-cons (λ x. if not (form_of x.version).with_master then 1 else 0) s stops in
-    omega (arith, sum, length-append (lost_gap_at settings last s.version (done_at settings done s)) (lost_gaps settings last (done_at settings done s) stops))
+    let joined = length-append (lost_gap_at settings last s.version now) (lost_gaps settings last now stops) in
+    omega (arith, sum, lost-one settings last s.version now, lost-few settings last now stops)
 
 length-pieces : {A : Type 0} (text : Texts A) (entries : Entries) (xs : List Item) → length (pieces_of text entries xs) ≡ length xs
 length-pieces text entries [] = refl
@@ -312,18 +306,39 @@ pub few : {A : Type 0} (head : Bool → List (Piece A)) (text : Texts A) (ending
     → IsValid job.work
     → length (run_pieces head text ending job last) ≤ length (run_pieces_without_gaps head text (lost_gaps settings last 0 stops) ending job last) + older_count stops
 unfolding run_pieces_without_gaps pieces
-few {A} head text ending last settings job stops valid =
-    let w : Work = job.work in
-    let rs : List (List ℕ) = records_for ending (further w last) in
+few head text ending last settings job stops valid =
+    let rs : List (List ℕ) = records_for ending (further job.work last) in
     let lost : List ℕ = lost_gaps settings last 0 stops in
-    let end : List (Piece A) = end_pieces text ending (worked w rs) (length (rest_of (record_length_of w.rules.layout) last)) in
-    let all : length (run_pieces head text ending job last) ≡ length (head job.fresh) + (length (items_of w rs) + length end) =
-    length-append (head job.fresh) (record_pieces text w rs ++ end)
-    ∙ ap (λ (n : ℕ). length (head job.fresh) + n) (length-append (record_pieces text w rs) end ∙ ap (λ (n : ℕ). n + length end) (length-pieces text w.entries (items_of w rs))) in
-    let some : length (run_pieces_without_gaps head text lost ending job last) ≡ length (head job.fresh) + (length (without_gaps_at lost (items_of w rs)) + length end) =
-    length-append (head job.fresh) (item_pieces_without_gaps text lost w.entries (items_of w rs) ++ end)
-    ∙ ap (λ (n : ℕ). length (head job.fresh) + n) (length-append (item_pieces_without_gaps text lost w.entries (items_of w rs)) end
-    ∙ ap (λ (n : ℕ). n + length end) (ap (λ (ps : List (Piece A)). length ps) (without-pieces text lost w.entries (items_of w rs)) ∙ length-pieces text w.entries (without_gaps_at lost (items_of w rs)))) in
-    let left : length (items_of w rs) ≤ length (without_gaps_at lost (items_of w rs)) + length lost = few-left-out w.rules w.state rs lost valid in
+    let left = few-left-out job.work.rules job.work.state rs lost valid in
     let least : length lost ≤ older_count stops = lost-few settings last 0 stops in
-    rw (all, some) (omega arith)
+    rw (without-pieces text lost job.work.entries (items_of job.work rs)) (simp (length-append, length-pieces) (omega (arith, left)))
+
+-- ---- checkpoints of today's version lose no gap
+
+all-tell : (settings : Rules) (stops : List Stop) → AllOfToday stops → AllTell settings stops
+all-tell settings [] h = tt
+all-tell settings (stop ∷ stops) h = (ap (λ (v : Version). tells v settings) h.0, all-tell settings stops h.1)
+
+none-lost : (settings : Rules) (last : List ℕ) (done : ℕ) (stops : List Stop) → AllOfToday stops → lost_gaps settings last done stops ≡ []
+none-lost settings last done [] h = refl
+none-lost settings last done (stop ∷ stops) h =
+    ap (λ (v : Version). lost_gap_at settings last v (done_at settings done stop) ++ lost_gaps settings last (done_at settings done stop) stops) h.0
+    ∙ none-lost settings last (done_at settings done stop) stops h.1
+
+-- one run, with nothing left out
+same-run : {A : Type 0} (head : Bool → List (Piece A)) (text : Texts A) (last : List ℕ) (one : Ending) (job : JobState)
+    → run_pieces_without_gaps head text [] one job last ≡ run_pieces head text one job last
+unfolding run_pieces_without_gaps pieces
+same-run {A} head text last one job =
+    let rs : List (List ℕ) = records_for one (further job.work last) in
+    ap (λ (ps : List (Piece A)). head job.fresh ++ (ps ++ end_pieces text one (worked job.work rs) (length (rest_of (record_length_of job.work.rules.layout) last))))
+    (without-pieces text [] job.work.entries (items_of job.work rs) ∙ ap (pieces_of text job.work.entries) (without-no (items_of job.work rs)))
+
+pub joined : {A : Type 0} (head : Bool → List (Piece A)) (none : head false ≡ []) (text : Texts A) (ending : Ending) (last : List ℕ) (settings : Rules)
+    → AllOctets (records (record_length_of settings.layout) last) → length (records (record_length_of settings.layout) last) < 2 ^ 32
+    → (stops : List Stop) → length settings.channels ≡ 8 → IsLimit settings.max_packet → Follows (record_length_of settings.layout) last [] stops
+    → AllOfToday stops → resumed_pieces head text ending last settings (new_job settings) stops
+    ≡ run_pieces head text (in_one ending (done_in_all (record_length_of settings.layout) ending last 0 stops)) (new_job settings) last
+joined head none text ending last settings octets few stops eight range h today =
+    rw (mixed head none text ending last settings octets few stops eight range h (all-tell settings stops today))
+    (rw (none-lost settings last 0 stops today) (same-run head text last _ _))

@@ -1,12 +1,11 @@
 -- Records that are read and passed over.
-use Rattle.std.proofs.Common.{◌≡◌, ◌<◌, ◌≤◌, ◌+◌, ◌*◌, ℕ, zero, suc, List, [], ◌∷◌, ◌++◌, length, take, drop, refl, sym, ap, subst, ◌∙◌, length-append, length-drop, length-take-le, arith, Option}
-use Rattle.std.proofs.Math.Nat.{zero-mul}
+use Rattle.std.proofs.Common.{◌≡◌, ◌<◌, ◌≤◌, ◌+◌, ◌*◌, ℕ, zero, suc, List, [], ◌∷◌, ◌++◌, length, take, drop, refl, sym, ap, subst, ◌∙◌, length-append, length-drop, length-take-le, arith, Option, zero-mul}
 use Rattle.std.proofs.lemmas.List.{nil_from_length, take-append-drop}
 use Rattle.std.specs.List.{concat}
 use Rattle.std.specs.Io.KnownBytes.{Consumes, IsAtEnd}
 use Rattle.std.proofs.KnownBytes.{Consumes-nil, Consumes-trans}
 use Rattle.tm_output.specs.Records.{AreRecords}
-use Rattle.tm_tool.specs.Runs.{HasRead}
+use Rattle.tm_tool.specs.Runs.{HasRead, HasReadAll}
 use Rattle.tm_tool.specs.code.RecordLoop.{HasPassed, PassingFails, PassingEnds}
 use Rattle.tm_output.proofs.RecordLemmas.{AreRecords-append, concat-one}
 
@@ -30,12 +29,9 @@ module _ (size count : ℕ) (first left next : Option (List ℕ)) (octets : List
       record { read = passed.read; part = octets; octets = read_on; short = short; few = omega (arith, passed.counted, fewer) }
 
   pub passing_ends : (all : ℕ) → count < all → length octets < size → IsAtEnd next → PassingEnds size all first next
-  passing_ends all fewer short ended = record {
-    read = passed.read;
-    rest = octets;
-    all = record { octets = read_on; short = short; ended = ended };
-    few = omega (arith, passed.counted, fewer);
-  }
+  passing_ends all fewer short ended =
+      let whole : HasReadAll size first next passed.read octets = record { octets = read_on; short = short; ended = ended } in
+      record { read = passed.read; rest = octets; all = whole; few = omega (arith, passed.counted, fewer) }
 
 -- so many octets are so many records
 pub cut_records : (size count : ℕ) (octets : List ℕ) → length octets ≡ count * size

@@ -1,68 +1,53 @@
 -- What the items of one record say of its frame, and what is counted of it.
-use Rattle.std.proofs.Common.{◌≡◌, ◌<◌, ◌||◌, ℕ, Bool, true, false, Option, None, Some, List, [], ◌∷◌, ◌++◌, length, refl, sym, ap, ◌∙◌, append-nil}
-use Rattle.std.specs.Prelude.{Ok, Err, IsOk, filter, if◌then◌else◌, ◌==◌}
-use Rattle.std.specs.List.{flat_map}
+use Rattle.std.proofs.Common.{◌≡◌, ◌<◌, ◌||◌, ℕ, Bool, true, false, None, List, [], ◌∷◌, ◌++◌, length, refl, sym, ap, ◌∙◌, append-nil, Ok, Err, IsOk, if◌then◌else◌, ◌==◌, flat_map, ◌+◌, arith, zero-add, sum_by}
+use Rattle.std.proofs.Math.Bool.{or-false}
 use Rattle.tm_frame.specs.declared.fault.FrameFault.{FrameFault}
 use Rattle.tm_frame.specs.Fault.{frame_reading_of}
 use Rattle.tm_frame.specs.Frame.{GoodFrame}
-use Rattle.tm_frame.specs.Rules.{chooses}
+use Rattle.tm_frame.specs.Rules.{chooses, Rules}
 use Rattle.tm_items.specs.Item.{Item, seen_of}
-use Rattle.tm_reassembly.specs.Chain.{ChainMember, chain, has_frame_gap, master_chain, next_frame_count}
-use Rattle.tm_reassembly.specs.Items.{chain_parts, channel_items, gap_at, gap_item, gaps, master_gap_item, master_items, part_item, record_items, seen_at, vca_at}
+use Rattle.tm_reassembly.specs.Chain.{ChainMember, chain, master_chain}
+use Rattle.tm_reassembly.specs.Items.{chain_parts, channel_items, gap_item, gaps, master_gap_item, master_items, part_item, record_items, seen_at, vca_at, closing, empty, items_of_readings, merged}
 use Rattle.tm_reassembly.specs.Parts.{Fate, Given, Held, Lost, Part}
 use Rattle.tm_reassembly.specs.Readings.{Reading}
-use Rattle.tm_reassembly.specs.Recording.{items}
+use Rattle.tm_reassembly.specs.Recording.{items, after, readings}
 use Rattle.tm_reassembly.specs.State.{State}
+use Rattle.tm_reassembly.proofs.Each.{Each, Each-append, Each-cond, Each-every, Each-filter, Each-flat_map}
+use Rattle.tm_reassembly.proofs.Joining.{gaps-each, vcas-each}
 use Rattle.tm_summary.specs.Adding.{with_frame}
 use Rattle.tm_summary.specs.Kinds.{is_bad}
-use Rattle.tm_summary.specs.SummaryNumbers.{SummaryNumbers, Tally, numbers_of}
+use Rattle.tm_summary.specs.SummaryNumbers.{SummaryNumbers, Tally, numbers_of, in_all}
 use Rattle.tm_summary.specs.Tallies.{AllFit, and_items, notes_among, with_all}
 use Rattle.tm_summary.proofs.Taken.{any_bad}
 use Rattle.tm_summary.proofs.Tallied.{all_counted}
 use Rattle.tm_summary.proofs.WithOne.{frame_counted}
-use Rattle.tm_checkpoint.specs.Works.{Work}
+use Rattle.tm_checkpoint.specs.Works.{Work, new_job}
 use Rattle.tm_tool.specs.RecordingPieces.{items_of}
-use Rattle.tm_tool.specs.Summaries.{frames_in, good_frames}
+use Rattle.tm_tool.specs.Summaries.{frames_in, good_frames, closed_items}
 use Rattle.tm_tool.specs.code.Summing.{and_records}
+use Rattle.std.proofs.lemmas.List.Sums.{sum_by-append, sum_by-cons}
+use Rattle.tm_frame.specs.declared.layout.LayoutParts.{LayoutParts}
+use Rattle.tm_frame.specs.Layout.{record_length_of}
+use Rattle.tm_output.specs.Records.{records, rest_of}
+use Rattle.tm_summary.specs.Sums.{IsBelowGreatest}
+use Rattle.tm_tool.specs.SummaryNumbers.{summary_numbers}
+use Rattle.tm_tool.proofs.NoteLemmas.{closing-each}
 
 -- ---- none of the items of a good frame is a bad frame
 
+abbrev pub NotBad : Item → Type 0
+NotBad x = is_bad x ≡ false
+
 abbrev pub NoneBad : List Item → Type 0
-NoneBad [] = Unit {0}
-NoneBad (x ∷ xs) = (is_bad x ≡ false) × NoneBad xs
+NoneBad xs = Each NotBad xs
 
 not_any : (xs : List Item) → NoneBad xs → any_bad xs ≡ false
 not_any [] h = refl
 not_any (x ∷ xs) h = rw h.0 (not_any xs h.1)
 
-pub none_append : (xs ys : List Item) → NoneBad xs → NoneBad ys → NoneBad (xs ++ ys)
-none_append [] ys h k = k
-none_append (x ∷ xs) ys h k = (h.0, none_append xs ys h.1 k)
-
-none_if : (b : Bool) (xs : List Item) → NoneBad xs → NoneBad (if b then xs else [])
-none_if true xs h = h
-none_if false xs h = tt
-
-none_first : (b : Bool) (x : Item) (xs : List Item) → is_bad x ≡ false → NoneBad xs → NoneBad (if b then x ∷ xs else xs)
-none_first true x xs h k = (h, k)
-none_first false x xs h k = k
-
-none_filter : (test : Item → Bool) (xs : List Item) → NoneBad xs → NoneBad (filter test xs)
-none_filter test [] h = tt
-none_filter test (x ∷ xs) h = none_first (test x) x (filter test xs) h.0 (none_filter test xs h.1)
-
-none_flat : {A : Type 0} (f : A → List Item) → ((a : A) → NoneBad (f a)) → (xs : List A) → NoneBad (flat_map f xs)
-none_flat f none [] = tt
-none_flat f none (x ∷ xs) = none_append (f x) (flat_map f xs) (none x) (none_flat f none xs)
-
-module _ (gap : ℕ → ChainMember → Item) (not_bad : (e : ℕ) (m : ChainMember) → is_bad (gap e m) ≡ false) where
-  none_gap : (before : Option ℕ) (m : ChainMember) → NoneBad (gap_at gap before m)
-  none_gap None m = tt
-  none_gap (Some before) m = none_if (has_frame_gap (Some before) m) (gap (next_frame_count before) m ∷ []) (not_bad (next_frame_count before) m, tt)
-
-  none_gaps : (before : Option ℕ) (ms : List ChainMember) → NoneBad (gaps gap before ms)
-  none_gaps before [] = tt
-  none_gaps before (m ∷ ms) = none_append (gap_at gap before m) (gaps gap (Some m.count) ms) (none_gap before m) (none_gaps (Some m.count) ms)
+-- of members and parts nothing is asked
+every : {X : Type 0} (xs : List X) → Each (λ x. Unit {0}) xs
+every xs = Each-every (λ x. Unit {0}) xs (λ x. tt)
 
 none_part : (channel : ℕ) (p : Part) (fate : Fate) → NoneBad (part_item channel p fate)
 none_part channel p (Given seen) = (refl, tt)
@@ -73,12 +58,11 @@ none_channel : (limit channel : ℕ) (ms : List ChainMember) → NoneBad (channe
 none_channel limit channel ms =
     let lost : List Item = gaps (gap_item channel) None ms in
     let vcas : List Item = flat_map (vca_at channel) ms in
-    none_append (lost ++ vcas) (flat_map (λ (p : Part). part_item channel p p.fate) (chain_parts limit ms))
-    (none_append lost vcas (none_gaps (gap_item channel) (λ e m. refl) None ms) (none_flat (vca_at channel) (λ m. none_if m.is_vca _ (refl, tt)) ms))
-    (none_flat (λ (p : Part). part_item channel p p.fate) (λ p. none_part channel p p.fate) (chain_parts limit ms))
-
-none_seen : (number : ℕ) (xs : List Item) → NoneBad xs → NoneBad (seen_at number xs)
-none_seen number xs h = none_filter (λ x. seen_of x == number) xs h
+    Each-append NotBad (lost ++ vcas) (flat_map (λ (p : Part). part_item channel p p.fate) (chain_parts limit ms))
+    (Each-append NotBad lost vcas (gaps-each (λ m. Unit {0}) NotBad (gap_item channel) (λ m e h. refl) None ms (every ms))
+    (vcas-each (λ m. Unit {0}) NotBad channel (λ m h. refl) ms (every ms)))
+    (Each-flat_map (λ p. Unit {0}) NotBad (λ (p : Part). part_item channel p p.fate) (chain_parts limit ms) (λ p h. none_part channel p p.fate)
+    (every (chain_parts limit ms)))
 
 -- it isn't a good frame
 abbrev pub is_fault : Reading → Bool
@@ -88,9 +72,13 @@ is_fault (Err fault) = true
 pub good_none : (limit : ℕ) (chosen : ℕ → Bool) (s : State) (readings : List Reading) (number : ℕ) (f : GoodFrame)
     → NoneBad (record_items limit chosen s readings number (Ok f))
 good_none limit chosen s readings number f =
-    none_append (seen_at number (master_items (master_chain s readings))) (if chosen f.channel then seen_at number (channel_items limit f.channel (chain s f.channel readings)) else [])
-    (none_seen number (master_items (master_chain s readings)) (none_gaps master_gap_item (λ e m. refl) None (master_chain s readings)))
-    (none_if (chosen f.channel) _ (none_seen number (channel_items limit f.channel (chain s f.channel readings)) (none_channel limit f.channel (chain s f.channel readings))))
+    let masters : List ChainMember = master_chain s readings in
+    let own : List Item = channel_items limit f.channel (chain s f.channel readings) in
+    Each-append NotBad (seen_at number (master_items masters)) (if chosen f.channel then seen_at number own else [])
+    (Each-filter NotBad (λ x. seen_of x == number) (master_items masters)
+    (gaps-each (λ m. Unit {0}) NotBad master_gap_item (λ m e h. refl) None masters (every masters)))
+    (Each-cond NotBad (chosen f.channel) (seen_at number own)
+    (λ e. Each-filter NotBad (λ x. seen_of x == number) own (none_channel limit f.channel (chain s f.channel readings))))
 
 bad_reading : (limit : ℕ) (chosen : ℕ → Bool) (s : State) (readings : List Reading) (number : ℕ) (r : Reading)
     → any_bad (record_items limit chosen s readings number r ++ []) ≡ is_fault r
@@ -105,14 +93,10 @@ unfolding items
 bad_is_fault w octets =
     bad_reading w.rules.max_packet (chooses w.rules) w.state (frame_reading_of w.rules.layout octets ∷ []) w.state.records (frame_reading_of w.rules.layout octets)
 
-or_none : (b : Bool) → b || false ≡ b
-or_none true = refl
-or_none false = refl
-
 -- what a sink that began without a bad frame says of the record
 pub seen_bad : (w : Work) (octets : List ℕ) (bad known : Bool) → bad ≡ any_bad (items_of w (octets ∷ [])) || false → bad ≡ known
     → is_fault (frame_reading_of w.rules.layout octets) ≡ known
-seen_bad w octets bad known is h = sym (bad_is_fault w octets) ∙ sym (or_none (any_bad (items_of w (octets ∷ [])))) ∙ sym is ∙ h
+seen_bad w octets bad known is h = sym (bad_is_fault w octets) ∙ sym (or-false (any_bad (items_of w (octets ∷ [])))) ∙ sym is ∙ h
 
 pub no_fault : (r : Reading) → is_fault r ≡ false → IsOk r
 no_fault (Ok f) h = refl
@@ -145,3 +129,58 @@ module _ (w : Work) (octets : List ℕ) (before now : SummaryNumbers) (fit : All
       ∙ ap (λ (n : SummaryNumbers). with_frame n f.channel f.kind (length f.field)) (all_given t are)
       ∙ sym (frame_counted (and_items t w.entries (items_of w (octets ∷ []))) f below)
       ∙ ap (λ (fs : List GoodFrame). numbers_of (record { frames = t.frames ++ fs; items = t.items ++ items_of w (octets ∷ []); notes = t.notes ++ notes_among w.entries (items_of w (octets ∷ [])) })) (sym one)
+
+-- ---- the good frames and the bad ones are the records
+
+abbrev bads : List Item → ℕ
+bads xs = sum_by (λ x. if is_bad x then 1 else 0) xs
+
+abbrev goods : List GoodFrame → ℕ
+goods fs = sum_by (λ f. 1) fs
+
+no_bads : (xs : List Item) → NoneBad xs → bads xs ≡ 0
+no_bads [] none = refl
+no_bads (x ∷ xs) none =
+    sum_by-cons (λ (y : Item). if is_bad y then 1 else 0) x xs ∙ rw none.0 (zero-add (bads xs) ∙ no_bads xs none.1)
+
+-- ---- records
+
+module _ (limit : ℕ) (chosen : ℕ → Bool) (s : State) (all : List Reading) where
+  -- a record is a good frame or a bad one
+  one_told : (number : ℕ) (r : Reading) → goods (frames_in r) + bads (record_items limit chosen s all number r) ≡ 1
+  one_told number (Err fault) = refl
+  one_told number (Ok f) =
+      omega (arith, no_bads (record_items limit chosen s all number (Ok f)) (good_none limit chosen s all number f))
+
+  records_told : (layout : LayoutParts) (number : ℕ) (rs : List (List ℕ)) → goods (good_frames layout rs) + bads (merged limit chosen s all number (readings layout rs)) ≡ length rs
+  records_told layout number [] = refl
+  records_told layout number (r ∷ rs) =
+      let reading : Reading = frame_reading_of layout r in
+      rw (
+        sum_by-append (λ (f : GoodFrame). 1) (frames_in reading) (good_frames layout rs),
+        sum_by-append (λ (x : Item). if is_bad x then 1 else 0) (record_items limit chosen s all number reading) (merged limit chosen s all (number + 1) (readings layout rs)),
+      ) (omega (arith, one_told number reading, records_told layout (number + 1) rs))
+
+-- ---- the closed end
+
+closing_none : (s : State) (rest : ℕ) → NoneBad (closing s rest)
+closing_none s rest = closing-each NotBad (λ seen octets. refl) (λ seen channel first place octets reason. refl) s rest
+
+-- ---- all of them
+
+module _ (rules : Rules) where
+  all_told : (rs : List (List ℕ)) (rest : ℕ) → goods (good_frames rules.layout rs) + bads (closed_items (new_job rules).work rs rest) ≡ length rs
+  unfolding items
+  all_told rs rest =
+      let xs : List Item = items_of_readings rules.max_packet (chooses rules) empty (readings rules.layout rs) in
+      let ys : List Item = closing (after rules empty rs) rest in
+      let told = records_told rules.max_packet (chooses rules) empty (readings rules.layout rs) rules.layout 0 rs in
+      rw (sum_by-append (λ (x : Item). if is_bad x then 1 else 0) xs ys) (omega (arith, told, no_bads ys (closing_none (after rules empty rs) rest)))
+
+  abbrev AreRecords : ℕ → SummaryNumbers → Type 0
+  AreRecords count n = IsBelowGreatest count → n.good + n.bad ≡ count
+
+  pub records_counted : (recording : List ℕ) → AreRecords (length (records (record_length_of rules.layout) recording)) (summary_numbers rules recording)
+  unfolding summary_numbers in_all
+  records_counted recording count =
+      omega (arith, all_told (records (record_length_of rules.layout) recording) (length (rest_of (record_length_of rules.layout) recording)), count)

@@ -1,7 +1,6 @@
 -- How a loop over records stands.
-use Rattle.std.proofs.Common.{◌≡◌, ◌<◌, ◌≤◌, ◌+◌, ℕ, List, [], ◌∷◌, ◌++◌, length, refl, sym, ap, subst, ◌∙◌, Option, inl, inr, arith, append-nil, length-append, length-drop, append_assoc}
+use Rattle.std.proofs.Common.{◌≡◌, ◌<◌, ◌≤◌, ◌+◌, ℕ, List, [], ◌∷◌, ◌++◌, length, refl, sym, ap, subst, ◌∙◌, Option, inl, inr, arith, append-nil, length-append, length-drop, append_assoc, drop_of_length-le, Result, Ok, Err, OnOk, IfErr}
 use Rattle.std.proofs.lemmas.List.{drop-append-le, length-map}
-use Rattle.std.proofs.Math.ListN.{drop_of_length-le}
 use Rattle.std.specs.List.{concat}
 use Rattle.std.specs.Io.KnownBytes.{Consumes, IsAtEnd}
 use Rattle.std.proofs.KnownBytes.{Consumes-trans}
@@ -23,32 +22,28 @@ use Rattle.tm_faults.specs.declared.fault.RunFault.TheVariants.{Read, Write, Rep
 use Rattle.tm_output.specs.declared.command.Ending.{Ending}
 use Rattle.tm_output.specs.declared.command.Ending.TheVariants.{StopAfter}
 use Rattle.tm_output.specs.Faults.{RunCaused}
-use Rattle.tm_output.specs.Outputs.{CausedByOutput, Piece, SameCounts, View, Took, Stopped, Buffering}
+use Rattle.tm_output.specs.Outputs.{CausedByOutput, Piece, SameCounts, View, Took, Stopped, Buffering, Written}
 use Rattle.tm_devices.specs.Devices.{raised}
 use Rattle.tm_packet.specs.Merge.{Entries}
 use Rattle.tm_output.specs.Pieces.{Texts, noted, noted_all, piece_of, pieces_of}
-use Rattle.tm_checkpoint.specs.Works.{Work, work_of}
+use Rattle.tm_checkpoint.specs.Works.{IsGoing, Work, work_of}
 use Rattle.tm_tool.specs.RecordingPieces.{items_of, worked, record_pieces}
-use Rattle.tm_tool.specs.Runs.{HasRead, WantsFurther, Suffices, StopsAtRecord, IsStoppedAt, behind}
+use Rattle.tm_tool.specs.Runs.{HasEnded, HasRead, WantsFurther, Suffices, StopsAtRecord, IsStoppedAt, behind}
 use Rattle.tm_tool.specs.code.Stepping.{RefusesRecord, StepStopped, TakesRecord, TookRecords}
-use Rattle.tm_tool.specs.code.RecordLoop.{Enough, HasPassed, HasStepped, HasTaken, NextStopped, PassingStopped, Reached, TakesBehind, TakesRecords, TakingFails, TakingRefused, TakingStopped}
+use Rattle.tm_tool.specs.code.RecordLoop.{Enough, HasPassed, HasStepped, HasTaken, NextStopped, PassingStopped, Reached, TakesBehind, TakesRecords, TakingFails, TakingRefused, TakingStopped, StillTakes, ThenRefuses}
 use Rattle.tm_output.proofs.RecordLemmas.{AreRecords-append, concat-one}
-use Rattle.tm_output.proofs.PieceLemmas.{took_none, took_took}
+use Rattle.tm_output.proofs.PieceLemmas.{took_none, took_took, took_failed}
 
 pub none_valid : (rules : Rules) → IsLimit rules.max_packet → IsValidState rules empty
 none_valid = empty-valid
 
--- the work after a step: the state that it leaves, and the entries
-pub stepped_work : (p q : Progress) (e e' : Entries) (octets : List ℕ) → q ≡ stepped p octets
-    → e' ≡ noted_all e (step_items p octets) → work_of q e' ≡ worked (work_of p e) (octets ∷ [])
-stepped_work p q e e' octets left noted = ap (λ (x : Progress). work_of x e') left ∙ ap (λ (x : Entries). work_of (stepped p octets) x) noted
-
--- and its state is a valid one
-pub stepped_valid : (p q : Progress) (octets : List ℕ) → IsValidState p.rules p.state → AreOctets octets → p.state.records < most_records
-    → q ≡ stepped p octets → IsValidState q.rules q.state
-stepped_valid p q octets valid are few left =
-    subst (λ (x : Progress). IsValidState x.rules x.state) (sym left)
-    (record-valid p.rules p.state octets valid are (omega (arith, few)))
+-- a step leaves this work, and goes on
+pub stepped_on : (p q : Progress) (e e' : Entries) (octets : List ℕ) → q ≡ stepped p octets → e' ≡ noted_all e (step_items p octets)
+    → IsGoing p → p.state.records < most_records → AreOctets octets → (work_of q e' ≡ worked (work_of p e) (octets ∷ [])) × IsGoing q
+stepped_on p q e e' octets left noted going few are =
+    let work = ap (λ (x : Progress). work_of x e') left ∙ ap (λ (x : Entries). work_of (stepped p octets) x) noted in
+    let valid = record-valid p.rules p.state octets going.1 are (omega (arith, few)) in
+    (work, (ap (λ (x : Progress). x.failed) left, subst (λ (x : Progress). IsValidState x.rules x.state) (sym left) valid))
 
 -- a fault of writing is a fault of stepping
 pub step_stopped : {A K : Type 0} (grows : K → K → List A → Type 0) (buffering : Buffering) (records : ℕ) (old new : View K) (ps : List (Piece A)) (fault : RunFault)
@@ -111,13 +106,6 @@ just_enough _ done count r h = absurd h
 
 -- ---- the loop
 
--- the records behind those that are done, one more among them
-pub behind-more : (w : Work) (read : List (List ℕ)) (one : List ℕ) → w.state.records ≤ length read → behind w (read ++ one ∷ []) ≡ behind w read ++ one ∷ []
-behind-more w read one passed = drop-append-le w.state.records read (one ∷ []) passed
-
-pub behind-none : (w : Work) (read : List (List ℕ)) → length read ≤ w.state.records → behind w read ≡ []
-behind-none w read few = drop_of_length-le read few
-
 -- so many records are done in all
 pub behind-counted : (w : Work) (read : List (List ℕ)) → w.state.records ≤ length read → (worked w (behind w read)).state.records ≡ length read
 behind-counted w read passed =
@@ -149,113 +137,92 @@ module _ {V : Type 0} (takes : Work → List ℕ → V → V → Type 0) (ending
   -- the records that are done were passed over
   pub taken_first : (first left : Option (List ℕ)) (v : V) → HasPassed (record_length_of w.rules.layout) w.state.records first left → HasTaken (TakesRecords takes) w first left v v w
   taken_first first left v h =
-      let none : behind w h.read ≡ [] = behind-none w h.read (omega (arith, h.counted)) in record {
-        read = h.read;
-        sized = h.sized;
-        octets = h.octets;
-        passed = omega (arith, h.counted);
-        work = sym (ap (worked w) none ∙ worked-none w valid);
-        took = subst (λ (rs : List (List ℕ)). TakesRecords takes w rs v v) (sym none) refl;
-      }
+      let none : behind w h.read ≡ [] = drop_of_length-le h.read (omega (arith, h.counted)) in
+      let work = sym (ap (worked w) none ∙ worked-none w valid) in
+      let took = subst (λ (rs : List (List ℕ)). TakesRecords takes w rs v v) (sym none) refl in
+      record { read = h.read; sized = h.sized; octets = h.octets; passed = omega (arith, h.counted); work = work; took = took }
 
-  module _ (first left next : Option (List ℕ)) (old now : V) (work : Work) (octets : List ℕ)
-      (taken : HasTaken (TakesRecords takes) w first left old now work) (got : Consumes left next octets) where
-    has_read : HasRead (record_length_of w.rules.layout) first next taken.read octets
-    has_read = record { sized = taken.sized; octets = Consumes-trans first left next (concat taken.read) octets taken.octets got }
+  module _ (first left : Option (List ℕ)) (old now : V) (work : Work) (taken : HasTaken (TakesRecords takes) w first left old now work) where
+    -- so many records were read as are done
+    number_read : work.state.records ≡ length taken.read
+    number_read = ap (λ (x : Work). x.state.records) taken.work ∙ behind-counted w taken.read taken.passed
+
+    goes_on : WantsFurther ending w.state.records work.state.records → WantsFurther ending w.state.records (length taken.read)
+    goes_on wanted = subst (WantsFurther ending w.state.records) number_read wanted
+
+    has_read : (next : Option (List ℕ)) (octets : List ℕ) → Consumes left next octets
+        → HasRead (record_length_of w.rules.layout) first next taken.read octets
+    has_read next octets got = record { sized = taken.sized; octets = Consumes-trans first left next (concat taken.read) octets taken.octets got }
 
     -- a record was read and taken
-    pub taken_more : (new : V) (more : Work) → length octets ≡ record_length_of w.rules.layout → takes work octets now new → more ≡ worked work (octets ∷ [])
+    pub taken_more : (next : Option (List ℕ)) (octets : List ℕ) → Consumes left next octets → (new : V) (more : Work)
+        → length octets ≡ record_length_of w.rules.layout → takes work octets now new → more ≡ worked work (octets ∷ [])
         → HasTaken (TakesRecords takes) w first next old new more
-    taken_more new more exact one left_is =
+    taken_more next octets got new more exact one left_is =
         let done : List (List ℕ) = behind w taken.read in
-        let longer : behind w (taken.read ++ octets ∷ []) ≡ done ++ octets ∷ [] = behind-more w taken.read octets taken.passed in record {
+        let longer : behind w (taken.read ++ octets ∷ []) ≡ done ++ octets ∷ [] =
+        drop-append-le w.state.records taken.read (octets ∷ []) taken.passed in record {
           read = taken.read ++ octets ∷ [];
           sized = AreRecords-append (record_length_of w.rules.layout) taken.read (octets ∷ []) taken.sized (exact, tt);
-          octets = subst (Consumes first next) (sym (concat-one taken.read octets)) has_read.octets;
+          octets = subst (Consumes first next) (sym (concat-one taken.read octets)) (has_read next octets got).octets;
           passed = omega (arith, taken.passed, length-append taken.read (octets ∷ []));
           work = left_is ∙ ap (λ (x : Work). worked x (octets ∷ [])) taken.work ∙ sym (worked-append w valid done (octets ∷ [])) ∙ ap (worked w) (sym longer);
           took = subst (λ (rs : List (List ℕ)). TakesRecords takes w rs old new) (sym longer)
               (takes_one takes w [] done octets old now new taken.took (subst (λ (x : Work). takes x octets now new) taken.work one));
         }
 
-    module _ (wanted : WantsFurther ending w.state.records work.state.records) where
-      goes_on : WantsFurther ending w.state.records (length taken.read)
-      goes_on =
-          subst (WantsFurther ending w.state.records) (ap (λ (x : Work). x.state.records) taken.work ∙ behind-counted w taken.read taken.passed) wanted
+    -- all was read, and so many octets are left
+    pub taken_all : (next : Option (List ℕ)) (octets : List ℕ) → Consumes left next octets → WantsFurther ending w.state.records work.state.records
+        → (n : ℕ) → length octets ≡ n → length octets < record_length_of w.rules.layout → IsAtEnd next
+        → HasStepped (TakesRecords takes) ending w first next old now work n
+    taken_all next octets got wanted n count short end =
+        let ended : HasEnded ending w first next taken.read octets =
+        inl (record { octets = has_read next octets got; short = short; ended = end }, goes_on wanted) in
+        record { read = taken.read; rest = octets; passed = taken.passed; ended = ended; left = count; work = taken.work; took = taken.took }
 
-      -- the record was not taken
-      pub taken_refused : (refuses : Work → List ℕ → V → V → RunFault → Type 0) (new : V) (fault : RunFault) → length octets ≡ record_length_of w.rules.layout
-          → refuses work octets now new fault → TakingRefused (TakesRecords takes) refuses ending w first next old new fault
-      taken_refused refuses new fault exact h = record {
-        read = taken.read;
-        one = octets;
-        octets = has_read;
-        exact = exact;
-        passed = taken.passed;
-        wanted = goes_on;
-        mid = now;
-        took = taken.took;
-        stopped = subst (λ (x : Work). refuses x octets now new fault) taken.work h;
-      }
+    -- no further record is wanted
+    pub taken_enough : Suffices ending w.state.records work.state.records → HasStepped (TakesRecords takes) ending w first left old now work 0
+    taken_enough enough =
+        let octets = subst (Consumes first left) (sym (append-nil (concat taken.read))) taken.octets in
+        let ended : HasEnded ending w first left taken.read [] =
+        inr (record { sized = taken.sized; octets = octets }, refl, subst (Suffices ending w.state.records) number_read enough) in
+        record { read = taken.read; rest = []; passed = taken.passed; ended = ended; left = refl; work = taken.work; took = taken.took }
 
-      -- a read failed in a record
-      pub taken_read : length octets < record_length_of w.rules.layout → TakingFails (TakesRecords takes) ending w first next old now
-      taken_read short =
-          record { read = taken.read; part = octets; octets = has_read; short = short; passed = taken.passed; wanted = goes_on; took = taken.took }
-
-      -- all was read, and so many octets are left
-      pub taken_all : (n : ℕ) → length octets ≡ n → length octets < record_length_of w.rules.layout → IsAtEnd next
-          → HasStepped (TakesRecords takes) ending w first next old now work n
-      taken_all n count short ended = record {
-        read = taken.read;
-        rest = octets;
-        passed = taken.passed;
-        ended = inl (record { octets = has_read; short = short; ended = ended }, goes_on);
-        left = count;
-        work = taken.work;
-        took = taken.took;
-      }
-
-  -- no further record is wanted
-  pub taken_enough : (first left : Option (List ℕ)) (old now : V) (work : Work) → HasTaken (TakesRecords takes) w first left old now work
-      → Suffices ending w.state.records work.state.records → HasStepped (TakesRecords takes) ending w first left old now work 0
-  taken_enough first left old now work taken enough = record {
-    read = taken.read;
-    rest = [];
-    passed = taken.passed;
-    ended = inr (
-      record { sized = taken.sized; octets = subst (Consumes first left) (sym (append-nil (concat taken.read))) taken.octets },
-      refl,
-      subst (Suffices ending w.state.records) (ap (λ (x : Work). x.state.records) taken.work ∙ behind-counted w taken.read taken.passed) enough,
-    );
-    left = refl;
-    work = taken.work;
-    took = taken.took;
-  }
-
-  -- the next record was not read, or not taken
-  pub taken_stopped : (refuses : Work → List ℕ → V → V → RunFault → Type 0) (first left next : Option (List ℕ)) (old now new : V) (work : Work) (failures_old failures_new : ℕ) (fault : RunFault)
-      → HasTaken (TakesRecords takes) w first left old now work → WantsFurther ending w.state.records work.state.records → work.rules ≡ w.rules
-      → NextStopped refuses work left next failures_old failures_new now new fault → TakingStopped (TakesRecords takes) refuses ending w first next failures_old failures_new old new fault
-  taken_stopped refuses first left next old now new work failures_old failures_new fault taken wanted rules (inl (fails, is, counted, same)) =
-      let short = subst (λ (r : Rules). length fails.part < record_length_of r.layout) rules fails.short in
-      let stopped = taken_read first left next old now work fails.part taken fails.octets wanted short in
-      inr (inl (subst (λ (v : V). TakingFails (TakesRecords takes) ending w first next old v) (sym same) stopped, is, counted))
-  taken_stopped refuses first left next old now new work failures_old failures_new fault taken wanted rules (inr (next_one, same)) =
-      let exact = next_one.exact ∙ ap (λ (r : Rules). record_length_of r.layout) rules in
-      inr (inr (taken_refused first left next old now work next_one.one taken next_one.octets wanted refuses new fault exact next_one.holds, same))
+    -- the next record was not read, or not taken
+    pub taken_stopped : (refuses : Work → List ℕ → V → V → RunFault → Type 0) (next : Option (List ℕ)) (new : V) (failures_old failures_new : ℕ)
+        (fault : RunFault) → WantsFurther ending w.state.records work.state.records → work.rules ≡ w.rules
+        → NextStopped refuses work left next failures_old failures_new now new fault
+        → TakingStopped (TakesRecords takes) refuses ending w first next failures_old failures_new old new fault
+    taken_stopped refuses next new failures_old failures_new fault wanted rules (inl (fails, is, counted, same)) =
+        let has = has_read next fails.part fails.octets in
+        let short = subst (λ (r : Rules). length fails.part < record_length_of r.layout) rules fails.short in
+        let stopped : TakingFails (TakesRecords takes) ending w first next old now =
+        record { read = _; part = _; octets = has; short = short; passed = taken.passed; wanted = goes_on wanted; took = taken.took } in
+        inr (inl (subst (λ (v : V). TakingFails (TakesRecords takes) ending w first next old v) (sym same) stopped, is, counted))
+    taken_stopped refuses next new failures_old failures_new fault wanted rules (inr (it, same)) =
+        let exact = it.exact ∙ ap (λ (r : Rules). record_length_of r.layout) rules in
+        let stopped = subst (λ (x : Work). refuses x it.one now new fault) taken.work it.holds in
+        let refused : TakingRefused (TakesRecords takes) refuses ending w first next old new fault = record {
+          read = taken.read;
+          one = it.one;
+          octets = has_read next it.one it.octets;
+          exact = exact;
+          passed = taken.passed;
+          wanted = goes_on wanted;
+          mid = now;
+          took = taken.took;
+          stopped = stopped;
+        } in
+        inr (inr (refused, same))
 
 -- ---- for a run: the pieces of records
-
-pub same_counts : {K : Type 0} (old mid new : View K) → SameCounts old mid → SameCounts mid new → SameCounts old new
-same_counts old mid new a b = (b.0 ∙ a.0, b.1 ∙ a.1)
 
 -- an output failed, after nothing else had
 pub output_caused : {K : Type 0} (failures failures' : ℕ) (old mid new : View K) (fault : RunFault) → failures' ≡ failures → SameCounts old mid → CausedByOutput mid new fault
     → RunCaused failures failures' old new fault
 output_caused failures failures' old mid new Write same a b = (same, (b.0 ∙ ap raised a.0, b.1 ∙ a.1))
 output_caused failures failures' old mid new Report same a b = (same, (b.0 ∙ a.0, b.1 ∙ ap raised a.1))
-output_caused failures failures' old mid new NoMemory same a b = (same, same_counts old mid new a b)
+output_caused failures failures' old mid new NoMemory same a b = (same, (b.0 ∙ a.0, b.1 ∙ a.1))
 output_caused failures failures' old mid new _ same a b = absurd b
 
 module _ {A K : Type 0} (grows : K → K → List A → Type 0) (grows-nil : (k : K) → grows k k [])
@@ -275,96 +242,81 @@ module _ {A K : Type 0} (grows : K → K → List A → Type 0) (grows-nil : (k 
     pub took_records : (rs : List (List ℕ)) (old new : View K) → TakesRecords (TakesRecord grows text) w rs old new → TookRecords grows text w rs old new
     took_records = holds_of_all (TakesRecord grows text) (TookRecords grows text w) w more_records (no_records w)
 
-  module _ (buffering : Buffering) (ending : Ending) (w : Work) (valid : IsValid w) (first next : Option (List ℕ)) (failures failures' : ℕ) (old : View K) where
+  module _ (buffering : Buffering) (ending : Ending) (w : Work) (valid : IsValid w) (first next : Option (List ℕ)) (failures failures' : ℕ)
+      (old new : View K) where
+    -- where a run's records stop, and a device is blamed
+    abbrev Stops : View K → RunFault → Type 0
+    Stops v fault = IsStoppedAt grows buffering text ending w first next old v fault × RunCaused failures failures' old v fault
+
     passing_stopped : (fault : RunFault) → PassingStopped (record_length_of w.rules.layout) w.state.records first next failures failures' fault
-        → IsStoppedAt grows buffering text ending w first next old old fault
+        → Stops old fault
     passing_stopped Read h =
-        let none : behind w h.0.read ≡ [] = behind-none w h.0.read (omega (arith, h.0.few)) in record {
-          read = h.0.read;
-          part = h.0.part;
-          octets = h.0.octets;
-          short = h.0.short;
-          wanted = inl h.0.few;
-          took = subst (λ (rs : List (List ℕ)). TookRecords grows text w rs old old) (sym none) (no_records w old);
-        }
+        let none : behind w h.0.read ≡ [] = drop_of_length-le h.0.read (omega (arith, h.0.few)) in
+        let took = subst (λ (rs : List (List ℕ)). TookRecords grows text w rs old old) (sym none) (no_records w old) in
+        (record { read = h.0.read; part = h.0.part; octets = h.0.octets; short = h.0.short; wanted = inl h.0.few; took = took }, (h.1, (refl, refl)))
     passing_stopped ShortRecording h =
-        record { read = h.0.read; rest = h.0.rest; all = h.0.all; few = h.0.few; took = took_none grows grows-nil grows-trans old }
+        let took = took_none grows grows-nil grows-trans old in
+        (record { read = h.0.read; rest = h.0.rest; all = h.0.all; few = h.0.few; took = took }, (h.1, (refl, refl)))
     passing_stopped _ h = absurd h
 
-    passing_caused : (fault : RunFault) → PassingStopped (record_length_of w.rules.layout) w.state.records first next failures failures' fault
-        → RunCaused failures failures' old old fault
-    passing_caused Read h = (h.1, (refl, refl))
-    passing_caused ShortRecording h = (h.1, (refl, refl))
-    passing_caused _ h = absurd h
+    abbrev Refused : RunFault → Type 0
+    Refused fault = TakingRefused (TakesRecords (TakesRecord grows text)) (RefusesRecord grows text buffering) ending w first next old new fault
 
-    read_stopped : (new : View K) → TakingFails (TakesRecords (TakesRecord grows text)) ending w first next old new → IsStoppedAt grows buffering text ending w first next old new Read
-    read_stopped new h = record { read = h.read; part = h.part; octets = h.octets; short = h.short; wanted = inr h.wanted; took = took_records w valid (behind w h.read) old new h.took }
+    refused_record : (fault : RunFault) (h : Refused fault) → failures' ≡ failures
+        → Stopped grows buffering h.mid new (record_pieces text (worked w (behind w h.read)) (h.one ∷ [])) fault
+        → StopsAtRecord grows buffering text ending w first next old new fault × RunCaused failures failures' old new fault
+    refused_record fault h same stop =
+        let all = took_records w valid (behind w h.read) old h.mid h.took in
+        let caused = output_caused failures failures' old h.mid new fault same all.counts stop.cause in
+        let it : StopsAtRecord grows buffering text ending w first next old new fault =
+        record { read = _; one = _; octets = h.octets; exact = h.exact; passed = h.passed; wanted = h.wanted; mid = _; took = all; stopped = stop } in
+        (it, caused)
 
-    module _ (new : View K) where
-      refused_record : (fault : RunFault) (h : TakingRefused (TakesRecords (TakesRecord grows text)) (RefusesRecord grows text buffering) ending w first next old new fault)
-          → Stopped grows buffering h.mid new (record_pieces text (worked w (behind w h.read)) (h.one ∷ [])) fault
-          → StopsAtRecord grows buffering text ending w first next old new fault
-      refused_record fault h stopped = record {
-        read = h.read;
-        one = h.one;
-        octets = h.octets;
-        exact = h.exact;
-        passed = h.passed;
-        wanted = h.wanted;
-        mid = h.mid;
-        took = took_records w valid (behind w h.read) old h.mid h.took;
-        stopped = stopped;
-      }
+    -- writing stopped in a record's pieces, or the record was one too many
+    refused_stopped : (fault : RunFault) → Refused fault → failures' ≡ failures → Stops new fault
+    refused_stopped Write h same = let stop = refused_record Write h same h.stopped in (inl stop.0, stop.1)
+    refused_stopped Report h same = let stop = refused_record Report h same h.stopped in (inl stop.0, stop.1)
+    refused_stopped NoMemory h same = let stop = refused_record NoMemory h same h.stopped in (inl stop.0, stop.1)
+    refused_stopped TooMany h same =
+        let took = took_records w valid (behind w h.read) old h.mid h.took in
+        let most = sym (behind-counted w h.read h.passed) ∙ h.stopped.0 in
+        subst (λ (v : View K). Stops v TooMany) (sym h.stopped.1)
+        (record { read = _; one = _; octets = h.octets; exact = h.exact; most = most; wanted = h.wanted; took = took }, (same, took.counts))
+    refused_stopped _ h same = absurd h.stopped
 
-      -- writing stopped in a record's pieces, or the record was one too many
-      refused_stopped : (fault : RunFault) → TakingRefused (TakesRecords (TakesRecord grows text)) (RefusesRecord grows text buffering) ending w first next old new fault
-          → IsStoppedAt grows buffering text ending w first next old new fault
-      refused_stopped Write h = inl (refused_record Write h h.stopped)
-      refused_stopped Report h = inl (refused_record Report h h.stopped)
-      refused_stopped TooMany h = record {
-        read = h.read;
-        one = h.one;
-        octets = h.octets;
-        exact = h.exact;
-        most = sym (behind-counted w h.read h.passed) ∙ h.stopped.0;
-        wanted = h.wanted;
-        took = subst (λ (v : View K). Took grows old v (record_pieces text w (behind w h.read))) (sym h.stopped.1) (took_records w valid (behind w h.read) old h.mid h.took);
-      }
-      refused_stopped NoMemory h = inl (refused_record NoMemory h h.stopped)
-      refused_stopped _ h = absurd h.stopped
-
-      counts : {fault : RunFault} (h : TakingRefused (TakesRecords (TakesRecord grows text)) (RefusesRecord grows text buffering) ending w first next old new fault) → SameCounts old h.mid
-      counts h = (took_records w valid (behind w h.read) old h.mid h.took).counts
-
-      refused_caused : (fault : RunFault) → TakingRefused (TakesRecords (TakesRecord grows text)) (RefusesRecord grows text buffering) ending w first next old new fault
-          → failures' ≡ failures → RunCaused failures failures' old new fault
-      refused_caused Write h same = output_caused failures failures' old h.mid new Write same (counts h) h.stopped.cause
-      refused_caused Report h same = output_caused failures failures' old h.mid new Report same (counts h) h.stopped.cause
-      refused_caused TooMany h same = (same, subst (SameCounts old) (sym h.stopped.1) (counts h))
-      refused_caused NoMemory h same = output_caused failures failures' old h.mid new NoMemory same (counts h) h.stopped.cause
-      refused_caused _ h same = absurd h.stopped
-
-      -- so a run's records stop
-      pub records_stopped : (fault : RunFault)
-          → TakingStopped (TakesRecords (TakesRecord grows text)) (RefusesRecord grows text buffering) ending w first next failures failures' old new fault
-          → IsStoppedAt grows buffering text ending w first next old new fault × RunCaused failures failures' old new fault
-      records_stopped fault (inl h) =
-          subst (λ (v : View K). IsStoppedAt grows buffering text ending w first next old v fault × RunCaused failures failures' old v fault) (sym h.1)
-          (passing_stopped fault h.0, passing_caused fault h.0)
-      records_stopped fault (inr (inl h)) =
-          subst (λ (f : RunFault). IsStoppedAt grows buffering text ending w first next old new f × RunCaused failures failures' old new f) (sym h.1)
-          (read_stopped new h.0, (h.2, (took_records w valid (behind w h.0.read) old new h.0.took).counts))
-      records_stopped fault (inr (inr h)) = (refused_stopped fault h.0, refused_caused fault h.0 h.1)
+    -- so a run's records stop
+    pub records_stopped : (fault : RunFault)
+        → TakingStopped (TakesRecords (TakesRecord grows text)) (RefusesRecord grows text buffering) ending w first next failures failures' old new fault
+        → IsStoppedAt grows buffering text ending w first next old new fault × RunCaused failures failures' old new fault
+    records_stopped fault (inl h) = subst (λ (v : View K). Stops v fault) (sym h.1) (passing_stopped fault h.0)
+    records_stopped fault (inr (inl h)) =
+        let k = h.0 in
+        let took = took_records w valid (behind w k.read) old new k.took in
+        subst (Stops new) (sym h.1)
+        (record { read = k.read; part = k.part; octets = k.octets; short = k.short; wanted = inr k.wanted; took = took }, (h.2, took.counts))
+    records_stopped fault (inr (inr h)) = refused_stopped fault h.0 h.1
 
   -- all that a run reads was taken, so its records' pieces are written
   pub stepped_records : (ending : Ending) (w : Work) → IsValid w → (first next : Option (List ℕ)) (old new : View K) (now : Work) (octets : ℕ)
       → HasStepped (TakesRecords (TakesRecord grows text)) ending w first next old new now octets → HasStepped (TookRecords grows text) ending w first next old new now octets
-  stepped_records ending w valid first next old new now octets h = record {
-    read = h.read;
-    rest = h.rest;
-    passed = h.passed;
-    ended = h.ended;
-    left = h.left;
-    work = h.work;
-    took = took_records w valid (behind w h.read) old new h.took;
-  }
+  stepped_records ending w valid first next old new now octets h =
+      let took = took_records w valid (behind w h.read) old new h.took in
+      record { read = h.read; rest = h.rest; passed = h.passed; ended = h.ended; left = h.left; work = h.work; took = took }
+
+  -- ---- a flush behind a record: the record still is taken, or it is refused
+
+  module _ (buffering : Buffering) (mid new : View K) where
+    pub still_taken : {T : Type 0} (r : Result T RunFault) → Written grows buffering mid new [] r → OnOk r (StillTakes (TakesRecord grows text) mid new)
+    still_taken (Ok x) none = λ w one before took.
+        subst (Took grows before new) (append-nil (record_pieces text w (one ∷ [])))
+        (took_took grows grows-nil grows-trans before mid new (record_pieces text w (one ∷ [])) [] took none)
+    still_taken (Err fault) stopped = tt
+
+    pub then_refused : {T : Type 0} (r : Result T RunFault) → Written grows buffering mid new [] r
+        → IfErr r (ThenRefuses (TakesRecord grows text) (RefusesRecord grows text buffering) mid new)
+    then_refused (Ok x) none = tt
+    then_refused (Err fault) stopped = λ w one before took.
+        step_stopped grows buffering w.state.records before new (record_pieces text w (one ∷ [])) fault
+        (took_failed grows grows-nil grows-trans buffering before mid new (record_pieces text w (one ∷ [])) fault took stopped)
+
+pub ruleset joins = (records-append, worked-append)

@@ -1,6 +1,6 @@
--- How a summary ended, in the words of the octets that were read, and of the whole recording.
+-- How the counting of records goes on, and how a summary ended, in the words of the octets that were read, and of the whole recording.
 use Rattle.std.proofs.lemmas.Option.{IfSome_then}
-use Rattle.std.proofs.Common.{Bool, true, false, [], ◌∷◌, ⊎_elim, ◌≡◌, ◌<◌, ◌-◌, ◌^◌, ℕ, Option, Some, None, IfSome, List, ◌++◌, length, refl, sym, ap, subst, ◌∙◌, append-nil, arith}
+use Rattle.std.proofs.Common.{Bool, true, false, [], ◌∷◌, ⊎_elim, ◌≡◌, ◌<◌, ◌-◌, ◌^◌, ℕ, Option, Some, None, IfSome, List, ◌++◌, length, refl, sym, ap, subst, ◌∙◌, append-nil, arith, append_assoc, drop, inl, inr}
 use Rattle.std.specs.List.{concat}
 use Rattle.std.specs.Io.KnownBytes.{Appends, Keeps}
 use Rattle.std.proofs.KnownBytes.{Appends-kept}
@@ -8,20 +8,134 @@ use Rattle.tm_frame.specs.Layout.{record_length_of}
 use Rattle.tm_frame.specs.Rules.{Rules}
 use Rattle.tm_devices.specs.Devices.{raised}
 use Rattle.tm_faults.specs.declared.fault.RunFault.{RunFault}
-use Rattle.tm_faults.specs.declared.fault.RunFault.TheVariants.{Read, Write, Report, TooMany, NoMemory}
+use Rattle.tm_faults.specs.declared.fault.RunFault.TheVariants.{Read, Write, Report, TooMany, NoMemory, ShortRecording}
 use Rattle.tm_output.specs.Outputs.{AppendsCut, Stopped, Took, View, WantsMemory, Piece, line_piece, line_pieces, octets_buffering, outs, view}
 use Rattle.tm_output.specs.Records.{AreRecords, record_count}
 use Rattle.tm_output.proofs.LinePieces.{lines_out, same_cut}
-use Rattle.tm_output.proofs.LinePieces as pieces
 use Rattle.tm_output.proofs.RecordLemmas.{always, count_all, many_told, records_all, rest_all, told}
 use Rattle.tm_summary.specs.Lines.{summary_lines}
-use Rattle.tm_summary.specs.SummaryNumbers.{SummaryNumbers}
+use Rattle.tm_summary.specs.SummaryNumbers.{SummaryNumbers, Tally, nothing, numbers_of}
 use Rattle.tm_checkpoint.specs.Works.{new_job, Work}
-use Rattle.tm_tool.specs.Summaries.{IsSummarized, IsSummaryStop, StopsInLines, SummaryStopped, lines_after, summary}
-use Rattle.tm_tool.specs.code.Summing.{HasSummed}
+use Rattle.tm_tool.specs.Summaries.{IsSummarized, IsSummaryStop, StopsInLines, SummaryStopped, lines_after, summary, frames_in, good_frames, tally_of}
+use Rattle.tm_tool.specs.code.Summing.{HasSummed, CountCaused, CountedRecords, CountingStopped, CountsEnd, CountsRecord, RefusesCount, and_end, and_records}
+use Rattle.std.proofs.lemmas.Grind.{flat_map-append}
+use Rattle.tm_frame.specs.Fault.{frame_reading_of}
+use Rattle.tm_packet.specs.Merge as sequence
+use Rattle.tm_packet.proofs.Merging.{length-after_from}
+use Rattle.tm_reassembly.specs.declared.fault.StepFault.{StepFault}
+use Rattle.tm_reassembly.specs.declared.fault.StepFault.TheVariants.{Sink, Failed}
+use Rattle.tm_reassembly.specs.Steps.{CloseRefused, Progress}
+use Rattle.tm_output.specs.declared.command.Ending.TheVariants.{Close}
+use Rattle.tm_reassembly.specs.Items.{closing}
+use Rattle.tm_reassembly.specs.Recording.{items}
+use Rattle.tm_reassembly.proofs.Raw.{items-join}
+use Rattle.tm_items.specs.Item.{Item}
+use Rattle.tm_output.specs.Pieces.{noted, noted_all}
+use Rattle.tm_summary.specs.Kinds.{Noted}
+use Rattle.tm_summary.specs.declared.counting.Counting.{Counting}
+use Rattle.tm_summary.specs.Tallies.{AllFit, RefusesTally, TakesTally, and_items, and_notes, notes_among, notes_in, open_notes, with_all, with_open}
+use Rattle.tm_summary.proofs.Taken.{none_refused}
+use Rattle.tm_summary.proofs.Tallied.{all_counted, keys_fit, open_counted}
+use Rattle.tm_tool.specs.RecordingPieces.{items_of, worked}
+use Rattle.tm_tool.specs.Runs.{HasEnded, HasReadAll, behind}
+use Rattle.tm_tool.specs.code.RecordLoop.{HasStepped, PassingStopped, TakesRecords, TakingStopped}
+use Rattle.tm_tool.proofs.NoteLemmas.{noted_all_is}
+use Rattle.tm_tool.proofs.Running.{IsValid, behind-counted, holds_of_all, noted-append, records-counted}
 
-never : 0 ≡ raised 0 → ⊥
-never e = cc
+notes_among-append : (e : sequence.Entries) (xs ys : List Item) → notes_among e (xs ++ ys) ≡ notes_among e xs ++ notes_among (noted_all e xs) ys
+notes_among-append e [] ys = refl
+notes_among-append e (x ∷ xs) ys =
+    ap (λ (l : List Noted). notes_in e x ++ l) (notes_among-append (noted e x) xs ys) ∙ sym (append_assoc (notes_in e x) (notes_among (noted e x) xs) (notes_among (noted_all (noted e x) xs) ys))
+
+-- a closed end is refused by none
+pub end_taken : (p : Progress) (s t : Counting) (xs : List Item) (fault : StepFault RunFault) → p.failed ≡ false → CloseRefused (λ (c : Counting). c) TakesTally RefusesTally p s t xs fault → ⊥
+end_taken p s t xs (Sink f) going h = none_refused s xs f t h.1
+end_taken p s t xs Failed going h = cc (going, h.0)
+end_taken p s t xs _ going h = absurd h
+
+-- and is counted
+pub end_counted : (w : Work) (before mid now : SummaryNumbers) (entries : sequence.Entries) (rest : ℕ) → AllFit (closing w.state rest)
+    → entries ≡ noted_all w.entries (closing w.state rest)
+    → mid ≡ with_all w.entries before (closing w.state rest) → now ≡ with_open mid (sequence.unclosed 0 entries) → CountsEnd w before rest now
+end_counted w before mid now entries rest fit noted_is mid_is now_is t are most =
+    let size : length entries ≡ length w.entries = ap length (noted_is ∙ noted_all_is w.entries (closing w.state rest)) ∙ length-after_from 0 w.entries _ in
+    let first : Tally = and_items t w.entries (closing w.state rest) in
+    now_is
+    ∙ ap (λ (n : SummaryNumbers). with_open n (sequence.unclosed 0 entries))
+    (mid_is ∙ ap (λ (n : SummaryNumbers). with_all w.entries n (closing w.state rest)) are ∙ all_counted t w.entries (closing w.state rest) fit)
+    ∙ open_counted first (sequence.unclosed 0 entries) (keys_fit 0 entries (omega (arith, size, most)))
+    ∙ ap (λ (e : sequence.Entries). numbers_of (and_notes first (open_notes (sequence.unclosed 0 e)))) noted_is
+
+-- no records count nothing
+counted_none : (w : Work) (n : SummaryNumbers) → CountedRecords w [] n n
+unfolding items
+counted_none w n t are = are ∙ ap numbers_of (sym (rw (append-nil t.frames, append-nil t.items, append-nil t.notes) refl))
+
+-- at a recording's end all was read
+ended_all : (w : Work) (first next : Option (List ℕ)) (read : List (List ℕ)) (rest : List ℕ) → HasEnded Close w first next read rest
+    → HasReadAll (record_length_of w.rules.layout) first next read rest
+ended_all w first next read rest (inl h) = h.0
+ended_all w first next read rest (inr h) = absurd h.2
+
+-- no record was to be passed over
+passing_no : (w : Work) (first next : Option (List ℕ)) (failures failures' : ℕ) (fault : RunFault) → w.state.records ≡ 0
+    → PassingStopped (record_length_of w.rules.layout) w.state.records first next failures failures' fault
+    → CountingStopped w first next fault × CountCaused failures failures' fault
+passing_no w first next failures failures' Read none h = absurd (omega (arith, none, h.0.few))
+passing_no w first next failures failures' ShortRecording none h = absurd (omega (arith, none, h.0.few))
+passing_no w first next failures failures' _ none h = absurd h
+
+-- counting stopped: a read failed, or a record was one too many
+pub counting_stopped : (w : Work) (first next : Option (List ℕ)) (failures failures' : ℕ) (old new : SummaryNumbers) (fault : RunFault) → w.state.records ≡ 0
+    → TakingStopped (TakesRecords CountsRecord) RefusesCount Close w first next failures failures' old new fault
+    → CountingStopped w first next fault × CountCaused failures failures' fault
+counting_stopped w first next failures failures' old new fault none (inl h) = passing_no w first next failures failures' fault none h.0
+counting_stopped w first next failures failures' old new fault none (inr (inl h)) =
+    rw h.1 (record { read = h.0.read; part = h.0.part; octets = h.0.octets; short = h.0.short }, h.2)
+counting_stopped w first next failures failures' old new fault none (inr (inr h)) =
+    let most = sym (behind-counted w h.0.read h.0.passed) ∙ h.0.stopped.1 in
+    rw h.0.stopped.0 (record { read = h.0.read; one = h.0.one; octets = h.0.octets; exact = h.0.exact; most = most }, h.1)
+
+module _ (w : Work) (valid : IsValid w) where
+  -- records and then more records
+  records_joined : (t : Tally) (a b : List (List ℕ)) → and_records (worked w a) (and_records w t a) b ≡ and_records w t (a ++ b)
+  records_joined t a b =
+      rw (append_assoc t.frames (good_frames w.rules.layout a) (good_frames w.rules.layout b))
+      (rw (← flat_map-append (λ octets. frames_in (frame_reading_of w.rules.layout octets)) a b)
+      (rw (append_assoc t.items (items_of w a) (items_of (worked w a) b), items-join w.rules w.state a b valid)
+      (rw (append_assoc t.notes (notes_among w.entries (items_of w a)) (notes_among (noted_all w.entries (items_of w a)) (items_of (worked w a) b)))
+      (rw (notes_among-append w.entries (items_of w a) (items_of (worked w a) b)) refl))))
+
+  -- so records that were counted are counted with more
+  counted_more : (rs : List (List ℕ)) (one : List ℕ) (h i j : SummaryNumbers) → CountedRecords w rs h i → CountsRecord (worked w rs) one i j → CountedRecords w (rs ++ one ∷ []) h j
+  counted_more rs one h i j a b t are = b (and_records w t rs) (a t are) ∙ ap numbers_of (records_joined t rs (one ∷ []))
+
+  -- with the closed end all is counted
+  end_joined : (rs : List (List ℕ)) (rest : ℕ) → and_end (worked w rs) (and_records w nothing rs) rest ≡ tally_of w rs rest
+  end_joined rs rest =
+      rw (noted-append w.entries (items_of w rs) (closing (worked w rs).state rest))
+      (rw (notes_among-append w.entries (items_of w rs) (closing (worked w rs).state rest)) refl)
+
+  -- so a recording that was taken whole is counted whole
+  pub summed : (first next : Option (List ℕ)) (old before now : SummaryNumbers) (v : Work) (rest count : ℕ) → w.state.records ≡ 0 → old ≡ numbers_of nothing → length w.entries ≡ 16384
+      → HasStepped (TakesRecords CountsRecord) Close w first next old before v rest → CountsEnd v before rest now → count ≡ v.state.records → HasSummed w first next now count
+  summed first next old before now v rest count none are places h end count_is =
+      let from : behind w h.read ≡ h.read = ap (λ (d : ℕ). drop d h.read) none in
+      let work : v ≡ worked w h.read = h.work ∙ ap (worked w) from in
+      let sum : before ≡ numbers_of (and_records w nothing h.read) =
+      holds_of_all CountsRecord (CountedRecords w) w counted_more (counted_none w) (behind w h.read) old before h.took nothing are
+      ∙ ap (λ (rs : List (List ℕ)). numbers_of (and_records w nothing rs)) from in
+      let left : v.entries ≡ noted_all w.entries (items_of w h.read) = ap (λ (x : Work). x.entries) work in
+      let size : length v.entries ≡ 16384 =
+      ap length (left ∙ noted_all_is w.entries (items_of w h.read)) ∙ length-after_from 0 w.entries _ ∙ places in
+      let on : (x : Work) (n : ℕ) → x ≡ worked w h.read → n ≡ rest → numbers_of (and_end x (and_records w nothing h.read) rest) ≡ numbers_of (tally_of w h.read n) =
+      λ x n is same. rw (is, same) (ap numbers_of (end_joined h.read rest)) in
+      let all = ended_all w first next h.read h.rest h.ended in
+      let counted = end (and_records w nothing h.read) sum (omega (arith, size)) ∙ on v (length h.rest) work h.left in
+      let number = count_is ∙ ap (λ (x : Work). x.state.records) work ∙ records-counted w h.read in
+      record { read = h.read; rest = h.rest; all = all; counted = counted; count_is = number }
+
+-- ---- the lines
 
 -- no line has a text for the report
 line_report : (ls : List (List ℕ)) (done : List (Piece ℕ)) (next : Piece ℕ) (more : List (Piece ℕ)) → line_pieces ls ≡ done ++ next ∷ more → next.report ≡ []
@@ -44,58 +158,42 @@ module _ (rules : Rules) where
       rw (records_all (record_length_of rules.layout) read rest sized short, rest_all (record_length_of rules.layout) read rest sized short) refl
 
   module _ (first next : Option (List ℕ)) (w : Work) (is : w ≡ (new_job rules).work) (numbers : SummaryNumbers) (count : ℕ) (h : HasSummed w first next numbers count) where
-    summed : HasSummed (new_job rules).work first next numbers count
-    summed = subst (λ (x : Work). HasSummed x first next numbers count) is h
+    sums : HasSummed (new_job rules).work first next numbers count
+    sums = subst (λ (x : Work). HasSummed x first next numbers count) is h
 
-    counted : count ≡ length summed.read
-    counted = omega (arith, summed.count_is)
+    counted : count ≡ length sums.read
+    counted = omega (arith, sums.count_is)
 
-    lines_are : (chosen : List Bool) → chosen ≡ rules.channels → summary_lines chosen count numbers ≡ lines_after rules summed.read (length summed.rest)
+    lines_are : (chosen : List Bool) → chosen ≡ rules.channels → summary_lines chosen count numbers ≡ lines_after rules sums.read (length sums.rest)
     lines_are chosen same =
         ap (λ (cs : List Bool). summary_lines cs count numbers) same
         ∙ ap (λ (n : ℕ). summary_lines rules.channels n numbers) counted
-        ∙ ap (λ (m : SummaryNumbers). summary_lines rules.channels (length summed.read) m) summed.counted
+        ∙ ap (λ (m : SummaryNumbers). summary_lines rules.channels (length sums.read) m) sums.counted
 
     -- writing stopped in the lines
-    pub stops_in_lines : (chosen : List Bool) → chosen ≡ rules.channels → (old new : View (Option (List ℕ))) (fault : RunFault)
-        → Stopped Appends octets_buffering old new (line_pieces (summary_lines chosen count numbers)) fault → StopsInLines rules first next old new fault
-    stops_in_lines chosen same old new fault stopped = record {
-      read = summed.read;
-      rest = summed.rest;
-      all = summed.all;
-      stopped = subst (λ (ls : List (List ℕ)). Stopped Appends octets_buffering old new (line_pieces ls) fault) (lines_are chosen same) stopped;
-    }
-
     pub lines_stopped : (chosen : List Bool) → chosen ≡ rules.channels → (old new : Option (List ℕ)) (failures failures' : ℕ) (fault : RunFault)
         → Stopped Appends octets_buffering (view old None failures 0) (view new None failures' 0) (line_pieces (summary_lines chosen count numbers)) fault
         → IsSummaryStop rules first next (view old None failures 0) (view new None failures' 0) fault
-    lines_stopped chosen same old new failures failures' Write stopped = stops_in_lines chosen same _ _ Write stopped
+    lines_stopped chosen same old new failures failures' Write stopped =
+        let lines = subst
+        (λ (ls : List (List ℕ)). Stopped Appends octets_buffering (view old None failures 0) (view new None failures' 0) (line_pieces ls) Write)
+        (lines_are chosen same) stopped in
+        record { read = sums.read; rest = sums.rest; all = sums.all; stopped = lines }
     lines_stopped chosen same old new failures failures' NoMemory stopped = absurd (no_memory (summary_lines chosen count numbers) (stopped.memory refl))
-    lines_stopped chosen same old new failures failures' Report stopped = never stopped.cause.1
+    lines_stopped chosen same old new failures failures' Report stopped = let no : 0 ≡ raised 0 = stopped.cause.1 in cc
     lines_stopped chosen same old new failures failures' _ stopped = absurd stopped.cause
-
-    -- all lines were written, and a flush failed
-    pub flush_stopped : (chosen : List Bool) → chosen ≡ rules.channels → (old mid new : Option (List ℕ)) (failures failures' failures'' : ℕ)
-        → Took Appends (view old None failures 0) (view mid None failures' 0) (line_pieces (summary_lines chosen count numbers))
-        → Keeps mid new → failures'' ≡ raised failures'
-        → IsSummaryStop rules first next (view old None failures 0) (view new None failures'' 0) Write
-    flush_stopped chosen same old mid new failures failures' failures'' took kept counts =
-        lines_stopped chosen same old new failures failures'' Write
-        (pieces.flush_stopped took kept octets_buffering refl counts)
 
     -- all lines were written
     pub summarized : (chosen : List Bool) → chosen ≡ rules.channels → (old mid new : Option (List ℕ)) (failures failures' : ℕ)
         → Took Appends (view old None failures 0) (view mid None failures' 0) (line_pieces (summary_lines chosen count numbers)) → Keeps mid new → IsSummarized rules first next old new count
     summarized chosen same old mid new failures failures' took kept =
-        let text : outs (line_pieces (summary_lines chosen count numbers)) ≡ concat (summary rules (concat summed.read ++ summed.rest)) =
-        lines_out (summary_lines chosen count numbers) ∙ ap concat (lines_are chosen same ∙ sym (summary_read summed.read summed.rest summed.all.octets.sized summed.all.short)) in
-        record {
-          read = concat summed.read ++ summed.rest;
-          octets = summed.all.octets.octets;
-          ended = summed.all.ended;
-          written = Appends-kept old mid new _ (subst (Appends old mid) text took.whole.0) kept;
-          count_is = counted ∙ sym (count_all (record_length_of rules.layout) summed.read summed.rest summed.all.octets.sized summed.all.short);
-        }
+        let text : outs (line_pieces (summary_lines chosen count numbers)) ≡ concat (summary rules (concat sums.read ++ sums.rest)) =
+        lines_out (summary_lines chosen count numbers)
+        ∙ ap concat (lines_are chosen same ∙ sym (summary_read sums.read sums.rest sums.all.octets.sized sums.all.short)) in
+        let written = Appends-kept old mid new _ (subst (Appends old mid) text took.whole.0) kept in
+        let count_is = counted ∙ sym (count_all (record_length_of rules.layout) sums.read sums.rest sums.all.octets.sized sums.all.short) in
+        let all = sums.all in
+        record { read = concat sums.read ++ sums.rest; octets = all.octets.octets; ended = all.ended; written = written; count_is = count_is }
 
   -- ---- of a recording that tells its octets
 
@@ -103,17 +201,14 @@ module _ (rules : Rules) where
     pub summary_told : (old new : Option (List ℕ)) (count : ℕ) → IsSummarized rules first next old new count
         → IfSome first (λ octets. Appends old new (concat (summary rules octets)) × (count ≡ record_count (record_length_of rules.layout) octets))
     summary_told old new count h =
-        told _ h.read first next h.octets (λ left end.
-        let whole : h.read ++ left ≡ h.read = ap (λ (l : List ℕ). h.read ++ l) (end h.ended) ∙ append-nil h.read in
-        rw whole (h.written, h.count_is))
+        told _ h.read first next h.octets (λ left end. rw (end h.ended, append-nil h.read) (h.written, h.count_is))
 
     module _ (old new : View (Option (List ℕ))) where
       lines_told : (fault : RunFault) → StopsInLines rules first next old new fault
           → IfSome first (λ octets. Stopped Appends octets_buffering old new (line_pieces (summary rules octets)) fault)
       lines_told fault h =
           told _ (concat h.read ++ h.rest) first next h.all.octets.octets (λ left end.
-          let whole : (concat h.read ++ h.rest) ++ left ≡ concat h.read ++ h.rest = ap (λ (l : List ℕ). (concat h.read ++ h.rest) ++ l) (end h.all.ended) ∙ append-nil (concat h.read ++ h.rest) in
-          rw (whole, summary_read h.read h.rest h.all.octets.sized h.all.short) h.stopped)
+          rw (end h.all.ended, append-nil (concat h.read ++ h.rest), summary_read h.read h.rest h.all.octets.sized h.all.short) h.stopped)
 
       pub cut_told : (fault : RunFault) → IsSummaryStop rules first next old new fault → IfSome first (λ octets. AppendsCut Appends old new (line_pieces (summary rules octets)))
       cut_told Read h = always first (λ octets. same_cut old new _ h.1)

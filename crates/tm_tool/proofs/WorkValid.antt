@@ -1,6 +1,5 @@
 -- The work of a job is always one that a job may have: when it begins, and after more records.
-use Rattle.std.proofs.Common.{◌≡◌, inl, inr, ℕ, ◌+◌, ◌^◌, ◌<◌, true, List, [], ◌∷◌, length, refl, subst}
-use Rattle.std.proofs.lemmas.Bool.{eq-eqb}
+use Rattle.std.proofs.Common.{◌≡◌, inl, inr, ℕ, ◌+◌, ◌^◌, ◌<◌, true, List, [], ◌∷◌, length, refl, subst, eq-eqb}
 use Rattle.tm_packet.specs.Valid as valid
 use Rattle.tm_packet.proofs.AfterValid.{header-range, header-fits, after-valid}
 use Rattle.tm_packet.proofs.States.{valid-none}

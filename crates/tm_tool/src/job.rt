@@ -171,7 +171,7 @@ pub fn run<R: BufferedSource, W: Drain, V: Drain>(
 /// # Errors
 ///
 /// As `run`: `Write` where a put was refused, and `NoMemory` only where a line for the report can't be made. The job is given up.
-#[tactic(auto, using(crate::proofs::SplitRuns::ran_split))]
+#[tactic(auto, using(crate::proofs::RunPieces::ran_split))]
 pub fn split<R: BufferedSource, H: Shelf, V: Drain>(
     _alloc: Global,
     job: Job,

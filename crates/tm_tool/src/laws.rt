@@ -58,6 +58,7 @@ pub fn whole_recordings()
 
 /// Joining: the pieces of two lists of records, one after the other, are those of the first, and then those of the second from
 /// the work that the first leaves. So is the work that they leave.
+#[tactic(auto, using(crate::proofs::Running::joins))]
 pub fn joining()
     ensures pieces { (text : Texts ℕ) (w : Work) (a b : List (List ℕ)) → IsValidState w.rules w.state →
         record_pieces text w (a ++ b) ≡ record_pieces text w a ++ record_pieces text (worked w a) b }
@@ -136,6 +137,7 @@ pub fn resumption_across_versions()
 /// without its last master channel count. The pieces of a recording from there are those from the work itself, in their order,
 /// except for one line. That is the gap of the master channel at the first good frame, if one comes and has one. This holds for
 /// each command, and for packets that are put on a shelf.
+#[tactic(auto, using(tm_checkpoint::proofs::CheckpointLemmas::older_again))]
 pub fn older_versions()
     ensures run { (v : Version) (w : Work) (command : Command) (ending : Ending) (last : List ℕ) (stops : List Stop) →
         IsWork w → tells v w.rules ≡ true →
@@ -163,6 +165,7 @@ pub fn older_versions()
 /// What adds up in a summary, where the sum is below 2^64 - 1: its lines are made of `summary_numbers`, so `sums` of `tm_summary` holds of them.
 /// The good frames and the bad ones are its records. The octets of a chosen channel's packets and dropped parts, those of the closed end too, are
 /// the octets of its joined data fields, without VCA and idle-only frames.
+#[tactic(auto, unfolding(crate::specs::Summaries::summary, crate::specs::SummaryNumbers::summary_numbers))]
 pub fn summaries()
     ensures summarized { (rules : Rules) (left_old left_new old new : Option (List ℕ)) (count : ℕ) →
         IsSummarized rules left_old left_new old new count →

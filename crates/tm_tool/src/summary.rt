@@ -86,7 +86,7 @@ fn count_end(reassembly: &Reassembly, rest: usize, counting: &mut Counting<'_>)
 }
 
 // Counts a recording down to its closed end, with a job's extractor. Answers the number of its records.
-#[tactic(auto, using(crate::proofs::SummaryLemmas::summed))]
+#[tactic(auto, using(crate::proofs::SummaryEnds::summed))]
 fn count_into<R: BufferedSource>(
     extractor: &mut Extractor,
     recording: &mut R,

@@ -1,5 +1,5 @@
 use Rattle.std.proofs.Common.{rules}
-use Rattle.tm_tool.proofs.HeadLemmas.{flush_failed}
+use Rattle.tm_tool.proofs.HeadedRuns.{flush_failed}
 use Rattle.tm_tool.proofs.commands.write_csv_head.Goals as goal
 
 pub returns-clause-stopped : goal.returns-clause-stopped

@@ -1,7 +1,7 @@
 use Rattle.std.proofs.Common.{ℕ, ◌<◌, refl, inl, inr, subst}
 use Rattle.std.specs.Io.KnownBytes.{Appends}
 use Rattle.std.proofs.KnownBytes.{Appends-nil, Appends-trans}
-use Rattle.tm_tool.proofs.HeadLemmas.{head_stopped, head_took}
+use Rattle.tm_tool.proofs.HeadedRuns.{head_stopped, head_took}
 use Rattle.tm_tool.proofs.RunPieces.{ran_behind}
 use Rattle.tm_tool.proofs.job.run.Goals as goal
 
@@ -14,11 +14,7 @@ returns-in-Ok-clause-ran g c =
 pub returns-in-Err-clause-stopped : goal.returns-in-Err-clause-stopped
 returns-in-Err-clause-stopped g c =
     rw (← c.job.view_is)
-    (inl (record {
-      some = c.in-Err.ensures.stopped.0;
-      unread = refl;
-      stopped = head_stopped _ c.args.command c.job.inside.fresh c.in-Err.fault c.in-Err.ensures.stopped;
-    }))
+    (inl (record { some = c.in-Err.ensures.stopped.0; unread = refl; stopped = head_stopped _ c.args.command _ _ c.in-Err.ensures.stopped }))
 
 pub returns-in-Err-run_command-clause-stopped : goal.returns-in-Err-run_command-clause-stopped
 returns-in-Err-run_command-clause-stopped g c =

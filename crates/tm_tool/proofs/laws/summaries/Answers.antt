@@ -1,9 +1,6 @@
-use Rattle.std.proofs.Common.{refl}
 use Rattle.tm_tool.proofs.DataOctets.{data_told}
-use Rattle.tm_tool.proofs.RecordSums.{records_counted}
+use Rattle.tm_tool.proofs.RecordCounted.{records_counted}
 use Rattle.tm_tool.proofs.SummaryEnds.{stop_told, summary_told}
-use Rattle.tm_tool.specs.Summaries.{summary}
-use Rattle.tm_tool.specs.SummaryNumbers.{summary_numbers}
 use Rattle.tm_tool.proofs.laws.summaries.Goals as goal
 
 pub returns-clause-summarized : goal.returns-clause-summarized
@@ -11,10 +8,6 @@ returns-clause-summarized c rules left_old left_new old new count h = summary_to
 
 pub returns-clause-stopped : goal.returns-clause-stopped
 returns-clause-stopped c rules left_old left_new old new fault some h = stop_told rules some left_old left_new old new fault h
-
-pub returns-clause-lines : goal.returns-clause-lines
-unfolding summary summary_numbers
-returns-clause-lines c rules recording = refl
 
 pub returns-clause-records : goal.returns-clause-records
 returns-clause-records c rules recording count = records_counted rules recording count

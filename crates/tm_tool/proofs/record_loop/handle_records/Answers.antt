@@ -1,23 +1,17 @@
-use Rattle.std.proofs.Common.{◌∷◌, [], refl, ap, subst, ◌∙◌, inl, arith, rules}
+use Rattle.std.proofs.Common.{◌∷◌, [], refl, ap, ◌∙◌, inl, arith, rules}
 use Rattle.tm_frame.specs.Layout.{record_length_of}
 use Rattle.tm_frame.specs.Rules.{Rules}
 use Rattle.tm_checkpoint.specs.Works.{Work, work_of}
-use Rattle.tm_tool.specs.Runs.{WantsFurther}
-use Rattle.tm_tool.specs.code.RecordLoop.{Enough, HasPassed, PassingStopped}
 use Rattle.tm_tool.proofs.Running.{records-counted, first_reached, more_reached, just_enough, taken_first, taken_more, taken_all, taken_enough, taken_stopped}
 use Rattle.tm_tool.proofs.record_loop.handle_records.Goals as goal
 
 pub returns-in-Err-clause-stopped : goal.returns-in-Err-clause-stopped
 returns-in-Err-clause-stopped g c =
-    let stopped = subst (λ n. PassingStopped n c.args.reassembly.now.state.records (g.R.BufferedSource.left c.args.recording.now) (g.R.BufferedSource.left c.skip_records.new.recording)
-    (g.R.BufferedSource.failures c.args.recording.now) (g.R.BufferedSource.failures c.skip_records.new.recording) c.in-Err.fault) c.requires.exact
-    (rw c.records-done.ensures at c.in-Err.ensures) in
-    inl (stopped, refl)
+    inl (rw (c.records-done.ensures, c.requires.exact) at c.in-Err.ensures, refl)
 
 pub loop-ending-init : goal.loop-ending-init
 loop-ending-init g c =
-    let passed = subst (λ n. HasPassed n c.args.reassembly.now.state.records (g.R.BufferedSource.left c.args.recording.now) (g.R.BufferedSource.left c.skip_records.new.recording)) c.requires.exact
-    (rw c.records-done.ensures at c.in_default.ensures.0) in
+    let passed = rw (c.records-done.ensures, c.requires.exact) at c.in_default.ensures.0 in
     record {
       same = refl;
       rules = refl;
@@ -33,8 +27,7 @@ loop-ending-init g c =
 pub returns-then-not-wants_more-clause-stepped : goal.returns-then-not-wants_more-clause-stepped
 returns-then-not-wants_more-clause-stepped g c =
     let inv = c.loop-ending.invariant in
-    let enough : Enough c.args.ending c.args.reassembly.now.state.records c.loop-ending.reassembly.state.records =
-    rw (inv.done, c.records.ensures) at (c.wants_more.ensures.enough (search rules)) in
+    let enough = rw (inv.done, c.records.ensures) at (c.wants_more.ensures.enough (search rules)) in
     let reached = rw inv.done at inv.reached in
     taken_enough (g.K.RecordHandler.takes (g.K.RecordHandler.fixed c.args.handler.now)) c.args.ending _ c.requires.going.1 _ _ _ _ _
     inv.accepted (just_enough c.args.ending c.args.reassembly.now.state.records c.loop-ending.reassembly.state.records reached enough)
@@ -42,21 +35,19 @@ returns-then-not-wants_more-clause-stepped g c =
 pub returns-in-Ok-Some-clause-stepped : goal.returns-in-Ok-Some-clause-stepped
 returns-in-Ok-Some-clause-stepped g c =
     let inv = c.loop-ending.invariant in
-    let wanted : WantsFurther c.args.ending c.args.reassembly.now.state.records c.loop-ending.reassembly.state.records =
-    rw (inv.done, c.records.ensures) at (c.wants_more.ensures.wanted (search rules)) in
+    let wanted = rw (inv.done, c.records.ensures) at (c.wants_more.ensures.wanted (search rules)) in
     let (work, handler, ended) = rw c.in-Ok-Some.field-0-is at c.in-Ok-Some.ensures.ended in
     rw (work, handler)
-    (taken_all (g.K.RecordHandler.takes (g.K.RecordHandler.fixed c.args.handler.now)) c.args.ending _ c.requires.going.1 _ _ _ _ _ _
-    ended.rest inv.accepted ended.octets wanted c.in-Ok-Some.octets ended.left (omega (arith, ended.left, ended.short, inv.exact)) ended.end)
+    (taken_all (g.K.RecordHandler.takes (g.K.RecordHandler.fixed c.args.handler.now)) c.args.ending _ c.requires.going.1 _ _ _ _ _ inv.accepted
+    _ ended.rest ended.octets wanted c.in-Ok-Some.octets ended.left (omega (arith, ended.left, ended.short, inv.exact)) ended.end)
 
 pub returns-in-Err-handle_next-clause-stopped : goal.returns-in-Err-handle_next-clause-stopped
 returns-in-Err-handle_next-clause-stopped g c =
     let inv = c.loop-ending.invariant in
-    let wanted : WantsFurther c.args.ending c.args.reassembly.now.state.records c.loop-ending.reassembly.state.records =
-    rw (inv.done, c.records.ensures) at (c.wants_more.ensures.wanted (search rules)) in
+    let wanted = rw (inv.done, c.records.ensures) at (c.wants_more.ensures.wanted (search rules)) in
     let stopped = rw (inv.same, inv.reads) at c.in-Err-handle_next.ensures.stopped in
-    taken_stopped (g.K.RecordHandler.takes (g.K.RecordHandler.fixed c.args.handler.now)) c.args.ending _ c.requires.going.1 (g.K.RecordHandler.refuses (g.K.RecordHandler.fixed c.args.handler.now))
-    _ _ _ _ _ _ _ _ _ _ inv.accepted wanted inv.rules stopped
+    taken_stopped (g.K.RecordHandler.takes (g.K.RecordHandler.fixed c.args.handler.now)) c.args.ending _ c.requires.going.1 _ _ _ _ _ inv.accepted
+    (g.K.RecordHandler.refuses (g.K.RecordHandler.fixed c.args.handler.now)) _ _ _ _ _ wanted inv.rules stopped
 
 pub loop-ending-smaller : goal.loop-ending-smaller
 loop-ending-smaller g c =
@@ -80,6 +71,6 @@ loop-ending-preserved g c =
       reads = c.in-Ok-None.ensures.counts ∙ inv.reads;
       done = inv.done;
       reached = more_reached c.args.ending c.records-done.result c.loop-ending.reassembly.state.records _ wanted counted;
-      accepted = taken_more (g.K.RecordHandler.takes (g.K.RecordHandler.fixed c.args.handler.now)) c.args.ending _ c.requires.going.1 _ _ _ _ _ _
-          next.one inv.accepted next.octets _ _ (next.exact ∙ ap (λ (r : Rules). record_length_of r.layout) inv.rules) took next.holds.0;
+      accepted = taken_more (g.K.RecordHandler.takes (g.K.RecordHandler.fixed c.args.handler.now)) c.args.ending _ c.requires.going.1 _ _ _ _ _
+          inv.accepted _ next.one next.octets _ _ (next.exact ∙ ap (λ (r : Rules). record_length_of r.layout) inv.rules) took next.holds.0;
     }

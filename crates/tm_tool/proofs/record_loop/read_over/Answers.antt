@@ -1,5 +1,4 @@
-use Rattle.std.proofs.Common.{◌≡◌, length, take, refl, ap, subst, ◌∙◌, arith, take_all, length-take-le}
-use Rattle.std.specs.Io.KnownBytes.{Consumes}
+use Rattle.std.proofs.Common.{◌≡◌, ◌+◌, length, take, refl, ap, ◌∙◌, arith, take_all, length-take-le}
 use Rattle.tm_devices.specs.Devices.{raised}
 use Rattle.tm_tool.proofs.Passing.{passing_first, passing_more, passing_fails, passing_ends}
 use Rattle.tm_tool.proofs.record_loop.read_over.Goals as goal
@@ -11,8 +10,7 @@ pub returns-in_default : goal.returns-in_default
 returns-in_default g c =
     let inv = c.loop-passed.invariant in
     let (part, got, short) = c.in_default.ensures.part in (
-      passing_fails (length c.args.buffer.now) c.loop-passed._passed (g.R.BufferedSource.left c.args.recording.now) (g.R.BufferedSource.left c.loop-passed.recording) (g.R.BufferedSource.left c.fill.new.source)
-          part inv.passed got c.args.count (omega arith) (omega (arith, short, inv.exact)),
+      passing_fails _ _ _ _ _ part inv.passed got c.args.count (omega arith) (omega (arith, short, inv.exact)),
       c.in_default.ensures.counts ∙ ap raised inv.reads,
     )
 
@@ -20,18 +18,14 @@ pub returns-then-octets-buffer : goal.returns-then-octets-buffer
 returns-then-octets-buffer g c =
     let inv = c.loop-passed.invariant in
     let size : length (take c.in-Ok.octets c.fill.new.buffer) ≡ c.in-Ok.octets = length-take-le c.in-Ok.octets c.fill.new.buffer c.in-Ok.ensures.bound in (
-      passing_ends (length c.args.buffer.now) c.loop-passed._passed (g.R.BufferedSource.left c.args.recording.now) (g.R.BufferedSource.left c.loop-passed.recording) (g.R.BufferedSource.left c.fill.new.source)
-          (take c.in-Ok.octets c.fill.new.buffer) inv.passed c.in-Ok.ensures.octets c.args.count (omega arith) (omega (arith, size, inv.exact)) (c.in-Ok.ensures.end (omega arith)),
+      passing_ends _ _ _ _ _ _ inv.passed c.in-Ok.ensures.octets c.args.count (omega arith)
+          (omega (arith, size, inv.exact)) (c.in-Ok.ensures.end (omega arith)),
       c.in-Ok.ensures.counts ∙ inv.reads,
     )
 
 pub loop-passed-preserved : goal.loop-passed-preserved
 loop-passed-preserved g c =
     let inv = c.loop-passed.invariant in
-    let got = subst (Consumes (g.R.BufferedSource.left c.loop-passed.recording) (g.R.BufferedSource.left c.fill.new.source)) (take_all c.in-Ok.octets c.fill.new.buffer (omega arith)) c.in-Ok.ensures.octets in
-    record {
-      exact = omega (arith, inv.exact);
-      reads = c.in-Ok.ensures.counts ∙ inv.reads;
-      passed = passing_more (length c.args.buffer.now) c.loop-passed._passed (g.R.BufferedSource.left c.args.recording.now) (g.R.BufferedSource.left c.loop-passed.recording) (g.R.BufferedSource.left c.fill.new.source)
-          c.fill.new.buffer inv.passed got _ refl (omega (arith, inv.exact));
-    }
+    let got = rw (take_all c.in-Ok.octets c.fill.new.buffer (omega arith)) at c.in-Ok.ensures.octets in
+    let passed = passing_more _ _ _ _ _ c.fill.new.buffer inv.passed got (c.loop-passed._passed + 1) refl (omega (arith, inv.exact)) in
+    record { exact = omega (arith, inv.exact); reads = c.in-Ok.ensures.counts ∙ inv.reads; passed = passed }

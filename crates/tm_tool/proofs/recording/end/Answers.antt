@@ -18,8 +18,8 @@ returns-in-Ok-clause-written g c =
 
 pub returns-in-Err-Sink-clause-same : goal.returns-in-Err-Sink-clause-same
 returns-in-Err-Sink-clause-same g c =
-    let all = stopped_among g.O.Outlet.grows g.met.O.Outlet.grows_nil g.met.O.Outlet.grows_trans g.O.Outlet.text g.O.Outlet.buffering _ _ _ _ (rw c.in-Err-Sink.field-0-is at c.in-Err-Sink.ensures.refused).1 in
-    all.same
+    (stopped_among g.O.Outlet.grows g.met.O.Outlet.grows_nil g.met.O.Outlet.grows_trans g.O.Outlet.text g.O.Outlet.buffering _ _ _ _
+    (rw c.in-Err-Sink.field-0-is at c.in-Err-Sink.ensures.refused).1).same
 
 pub returns-in-Err-Sink-clause-written : goal.returns-in-Err-Sink-clause-written
 returns-in-Err-Sink-clause-written g c =

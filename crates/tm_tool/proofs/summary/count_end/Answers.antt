@@ -1,7 +1,7 @@
 use Rattle.std.proofs.Common.{◌∙◌}
 use Rattle.tm_summary.proofs.Taken.{took_tally}
 use Rattle.tm_checkpoint.specs.Works.{work_of}
-use Rattle.tm_tool.proofs.SummaryLemmas.{end_counted, end_taken}
+use Rattle.tm_tool.proofs.SummaryEnds.{end_counted, end_taken}
 use Rattle.tm_tool.proofs.summary.count_end.Goals as goal
 
 pub unreachable-requires : goal.unreachable-requires

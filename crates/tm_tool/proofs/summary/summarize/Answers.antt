@@ -1,6 +1,9 @@
-use Rattle.std.proofs.Common.{◌∙◌, ap}
+use Rattle.std.proofs.Common.{◌∙◌, ap, refl}
 use Rattle.tm_checkpoint.specs.Works.{JobState}
-use Rattle.tm_tool.proofs.SummaryEnds.{flush_stopped, lines_stopped, summarized}
+use Rattle.tm_faults.specs.declared.fault.RunFault.TheVariants.{Write}
+use Rattle.tm_output.specs.Outputs.{octets_buffering}
+use Rattle.tm_output.proofs.LinePieces.{flush_stopped}
+use Rattle.tm_tool.proofs.SummaryEnds.{lines_stopped, summarized}
 use Rattle.tm_tool.proofs.summary.summarize.Goals as goal
 
 pub returns-in-Err-write_summary-clause-stopped : goal.returns-in-Err-write_summary-clause-stopped
@@ -16,4 +19,5 @@ returns-in-Ok-flush-clause-summarized g c =
 pub returns-clause-stopped : goal.returns-clause-stopped
 returns-clause-stopped g c =
     let begun = ap (λ (j : JobState). j.work) (c.job.view_is ∙ c.in-Ok.ensures) in
-    flush_stopped c.args.settings.now _ _ _ begun _ _ c.in-Ok-count_into.ensures.counted _ c.channels.ensures _ _ _ _ _ _ c.in_default-write_summary.ensures c.flush.ensures.octets c.in-Err-flush.ensures.counts
+    lines_stopped c.args.settings.now _ _ _ begun _ _ c.in-Ok-count_into.ensures.counted _ c.channels.ensures _ _ _ _ Write
+    (flush_stopped c.in_default-write_summary.ensures c.flush.ensures.octets octets_buffering refl c.in-Err-flush.ensures.counts)

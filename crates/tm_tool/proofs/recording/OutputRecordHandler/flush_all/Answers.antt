@@ -1,4 +1,4 @@
-use Rattle.tm_tool.proofs.Flushed.{still_taken, then_refused}
+use Rattle.tm_tool.proofs.Running.{still_taken, then_refused}
 use Rattle.tm_tool.proofs.recording.OutputRecordHandler.flush_all.Goals as goal
 
 pub returns-clause-accepted : goal.returns-clause-accepted

@@ -1,31 +1,18 @@
-use Rattle.tm_tool.proofs.Sinks.{took_all, stopped_among}
-use Rattle.std.proofs.Common.{ap, arith}
-use Rattle.tm_reassembly.specs.Steps.{Progress}
+use Rattle.std.proofs.Common.{arith}
 use Rattle.tm_bits.specs.Bits.{AreOctets}
-use Rattle.tm_tool.proofs.Running.{stepped_valid, stepped_work, step_stopped}
+use Rattle.tm_tool.proofs.Running.{stepped_on, step_stopped}
+use Rattle.tm_tool.proofs.Sinks.{took_all, stopped_among}
 use Rattle.tm_tool.proofs.recording.OutputRecordHandler.handle_record.Goals as goal
 
 pub returns-in-Ok : goal.returns-in-Ok
 returns-in-Ok g c =
     let octets : AreOctets c.args.octets.now = record { below = λ i. omega (arith, c.type_inv.octets i) } in
     let all = took_all g.O.Outlet.grows g.met.O.Outlet.grows_nil g.met.O.Outlet.grows_trans g.O.Outlet.text g.O.Outlet.buffering _ _ _ c.in-Ok.ensures.accepted in
-    record {
-      same = all.same;
-      work = stepped_work c.args.reassembly.now _ _ _ _ c.in-Ok.ensures.left all.noted_is;
-      going_on = (ap (λ (x : Progress). x.failed) c.in-Ok.ensures.left, stepped_valid c.args.reassembly.now c.step.new.self c.args.octets.now c.requires.going.1 octets c.in-Ok.ensures.asked.1 c.in-Ok.ensures.left);
-      few = c.in-Ok.ensures.asked.1;
-      accepted = all.took;
-      refused = tt;
-    }
+    let on = stepped_on c.args.reassembly.now _ _ _ _ c.in-Ok.ensures.left all.noted_is c.requires.going c.in-Ok.ensures.asked.1 octets in
+    record { same = all.same; work = on.0; going_on = on.1; few = c.in-Ok.ensures.asked.1; accepted = all.took; refused = tt }
 
 pub returns-in-Err-Sink : goal.returns-in-Err-Sink
 returns-in-Err-Sink g c =
-    let all = stopped_among g.O.Outlet.grows g.met.O.Outlet.grows_nil g.met.O.Outlet.grows_trans g.O.Outlet.text g.O.Outlet.buffering _ _ _ _ (rw c.in-Err-Sink.field-0-is at c.in-Err-Sink.ensures.refused).3 in
-    record {
-      same = all.same;
-      work = tt;
-      going_on = tt;
-      few = tt;
-      accepted = tt;
-      refused = step_stopped g.O.Outlet.grows _ _ _ _ _ _ all.stopped;
-    }
+    let one = (rw c.in-Err-Sink.field-0-is at c.in-Err-Sink.ensures.refused).3 in
+    let all = stopped_among g.O.Outlet.grows g.met.O.Outlet.grows_nil g.met.O.Outlet.grows_trans g.O.Outlet.text g.O.Outlet.buffering _ _ _ _ one in
+    record { same = all.same; work = tt; going_on = tt; few = tt; accepted = tt; refused = step_stopped g.O.Outlet.grows _ _ _ _ _ _ all.stopped }

@@ -1,12 +1,10 @@
-use Rattle.std.proofs.Common.{◌≡◌, ◌<◌, true, false, refl, ap, ◌∙◌, arith}
-use Rattle.std.specs.Prelude.{Ok}
+use Rattle.std.proofs.Common.{◌≡◌, ◌<◌, true, false, refl, ◌∙◌, arith, Ok}
 use Rattle.tm_bits.specs.Bits.{AreOctets}
 use Rattle.tm_frame.specs.Fault.{frame_reading_of}
-use Rattle.tm_reassembly.specs.Steps.{Progress}
 use Rattle.tm_summary.proofs.Taken.{none_refused, took_tally}
 use Rattle.tm_checkpoint.specs.Works.{work_of}
 use Rattle.tm_tool.proofs.RecordCounted.{a_fault, counted_bad, counted_good, no_fault, seen_bad}
-use Rattle.tm_tool.proofs.Running.{stepped_valid, stepped_work}
+use Rattle.tm_tool.proofs.Running.{stepped_on}
 use Rattle.tm_tool.proofs.summary.CountingRecordHandler.handle_record.Goals as goal
 
 pub unreachable-requires-in-Err-Sink : goal.unreachable-requires-in-Err-Sink
@@ -21,16 +19,16 @@ pub returns-then-not-self : goal.returns-then-not-self
 returns-then-not-self c =
     let octets : AreOctets c.args.octets.now = record { below = λ i. omega (arith, c.type_inv.octets i) } in
     let all = took_tally _ _ _ c.in-Ok.ensures.accepted in
-    let w = work_of c.args.reassembly.now c.args.self.now.tracker.now in
+    let on = stepped_on c.args.reassembly.now _ _ _ _ c.in-Ok.ensures.left all.noted_is c.requires.going c.in-Ok.ensures.asked.1 octets in
     let reads : frame_reading_of c.args.reassembly.now.rules.layout c.args.octets.now ≡ Ok c.read_good-frame.result = rw c.layout-layout.ensures at c.read_good-frame.ensures in
     let below : c.read_good-frame.result.channel < 8 = omega (arith, c.channel.ensures.value, c.channel.ensures.below) in
     record {
       same = rw (all.same_tracker, all.same_counts) refl;
-      going_on = (ap (λ (x : Progress). x.failed) c.in-Ok.ensures.left, stepped_valid c.args.reassembly.now c.step.new.self c.args.octets.now c.requires.going.1 octets c.in-Ok.ensures.asked.1 c.in-Ok.ensures.left);
-      work = stepped_work c.args.reassembly.now _ _ _ _ c.in-Ok.ensures.left all.noted_is;
+      going_on = on.1;
+      work = on.0;
       few = c.in-Ok.ensures.asked.1;
-      accepted = counted_good w c.args.octets.now _ _ all.fit c.read_good-frame.result reads below
-          (c.add_frame.ensures ∙ rw (c.channel.ensures.value, c.kind.ensures.value, c.field.ensures.value, all.counted_is) refl);
+      accepted = counted_good (work_of c.args.reassembly.now c.args.self.now.tracker.now) c.args.octets.now _ _ all.fit c.read_good-frame.result reads
+          below (c.add_frame.ensures ∙ rw (c.channel.ensures.value, c.kind.ensures.value, c.field.ensures.value, all.counted_is) refl);
       refused = tt;
     }
 
@@ -38,12 +36,13 @@ pub returns-else-not-self : goal.returns-else-not-self
 returns-else-not-self c =
     let octets : AreOctets c.args.octets.now = record { below = λ i. omega (arith, c.type_inv.octets i) } in
     let all = took_tally _ _ _ c.in-Ok.ensures.accepted in
+    let on = stepped_on c.args.reassembly.now _ _ _ _ c.in-Ok.ensures.left all.noted_is c.requires.going c.in-Ok.ensures.asked.1 octets in
     let w = work_of c.args.reassembly.now c.args.self.now.tracker.now in
     let (fault, reads) = a_fault _ (seen_bad w c.args.octets.now _ true all.bad_is c.if-not-self.false) in
     record {
       same = rw (all.same_tracker, all.same_counts) refl;
-      going_on = (ap (λ (x : Progress). x.failed) c.in-Ok.ensures.left, stepped_valid c.args.reassembly.now c.step.new.self c.args.octets.now c.requires.going.1 octets c.in-Ok.ensures.asked.1 c.in-Ok.ensures.left);
-      work = stepped_work c.args.reassembly.now _ _ _ _ c.in-Ok.ensures.left all.noted_is;
+      going_on = on.1;
+      work = on.0;
       few = c.in-Ok.ensures.asked.1;
       accepted = counted_bad w c.args.octets.now _ _ all.fit fault reads all.counted_is;
       refused = tt;

@@ -1,5 +1,5 @@
-mod Zeros
-mod ChunkLemmas
-mod CallLemmas
-mod RefusalLemmas
-mod ListLemmas
+pub mod Zeros
+pub mod ChunkLemmas
+pub mod CallLemmas
+pub mod RefusalLemmas
+pub mod ListLemmas

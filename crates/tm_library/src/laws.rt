@@ -20,6 +20,7 @@ ghost use Rattle.tm_library.specs.Chunks.{chunk_ending};
 /// Chunks: a recording is given in any chunks. The first goes to a new job. Each further one goes to the checkpoint that the call
 /// before it wrote, after the octets that were left. Together they give exactly what one run gives of the whole recording, or
 /// the lines of its listing. It has to have fewer than 2^32 records.
+#[tactic(auto, using(crate::proofs::CallLemmas::in_one_run, crate::proofs::CallLemmas::in_one_list))]
 pub fn chunks()
     ensures pieces { (command : Command) (last : Bool) (rules : Rules) (first : List ℕ) (chunks : List (List ℕ)) →
         length rules.channels ≡ 8 → IsLimit rules.max_packet → 0 < record_length_of rules.layout →

@@ -85,6 +85,7 @@ fn used_octets(last: bool, size: usize, octets: usize) -> usize
 }
 
 // Gives what is wanted of a chunk that follows what the job has done.
+#[tactic(auto, using(tm_output::proofs::LinePieces::lines_out, crate::proofs::ChunkLemmas::reports_none))]
 fn give(
     alloc: Global,
     layout: &Layout,

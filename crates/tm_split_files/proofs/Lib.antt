@@ -1,3 +1,2 @@
 pub mod BufferLemmas
-pub mod LeftLemmas
 pub mod ShelfLemmas

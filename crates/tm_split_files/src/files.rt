@@ -197,7 +197,7 @@ impl<R: Files + AllocGlobal> Folder<'_, R> {
     }
 
     // Writes what is held of all applications. Where a file can't be written the others still are.
-    #[tactic(auto, using(crate::proofs::BufferLemmas::none_so_far, crate::proofs::LeftLemmas::left_so_far))]
+    #[tactic(auto, using(crate::proofs::BufferLemmas::none_so_far, crate::proofs::BufferLemmas::left_so_far))]
     fn write_all_held(&self, held: &mut [Vec<u8>]) -> Result<(), ShelfFault>
         requires { length held.now ≡ 2048 }
         ensures written { OnOk result (AreEmpty held.new) }

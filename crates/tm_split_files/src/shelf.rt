@@ -83,7 +83,7 @@ impl<'a, R: Files + AllocGlobal> FileShelf<'a, R> {
     }
 
     /// Writes all that is held. If a file can't be written, the others still are. A fault of `write_out` that no put has told is told first.
-    #[tactic(auto, using(crate::proofs::ShelfLemmas::none_of_call, crate::proofs::LeftLemmas::kept_seen))]
+    #[tactic(auto, using(crate::proofs::ShelfLemmas::none_of_call, crate::proofs::ShelfLemmas::kept_seen))]
     pub fn write_held(&mut self) -> Result<(), ShelfFault>
         ensures held { OnOk result (HoldsNone self.new.held) }
         ensures told { IfSome self.old.unwritten (λ fault. result ≡ Err fault) }
@@ -107,7 +107,7 @@ impl<R: Files + AllocGlobal> Shelf for FileShelf<'_, R> {
     ghost refusals = { λ s. s.refused };
 
     // Its files don't tell what they have: so the first two clauses say nothing of them. What is held before it is written is said by those behind.
-    #[tactic(auto, using(crate::proofs::ShelfLemmas::none_put, crate::proofs::ShelfLemmas::put_seen, crate::proofs::LeftLemmas::refused_seen, crate::proofs::LeftLemmas::no_memory_seen))]
+    #[tactic(auto, using(crate::proofs::ShelfLemmas::none_put, crate::proofs::ShelfLemmas::put_seen, crate::proofs::ShelfLemmas::refused_seen, crate::proofs::ShelfLemmas::no_memory_seen))]
     fn put(&mut self, application: u16, octets: &[u8]) -> Result<(), ShelfFault>
         ensures whole { OnOk result (Puts None None application octets.now) }
         ensures prefix { OnErr result (PutsPrefix None None application octets.now) }
@@ -134,7 +134,7 @@ impl<R: Files + AllocGlobal> Shelf for FileShelf<'_, R> {
     }
 
     // Where a file can't be written, the next put or `write_held` tells it.
-    #[tactic(auto, using(crate::proofs::ShelfLemmas::none_of_call, crate::proofs::LeftLemmas::kept_seen))]
+    #[tactic(auto, using(crate::proofs::ShelfLemmas::none_of_call, crate::proofs::ShelfLemmas::kept_seen))]
     fn write_out(&mut self)
         ensures kept { PutsNone None None }
         ensures refusals { self.new.refused ≡ self.old.refused }

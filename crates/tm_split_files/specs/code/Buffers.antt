@@ -6,9 +6,13 @@ abbrev pub IsKeptOrEmpty : List ℕ → List ℕ → Type 0
 IsKeptOrEmpty old new = (new ≡ old) ⊎ (new ≡ [])
 
 module _ {Z : Type 0} where
+  -- the octets of an application
+  abbrev pub octets_held_for : List (Vec ℕ Z) → ℕ → Option (List ℕ)
+  octets_held_for held application = option_map (λ octets. octets.items) (slice_get held application)
+
   -- the first so many are empty
   abbrev pub AreEmptyOf : ℕ → List (Vec ℕ Z) → Type 0
-  AreEmptyOf n held = (application : ℕ) → application < n → option_map (λ octets. octets.items) (slice_get held application) ≡ Some []
+  AreEmptyOf n held = (application : ℕ) → application < n → octets_held_for held application ≡ Some []
 
   -- all are empty
   abbrev pub AreEmpty : List (Vec ℕ Z) → Type 0
@@ -17,18 +21,13 @@ module _ {Z : Type 0} where
   -- these octets stand behind those of their application, and the others are as before
   abbrev pub IsExtended : List (Vec ℕ Z) → List (Vec ℕ Z) → ℕ → List ℕ → Type 0
   IsExtended old new application added =
-      (option_map (λ octets. octets.items) (slice_get new application) ≡ option_map (λ octets. octets.items ++ added) (slice_get old application))
+      (octets_held_for new application ≡ option_map (λ octets. octets ++ added) (octets_held_for old application))
       × ((other : ℕ) → other ≢ application → slice_get new other ≡ slice_get old other)
 
   -- that of this application is empty, and the others are as before
   abbrev pub IsDrained : List (Vec ℕ Z) → List (Vec ℕ Z) → ℕ → Type 0
   IsDrained old new application =
-      (option_map (λ octets. octets.items) (slice_get new application) ≡ Some [])
-      × ((other : ℕ) → other ≢ application → slice_get new other ≡ slice_get old other)
-
-  -- the octets of an application
-  abbrev pub octets_held_for : List (Vec ℕ Z) → ℕ → Option (List ℕ)
-  octets_held_for held application = option_map (λ octets. octets.items) (slice_get held application)
+      (octets_held_for new application ≡ Some []) × ((other : ℕ) → other ≢ application → slice_get new other ≡ slice_get old other)
 
   -- each has the octets that it had
   abbrev pub AreKept : List (Vec ℕ Z) → List (Vec ℕ Z) → Type 0

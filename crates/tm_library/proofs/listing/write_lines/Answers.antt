@@ -1,4 +1,4 @@
-use Rattle.std.proofs.Common.{◌≤◌, ◌<◌, ◌+◌, ◌^◌, length, arith}
+use Rattle.std.proofs.Common.{◌<◌, ◌+◌, ◌^◌, length, arith}
 use Rattle.std.proofs.lemmas.Result.{on_ok_weaker}
 use Rattle.tm_frame.specs.Layout.{record_length_of}
 use Rattle.tm_library.proofs.ListLemmas.{listed_closed, listed_few, listed_kept, listed_more}
@@ -6,17 +6,15 @@ use Rattle.tm_library.proofs.listing.write_lines.Goals as goal
 
 pub overflow_add-seen : goal.overflow_add-seen
 overflow_add-seen g c =
-    let whole : record_length_of c.args.layout.now ≤ length c.loop-left.left.now = omega (arith, c.loop-left-test.true, c.record_length-size.ensures.value) in
-    let some : 0 < record_length_of c.args.layout.now = omega (arith, c.record_length-size.ensures.some, c.record_length-size.ensures.value) in
-    let few : c.loop-left.seen + 1 < 2 ^ 32 = listed_few _ _ _ _ c.loop-left.invariant whole some c.requires in
-    omega (arith, few)
+    let size = c.record_length-size.ensures in
+    let few : c.loop-left.seen + 1 < 2 ^ 32 =
+    listed_few _ _ _ _ c.loop-left.invariant (omega (arith, c.loop-left-test.true, size)) (omega (arith, size)) c.requires in omega (arith, few)
 
 pub loop-left-preserved : goal.loop-left-preserved
 loop-left-preserved g c =
-    let whole : record_length_of c.args.layout.now ≤ length c.loop-left.left.now = omega (arith, c.loop-left-test.true, c.record_length-size.ensures.value) in
-    let took = (c.in_ok-write_record_line.ensures.took).whole.0 in
-    rw (c.split_at.ensures.back, c.record_length-size.ensures.value)
-    (listed_more _ _ _ _ c.loop-left.invariant whole _ (rw (c.split_at.ensures.front, c.record_length-size.ensures.value) at took))
+    let size = c.record_length-size.ensures.value in
+    let took = rw (c.split_at.ensures.front, size) at ((c.in_ok-write_record_line.ensures.took).whole.0) in
+    rw (c.split_at.ensures.back, size) (listed_more _ _ _ _ c.loop-left.invariant (omega (arith, c.loop-left-test.true, size)) _ took)
 
 pub returns-then-last : goal.returns-then-last
 returns-then-last g c =
@@ -25,5 +23,4 @@ returns-then-last g c =
 
 pub returns : goal.returns
 returns g c =
-    let short : length c.loop-left.left.now < record_length_of c.args.layout.now = omega (arith, c.loop-left-test.false, c.record_length-size.ensures.value) in
-    rw c.if-last.false (listed_kept _ _ _ _ c.loop-left.invariant short)
+    rw c.if-last.false (listed_kept _ _ _ _ c.loop-left.invariant (omega (arith, c.loop-left-test.false, c.record_length-size.ensures.value)))

@@ -6,9 +6,7 @@ use Rattle.std.proofs.lemmas.Bool.{cases_lt, eqb-true}
 use Rattle.tm_bits.specs.Bits.{part}
 use Rattle.tm_bits.proofs.PartLemmas.{part-front}
 use Rattle.tm_packet.specs.declared.header.PacketFault.{PacketFault}
-use Rattle.tm_packet.specs.declared.header.PacketFault.TheVariants.{Short, Version}
 use Rattle.tm_packet.specs.Header.{Fields, packet_version_of, packet_header_of, header_reading_of}
-use Rattle.tm_packet.proofs.HeaderLemmas.{reading_ok}
 use Rattle.tm_items.specs.OnePacket.{is_packet, packet_length}
 use Rattle.tm_items.proofs.Reaching.{packet_length-short, packet_length-long}
 

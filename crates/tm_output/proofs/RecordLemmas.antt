@@ -1,8 +1,8 @@
 -- How a recording that begins with some records is cut.
-use Rattle.std.proofs.Common.{◌≡◌, ◌<◌, ◌≤◌, ℕ, zero, suc, ◌+◌, ◌*◌, ◌/◌, ◌%◌, ◌-◌, List, [], ◌∷◌, ◌++◌, length, drop, length-append, length-drop, length-take-le, refl, sym, ap, subst, ◌∙◌, append_assoc, append-nil, arith, add-one, Option, None, Some, IfSome, ◌^◌}
+use Rattle.std.proofs.Common.{◌≡◌, ◌<◌, ◌≤◌, ℕ, zero, suc, ◌+◌, ◌*◌, ◌/◌, ◌-◌, List, [], ◌∷◌, ◌++◌, length, drop, length-append, length-drop, length-take-le, refl, sym, ap, subst, ◌∙◌, append_assoc, append-nil, arith, add-one, Option, None, Some, IfSome, ◌^◌}
 use Rattle.std.proofs.lemmas.List.{drop-drop, drop_at, take-append-drop, take_at}
 pub use Rattle.std.proofs.lemmas.List.Folds.{concat-append}
-use Rattle.std.proofs.Math.Nat.{div-eq-sub-div, div-eq_of_lt, div-mul-le_self, mod-eq-sub-div-mul, mod-lt, zero-mul}
+use Rattle.std.proofs.Math.Nat.{div-eq-sub-div, div-eq_of_lt, div-mul-le_self, zero-mul}
 use Rattle.std.specs.List.{concat}
 use Rattle.std.specs.Io.KnownBytes.{Consumes, IsAtEnd}
 use Rattle.tm_output.specs.Records.{AreRecords, HasRead, first_records, record_count, records, rest_of}
@@ -107,12 +107,6 @@ module _ (size : ℕ) (some : 0 < size) (octets : List ℕ) where
   pub records_counted : length (records size octets) ≡ record_count size octets
   unfolding records
   records_counted = cut_counted size (record_count size octets) octets
-
-  pub rest_small : length (rest_of size octets) < size
-  unfolding rest_of
-  rest_small =
-      let left : length octets % size ≡ length octets - record_count size octets * size = mod-eq-sub-div-mul (length octets) size in
-      omega (arith, left, mod-lt (length octets) some, length-drop (record_count size octets * size) octets)
 
 -- ---- a recording that tells its octets
 

@@ -19,18 +19,6 @@ module _ {A K : Type 0} (grows : K → K → List A → Type 0) (buffering : Buf
       → IsDone ending w done
   ran_done old new head done r = (r.read, untold ending w new.left r.read r.enough, r.outcome.count_is, r.outcome.kept_is)
 
--- no checkpoint is wanted
-pub file_unwanted : {J : Type 0} (name : Option (List ℕ)) (kept : Option J) → (name ≡ None) ⊎ (kept ≡ None) → requested_checkpoint name kept ≡ None
-file_unwanted None None h = refl
-file_unwanted None (Some job) h = refl
-file_unwanted (Some name) None h = refl
-file_unwanted (Some name) (Some job) (inl is) = cc
-file_unwanted (Some name) (Some job) (inr is) = cc
-
--- one is, to this file
-pub file_wanted : {J : Type 0} (name : Option (List ℕ)) (kept : Option J) (given : List ℕ) (job : J) → name ≡ Some given → kept ≡ Some job → requested_checkpoint name kept ≡ Some given
-file_wanted name kept given job named is = rw is named
-
 -- a run of a plan with a file for the checkpoint keeps a job
 file_with : (name : Option (List ℕ)) (stop : Option ℕ) (w : Work) (kept : Option JobState) → option_map (λ job. job.work) kept ≡ kept_of (ending_with name stop) w
     → requested_checkpoint name kept ≡ name

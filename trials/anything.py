@@ -73,7 +73,7 @@ def run(words, folder):
 
 
 def make_stops(chance, settings, records):
-    """After which records a job is stopped, and of which version the checkpoint is that it goes on from."""
+    """After which records a job is stopped, and which version its checkpoint has."""
     versions = (1, 2, 3, 3) if settings.max_packet == reference.LONGEST_PACKET else (2, 3, 3)
     stops, done = {}, 0
     while done < records:

@@ -223,7 +223,7 @@ def said(octets):
 
 
 def behind(state, base, names):
-    """A state without what these outputs had before. Other files are gone on with."""
+    """A state without what these outputs had before. Other files stay, and a run appends to them."""
     return state | {it: state[it][len(base[it]) :] for it in names}
 
 
@@ -285,7 +285,7 @@ class Trials:
         self.tell(f"{command} by {how} {identity_of(named)}{report}", wrong)
 
     def resumed(self, command, how, named):
-        """Likewise from a checkpoint on. The report and the files of split are gone on with."""
+        """Likewise from a checkpoint on. A run appends to the report and to the files of split."""
         done, states = RECORDS // 3, self.recording.states[command]
         self.begin_behind(states[done])
         Path("c").write_bytes(self.recording.checkpoints[done])
@@ -446,7 +446,7 @@ def killed_trial(trials, command, records):
     wanted = behind(states[-1], states[done], ["out"])
     wrong = wrong or (f"status {status}" if status else difference(of_folder(wanted), wanted))
     wrong = wrong or left_by(trials.recording.checkpoints[-1], None)
-    trials.tell(f"{command} killed while it waits behind {records} records, and gone on with", wrong)
+    trials.tell(f"{command} killed while it waits behind {records} records, and resumed", wrong)
 
 
 def of_folder(wanted):

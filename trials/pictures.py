@@ -234,7 +234,7 @@ def wanted_bands(frames):
 
 
 def found_bands(picture, frames):
-    """The same by the groups of marks that light up together, each of which has a bar of bad frames."""
+    """The same by the groups of marks that light up together. Each has a bar of bad frames."""
     each, bands = columns_of(frames), {}
     for group in (it for it in picture.iter(f"{SVG}g") if it.find(f"{SVG}title") is None):
         bar, *marks_of_bands = [it.find(f"{SVG}title").text.replace(",", "") for it in group]

@@ -1,5 +1,5 @@
 # shellcheck shell=bash disable=SC2154
-# Group `faults`: each line and status of the fault table, and want of memory.
+# Group `faults`: each line and status of the fault table, and runs without memory.
 
 # A checkpoint of these octets, in hexadecimal, with its error control.
 forged() {

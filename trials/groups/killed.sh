@@ -1,5 +1,5 @@
 # shellcheck shell=bash disable=SC2154
-# Group `killed`: runs that are ended by a signal, and gone on with.
+# Group `killed`: runs that a signal ends, and that are resumed.
 
 killed() {
     local command round more long=$folder/long.rec

@@ -2,7 +2,7 @@
 
     speed.py RECORDING SETTINGS DEFINITION [ROUNDS]
 
-Of the application with the most packets the fields are read.  Prints the median of the rounds, in seconds, and the least.
+Reads the fields of the application with the most packets.  Prints the median of the rounds, in seconds, and the least.
 `written` is the program that writes the rows to a file, `read_csv` what pandas takes to read that file, and `read_csv of a pipe`
 what it takes to read them from the program itself.
 """

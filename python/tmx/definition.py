@@ -1,4 +1,4 @@
-"""Definitions of fields: which columns a table has, and of which kind they are.
+"""Definitions of fields: which columns a table has, and the kind of each.
 
 The program reads the definition, and refuses a wrong one.  Here it is read a second time for the kinds of its fields; the
 names have to be those that the program prints.

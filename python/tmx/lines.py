@@ -395,7 +395,7 @@ def read_lines(text: str, kinds: tuple[type[Line], ...]) -> Iterator[Any]:
         yield form.read(line)
 
 
-# Of packets each line is read together with all others of a text: there are many.
+# All packet lines of a text are read together, since there are many.
 
 PACKET_LINE = re.compile(
     f"^packet record=({NUMBER}) channel=([0-7]) from=({NUMBER}) at=({NUMBER}) type=(tm|tc) secondary=(yes|no)"

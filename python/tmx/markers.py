@@ -29,7 +29,7 @@ class Slip:
 
 
 class Window:
-    """A part of a stream, of which any octet is asked for by its place in the stream."""
+    """A part of a stream. Any octet of it is asked for by its place in the stream."""
 
     def __init__(self, source: Source) -> None:
         self.source = source
@@ -200,7 +200,7 @@ def cut(
     flips   how many bits of a marker may be wrong
 
     Gives the records without their markers, so `skip_before` is not needed for them: `tmx.Recording(tmx.cut(..), settings)`
-    reads them.  Streams of which bits were lost or added are not its work.  Raises ValueError where marker or length is
+    reads them.  It can't mend streams that lost or gained bits.  Raises ValueError where marker or length is
     empty.
     """
     octets = bytes.fromhex(marker) if isinstance(marker, str) else marker

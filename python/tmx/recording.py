@@ -202,7 +202,7 @@ class Recording:
         self.run(Command(["split", "--dir", os.fspath(folder), *words], "end"))
 
     def run(self, command: Command) -> None:
-        """A run of the program of which nothing is read."""
+        """A run of the program whose output is not read."""
         with running(self.source, self.settings, command) as runs:
             runs.finish()
 

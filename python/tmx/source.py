@@ -13,7 +13,7 @@ BLOCK = 1 << 17  # octets that are fed at once
 class Source:
     """A file by its name, or a binary stream.
 
-    path    the name of a file, of which each run of the program reads what it needs; None for a stream
+    path    the name of a file; each run of the program reads from it what it needs. None for a stream
     stream  the stream, while a run reads it; None for a file.  What is named and is no file, as a pipe, is a stream too
     """
 

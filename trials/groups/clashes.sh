@@ -132,7 +132,7 @@ errors_clashes() {
     clash "a report over the recording, and standard error behind it" "" "$used --report own/./z.rec own/z.rec 2>>own/hard"
     clash "settings that are missing, and standard error behind the recording" "" "$tmx packets --settings own/none own/z.rec 2>>own/z.rec"
     clash "a checkpoint that is missing, and standard error behind the settings" "" "$used --resume own/none own/z.rec 2>>own/s.toml"
-    clash "a checkpoint that is gone on with, and standard error behind it" "" "$used --report own/r --resume own/k own/z.rec 2>>own/k"
+    clash "a checkpoint that is resumed, and standard error behind it" "" "$used --report own/r --resume own/k own/z.rec 2>>own/k"
     errors_clash "a checkpoint over the file of standard error" own/k "$used --checkpoint own/k own/z.rec 2>>own/k.hard"
     errors_clash "split over the file of standard error" own/d/apid-0100.pkt "$tmx split --settings own/s.toml --dir own/d own/z.rec 2>>own/d/apid-0100.pkt"
 }
@@ -177,9 +177,9 @@ is_start() {
 
 no_clashes() {
     own_folder
-    no_clash "a checkpoint over the one that is gone on with" "$used --report own/r --resume own/k --checkpoint own/k own/z.rec"
+    no_clash "a checkpoint over the one that is resumed" "$used --report own/r --resume own/k --checkpoint own/k own/z.rec"
     own_folder
-    no_clash "a checkpoint over the one that is gone on with, by another name" "$used --report own/r --resume own/./k --checkpoint own/k own/z.rec"
+    no_clash "a checkpoint over the one that is resumed, by another name" "$used --report own/r --resume own/./k --checkpoint own/k own/z.rec"
     no_clash "a report to /dev/null" "$used --report /dev/null own/z.rec"
     no_clash "a recording and a report that are one device" "$used --report /dev/../dev/null /dev/null"
     no_clash "a report to /dev/stdout, which is a pipe" "$used --report /dev/stdout own/z.rec | cat"

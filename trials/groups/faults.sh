@@ -339,7 +339,7 @@ little_memory() {
     echo "note $1: out of memory from $least to $most KiB of address space"
 }
 
-# The same for names of 100,000 octets, the first of which is refused where there is enough. Under a limit bash itself could
+# The same for names of 100,000 octets. With enough memory the first is refused. Under a limit bash itself could
 # not hold them.
 long_words() {
     local said

@@ -46,6 +46,18 @@ tell() {
     if [ -z "$2" ]; then ok "$1"; else no "$1: $2"; fi
 }
 
+# Counts the trials of another program, by its lines `ok ..` and `FAILED: ..`, and passes lines `note ..` on. Any other line counts as failed.
+take_lines() {
+    local line
+    while read -r line; do
+        case $line in
+        "ok "*) ok "${line#ok }" ;;
+        "note "*) echo "$line" ;;
+        *) no "${line#FAILED: }" ;;
+        esac
+    done
+}
+
 # The name of a trial, the status and the line on standard error that are wanted, and a command line for bash.
 # Standard output goes to the file `out`, standard error to `err`.
 gives() {

@@ -148,14 +148,9 @@ with_library() {
 
 # The words of the completions, and their syntax where their shells are there.
 completions() {
-    local line shell place=$1/share
+    local shell place=$1/share
     local files=("$place/bash-completion/completions/tmx" "$place/zsh/site-functions/_tmx" "$place/fish/vendor_completions.d/tmx.fish")
-    while read -r line; do
-        case $line in
-        "ok "*) ok "${line#ok }" ;;
-        *) no "${line#FAILED: }" ;;
-        esac
-    done < <(python3 "$here/completions.py" "$tmx" "${files[@]}" 2>&1)
+    take_lines < <(python3 "$here/completions.py" "$tmx" "${files[@]}" 2>&1)
     for shell in bash zsh fish; do
         if command -v $shell >/dev/null; then
             tell "$shell reads its completion" "$($shell -n "${files[0]}" 2>&1)"

@@ -69,7 +69,6 @@ library_calls() {
 }
 
 library() {
-    local line
     names
     if [ -n "${LIBRARY:-}" ]; then
         cp -r "$LIBRARY" library
@@ -82,10 +81,5 @@ library() {
     fi
     ! command -v gcc >/dev/null || library_examples
     ! command -v gcc >/dev/null || library_calls
-    while read -r line; do
-        case $line in
-        "ok "*) ok "${line#ok }" ;;
-        *) no "${line#FAILED: }" ;;
-        esac
-    done < <(python3 "$here/library.py" "$tmx" "$PWD/library/libtmx.so" "${CHUNKED:-40}" 2>&1; TMX=$tmx TMX_LIBRARY=$PWD/library/libtmx.so python3 "$here/../python/tests/run.py" test_engine 2>&1)
+    take_lines < <(python3 "$here/library.py" "$tmx" "$PWD/library/libtmx.so" "${CHUNKED:-40}" 2>&1; TMX=$tmx TMX_LIBRARY=$PWD/library/libtmx.so python3 "$here/../python/tests/run.py" test_engine 2>&1)
 }

@@ -7,12 +7,5 @@ live() {
 
 # A part of live.py.
 live_trials() {
-    local line
-    while read -r line; do
-        case $line in
-        "ok "*) ok "${line#ok }" ;;
-        "note "*) echo "$line" ;;
-        *) no "${line#FAILED: }" ;;
-        esac
-    done < <(python3 "$here/live.py" "$tmx" "$here/fields.csv" "$example" "$1" 2>&1)
+    take_lines < <(python3 "$here/live.py" "$tmx" "$here/fields.csv" "$example" "$1" 2>&1)
 }

@@ -9,7 +9,7 @@ picture_of_docs() {
 }
 
 pictures() {
-    local line draw="python3 -m tmx map"
+    local draw="python3 -m tmx map"
     export PYTHONPATH=$here/../python PYTHONDONTWRITEBYTECODE=1
     names
     tell "the picture in docs" "$(picture_of_docs)"
@@ -17,10 +17,5 @@ pictures() {
     gives "a picture of a folder" 1 "tmx map: .: Is a directory" "$draw . report.txt"
     gives "a picture of zeros without end" 1 "tmx map: /dev/zero, line 1: no line of \`tmx frames\`" "$draw /dev/zero report.txt"
     gives "a picture on a full device" 1 "tmx map: standard output: No space left on device" "$draw frames.txt report.txt >/dev/full"
-    while read -r line; do
-        case $line in
-        "ok "*) ok "${line#ok }" ;;
-        *) no "${line#FAILED: }" ;;
-        esac
-    done < <(python3 "$here/pictures.py" "$PICTURED" 2>&1)
+    take_lines < <(python3 "$here/pictures.py" "$PICTURED" 2>&1)
 }

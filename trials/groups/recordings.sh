@@ -130,23 +130,34 @@ record_length() {
     awk '/^frame_length|^skip/ { s += $3 } END { print s }' "$1"
 }
 
-random() {
+# Random recordings under the settings of these names, in a folder of their own.
+random_recordings() {
     local name octets seed kind record most
+    cd "$(mktemp -d -p .)" || exit 2
     make_settings
-    for name in s9 s9e s24 s24o s1115 s1115n s2048 s2048e; do
-        record=$(record_length $name)
+    for name in "$@"; do
+        record=$(record_length "$name")
         most=$LARGEST
         [ "$record" -gt 9 ] || most=$((LARGEST / 4))
-        for octets in 0 1 $((record - 1)) "$record" $((record * 50 + record / 2)) $most; do
+        for octets in 0 1 $((record - 1)) "$record" $((record * 50 + record / 2)) "$most"; do
             for kind in random likely; do
                 for seed in 1 2 3; do
                     [ "$octets" -gt "$record" ] || [ $seed = 1 ] || continue
-                    python3 "$here/reference.py" make $kind $seed "$octets" $name >recording
-                    trial "$octets octets, $kind $seed, settings $name" $name recording
+                    python3 "$here/reference.py" make $kind $seed "$octets" "$name" >recording
+                    trial "$octets octets, $kind $seed, settings $name" "$name" recording
                 done
             done
         done
     done
+}
+
+# Two halves run side by side.
+random() {
+    random_recordings s9 s9e s24 s24o >short_frames 2>&1 &
+    random_recordings s1115 s1115n s2048 s2048e >long_frames 2>&1 &
+    wait
+    take_lines < <(cat short_frames long_frames)
+    make_settings
     trial "the example" "$example/settings.toml" "$example/pass.rec"
     head -c "$LARGEST" /dev/urandom >recording
     trial "$LARGEST octets of /dev/urandom" s24 recording

@@ -150,6 +150,7 @@ fn frame_in<'r>(parts: &LayoutParts, octets: &'r [u8]) -> &'r [u8]
 }
 
 /// Reads the octets of one record: the good frame, or the first fault that applies. Nothing of a bad frame is given.
+#[inline(always)]
 pub fn read<'r>(layout: &Layout, octets: &'r [u8]) -> Result<Frame<'r>, FrameFault>
     requires { length octets.now ≡ record_length_of layout.now }
     ensures { result ≡ frame_reading_of layout.now octets.now }

@@ -19,14 +19,14 @@ packet_length-append t u h =
     ∙ ap (λ (o : List ℕ). (packet_header_of o).data_length + 7) (take-append-le 6 t u h)
     ∙ sym (packet_length-long t h)
 
-pub packet_length-least : (t : List ℕ) → 7 ≤ packet_length t
-packet_length-least t = ⊎_elim (λ h. omega (arith, packet_length-short t h)) (λ h. omega (arith, packet_length-long t h)) (cases_lt (length t) 6)
+pub packet_length_least : (t : List ℕ) → 7 ≤ packet_length t
+packet_length_least t = ⊎_elim (λ h. omega (arith, packet_length-short t h)) (λ h. omega (arith, packet_length-long t h)) (cases_lt (length t) 6)
 
 -- a packet that is whole in a text is the same in a longer one
 pub packet_length-settled : (t u : List ℕ) → packet_length t ≤ length t → packet_length (t ++ u) ≡ packet_length t
-packet_length-settled t u h = packet_length-append t u (omega (arith, packet_length-least t))
+packet_length-settled t u h = packet_length-append t u (omega (arith, packet_length_least t))
 
 -- and one that isn't whole in a text reaches past it in a longer one
 pub packet_length-unsettled : (t u : List ℕ) → length t < packet_length t → length t < packet_length (t ++ u)
 packet_length-unsettled t u h =
-    ⊎_elim (λ short. omega (arith, packet_length-least (t ++ u))) (λ long. omega (arith, packet_length-append t u long)) (cases_lt (length t) 6)
+    ⊎_elim (λ short. omega (arith, packet_length_least (t ++ u))) (λ long. omega (arith, packet_length-append t u long)) (cases_lt (length t) 6)

@@ -8,7 +8,7 @@ use Rattle.tm_packet.specs.Header.{packet_version_of}
 use Rattle.tm_items.specs.Item.{Item, Packet}
 use Rattle.tm_items.specs.OnePacket.{IsOnePacket, is_packet, packet_length}
 use Rattle.tm_items.specs.code.Spans.{packets_behind, packets_in, ArePackets, IsSpan, placed, span_items}
-use Rattle.tm_items.proofs.Reaching.{packet_length-least, packet_length-append, packet_length-settled}
+use Rattle.tm_items.proofs.Reaching.{packet_length_least, packet_length-append, packet_length-settled}
 
 -- packets put together again
 abbrev pub joined : List (List ℕ) → List ℕ
@@ -28,7 +28,7 @@ drop-pred (suc n) x xs h = refl
 pub packets-first : (t : List ℕ) → 0 < length t → packets_in t ≡ take (packet_length t) t ∷ packets_in (drop (packet_length t) t)
 packets-first [] some = absurd (omega arith)
 packets-first (x ∷ xs) some =
-    let least : 0 < packet_length (x ∷ xs) = omega (arith, packet_length-least (x ∷ xs)) in
+    let least : 0 < packet_length (x ∷ xs) = omega (arith, packet_length_least (x ∷ xs)) in
     ap (λ (ps : List (List ℕ)). take (packet_length (x ∷ xs)) (x ∷ xs) ∷ ps)
     (packets-skip (pred (packet_length (x ∷ xs))) xs ∙ ap packets_in (sym (drop-pred (packet_length (x ∷ xs)) x xs least)))
 
@@ -37,7 +37,7 @@ joined-behind zero [] = refl
 joined-behind (suc skip) [] = refl
 joined-behind (suc skip) (x ∷ xs) = joined-behind skip xs
 joined-behind zero (x ∷ xs) =
-    let least : 0 < packet_length (x ∷ xs) = omega (arith, packet_length-least (x ∷ xs)) in
+    let least : 0 < packet_length (x ∷ xs) = omega (arith, packet_length_least (x ∷ xs)) in
     ap (λ (l : List ℕ). take (packet_length (x ∷ xs)) (x ∷ xs) ++ l)
     (joined-behind (pred (packet_length (x ∷ xs))) xs ∙ sym (drop-pred (packet_length (x ∷ xs)) x xs least))
     ∙ take-append-drop (packet_length (x ∷ xs)) (x ∷ xs)
@@ -55,7 +55,7 @@ version-front (suc n) (x ∷ xs) h = refl
 -- what a packet's header reaches over is one whole packet
 pub one-front : (t : List ℕ) (r : ℕ) → r ≡ packet_length t → r ≤ length t → is_packet t ≡ true → IsOnePacket (take r t)
 one-front t r far inside version =
-    let least : 7 ≤ r = omega (arith, packet_length-least t) in
+    let least : 7 ≤ r = omega (arith, packet_length_least t) in
     let len : length (take r t) ≡ r = length-take-le r t inside in
     record {
       version = ap (λ (o : List ℕ). packet_version_of o == 0) (version-front r t (omega arith)) ∙ version;
@@ -78,7 +78,7 @@ span-first t some span =
     let fits : packet_length t ≤ length t = ⊎_elim (λ short. absurd (no short all.0)) (λ long. long) (cases_lt (length t) (packet_length t)) in
     record {
       inside = fits;
-      version = ap (λ (o : List ℕ). packet_version_of o == 0) (sym (version-front (packet_length t) t (omega (arith, packet_length-least t)))) ∙ all.0.version;
+      version = ap (λ (o : List ℕ). packet_version_of o == 0) (sym (version-front (packet_length t) t (omega (arith, packet_length_least t)))) ∙ all.0.version;
       one = all.0;
       others = all.1;
     }
@@ -92,7 +92,7 @@ span-first t some span =
 -- one packet alone
 pub packets-one : (p : List ℕ) → IsOnePacket p → packets_in p ≡ p ∷ []
 packets-one p one =
-    let least = packet_length-least p in
+    let least = packet_length_least p in
     packets-first p (omega (arith, one.whole))
     ∙ rw (← one.whole, take_all (length p) p (omega arith), drop-length p) refl
 

@@ -12,7 +12,7 @@ use Rattle.tm_packet.specs.Merge.{Entries, Sent}
 use Rattle.tm_packet.proofs.HeaderLemmas.{reading_ok}
 use Rattle.tm_items.specs.Item.{Item, Packet}
 use Rattle.tm_items.specs.OnePacket.{IsOnePacket}
-use Rattle.tm_items.proofs.Reaching.{packet_length-least}
+use Rattle.tm_items.proofs.Reaching.{packet_length_least}
 use Rattle.tm_lines.specs.Lines.{note_line, note_lines}
 use Rattle.tm_output.specs.Pieces.{HasLine, item_line, notes_of, report_of, sent}
 
@@ -24,7 +24,7 @@ version_front (x ∷ xs) some =
 -- a whole packet has a header
 pub packet_read : (octets : List ℕ) → IsOnePacket octets → header_reading_of octets ≡ Ok (packet_header_of octets)
 packet_read octets one =
-    let least = packet_length-least octets in
+    let least = packet_length_least octets in
     let long : 7 ≤ length octets = omega (arith, one.whole) in
     reading_ok octets (omega arith) (sym (version_front octets (omega arith)) ∙ eqb-true (packet_version_of (take 1 octets)) 0 one.version)
 

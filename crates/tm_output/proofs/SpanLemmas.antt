@@ -10,7 +10,7 @@ use Rattle.tm_items.specs.OnePacket.{IsOnePacket, packet_length}
 use Rattle.tm_items.specs.Sinks.{RefusesOne, TakesAll}
 use Rattle.tm_items.specs.code.Spans.{IsSpan, placed, packets_in, span_items}
 use Rattle.tm_items.proofs.Headers.{header-front, packet_length_read, reading-ok, reading-err}
-use Rattle.tm_items.proofs.Reaching.{packet_length-least}
+use Rattle.tm_items.proofs.Reaching.{packet_length_least}
 use Rattle.tm_items.proofs.Leads.{RefusesOne-left}
 use Rattle.tm_items.proofs.Spans.{joined, joined-all, packets-first, packets-one, span-both, span-first, span-longer, span-next}
 use Rattle.tm_devices.specs.Devices.{raised}
@@ -43,7 +43,7 @@ first_is far octets h some span read far_is =
     record {
       reached = reached;
       long = length-take-le far octets inside;
-      own = (reading-ok octets h read).1 ∙ sym (header-front far octets inside (omega (arith, packet_length-least octets)));
+      own = (reading-ok octets h read).1 ∙ sym (header-front far octets inside (omega (arith, packet_length_least octets)));
     }
 
 pub first_not : (octets : List ℕ) (r : Result Fields PacketFault) (fault : PacketFault) → 0 < length octets → IsSpan octets
@@ -52,7 +52,7 @@ first_not octets r fault some span is refused =
     let first = span-first octets some span in
     let zero : packet_version_of octets ≡ 0 = sym (version_front octets some) ∙ eqb-true (packet_version_of (take 1 octets)) 0 first.version in
     let short = reading-err octets fault zero (sym is ∙ refused) in
-    omega (arith, packet_length-least octets, first.inside)
+    omega (arith, packet_length_least octets, first.inside)
 
 -- ---- octets
 

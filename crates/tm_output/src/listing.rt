@@ -35,6 +35,7 @@ fn make_record_line(line: &mut LineBuffer, layout: &Layout, seen: u32, octets: &
 /// # Errors
 ///
 /// Where a write failed: a prefix of the line is written.
+#[inline(always)]
 pub fn write_record_line<W: Drain>(
     line: &mut LineBuffer,
     layout: &Layout,

@@ -12,13 +12,13 @@ pub struct Pair {
 
 impl Pair {
     /// The key of the pair, by which pairs are told apart and ordered: `2048 * channel + application`.
-    pub fn key(self) -> u16
+    pub fn key(self) -> usize
         requires channel { self.channel < 8 }
         requires application { self.application < 2048 }
         ensures value { result ≡ pair_key self.channel self.application }
         ensures below { result < 16384 }
     {
-        2048 * u16::from(self.channel) + self.application
+        2048 * usize::from(self.channel) + usize::from(self.application)
     }
 
     /// The pair of a key.

@@ -308,7 +308,7 @@ fn key_of(channel: u8, header: &Header) -> usize
         channel,
         application: header.application(),
     };
-    usize::from(pair.key())
+    pair.key()
 }
 
 // The number of entries that the octets begin with, where they are all there.

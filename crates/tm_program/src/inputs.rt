@@ -1,8 +1,11 @@
 //! What is read before the recording: the settings, the definition of fields, and the checkpoint to go on from.
 
 ghost use Rattle.std.specs.Prelude.{◌≡◌, ◌⊎◌, IfErr, IfOk, IfSome, IsSome, is_some};
+ghost use Rattle.tm_program.specs.Program.{MayCome};
 ghost use Rattle.tm_program.specs.code.Faults.{IsOfDefinition, IsOfResumed, IsOfSettings, IsResumed};
 
+use crate::checks::check_standard;
+use std::io::Write;
 use std::rt::Files;
 use tm_arguments::Plan;
 use tm_fields::Definition;
@@ -71,7 +74,7 @@ pub(crate) struct Inputs {
 }
 
 // Reads the files of the plan but for the recording.
-pub(crate) fn read_inputs<R: Files + AllocGlobal>(rt: &R, plan: &Plan) -> Result<Inputs, ToolFault>
+fn read_inputs<R: Files + AllocGlobal>(rt: &R, plan: &Plan) -> Result<Inputs, ToolFault>
     requires { IsSome plan.now.settings }
     ensures found { IfOk result (λ i. (is_some i.definition ≡ is_some plan.now.definition)
         × (is_some i.resumed ≡ is_some plan.now.resume)) }
@@ -86,4 +89,18 @@ pub(crate) fn read_inputs<R: Files + AllocGlobal>(rt: &R, plan: &Plan) -> Result
         definition,
         resumed,
     })
+}
+
+/// Checks the standard streams, and then reads the files of the plan but for the recording.
+#[tactic(auto, using(crate::proofs::ProgramLemmas::definition_comes, crate::proofs::ProgramLemmas::resumed_comes, crate::proofs::ProgramLemmas::settings_come))]
+pub(crate) fn prepare_inputs<R: Files + Print + AllocGlobal, E: Write>(
+    rt: &R,
+    plan: &Plan,
+    errors: &mut E,
+) -> Result<Inputs, ToolFault>
+    requires { IsSome plan.now.settings }
+    ensures { IfErr result (MayCome plan.now) }
+{
+    check_standard(rt, plan, errors)?;
+    read_inputs(rt, plan)
 }

@@ -1,6 +1,6 @@
 //! The order of steps: the arguments, the checks, what is read and opened, the run, and the checkpoint that it leaves.
 
-ghost use Rattle.std.specs.Prelude.{◌≡◌, ◌⊎◌, false, IfErr, IfOk, IfSome, IsSome, MatchOption, OnOk, map, option_map, string_bytes};
+ghost use Rattle.std.specs.Prelude.{◌≡◌, ◌⊎◌, false, IfErr, IfOk, IfSome, MatchOption, OnOk, map, option_map, string_bytes};
 ghost use Rattle.tm_files.specs.code.Decisions.{is_job};
 ghost use Rattle.tm_files.specs.code.Files.{IsRunFault};
 ghost use Rattle.tm_files.specs.code.Replacements.{replaced_name};
@@ -13,9 +13,9 @@ ghost use Rattle.tm_program.specs.code.Faults.{HasFolderFault, IsOfOutputs};
 use crate::checkpoint_file::{
     abandon_checkpoint, begin_checkpoint, choose_ending, make_job, store_checkpoint,
 };
-use crate::checks::{check_file_names, check_folder, check_standard};
+use crate::checks::{check_file_names, check_folder};
 use crate::folder::split_packets;
-use crate::inputs::{Inputs, read_inputs};
+use crate::inputs::{Inputs, prepare_inputs};
 use crate::opening::{make_drain, make_shelf, open_recording, open_report, source_of_input};
 use crate::outcome::{Counted, Outcome};
 use std::alloc::Global;
@@ -242,27 +242,25 @@ fn run_on_recording<'p, R: Files + Print + AllocGlobal, S: BufferedSource, E: Wr
     Ok(Ended { job: None, outcome })
 }
 
-// Does what the plan asks for, and answers what the run has seen.
-#[tactic(auto, using(tm_files::proofs::FaultLemmas::no_memory_run, crate::proofs::ProgramLemmas::definition_comes, crate::proofs::ProgramLemmas::file_comes, crate::proofs::ProgramLemmas::outputs_come, crate::proofs::ProgramLemmas::resumed_comes, crate::proofs::ProgramLemmas::run_comes, crate::proofs::ProgramLemmas::settings_come))]
+// Does what the plan asks for, once its other files are read, and answers what the run has seen.
+#[tactic(auto, using(tm_files::proofs::FaultLemmas::no_memory_run, crate::proofs::ProgramLemmas::file_comes, crate::proofs::ProgramLemmas::outputs_come, crate::proofs::ProgramLemmas::run_comes))]
 fn run_plan<R: Files + Input + Print + AllocGlobal, E: Write + Drop>(
     rt: &R,
     plan: &Plan,
-    mut errors: E,
+    inputs: &mut Inputs,
+    errors: E,
 ) -> Result<Outcome, ToolFault>
-    requires { IsSome plan.now.settings }
     ensures ok { OnOk result (AreClear plan.now) }
     ensures refused { IfErr result (MayCome plan.now) }
 {
-    check_standard(rt, plan, &mut errors)?;
-    let mut inputs = read_inputs(rt, plan)?;
     let ended = match choose_recording(plan) {
         Recording::File(name) => {
             let mut source = open_recording(rt, name)?;
-            run_on_recording(rt, plan, &mut inputs, &mut source, errors)?
+            run_on_recording(rt, plan, inputs, &mut source, errors)?
         }
         Recording::Input => {
             let mut source = source_of_input(rt)?;
-            run_on_recording(rt, plan, &mut inputs, &mut source, errors)?
+            run_on_recording(rt, plan, inputs, &mut source, errors)?
         }
     };
     Ok(ended.outcome)
@@ -278,11 +276,12 @@ fn run_plan<R: Files + Input + Print + AllocGlobal, E: Write + Drop>(
 pub fn run<R: Files + Input + Print + AllocGlobal, E: Write + Drop>(
     rt: &R,
     arguments: Vec<String>,
-    errors: E,
+    mut errors: E,
 ) -> Result<Outcome, ToolFault>
     ensures ok { OnOk result ((p : Plan) × IsAsked (map string_bytes arguments.items) p × AreClear p) }
     ensures refused { IfErr result (MayEnd (map string_bytes arguments.items)) }
 {
     let plan = read_arguments(rt.alloc(), arguments)?;
-    run_plan(rt, &plan, errors)
+    let mut inputs = prepare_inputs(rt, &plan, &mut errors)?;
+    run_plan(rt, &plan, &mut inputs, errors)
 }

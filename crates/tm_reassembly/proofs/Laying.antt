@@ -12,7 +12,7 @@ use Rattle.tm_reassembly.specs.Parts.{Part, agrees, agrees_at, begins_packet, re
 use Rattle.tm_items.specs.OnePacket.{packet_length}
 use Rattle.tm_reassembly.specs.code.Field.{end_place_of, field_parts, unfinished, parts_in, left_in, tail_at, frame_parts, frame_tail, tail_parts, tail_left, step_parts, step_tail, ended_parts, chain_parts_at, chain_tail_at}
 use Rattle.tm_reassembly.specs.Tiles.{Spot, field_spots, spot_octets, BeginsAt, IsHeld}
-use Rattle.tm_items.proofs.Reaching.{packet_length-least}
+use Rattle.tm_items.proofs.Reaching.{packet_length_least}
 use Rattle.tm_reassembly.proofs.Chained.{IsOpenTail}
 
 abbrev pub Piece : List Spot → ℕ → ℕ → List ℕ → List Spot → Type 0
@@ -96,7 +96,7 @@ module _ (limit : ℕ) where
   field_lays number place stop (suc skip) (x ∷ xs) h = field_lays number (place + 1) stop skip xs (omega arith)
   field_lays number place stop zero (x ∷ xs) h =
       let back : place ≡ stop - suc (length xs) = omega arith in
-      let some : 0 < packet_length (x ∷ xs) = omega (arith, packet_length-least (x ∷ xs)) in
+      let some : 0 < packet_length (x ∷ xs) = omega (arith, packet_length_least (x ∷ xs)) in
       ⊎_elim
       (λ (p : begins_packet limit (x ∷ xs) ≡ true).
       ⊎_elim

@@ -1,7 +1,7 @@
 -- The loop that reads a field: what lies before `at` is whole packets, end to end.
 use Rattle.std.proofs.Common.{◌++◌, ◌≡◌, ℕ, suc, pred, ◌+◌, ◌-◌, ◌<◌, ◌≤◌, true, List, [], ◌∷◌, length, take, drop, refl, sym, ap, subst, ◌∙◌, append_assoc, arith}
 use Rattle.std.proofs.lemmas.List.{length-drop, length-take-le, drop-drop, take_rest}
-use Rattle.tm_items.proofs.Reaching.{packet_length-least}
+use Rattle.tm_items.proofs.Reaching.{packet_length_least}
 use Rattle.std.proofs.lemmas.Bool.{le-leb}
 use Rattle.tm_reassembly.proofs.Split.{drop-pred, whole_part}
 use Rattle.tm_items.specs.Item.{Packet}
@@ -26,13 +26,13 @@ module _ (limit : ℕ) where
       → field_parts limit number stop 0 o ≡ whole_part limit number (stop - length o) o ∷ field_parts limit number stop 0 (drop (packet_length o) o)
   field_parts-packet number stop [] h p fits = absurd (omega arith)
   field_parts-packet number stop (x ∷ xs) h p fits =
-      let least : 0 < packet_length (x ∷ xs) = omega (arith, packet_length-least (x ∷ xs)) in
+      let least : 0 < packet_length (x ∷ xs) = omega (arith, packet_length_least (x ∷ xs)) in
       rw (p, le-leb (packet_length (x ∷ xs)) (suc (length xs)) fits, drop-pred (packet_length (x ∷ xs)) x xs least, field_parts-skip number stop (pred (packet_length (x ∷ xs))) xs)
 
   unfinished-packet : (o : List ℕ) → 0 < length o → begins_packet limit o ≡ true → packet_length o ≤ length o → unfinished limit 0 o ≡ unfinished limit 0 (drop (packet_length o) o)
   unfinished-packet [] h p fits = absurd (omega arith)
   unfinished-packet (x ∷ xs) h p fits =
-      let least : 0 < packet_length (x ∷ xs) = omega (arith, packet_length-least (x ∷ xs)) in
+      let least : 0 < packet_length (x ∷ xs) = omega (arith, packet_length_least (x ∷ xs)) in
       rw (p, le-leb (packet_length (x ∷ xs)) (suc (length xs)) fits, drop-pred (packet_length (x ∷ xs)) x xs least, unfinished-skip (pred (packet_length (x ∷ xs))) xs)
 
   -- what the code tests, and what follows

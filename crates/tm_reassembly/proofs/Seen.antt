@@ -1,6 +1,6 @@
 -- At which record items are seen: what a member gives is seen at it, and no step leaves a tail that is not open.
 use Rattle.std.proofs.lemmas.List.{length-take-le}
-use Rattle.tm_items.proofs.Reaching.{packet_length-least}
+use Rattle.tm_items.proofs.Reaching.{packet_length_least}
 use Rattle.tm_reassembly.proofs.Each.{Each, Each-append, Each-weaken, filter-all, filter-none}
 use Rattle.std.proofs.Common.{◌≡◌, ℕ, suc, zero, pred, ◌<◌, Bool, true, false, Option, Some, None, List, [], ◌∷◌, ◌++◌, length, refl, ap, ◌∙◌, leb, eqb, take, ◌≤◌, ◌+◌, arith, length-append}
 use Rattle.std.specs.List.{flat_map}
@@ -58,8 +58,8 @@ module _ (limit : ℕ) where
   -- a packet that isn't long where it ends has no more octets than the limit
   whole-most : (o : List ℕ) (stop : ℕ) → is_long limit (packet_length o) stop ≡ false → packet_length o ≤ length o → length o ≤ stop → length (take (packet_length o) o) ≤ limit
   whole-most o stop short fits inside =
-      let most = within-limit limit (packet_length o) stop (omega (arith, packet_length-least o)) short in
-      omega (arith, packet_length-least o, length-take-le (packet_length o) o fits)
+      let most = within-limit limit (packet_length o) stop (omega (arith, packet_length_least o)) short in
+      omega (arith, packet_length_least o, length-take-le (packet_length o) o fits)
 
   field_parts-at : (number stop skip : ℕ) (o : List ℕ) → AllAt number (field_parts limit number stop skip o)
   field_parts-at number stop skip [] = tt

@@ -136,12 +136,13 @@ pub fn give_lead<S: Sink>(
     }
 }
 
-// How many octets the packet has that begins here, where it is read and lies whole in these octets.
+// How many octets the packet has that begins here, where it is read and lies whole in these octets. No packet has fewer than seven.
+#[tactic(auto, using(tm_items::proofs::Reaching::packet_length_least))]
 fn whole_packet(limit: usize, octets: &[u8]) -> Option<usize>
     ensures whole { IfSome result (λ size. IsWholePacketOf limit octets.now size) }
     ensures none { result ≡ None → HasNoWholePacket limit octets.now }
 {
-    if octets.is_empty() {
+    if octets.len() < 7 {
         return None;
     }
     match measure(limit, octets) {

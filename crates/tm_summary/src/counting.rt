@@ -63,7 +63,7 @@ impl Counting<'_> {
             channel,
             application,
         };
-        add_notes(self.counts, pair.key(), &notes);
+        add_notes(self.counts, pair.key() as u16, &notes);
     }
 
     // Counts an item that is no packet.

@@ -111,7 +111,7 @@ impl Counts {
             channel,
             application,
         };
-        self.applications[usize::from(pair.key())].add_packet(seen, octets);
+        self.applications[pair.key()].add_packet(seen, octets);
     }
 
     /// Counts an item that is no packet.

@@ -94,12 +94,23 @@ fn alter(alloc: Global, prefix: usize, other: &[u8], back: (usize, usize)) -> Op
 }
 
 // How these octets are refused, with a right check behind them where it is asked for.
-fn refusal(alloc: Global, mut octets: Vec<u8>, is_checked: bool) -> Option<CheckpointFault> {
+fn refusal(
+    alloc: Global,
+    octets: Option<Vec<u8>>,
+    is_checked: bool,
+) -> Option<CheckpointFault> {
+    let mut octets = octets?;
     if is_checked {
         let check = error_control(&octets).to_be_bytes();
         octets.extend_from_slice(&check).ok()?;
     }
     records_of(alloc, BASE, &octets)?.err()
+}
+
+// How the checkpoint is refused with settings of longer frames.
+fn refusal_with_longer_frames(alloc: Global) -> Option<CheckpointFault> {
+    let longer = "spacecraft = 42\nframe_length = 25\nerror_control = false\n";
+    records_of(alloc, longer, &octets_of(alloc, CHECKPOINT)?)?.err()
 }
 
 #[test]
@@ -120,13 +131,10 @@ fn altered_checkpoint(rt: HostRuntime) {
         (72, &[0x00], (72, 72), true, CheckpointFault::Trailing),
     ];
     for (prefix, other, back, is_checked, fault) in table {
-        let octets = alter(alloc, prefix, other, back).expect(&rt, "octets");
+        let octets = alter(alloc, prefix, other, back);
         let answer = refusal(alloc, octets, is_checked);
         assert!(rt; answer == Some(fault), "octets {other:?} behind {prefix}");
     }
-    // It is read with other settings.
-    let longer = "spacecraft = 42\nframe_length = 25\nerror_control = false\n";
-    let octets = octets_of(alloc, CHECKPOINT).expect(&rt, "octets");
-    let answer = records_of(alloc, longer, &octets);
-    assert!(rt; answer == Some(Err(CheckpointFault::Settings)));
+    let answer = refusal_with_longer_frames(alloc);
+    assert!(rt; answer == Some(CheckpointFault::Settings));
 }

@@ -261,6 +261,12 @@ fn goes_in_versions(
     Some(bench.has_given(&octets, report.as_bytes()))
 }
 
+// The checkpoint of version 3 is this one in another version, in hexadecimal.
+fn is_in_version(alloc: Global, version: u8, text: &str) -> Option<bool> {
+    let octets = in_version(alloc, &octets_of(alloc, GAP)?, version)?;
+    Some(octets == octets_of(alloc, text)?)
+}
+
 // Stopped after each of the first three records, each time in another version: the only gap of the master channel is that of the
 // fourth. Its line is lost if and only if the last stop, behind which its frame is the first good one, is in an older version.
 #[test]
@@ -280,13 +286,8 @@ fn stopped_in_several_versions(rt: HostRuntime) {
         let split = goes_in_versions(alloc, &FRAME_GAP, By::Split, &versions, report);
         assert!(rt; run == Some(true) && split == Some(true), "{versions:?}");
     }
-    let known = octets_of(alloc, GAP).expect(&rt, "a checkpoint");
     for (version, text) in [(3, GAP), (2, GAP_2), (1, GAP_1)] {
-        let octets = in_version(alloc, &known, version);
-        assert!(rt;
-            octets.is_some() && octets == octets_of(alloc, text),
-            "version {version}"
-        );
+        assert!(rt; is_in_version(alloc, version, text) == Some(true), "version {version}");
     }
 }
 
@@ -308,23 +309,26 @@ fn reads_two_records(rt: HostRuntime) {
     assert!(rt; octets_read(rt.alloc()) == Some(48));
 }
 
-// Kept at its end, with ten octets left, and resumed when the recording is longer.
-fn rest_is_kept(alloc: Global) -> Option<bool> {
+// The job that is kept at the recording's end, where ten octets are left.
+fn job_before_a_rest(alloc: Global) -> Option<Job> {
     let mut bench = Bench::new(alloc, BASE, SHORT_REST.recording, 65_536)?;
     let job = Job::new(alloc, &bench.settings).ok()?;
-    let job = run_and_reload(
-        alloc,
-        &mut bench,
-        job,
-        EXTRACT,
-        Ending::Keep,
-        Going::Resumed(3),
-    )?;
-    let has_kept = job.records() == 2 && bench.has_given(b"", b"");
+    let going = Going::Resumed(3);
+    let job = run_and_reload(alloc, &mut bench, job, EXTRACT, Ending::Keep, going)?;
+    if job.records() == 2 && bench.has_given(b"", b"") {
+        Some(job)
+    } else {
+        None
+    }
+}
+
+// It goes on when the recording is longer.
+fn rest_is_kept(alloc: Global) -> Option<bool> {
+    let job = job_before_a_rest(alloc)?;
     let mut bench = Bench::new(alloc, BASE, TWO_CHANNELS.recording, 65_536)?;
     run_to_the_close(alloc, &mut bench, job, EXTRACT)?;
     let octets = octets_of(alloc, TWO_CHANNELS.octets)?;
-    Some(has_kept && bench.has_given(&octets, b""))
+    Some(bench.has_given(&octets, b""))
 }
 
 #[test]

@@ -128,15 +128,20 @@ pub trait Drain {
     /// The octets that a flush has passed on, of a device that tells them.
     ghost flushed: { Self → Option (List ℕ) } = { λ _. None };
 
+    /// A number that no call changes, of a drain that tells one, as the name of what it writes into.
+    ghost fixed: { Self → ℕ } = { λ _. 0 };
+
     /// Writes some of the octets, from the first on, and answers how many: at least one if there is
     /// one. A failed call writes nothing.
     fn write(&mut self, octets: &[u8]) -> Result<usize, DeviceFailed>
+        ensures same { fixed self.new ≡ fixed self.old }
         ensures bound { IfOk result (λ n. TakesSome n (length octets.now)) }
         ensures octets { WriteAppends (written self.old) (written self.new) result octets.now }
         ensures counts { Counts (failures self.old) (failures self.new) result };
 
     /// Passes on all that was written.
     fn flush(&mut self) -> Result<(), DeviceFailed>
+        ensures same { fixed self.new ≡ fixed self.old }
         ensures octets { Keeps (written self.old) (written self.new) }
         ensures passed { OnOk result (Keeps (flushed self.new) (written self.new)) }
         ensures counts { Counts (failures self.old) (failures self.new) result };

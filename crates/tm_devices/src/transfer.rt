@@ -8,6 +8,7 @@ use crate::{BufferedSource, DeviceFailed, Drain};
 
 /// Writes all the octets, by as many writes as it takes.
 pub fn write_all<W: Drain>(out: &mut W, octets: &[u8]) -> Result<(), DeviceFailed>
+    ensures same { W.fixed out.new ≡ W.fixed out.old }
     ensures whole { OnOk result (Appends (W.written out.old) (W.written out.new) octets.now) }
     ensures prefix { OnErr result (AppendsPrefix (W.written out.old) (W.written out.new) octets.now) }
     ensures counts { Counts (W.failures out.old) (W.failures out.new) result }

@@ -43,10 +43,9 @@ pub holds : (room overflow octets : List ℕ) (filled : ℕ) → filled ≤ leng
     → take filled room ++ overflow ≡ octets → Holds room (filled + length overflow) octets
 holds room overflow octets filled within full is = grind (arith, common_steps)
 
--- what stands behind a mark, where nothing stood before
-pub written_behind : (mark old_mark : ℕ) (octets old text : List ℕ) → old ≡ [] → Appends (Some (old_mark ∷ old)) (Some (mark ∷ octets)) text
-    → (old_mark ≡ mark) × (octets ≡ text)
-written_behind mark old_mark octets old text none h = (cc, cc)
+-- what was written where nothing stood before
+pub written_first : (octets old text : List ℕ) → old ≡ [] → Appends (Some old) (Some octets) text → octets ≡ text
+written_first octets old text none h = cc
 
 -- ---- the recording that a run over a chunk reads
 

@@ -12,6 +12,8 @@ pub struct Chunk<'a> {
     pub done: u64,
     /// The octets after them.
     pub octets: &'a [u8],
+    /// The recording ends behind them.
+    pub last: bool,
 }
 
 impl BufferedSource for Chunk<'_> {

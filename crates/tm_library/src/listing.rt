@@ -22,14 +22,15 @@ use tm_output::{write_record_line, write_rest_line};
 use tm_tool::{Command, DeviceFailed, Done, Drain, Job, RunFault, run};
 
 // Runs over a chunk for the job alone: what is given goes nowhere.
-fn pass_chunk(alloc: Global, job: Job, chunk: Chunk<'_>, last: bool) -> Result<Done, Refusal>
+fn pass_chunk(alloc: Global, job: Job, chunk: Chunk<'_>) -> Result<Done, Refusal>
     requires { chunk.done ≡ job.work.state.records * size_of job.work }
     ensures records { IfOk result (λ done. done.records
         ≡ job.work.state.records + length (records (size_of job.work) chunk.entry.octets.now)) }
     ensures kept { IfOk result (λ done. option_map (λ j. j.work) done.kept
-        ≡ kept_of (chunk_ending last) (worked job.work (records (size_of job.work) chunk.entry.octets.now))) }
+        ≡ kept_of (chunk_ending chunk.entry.last) (worked job.work (records (size_of job.work) chunk.entry.octets.now))) }
     ensures refused { IfErr result (IsRunRefused job chunk.entry.octets.now) }
 {
+    let ending = chunk_ending(chunk.last);
     let mut recording = chunk;
     let (mut out, mut report) = (Nowhere, Nowhere);
     match run(
@@ -39,7 +40,7 @@ fn pass_chunk(alloc: Global, job: Job, chunk: Chunk<'_>, last: bool) -> Result<D
         &mut recording,
         &mut out,
         &mut report,
-        chunk_ending(last),
+        ending,
     ) {
         Ok(done) => Ok(done),
         Err(RunFault::TooMany) => Err(Refusal::TooMany),
@@ -59,7 +60,8 @@ fn write_lines<W: Drain>(
     out: &mut W,
 ) -> Result<(), DeviceFailed>
     requires { first + length (records (record_length_of layout.now) octets.now) < 2 ^ 32 }
-    ensures { OnOk result (Appends (W.written out.old) (W.written out.new)
+    ensures same { W.fixed out.new ≡ W.fixed out.old }
+    ensures written { OnOk result (Appends (W.written out.old) (W.written out.new)
         (concat (lines_from layout.now first last octets.now))) }
 {
     let size = layout.record_length();
@@ -84,26 +86,26 @@ pub fn list_into_room(
     layout: &Layout,
     job: Job,
     chunk: Chunk<'_>,
-    last: bool,
     out: &mut [u8],
 ) -> Result<Given, Refusal>
     requires layout { layout.now ≡ job.work.rules.layout }
     requires done { chunk.done ≡ job.work.state.records * size_of job.work }
 
     // Just the lines of the chunk stand in the room, where it is large enough.
-    ensures out { IfOk result (λ given. Holds out.new given.out (concat (frame_lines last job chunk.entry.octets.now))) }
+    ensures out { IfOk result (λ given. Holds out.new given.out
+        (concat (frame_lines chunk.entry.last job chunk.entry.octets.now))) }
     ensures report { IfOk result (λ given. given.report ≡ 0) }
     ensures records { IfOk result (λ given. given.records
         ≡ job.work.state.records + length (records (size_of job.work) chunk.entry.octets.now)) }
     ensures kept { IfOk result (λ given. option_map (λ j. j.work) given.kept
-        ≡ kept_of (chunk_ending last) (worked job.work (records (size_of job.work) chunk.entry.octets.now))) }
+        ≡ kept_of (chunk_ending chunk.entry.last) (worked job.work (records (size_of job.work) chunk.entry.octets.now))) }
 
     // Else there are too many records, or memory ran out.
     ensures refused { IfErr result (IsRunRefused job chunk.entry.octets.now) }
 {
     let first = job.records();
-    let octets = chunk.octets;
-    let done = match pass_chunk(alloc, job, chunk, last) {
+    let (octets, last) = (chunk.octets, chunk.last);
+    let done = match pass_chunk(alloc, job, chunk) {
         Ok(done) => done,
         Err(refusal) => return Err(refusal),
     };

@@ -109,18 +109,11 @@ fn give(
     let chunk = Chunk {
         done: u64::from(job.records()) * size as u64,
         octets: request.octets,
+        last: request.last,
     };
     match request.wanted {
-        Wanted::Packets(command) => run_into_rooms(
-            alloc,
-            job,
-            command,
-            chunk,
-            request.last,
-            out,
-            report,
-        ),
-        Wanted::Frames => list_into_room(alloc, layout, job, chunk, request.last, out),
+        Wanted::Packets(command) => run_into_rooms(alloc, job, command, chunk, out, report),
+        Wanted::Frames => list_into_room(alloc, layout, job, chunk, out),
     }
 }
 

@@ -1,6 +1,6 @@
 //! Room for an output, which the caller gives.
 
-ghost use Rattle.std.specs.Prelude.{◌≡◌, ◌≤◌, ◌<◌, ◌+◌, ◌++◌, ◌∷◌, Some, length, take};
+ghost use Rattle.std.specs.Prelude.{◌≡◌, ◌≤◌, ◌<◌, ◌+◌, ◌++◌, Some, length, take};
 
 use tm_tool::{DeviceFailed, Drain};
 
@@ -32,10 +32,12 @@ impl Room<'_> {
 impl Drain for Room<'_> {
     ghost failures = { λ s. s.failed };
 
-    // In front stands which room it is.
-    ghost written = { λ s. Some (s.octets.ghost_name ∷ (take s.filled s.octets.now ++ s.overflow.now.items)) };
+    ghost written = { λ s. Some (take s.filled s.octets.now ++ s.overflow.now.items) };
 
-    ghost flushed = { λ s. Some (s.octets.ghost_name ∷ (take s.filled s.octets.now ++ s.overflow.now.items)) };
+    ghost flushed = { λ s. Some (take s.filled s.octets.now ++ s.overflow.now.items) };
+
+    // Which room it is.
+    ghost fixed = { λ s. s.octets.ghost_name };
 
     fn write(&mut self, octets: &[u8]) -> Result<usize, DeviceFailed> {
         let n = octets.len().min(self.octets.len() - self.filled);

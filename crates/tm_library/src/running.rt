@@ -54,7 +54,6 @@ pub fn run_into_rooms(
     job: Job,
     command: Command<'_>,
     chunk: Chunk<'_>,
-    last: bool,
     out: &mut [u8],
     report: &mut [u8],
 ) -> Result<Given, Refusal>
@@ -62,17 +61,18 @@ pub fn run_into_rooms(
 
     // Just the pieces of the chunk stand in the rooms, where these are large enough.
     ensures out { IfOk result (λ given. Holds out.new given.out
-        (outs (chunk_pieces command.entry last job chunk.entry.octets.now))) }
+        (outs (chunk_pieces command.entry chunk.entry.last job chunk.entry.octets.now))) }
     ensures report { IfOk result (λ given. Holds report.new given.report
-        (reports (chunk_pieces command.entry last job chunk.entry.octets.now))) }
+        (reports (chunk_pieces command.entry chunk.entry.last job chunk.entry.octets.now))) }
     ensures records { IfOk result (λ given. given.records
         ≡ job.work.state.records + length (records (size_of job.work) chunk.entry.octets.now)) }
     ensures kept { IfOk result (λ given. option_map (λ j. j.work) given.kept
-        ≡ kept_of (chunk_ending last) (worked job.work (records (size_of job.work) chunk.entry.octets.now))) }
+        ≡ kept_of (chunk_ending chunk.entry.last) (worked job.work (records (size_of job.work) chunk.entry.octets.now))) }
 
     // Else there are too many records, or memory ran out.
     ensures refused { IfErr result (IsRunRefused job chunk.entry.octets.now) }
 {
+    let ending = chunk_ending(chunk.last);
     let mut recording = chunk;
     let (mut more_out, mut more_report) = (Vec::new(alloc), Vec::new(alloc));
     let mut out = Room {
@@ -94,7 +94,7 @@ pub fn run_into_rooms(
         &mut recording,
         &mut out,
         &mut report,
-        chunk_ending(last),
+        ending,
     ) {
         Ok(done) => Ok(Given {
             records: done.records,

@@ -37,7 +37,11 @@ pub fn summarize_recording(
 {
     let settings = Settings::read(alloc, settings)?;
     prove!(0 < settings.layout().record_length());
-    let mut recording = Chunk { done: 0, octets };
+    let mut recording = Chunk {
+        done: 0,
+        octets,
+        last: true,
+    };
     let mut more = Vec::new(alloc);
     let mut room = Room {
         octets: out,

@@ -8,6 +8,7 @@ use Rattle.tm_fields.specs.Rows.{row_from}
 use Rattle.tm_packet.specs.Header.{packet_header_of}
 use Rattle.tm_items.specs.Item.{Item, Packet}
 use Rattle.tm_lines.specs.Lines.{short_packet_line}
+use Rattle.tm_output.specs.Outputs.{FixedDrain}
 
 -- what the row of a packet begins with
 abbrev pub lead_of : ℕ → ℕ → List ℕ → Lead
@@ -37,8 +38,8 @@ too_short fields application (Packet seen channel first place octets) =
     if (packet_header_of octets).application == application then short_in seen channel first place (row_from fields (lead_of seen channel octets) octets) else []
 too_short fields application _ = []
 
--- what stays the same of an outlet of rows: the name of its drain's reference, the fields, and the application
+-- what stays the same of an outlet of rows: what does of its drain, the fields, and the application
 pub record RowsBy : Type 0 where
-  pub out : ℕ
+  pub out : FixedDrain
   pub fields : List Field
   pub application : ℕ

@@ -46,6 +46,11 @@ abbrev pub view : {K : Type 0} → K → Option (List ℕ) → ℕ → ℕ → V
 view out report out_failures report_failures =
     record { out = out; report = report; out_failures = out_failures; report_failures = report_failures }
 
+-- what no call changes of a drain behind a reference: the reference's name, and the drain's number
+pub record FixedDrain : Type 0 where
+  pub name : ℕ
+  pub number : ℕ
+
 -- no call of either output failed
 abbrev pub SameCounts : {K : Type 0} → View K → View K → Type 0
 SameCounts old new = (new.out_failures ≡ old.out_failures) × (new.report_failures ≡ old.report_failures)

@@ -4,7 +4,7 @@ use Rattle.tm_devices.specs.declared.device.Drain as drain
 use Rattle.tm_devices.specs.declared.device.Shelf as shelf
 use Rattle.tm_output.specs.declared.outlet.Outlet as outlet
 use Rattle.tm_output.specs.declared.output.Output.{Output}
-use Rattle.tm_output.specs.Outputs.{View, view}
+use Rattle.tm_output.specs.Outputs.{FixedDrain, View, view}
 use Rattle.tm_packet.specs.Merge.{Entries}
 
 -- what is known of two drains
@@ -27,20 +27,20 @@ outlet_both o v outlet report = view (o.held outlet) (v.written report) (o.failu
 abbrev pub output_both : {O V : Type 0} (o : outlet.Ghosts O) → drain.Ghosts V → Output O V → View o.Held
 output_both o v output = outlet_both o v output.outlet.now output.report.now
 
--- what no call of an output changes: which references it holds, and what of its outlet stays the same
+-- what no call of an output changes: which references it holds, the number of the report, and what of its outlet stays the same
 pub record Fixture (M : Type 0) : Type 0 where
   pub tracker : ℕ
   pub notes : ℕ
   pub outlet : ℕ
-  pub report : ℕ
+  pub report : FixedDrain
   pub texts : M
 
-abbrev pub fixture : {O V : Type 0} (o : outlet.Ghosts O) → Output O V → Fixture o.Fixed
-fixture o output = record {
+abbrev pub fixture : {O V : Type 0} (o : outlet.Ghosts O) → drain.Ghosts V → Output O V → Fixture o.Fixed
+fixture o v output = record {
   tracker = output.tracker.ghost_name;
   notes = output.notes.ghost_name;
   outlet = output.outlet.ghost_name;
-  report = output.report.ghost_name;
+  report = record { name = output.report.ghost_name; number = v.fixed output.report.now };
   texts = o.fixed output.outlet.now;
 }
 
@@ -52,4 +52,4 @@ pub record OutputState (K M : Type 0) : Type 0 where
 
 abbrev pub output_state : {O V : Type 0} (o : outlet.Ghosts O) → drain.Ghosts V → Output O V → OutputState o.Held o.Fixed
 output_state o v output =
-    record { fixture = fixture o output; entries = output.tracker.now; view = output_both o v output }
+    record { fixture = fixture o v output; entries = output.tracker.now; view = output_both o v output }

@@ -44,6 +44,7 @@ pub fn write_record_line<W: Drain>(
     out: &mut W,
 ) -> Result<(), DeviceFailed>
     requires { length octets.now ≡ record_length_of layout.now }
+    ensures same { W.fixed out.new ≡ W.fixed out.old }
     ensures took { OnOk result (Took Appends (out_alone W.Drain out.old) (out_alone W.Drain out.new)
         (line_piece (record_line layout.now seen octets.now) ∷ [])) }
     ensures stopped { OnErr result (Stopped Appends octets_buffering (out_alone W.Drain out.old) (out_alone W.Drain out.new)
@@ -59,6 +60,7 @@ fn flush_before_waiting<R: BufferedSource, W: Drain>(
     size: usize,
     out: &mut W,
 ) -> Result<(), DeviceFailed>
+    ensures same { W.fixed out.new ≡ W.fixed out.old }
     ensures took { OnOk result (Took Appends (out_alone W.Drain out.old) (out_alone W.Drain out.new) []) }
     ensures flushed { OnOk result (R.waits recording.now ≡ true → length (R.at_hand recording.now) < size
         → Keeps (W.flushed out.new) (W.written out.new)) }
@@ -82,6 +84,7 @@ pub fn write_rest_line<W: Drain>(
     octets: usize,
     out: &mut W,
 ) -> Result<(), DeviceFailed>
+    ensures same { W.fixed out.new ≡ W.fixed out.old }
     ensures took { OnOk result (Took Appends (out_alone W.Drain out.old) (out_alone W.Drain out.new)
         (line_pieces (rest_lines seen octets))) }
     ensures flushed { OnOk result (Keeps (W.flushed out.new) (W.written out.new)) }
@@ -106,6 +109,7 @@ fn list_next<R: BufferedSource, W: Drain>(
     out: &mut W,
 ) -> Result<Option<usize>, RunFault>
     requires { length buffer.old ≡ record_length_of layout.now }
+    ensures same { W.fixed out.new ≡ W.fixed out.old }
     ensures exact { length buffer.new ≡ length buffer.old }
     ensures listed { IfOk result (λ found. found ≡ None → (seen ≢ most_records)
         × ReadsNext (length buffer.old) (R.left recording.old) (R.left recording.new) (λ one.
@@ -159,6 +163,7 @@ fn list_records<R: BufferedSource, W: Drain>(
 ) -> Result<u32, RunFault>
     requires exact { length buffer.old ≡ record_length_of layout.now }
     requires some { 0 < length buffer.old }
+    ensures same { W.fixed out.new ≡ W.fixed out.old }
     ensures listed { IfOk result (IsListed layout.now (R.left recording.old) (R.left recording.new) (W.written out.old)
         (W.written out.new)) }
     ensures flushed { OnOk result (Keeps (W.flushed out.new) (W.written out.new)) }
@@ -191,6 +196,9 @@ pub fn list_frames<R: BufferedSource, W: Drain>(
     recording: &mut R,
     out: &mut W,
 ) -> Result<u32, RunFault>
+    // The drain is the same one.
+    ensures same { W.fixed out.new ≡ W.fixed out.old }
+
     // With Ok all was read, and just the lines of what was read were written, and passed on.
     ensures listed { IfOk result (IsListed settings.now.layout (R.left recording.old) (R.left recording.new) (W.written out.old)
         (W.written out.new)) }

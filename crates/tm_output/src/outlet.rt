@@ -9,7 +9,7 @@ ghost use Rattle.tm_devices.specs.Devices.{Counts, raised};
 ghost use Rattle.tm_output.specs.code.Packets.{HasHeader, item_with};
 ghost use Rattle.tm_output.specs.code.Outlets.{GivesNone, PutStopped, appends_split, no_text};
 ghost use Rattle.tm_output.specs.code.Quiet.{outs_of};
-ghost use Rattle.tm_output.specs.Outputs.{PutsPart, Buffering, lines_buffering, octets_buffering};
+ghost use Rattle.tm_output.specs.Outputs.{FixedDrain, PutsPart, Buffering, lines_buffering, octets_buffering};
 ghost use Rattle.tm_output.specs.Pieces.{HasLine, Texts, text_of};
 ghost use Rattle.tm_output.specs.code.ShelfLaws.{no_shelf, shelves_nil, shelves_split, shelves_trans};
 ghost use Rattle.tm_output.specs.Shelves.{Shelved, Shelves, shelf_text, shelf_buffering};
@@ -30,7 +30,7 @@ pub trait Outlet {
     /// What is known of what is held here.
     ghost Held: { Type 0 };
 
-    /// What stays the same: the name of the reference to the device, and what the texts are made by.
+    /// What stays the same: the name of the reference to the device, the number of a drain, and what the texts are made by.
     ghost Fixed: { Type 0 };
 
     ghost fixed: { Self → Self.Fixed };
@@ -134,9 +134,9 @@ impl<W: Drain> Outlet for PacketOctets<'_, W> {
 
     ghost Held = { Option (List ℕ) };
 
-    ghost Fixed = { ℕ };
+    ghost Fixed = { FixedDrain };
 
-    ghost fixed = { λ o. o.out.ghost_name };
+    ghost fixed = { λ o. record { name = o.out.ghost_name; number = W.fixed o.out.now } };
 
     ghost failures = { λ o. W.failures o.out.now };
 
@@ -215,9 +215,9 @@ impl<W: Drain> Outlet for PacketLines<'_, W> {
 
     ghost Held = { Option (List ℕ) };
 
-    ghost Fixed = { ℕ };
+    ghost Fixed = { FixedDrain };
 
-    ghost fixed = { λ o. o.out.ghost_name };
+    ghost fixed = { λ o. record { name = o.out.ghost_name; number = W.fixed o.out.now } };
 
     ghost failures = { λ o. W.failures o.out.now };
 
@@ -380,7 +380,11 @@ impl<W: Drain> Outlet for PacketRows<'_, '_, '_, W> {
 
     ghost Fixed = { RowsBy };
 
-    ghost fixed = { λ o. record { out = o.out.ghost_name; fields = o.rows.now.fields; application = o.application } };
+    ghost fixed = { λ o. record {
+      out = record { name = o.out.ghost_name; number = W.fixed o.out.now };
+      fields = o.rows.now.fields;
+      application = o.application;
+    } };
 
     ghost failures = { λ o. W.failures o.out.now };
 

@@ -221,7 +221,7 @@ impl<O: Outlet, V: Drain> Output<'_, O, V> {
     fn write_reported(&mut self, packet: &Packet<'_>) -> Result<(), RunFault>
         requires channel { packet.now.channel < 8 }
         requires header { HasHeader packet.now }
-        ensures same { fixture O.Outlet self.new ≡ fixture O.Outlet self.old }
+        ensures same { fixture O.Outlet V.Drain self.new ≡ fixture O.Outlet V.Drain self.old }
         ensures noted { self.new.tracker.now ≡ noted self.old.tracker.now (item_with packet.now) }
         ensures written { WritesItem O.grows O.text O.buffering (output_state O.Outlet V.Drain self.old)
             (output_state O.Outlet V.Drain self.new)
@@ -254,7 +254,7 @@ impl<O: Outlet, V: Drain> Output<'_, O, V> {
     fn write_packet(&mut self, packet: &Packet<'_>) -> Result<(), RunFault>
         requires channel { packet.now.channel < 8 }
         requires header { HasHeader packet.now }
-        ensures same { fixture O.Outlet self.new ≡ fixture O.Outlet self.old }
+        ensures same { fixture O.Outlet V.Drain self.new ≡ fixture O.Outlet V.Drain self.old }
         ensures noted { self.new.tracker.now ≡ noted self.old.tracker.now (item_with packet.now) }
         ensures written { WritesItem O.grows O.text O.buffering (output_state O.Outlet V.Drain self.old)
             (output_state O.Outlet V.Drain self.new)
@@ -315,7 +315,7 @@ impl<O: Outlet, V: Drain> Output<'_, O, V> {
     #[tactic(auto, unfolding(crate::specs::Pieces::report_of, crate::specs::Pieces::noted))]
     fn write_item_line(&mut self, item: Item<'_>) -> Result<(), RunFault>
         requires { HasLine (item_of item) }
-        ensures same { fixture O.Outlet self.new ≡ fixture O.Outlet self.old }
+        ensures same { fixture O.Outlet V.Drain self.new ≡ fixture O.Outlet V.Drain self.old }
         ensures noted { self.new.tracker.now ≡ noted self.old.tracker.now (item_of item.entry) }
         ensures written { WritesItem O.grows O.text O.buffering (output_state O.Outlet V.Drain self.old)
             (output_state O.Outlet V.Drain self.new)
@@ -333,7 +333,7 @@ impl<O: Outlet, V: Drain> Output<'_, O, V> {
     #[tactic(auto, unfolding(crate::specs::Pieces::unclosed_piece))]
     fn write_unclosed(&mut self, seen: u32, unclosed: Unclosed) -> Result<(), RunFault>
         requires { unclosed.key < 16384 }
-        ensures same { fixture O.Outlet self.new ≡ fixture O.Outlet self.old }
+        ensures same { fixture O.Outlet V.Drain self.new ≡ fixture O.Outlet V.Drain self.old }
         ensures tracker { self.new.tracker.now ≡ self.old.tracker.now }
         ensures written { Written O.grows O.buffering (output_both O.Outlet V.Drain self.old)
             (output_both O.Outlet V.Drain self.new)
@@ -356,7 +356,7 @@ impl<O: Outlet, V: Drain> Output<'_, O, V> {
 
     /// Writes the lines of the groups that are open at a closed end after `seen` records, by rising key.
     pub fn write_all_unclosed(&mut self, seen: u32) -> Result<(), RunFault>
-        ensures same { fixture O.Outlet self.new ≡ fixture O.Outlet self.old }
+        ensures same { fixture O.Outlet V.Drain self.new ≡ fixture O.Outlet V.Drain self.old }
         ensures written { Written O.grows O.buffering (output_both O.Outlet V.Drain self.old)
             (output_both O.Outlet V.Drain self.new)
             (unclosed_pieces seen (sequence.unclosed 0 self.old.tracker.now)) result }
@@ -373,7 +373,7 @@ impl<O: Outlet, V: Drain> Output<'_, O, V> {
 
     /// Flushes both outputs.
     pub fn flush(&mut self) -> Result<(), RunFault>
-        ensures same { fixture O.Outlet self.new ≡ fixture O.Outlet self.old }
+        ensures same { fixture O.Outlet V.Drain self.new ≡ fixture O.Outlet V.Drain self.old }
         ensures tracker { self.new.tracker.now ≡ self.old.tracker.now }
         ensures flushed_out { OnOk result (O.passed self.new.outlet.now) }
         ensures flushed_report { OnOk result (Keeps (V.flushed self.new.report.now) (V.written self.new.report.now)) }

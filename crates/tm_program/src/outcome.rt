@@ -51,6 +51,8 @@ impl<W: Drain> Drain for Counted<W> {
 
     ghost flushed = { λ s. W.flushed s.drain };
 
+    ghost fixed = { λ s. W.fixed s.drain };
+
     fn write(&mut self, octets: &[u8]) -> Result<usize, DeviceFailed> {
         if octets.starts_with(b"bad ") {
             self.bad = self.bad.saturating_add(1);

@@ -23,9 +23,9 @@ TookLines old new lines = Took Appends old new (line_pieces lines)
 abbrev pub StoppedLines : View (Option (List ℕ)) → View (Option (List ℕ)) → List (List ℕ) → RunFault → Type 0
 StoppedLines old new lines fault = Stopped Appends octets_buffering old new (line_pieces lines) fault
 
--- the lines of the numbers below one were written
+-- the lines of the numbers below one were written, to a drain whose own number is the same
 abbrev pub TookBelow : {W : Type 0} → drain.Ghosts W → W → W → (ℕ → List (List ℕ)) → ℕ → Type 0
-TookBelow w old new f n = TookLines (out_alone w old) (out_alone w new) (flat_map f (below n))
+TookBelow w old new f n = (w.fixed new ≡ w.fixed old) × TookLines (out_alone w old) (out_alone w new) (flat_map f (below n))
 
 -- ---- pieces, and then others
 
@@ -50,9 +50,9 @@ module _ {A : Type 0} (F : ℕ → A → List (List ℕ)) (xs : List A) (d : A) 
   lines_at n = F n (get_or xs n d)
 
   module _ {old now new : View (Option (List ℕ))} (n : ℕ) (inside : n < length xs) (e : A)
-      (done : TookLines old now (flat_map lines_at (below n))) where
-    pub place_more : TookLines now new (F n (get_or xs n e)) → TookLines old new (flat_map lines_at (below (n + 1)))
-    place_more one = rw (add-one n, pieces_more lines_at n) (then_took done (rw (get_or_default xs n e d inside) at one))
+      {Same : Type 0} (done : Same × TookLines old now (flat_map lines_at (below n))) where
+    pub place_more : {Kept : Type 0} → Kept → TookLines now new (F n (get_or xs n e)) → Kept × TookLines old new (flat_map lines_at (below (n + 1)))
+    place_more kept one = (kept, rw (add-one n, pieces_more lines_at n) (then_took done.1 (rw (get_or_default xs n e d inside) at one)))
 
     pub place_stopped : {fault : RunFault} (m : ℕ) → n < m → StoppedLines now new (F n (get_or xs n e)) fault
         → StoppedLines old new (flat_map lines_at (below m)) fault
@@ -63,7 +63,7 @@ module _ {A : Type 0} (F : ℕ → A → List (List ℕ)) (xs : List A) (d : A) 
         (λ (less : n < m). stopped_first (line_pieces (lines_at m)) (place_stopped m less stopped))
         (λ (more : m ≤ n).
         let same : m ≡ n = omega (arith, h, more) in
-        rw same (then_stopped done (rw (get_or_default xs n e d inside) at stopped)))
+        rw same (then_stopped done.1 (rw (get_or_default xs n e d inside) at stopped)))
         (cases_lt n m))
 
 -- of a fault and of a reason

@@ -21,7 +21,8 @@ use tm_packet::Pair;
 
 // Writes a line.
 fn write_line<W: Drain>(line: &[u8], out: &mut W) -> Result<(), RunFault>
-    ensures { Written Appends octets_buffering (out_alone W.Drain out.old) (out_alone W.Drain out.new)
+    ensures same { W.fixed out.new ≡ W.fixed out.old }
+    ensures written { Written Appends octets_buffering (out_alone W.Drain out.old) (out_alone W.Drain out.new)
         (line_piece line.now ∷ []) result }
 {
     match write_all(out, line) {
@@ -32,7 +33,8 @@ fn write_line<W: Drain>(line: &[u8], out: &mut W) -> Result<(), RunFault>
 
 // Writes the line of the records.
 fn write_recording<W: Drain>(records: u32, counts: &Counts, out: &mut W) -> Result<(), RunFault>
-    ensures { Written Appends octets_buffering (out_alone W.Drain out.old) (out_alone W.Drain out.new)
+    ensures same { W.fixed out.new ≡ W.fixed out.old }
+    ensures written { Written Appends octets_buffering (out_alone W.Drain out.old) (out_alone W.Drain out.new)
         (line_piece (recording_line records counts.now.good counts.now.bad counts.now.rest) ∷ []) result }
 {
     let mut line = LineBuffer::new();
@@ -42,7 +44,8 @@ fn write_recording<W: Drain>(records: u32, counts: &Counts, out: &mut W) -> Resu
 
 // Writes the line of a fault that so many records have, if any has it.
 fn write_fault<W: Drain>(fault: FrameFault, records: u64, out: &mut W) -> Result<(), RunFault>
-    ensures { Written Appends octets_buffering (out_alone W.Drain out.old) (out_alone W.Drain out.new)
+    ensures same { W.fixed out.new ≡ W.fixed out.old }
+    ensures written { Written Appends octets_buffering (out_alone W.Drain out.old) (out_alone W.Drain out.new)
         (line_pieces (line_if (nat_lt 0 records) (fault_line fault records))) result }
 {
     if records == 0 {
@@ -55,7 +58,8 @@ fn write_fault<W: Drain>(fault: FrameFault, records: u64, out: &mut W) -> Result
 
 // Writes the lines of the faults that came.
 fn write_faults<W: Drain>(faults: &[u64; 8], out: &mut W) -> Result<(), RunFault>
-    ensures { Written Appends octets_buffering (out_alone W.Drain out.old) (out_alone W.Drain out.new)
+    ensures same { W.fixed out.new ≡ W.fixed out.old }
+    ensures written { Written Appends octets_buffering (out_alone W.Drain out.old) (out_alone W.Drain out.new)
         (line_pieces (fault_lines faults.now)) result }
 {
     for place in 0..8 {
@@ -68,7 +72,8 @@ fn write_faults<W: Drain>(faults: &[u64; 8], out: &mut W) -> Result<(), RunFault
 
 // Writes the line of the master channel.
 fn write_master<W: Drain>(gaps: u64, missing: u64, out: &mut W) -> Result<(), RunFault>
-    ensures { Written Appends octets_buffering (out_alone W.Drain out.old) (out_alone W.Drain out.new)
+    ensures same { W.fixed out.new ≡ W.fixed out.old }
+    ensures written { Written Appends octets_buffering (out_alone W.Drain out.old) (out_alone W.Drain out.new)
         (line_piece (master_line gaps missing) ∷ []) result }
 {
     let mut line = LineBuffer::new();
@@ -83,7 +88,8 @@ fn write_loss<W: Drain>(
     loss: Loss,
     out: &mut W,
 ) -> Result<(), RunFault>
-    ensures { Written Appends octets_buffering (out_alone W.Drain out.old) (out_alone W.Drain out.new)
+    ensures same { W.fixed out.new ≡ W.fixed out.old }
+    ensures written { Written Appends octets_buffering (out_alone W.Drain out.old) (out_alone W.Drain out.new)
         (line_pieces (line_if (nat_lt 0 loss.parts) (loss_line channel reason loss))) result }
 {
     if loss.parts == 0 {
@@ -96,7 +102,8 @@ fn write_loss<W: Drain>(
 
 // Writes the lines of what is lost of a channel, for each reason that came.
 fn write_losses<W: Drain>(channel: u8, losses: &[Loss; 7], out: &mut W) -> Result<(), RunFault>
-    ensures { Written Appends octets_buffering (out_alone W.Drain out.old) (out_alone W.Drain out.new)
+    ensures same { W.fixed out.new ≡ W.fixed out.old }
+    ensures written { Written Appends octets_buffering (out_alone W.Drain out.old) (out_alone W.Drain out.new)
         (line_pieces (loss_lines channel losses.now)) result }
 {
     for place in 0..7 {
@@ -109,7 +116,8 @@ fn write_losses<W: Drain>(channel: u8, losses: &[Loss; 7], out: &mut W) -> Resul
 
 // Writes the line of a channel.
 fn write_counts<W: Drain>(channel: u8, counts: &ChannelCounts, out: &mut W) -> Result<(), RunFault>
-    ensures { Written Appends octets_buffering (out_alone W.Drain out.old) (out_alone W.Drain out.new)
+    ensures same { W.fixed out.new ≡ W.fixed out.old }
+    ensures written { Written Appends octets_buffering (out_alone W.Drain out.old) (out_alone W.Drain out.new)
         (line_piece (channel_line channel counts.now) ∷ []) result }
 {
     let mut line = LineBuffer::new();
@@ -124,7 +132,8 @@ fn write_channel<W: Drain>(
     counts: &ChannelCounts,
     out: &mut W,
 ) -> Result<(), RunFault>
-    ensures { Written Appends octets_buffering (out_alone W.Drain out.old) (out_alone W.Drain out.new)
+    ensures same { W.fixed out.new ≡ W.fixed out.old }
+    ensures written { Written Appends octets_buffering (out_alone W.Drain out.old) (out_alone W.Drain out.new)
         (line_pieces (channel_lines_of chosen.now channel counts.now)) result }
 {
     if !chosen.has(channel) || counts.frames == 0 {
@@ -145,7 +154,8 @@ fn write_channels<W: Drain>(
     channels: &[ChannelCounts; 8],
     out: &mut W,
 ) -> Result<(), RunFault>
-    ensures { Written Appends octets_buffering (out_alone W.Drain out.old) (out_alone W.Drain out.new)
+    ensures same { W.fixed out.new ≡ W.fixed out.old }
+    ensures written { Written Appends octets_buffering (out_alone W.Drain out.old) (out_alone W.Drain out.new)
         (line_pieces (channel_lines chosen.now channels.now)) result }
 {
     for channel in 0..8 {
@@ -163,7 +173,8 @@ fn write_application<W: Drain>(
     out: &mut W,
 ) -> Result<(), RunFault>
     requires { key < 16384 }
-    ensures { Written Appends octets_buffering (out_alone W.Drain out.old) (out_alone W.Drain out.new)
+    ensures same { W.fixed out.new ≡ W.fixed out.old }
+    ensures written { Written Appends octets_buffering (out_alone W.Drain out.old) (out_alone W.Drain out.new)
         (line_pieces (application_lines_of key counts.now)) result }
 {
     if counts.packets == 0 {
@@ -181,7 +192,8 @@ fn write_applications<W: Drain>(
     out: &mut W,
 ) -> Result<(), RunFault>
     requires { length applications.now ≡ 16384 }
-    ensures { Written Appends octets_buffering (out_alone W.Drain out.old) (out_alone W.Drain out.new)
+    ensures same { W.fixed out.new ≡ W.fixed out.old }
+    ensures written { Written Appends octets_buffering (out_alone W.Drain out.old) (out_alone W.Drain out.new)
         (line_pieces (application_lines applications.now)) result }
 {
     for key in 0..16384 {
@@ -200,7 +212,8 @@ pub fn write_summary<W: Drain>(
     counts: &Counts,
     out: &mut W,
 ) -> Result<(), RunFault>
-    ensures { Written Appends octets_buffering (out_alone W.Drain out.old) (out_alone W.Drain out.new)
+    ensures same { W.fixed out.new ≡ W.fixed out.old }
+    ensures written { Written Appends octets_buffering (out_alone W.Drain out.old) (out_alone W.Drain out.new)
         (line_pieces (summary_lines chosen.now records counts.now)) result }
 {
     if let Err(fault) = write_recording(records, counts, out) {

@@ -27,6 +27,7 @@ pub fn write_csv_head<W: Drain>(
     waits: bool,
     out: &mut W,
 ) -> Result<(), RunFault>
+    ensures same { W.fixed out.new ≡ W.fixed out.old }
     ensures whole { OnOk result (Appends (W.written out.old) (W.written out.new) (head_text command.entry fresh)
         × (W.failures out.new ≡ W.failures out.old)) }
     ensures flushed { OnOk result (waits ≡ true → head_pieces command.entry fresh ≢ []
@@ -58,7 +59,6 @@ pub fn write_csv_head<W: Drain>(
 
 /// Runs over the recording, and gives what the command gives of the packets to a drain.
 pub(crate) fn run_command<R: BufferedSource, W: Drain, V: Drain>(
-    alloc: Global,
     command: Command<'_>,
     extractor: &mut Extractor,
     recording: &mut R,
@@ -67,6 +67,8 @@ pub(crate) fn run_command<R: BufferedSource, W: Drain, V: Drain>(
     ending: Ending,
 ) -> Result<(), RunFault>
     requires ready { IsReady extractor.old }
+    ensures same_out { W.fixed out.new ≡ W.fixed out.old }
+    ensures same_report { V.fixed report.new ≡ V.fixed report.old }
     ensures run { OnOk result (IsRun Appends (buffering_of command.entry) (text_of command.entry) ending (work_in extractor.old)
         (devices R.BufferedSource W.Drain V.Drain recording.old out.old report.old)
         (devices R.BufferedSource W.Drain V.Drain recording.new out.new report.new)
@@ -95,7 +97,7 @@ pub(crate) fn run_command<R: BufferedSource, W: Drain, V: Drain>(
             run_into(extractor, recording, &mut outlet, report, ending)
         }
         Command::Fields(definition, application) => {
-            let mut rows = Rows::new(alloc, definition);
+            let mut rows = Rows::new(extractor.alloc, definition);
             let mut outlet = PacketRows {
                 rows: &mut rows,
                 application,

@@ -8,9 +8,10 @@ use std::alloc::{AllocError, Global};
 use tm_packet::Tracker;
 use tm_reassembly::Reassembly;
 
-/// The channels, the sequence counts, a buffer of one record, and memory for the lines of an item.
+/// The channels, the sequence counts, a buffer of one record, and memory for the lines of an item, with the allocator of these.
 #[derive(Drop)]
 pub(crate) struct Extractor {
+    pub(crate) alloc: Global,
     pub(crate) reassembly: Reassembly,
     pub(crate) tracker: Tracker,
     pub(crate) buffer: Vec<u8>,
@@ -30,6 +31,7 @@ impl Extractor {
     {
         let buffer = vec![in alloc; 0u8; reassembly.layout().record_length()]?;
         Ok(Extractor {
+            alloc,
             reassembly,
             tracker,
             buffer,

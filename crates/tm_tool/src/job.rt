@@ -122,6 +122,10 @@ pub fn run<R: BufferedSource, W: Drain, V: Drain>(
 ) -> Result<Done, RunFault>
     ensures sound { IsSoundWork job.work }
 
+    // The drains are the same ones.
+    ensures same_out { W.fixed out.new ≡ W.fixed out.old }
+    ensures same_report { V.fixed report.new ≡ V.fixed report.old }
+
     // With Ok just the pieces of what was read were written, and passed on; and what was read is what the ending reads.
     ensures ran { IfOk result (λ done. Ran Appends (buffering_of command.entry) (text_of command.entry) ending job.work
         (head_pieces command.entry job.fresh)
@@ -151,15 +155,7 @@ pub fn run<R: BufferedSource, W: Drain, V: Drain>(
     if let Err(fault) = write_csv_head(alloc, command, fresh, recording.may_wait(), out) {
         return Err(fault);
     }
-    match run_command(
-        alloc,
-        command,
-        &mut extractor,
-        recording,
-        out,
-        report,
-        ending,
-    ) {
+    match run_command(command, &mut extractor, recording, out, report, ending) {
         Ok(()) => Ok(make_done(extractor, false, ending)),
         Err(fault) => Err(fault),
     }
@@ -181,6 +177,9 @@ pub fn split<R: BufferedSource, H: Shelf, V: Drain>(
     ending: Ending,
 ) -> Result<Done, RunFault>
     ensures sound { IsSoundWork job.work }
+
+    // The report's drain is the same one.
+    ensures same_report { V.fixed report.new ≡ V.fixed report.old }
 
     // With Ok just the pieces of what was read were written, and passed on; and what was read is what the ending reads.
     ensures ran { IfOk result (λ done. Ran Shelves shelf_buffering shelf_text ending job.work []

@@ -30,7 +30,7 @@ impl<O: Outlet, V: Drain> RecordHandler for Output<'_, O, V> {
 
     ghost held = { output_both O.Outlet V.Drain };
 
-    ghost fixed = { fixture O.Outlet };
+    ghost fixed = { fixture O.Outlet V.Drain };
 
     ghost entries = { λ output. output.tracker.now };
 
@@ -67,7 +67,7 @@ fn end<O: Outlet, V: Drain>(
 ) -> Result<(), RunFault>
     requires rest { rest < record_length_of reassembly.now.rules.layout }
     requires going { reassembly.now.failed ≡ false }
-    ensures same { fixture O.Outlet output.new ≡ fixture O.Outlet output.old }
+    ensures same { fixture O.Outlet V.Drain output.new ≡ fixture O.Outlet V.Drain output.old }
     ensures kept { OnOk result (kept_of ending (work_of reassembly.now output.new.tracker.now)
         ≡ kept_of ending (work_of reassembly.now output.old.tracker.now)) }
     ensures written { Written O.grows O.buffering (output_both O.Outlet V.Drain output.old)
@@ -96,7 +96,7 @@ fn handle_recording<R: BufferedSource, O: Outlet, V: Drain>(
     requires exact { length buffer.old ≡ record_length_of reassembly.old.rules.layout }
     requires some { 0 < length buffer.old }
     requires going { IsGoing reassembly.old }
-    ensures same { fixture O.Outlet output.new ≡ fixture O.Outlet output.old }
+    ensures same { fixture O.Outlet V.Drain output.new ≡ fixture O.Outlet V.Drain output.old }
     ensures exact { length buffer.new ≡ length buffer.old }
     ensures going_on { OnOk result (IsGoing reassembly.new × (reassembly.new.rules ≡ reassembly.old.rules)) }
     ensures run { OnOk result (IsRun O.grows O.buffering (O.text (O.fixed output.old.outlet.now)) ending
@@ -148,6 +148,7 @@ pub(crate) fn run_into<R: BufferedSource, O: Outlet, V: Drain>(
         (outlet_devices R.BufferedSource O.Outlet V.Drain recording.old outlet.old report.old)
         (outlet_devices R.BufferedSource O.Outlet V.Drain recording.new outlet.new report.new) result }
     ensures same_out { O.fixed outlet.new ≡ O.fixed outlet.old }
+    ensures same_report { V.fixed report.new ≡ V.fixed report.old }
     ensures flushed_out { OnOk result (O.passed outlet.new) }
     ensures flushed_report { OnOk result (Keeps (V.flushed report.new) (V.written report.new)) }
 {
@@ -156,6 +157,7 @@ pub(crate) fn run_into<R: BufferedSource, O: Outlet, V: Drain>(
         tracker,
         buffer,
         lines,
+        ..
     } = extractor;
     let mut output = Output {
         tracker,

@@ -6,7 +6,7 @@ use Rattle.tm_devices.proofs.transfer.write_all.Given as goal
 abbrev pub invariant-loop-rest : goal.invariant-loop-rest
 invariant-loop-rest g l =
     (done : List ℕ) × (l.initial.rest ≡ done ++ l.rest) × Appends (g.W.Drain.written l.initial.out) (g.W.Drain.written l.out) done
-    × (g.W.Drain.failures l.out ≡ g.W.Drain.failures l.initial.out)
+    × (g.W.Drain.failures l.out ≡ g.W.Drain.failures l.initial.out) × (g.W.Drain.fixed l.out ≡ g.W.Drain.fixed l.initial.out)
 
 abbrev pub decreases-loop-rest : goal.decreases-loop-rest
 decreases-loop-rest g l = length l.rest

@@ -1,18 +1,17 @@
-use Rattle.tm_library.proofs.ChunkLemmas.{gave, holds, never_short, too_many, written_behind}
+use Rattle.std.proofs.Common.{sym}
+use Rattle.tm_library.proofs.ChunkLemmas.{gave, holds, never_short, too_many, written_first}
 use Rattle.tm_library.proofs.running.run_into_rooms.Goals as goal
 
 pub returns-in-Ok : goal.returns-in-Ok
 returns-in-Ok c =
     let ok = c.in-Ok.ensures in
-    let (took, count, kept) = gave c.args.command c.args.last c.args.job _ _ c.requires ok.sound _ _ _ _ _ _ c.chunk_ending.ensures ok.ran in
-    let out = written_behind _ _ _ _ _ c.new-more_out.ensures.items took.0 in
-    let report = written_behind _ _ _ _ _ c.new-more_report.ensures.items took.1 in
+    let (took, count, kept) = gave c.args.command c.args.chunk.last c.args.job _ _ c.requires ok.sound _ _ _ _ _ _ c.chunk_ending-ending.ensures ok.ran in
     let rooms = c.run.new in
     record {
-      out = rw (c.out-in-Ok-2-1.given.1.1 out.0, c.length.ensures)
-          (holds rooms.out.octets.now rooms.out.overflow.now.items _ rooms.out.filled rooms.out.within rooms.out.full out.1);
-      report = rw (c.report-in-Ok-2-1.given.1.1 report.0, c.length-in-Ok.ensures)
-          (holds rooms.report.octets.now rooms.report.overflow.now.items _ rooms.report.filled rooms.report.within rooms.report.full report.1);
+      out = rw (c.out-in-Ok-2-1.given.1.1 (sym ok.same_out), c.length.ensures)
+          (holds rooms.out.octets.now rooms.out.overflow.now.items _ rooms.out.filled rooms.out.within rooms.out.full (written_first _ _ _ c.new-more_out.ensures.items took.0));
+      report = rw (c.report-in-Ok-2-1.given.1.1 (sym ok.same_report), c.length-in-Ok.ensures)
+          (holds rooms.report.octets.now rooms.report.overflow.now.items _ rooms.report.filled rooms.report.within rooms.report.full (written_first _ _ _ c.new-more_report.ensures.items took.1));
       records = count;
       kept = kept;
       refused = tt;
@@ -21,9 +20,9 @@ returns-in-Ok c =
 pub returns-in-Err-TooMany-clause-refused : goal.returns-in-Err-TooMany-clause-refused
 returns-in-Err-TooMany-clause-refused c =
     let stop = c.in-Err-TooMany in
-    too_many c.args.command c.args.last c.args.job _ _ c.requires stop.ensures.sound _ _ _ _ stop.field-0 stop.ensures.stopped stop.field-0-is
+    too_many c.args.command c.args.chunk.last c.args.job _ _ c.requires stop.ensures.sound _ _ _ _ stop.field-0 stop.ensures.stopped stop.field-0-is
 
 pub unreachable-requires-in-Err-ShortRecording : goal.unreachable-requires-in-Err-ShortRecording
 unreachable-requires-in-Err-ShortRecording c =
     let stop = c.in-Err-ShortRecording in
-    never_short c.args.command c.args.last c.args.job _ _ c.requires stop.ensures.sound _ _ _ _ stop.field-0 stop.ensures.stopped stop.field-0-is
+    never_short c.args.command c.args.chunk.last c.args.job _ _ c.requires stop.ensures.sound _ _ _ _ stop.field-0 stop.ensures.stopped stop.field-0-is

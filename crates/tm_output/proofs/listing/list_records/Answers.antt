@@ -11,6 +11,7 @@ loop-seen-preserved g c =
       stands = stands_more c.args.layout.now next.one inv.stands next.octets (next.exact ∙ inv.exact) next.holds;
       reads = c.in-Ok-None.ensures.counts.0 ∙ inv.reads;
       writes = next.holds.counts.0 ∙ inv.writes;
+      same = c.in-Ok-None.ensures.same ∙ inv.same;
     }
 
 pub returns-in-Ok-Some-clause-listed : goal.returns-in-Ok-Some-clause-listed

@@ -11,6 +11,7 @@ invariant-loop-seen g l = record {
   stands : Stands l.layout (g.R.BufferedSource.left l.initial.recording) (g.R.BufferedSource.left l.recording) (out_alone g.W.Drain l.initial.out) (out_alone g.W.Drain l.out) l.seen;
   reads : g.R.BufferedSource.failures l.recording ≡ g.R.BufferedSource.failures l.initial.recording;
   writes : g.W.Drain.failures l.out ≡ g.W.Drain.failures l.initial.out;
+  same : g.W.Drain.fixed l.out ≡ g.W.Drain.fixed l.initial.out;
 }
 
 abbrev pub decreases-loop-seen : goal.decreases-loop-seen

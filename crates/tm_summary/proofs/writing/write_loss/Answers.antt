@@ -1,5 +1,5 @@
 use Rattle.std.proofs.Common.{arith, lt-ltb, ◌∙◌}
 use Rattle.tm_summary.proofs.writing.write_loss.Goals as goal
 
-pub returns : goal.returns
-returns g c = rw (lt-ltb 0 c.args.loss.parts (omega arith)) (rw (c.as_slice.ensures ∙ c.format_loss.ensures) at c.write_line.ensures)
+pub returns-clause-written : goal.returns-clause-written
+returns-clause-written g c = rw (lt-ltb 0 c.args.loss.parts (omega arith)) (rw (c.as_slice.ensures ∙ c.format_loss.ensures) at c.write_line.ensures.written)

@@ -1,4 +1,4 @@
-use Rattle.std.proofs.Common.{◌≡◌, arith}
+use Rattle.std.proofs.Common.{◌≡◌, ◌∙◌, arith}
 use Rattle.tm_summary.specs.Adding.{no_loss}
 use Rattle.tm_summary.specs.Lines.{loss_lines}
 use Rattle.tm_summary.proofs.WritingLemmas.{loss_lines_of, place_more, place_stopped}
@@ -7,16 +7,16 @@ use Rattle.tm_summary.proofs.writing.write_losses.Goals as goal
 pub loop-place-preserved : goal.loop-place-preserved
 loop-place-preserved g c =
     place_more (loss_lines_of c.args.channel) c.args.losses.now no_loss c.loop-place.place (omega arith) _
-    c.loop-place.invariant c.in_default.ensures
+    c.loop-place.invariant (c.in_default.ensures.same ∙ c.loop-place.invariant.0) c.in_default.ensures.written
 
-pub returns-in-Err : goal.returns-in-Err
+pub returns-in-Err-clause-written : goal.returns-in-Err-clause-written
 unfolding loss_lines
-returns-in-Err g c =
+returns-in-Err-clause-written g c =
     place_stopped (loss_lines_of c.args.channel) c.args.losses.now no_loss c.loop-place.place (omega arith) _
-    c.loop-place.invariant 7 (omega arith) c.in-Err.ensures
+    c.loop-place.invariant 7 (omega arith) c.in-Err.ensures.written
 
-pub returns : goal.returns
+pub returns-clause-written : goal.returns-clause-written
 unfolding loss_lines
-returns g c =
+returns-clause-written g c =
     let all : c.loop-place.place ≡ 7 = omega arith in
-    rw all at c.loop-place.invariant
+    rw all at c.loop-place.invariant.1

@@ -9,15 +9,15 @@ use Rattle.tm_tool.proofs.summary.summarize.Goals as goal
 pub returns-in-Err-write_summary-clause-stopped : goal.returns-in-Err-write_summary-clause-stopped
 returns-in-Err-write_summary-clause-stopped g c =
     let begun = ap (λ (j : JobState). j.work) (c.job.view_is ∙ c.in-Ok.ensures) in
-    lines_stopped c.args.settings.now _ _ _ begun _ _ c.in-Ok-count_into.ensures.counted _ c.channels.ensures _ _ _ _ c.in-Err-write_summary.fault c.in-Err-write_summary.ensures
+    lines_stopped c.args.settings.now _ _ _ begun _ _ c.in-Ok-count_into.ensures.counted _ c.channels.ensures _ _ _ _ c.in-Err-write_summary.fault c.in-Err-write_summary.ensures.written
 
 pub returns-in-Ok-flush-clause-summarized : goal.returns-in-Ok-flush-clause-summarized
 returns-in-Ok-flush-clause-summarized g c =
     let begun = ap (λ (j : JobState). j.work) (c.job.view_is ∙ c.in-Ok.ensures) in
-    summarized c.args.settings.now _ _ _ begun _ _ c.in-Ok-count_into.ensures.counted _ c.channels.ensures _ _ _ _ _ c.in_default-write_summary.ensures c.flush.ensures.octets
+    summarized c.args.settings.now _ _ _ begun _ _ c.in-Ok-count_into.ensures.counted _ c.channels.ensures _ _ _ _ _ c.in_default-write_summary.ensures.written c.flush.ensures.octets
 
 pub returns-clause-stopped : goal.returns-clause-stopped
 returns-clause-stopped g c =
     let begun = ap (λ (j : JobState). j.work) (c.job.view_is ∙ c.in-Ok.ensures) in
     lines_stopped c.args.settings.now _ _ _ begun _ _ c.in-Ok-count_into.ensures.counted _ c.channels.ensures _ _ _ _ Write
-    (flush_stopped c.in_default-write_summary.ensures c.flush.ensures.octets octets_buffering refl c.in-Err-flush.ensures.counts)
+    (flush_stopped c.in_default-write_summary.ensures.written c.flush.ensures.octets octets_buffering refl c.in-Err-flush.ensures.counts)

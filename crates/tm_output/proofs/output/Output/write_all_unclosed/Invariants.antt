@@ -9,7 +9,7 @@ use Rattle.tm_output.proofs.output.Output.write_all_unclosed.Given as goal
 
 abbrev pub invariant-loop-unclosed : goal.invariant-loop-unclosed
 invariant-loop-unclosed g l = record {
-  same : fixture g.O.Outlet l.self ≡ fixture g.O.Outlet l.initial.self;
+  same : fixture g.O.Outlet g.V.Drain l.self ≡ fixture g.O.Outlet g.V.Drain l.initial.self;
   tracker : l.self.tracker.now ≡ l.initial.self.tracker.now;
   below : l.at ≤ 16384;
   done : List Unclosed;

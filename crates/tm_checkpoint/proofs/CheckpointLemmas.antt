@@ -21,7 +21,7 @@ use Rattle.tm_bits.specs.Bits.{two_octets, two_at}
 use Rattle.tm_frame.specs.Rules.{Rules, IsLimit}
 use Rattle.tm_reassembly.specs.State.{State}
 use Rattle.tm_reassembly.specs.Valid.{IsValidState}
-use Rattle.tm_reassembly.proofs.Fits.{octets_front}
+use Rattle.tm_reassembly.proofs.Fits.{octets_take}
 use Rattle.tm_faults.specs.declared.fault.CheckpointFault.{CheckpointFault}
 use Rattle.tm_faults.specs.declared.fault.CheckpointFault.TheVariants as fault
 use Rattle.tm_checkpoint.specs.declared.version.Version.{Version}
@@ -292,7 +292,7 @@ accepted s octets job h = by_version (version_in s octets) refl
     by_version (Err found) is e = cc
     by_version (Ok v) is e =
         let k : ℕ = 5 + (form_of v).settings in
-        let within : AreOctets (inner v octets) = octets_front (length octets - 2 - k) (drop k octets) (octets_behind k octets h) in
+        let within : AreOctets (inner v octets) = octets_take (length octets - 2 - k) (drop k octets) (octets_behind k octets h) in
         record { version = v; around = is_in_version s octets v is; read = body_read v s (inner v octets) job (state_in v s (inner v octets)) within refl e }
 
 pub written_again : (s : Rules) (octets : List ℕ) (job : JobState) → AreOctets octets → resumed s octets ≡ Ok job

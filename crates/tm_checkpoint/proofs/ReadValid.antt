@@ -61,7 +61,7 @@ module _ (rules : Rules) where
   channels-valid : (records octets : ℕ) (master : Option ℕ) (xs : List ℕ) (all : Result ReadBlocks StateFault) → AreOctets xs → records < 2 ^ 32 → IsCount master
       → blocks_read rules records 8 0 xs ≡ all → IsRead rules (with_channels records master octets all)
   channels-valid records octets master xs (Ok all) h small count e =
-      λ range. blocks_valid rules records all.octets all.kept xs h small e range master count
+      λ range. blocks_valid rules records all.octets all.channels xs h small e range master count
   channels-valid records octets master xs (Err found) h small count e = λ memory. blocks_told rules records 8 0 xs (e ∙ ap Err memory)
 
   with-valid : (records : ℕ) (xs : List ℕ) (read : Result ReadMaster StateFault) → AreOctets xs → records < 2 ^ 32 → IsMaster read

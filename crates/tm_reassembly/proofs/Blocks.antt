@@ -9,7 +9,7 @@ use Rattle.tm_reassembly.specs.State.{Last}
 
 -- some blocks in front
 abbrev in_fronts : List (Option Last) → ℕ → Result ReadBlocks StateFault → Result ReadBlocks StateFault
-in_fronts done at (Ok rest) = Ok (record { kept = done ++ rest.kept; octets = at + rest.octets })
+in_fronts done at (Ok rest) = Ok (record { channels = done ++ rest.channels; octets = at + rest.octets })
 in_fronts done at (Err found) = Err found
 
 -- up to channel c, `done` was read from the octets before `at`
@@ -22,8 +22,8 @@ all_of (Ok rest) = let zeroth : 0 + rest.octets ≡ rest.octets = omega arith in
 all_of (Err found) = refl
 
 module _ (rules : Rules) (records : ℕ) (xs : List ℕ) where
-  pub reads_none : (kept : List (Option Last)) → ReadsTo rules records xs 0 0 (take 0 kept)
-  reads_none kept = record { so_far = all_of (blocks_read rules records 8 0 xs); inside = omega arith }
+  pub reads_none : (lasts : List (Option Last)) → ReadsTo rules records xs 0 0 (take 0 lasts)
+  reads_none lasts = record { so_far = all_of (blocks_read rules records 8 0 xs); inside = omega arith }
 
   one_block : (n c at : ℕ) (b : Result ReadBlock StateFault) → 8 - c ≡ suc n → block_read rules.max_packet rules.layout (chooses rules c) records (drop at xs) ≡ b
       → blocks_read rules records (8 - c) c (drop at xs) ≡ and_then_blocks b (λ used. blocks_read rules records n (c + 1) (drop used (drop at xs)))
@@ -31,15 +31,15 @@ module _ (rules : Rules) (records : ℕ) (xs : List ℕ) where
   one_block n c at b e f = rw (e, f)
 
   joined : (done : List (Option Last)) (at : ℕ) (one : ReadBlock) (x : Result ReadBlocks StateFault)
-      → in_fronts done at (in_front one x) ≡ in_fronts (done ++ one.kept ∷ []) (at + one.octets) x
+      → in_fronts done at (in_front one x) ≡ in_fronts (done ++ one.last ∷ []) (at + one.octets) x
   joined done at one (Ok rest) =
-      let sum : at + (one.octets + rest.octets) ≡ (at + one.octets) + rest.octets = omega arith in rw (append_assoc done (one.kept ∷ []) rest.kept, sum) refl
+      let sum : at + (one.octets + rest.octets) ≡ (at + one.octets) + rest.octets = omega arith in rw (append_assoc done (one.last ∷ []) rest.channels, sum) refl
   joined done at one (Err found) = refl
 
-  pub reads_more : (c at used : ℕ) (done : List (Option Last)) (kept : Option Last) → ReadsTo rules records xs c at done → c < 8
-      → block_read rules.max_packet rules.layout (chooses rules c) records (drop at xs) ≡ Ok (record { kept = kept; octets = used }) → used ≤ length (drop at xs)
-      → ReadsTo rules records xs (c + 1) (at + used) (done ++ kept ∷ [])
-  reads_more c at used done kept r h e fits =
+  pub reads_more : (c at used : ℕ) (done : List (Option Last)) (last : Option Last) → ReadsTo rules records xs c at done → c < 8
+      → block_read rules.max_packet rules.layout (chooses rules c) records (drop at xs) ≡ Ok (record { last = last; octets = used }) → used ≤ length (drop at xs)
+      → ReadsTo rules records xs (c + 1) (at + used) (done ++ last ∷ [])
+  reads_more c at used done last r h e fits =
       let n : ℕ = 7 - c in
       let left : 8 - c ≡ suc n = omega arith in
       let rest : 8 - (c + 1) ≡ 7 - c = omega arith in
@@ -47,7 +47,7 @@ module _ (rules : Rules) (records : ℕ) (xs : List ℕ) where
         so_far =
             r.so_far
             ∙ ap (in_fronts done at) (one_block n c at _ left e)
-            ∙ joined done at (record { kept = kept; octets = used }) (blocks_read rules records n (c + 1) (drop used (drop at xs)))
+            ∙ joined done at (record { last = last; octets = used }) (blocks_read rules records n (c + 1) (drop used (drop at xs)))
             ∙ rw (drop-drop used at xs, rest);
         inside = omega (arith, length-drop at xs, r.inside);
       }
@@ -58,7 +58,7 @@ module _ (rules : Rules) (records : ℕ) (xs : List ℕ) where
       r.so_far ∙ ap (in_fronts done at) (one_block (7 - c) c at _ (omega arith) e)
 
   pub reads_all : (c at : ℕ) (done : List (Option Last)) → ReadsTo rules records xs c at done → 8 ≤ c
-      → blocks_read rules records 8 0 xs ≡ Ok (record { kept = done; octets = at })
+      → blocks_read rules records 8 0 xs ≡ Ok (record { channels = done; octets = at })
   unfolding blocks_read
   reads_all c at done r h =
       let none : 8 - c ≡ 0 = omega arith in
@@ -82,41 +82,36 @@ module _ (rules : Rules) (records : ℕ) (xs : List ℕ) where
   pub some_none : ReadsSome rules records xs 0 0
   some_none = record { done = []; reads = reads_none rules records xs [] }
 
-  pub some_more : (c at used : ℕ) (kept : Option Last) (b : Bool) → ReadsSome rules records xs c at → c < 8 → b ≡ chooses rules c
-      → block_read rules.max_packet rules.layout b records (take (length xs - at) (drop at xs)) ≡ Ok (record { kept = kept; octets = used })
+  pub some_more : (c at used : ℕ) (last : Option Last) (b : Bool) → ReadsSome rules records xs c at → c < 8 → b ≡ chooses rules c
+      → block_read rules.max_packet rules.layout b records (take (length xs - at) (drop at xs)) ≡ Ok (record { last = last; octets = used })
       → used ≤ length (take (length xs - at) (drop at xs))
       → ReadsSome rules records xs (c + 1) (at + used)
-  some_more c at used kept b r h same e fits = record {
-    done = r.done ++ kept ∷ [];
-    reads = reads_more rules records xs c at used r.done kept r.reads h (as_asked rules records xs c at b _ same e) (rw take_rest at fits);
+  some_more c at used last b r h same e fits = record {
+    done = r.done ++ last ∷ [];
+    reads = reads_more rules records xs c at used r.done last r.reads h (as_asked rules records xs c at b _ same e) (rw take_rest at fits);
   }
-
-  pub some_fault : (c at : ℕ) (found : StateFault) (b : Bool) → ReadsSome rules records xs c at → c < 8 → b ≡ chooses rules c
-      → block_read rules.max_packet rules.layout b records (take (length xs - at) (drop at xs)) ≡ Err found → blocks_read rules records 8 0 xs ≡ Err found
-  some_fault c at found b r h same e =
-      reads_fault rules records xs c at r.done found r.reads h (as_asked rules records xs c at b _ same e)
 
   pub some_all : (c at : ℕ) → ReadsSome rules records xs c at → 8 ≤ c → IsOk (blocks_read rules records 8 0 xs)
   some_all c at r h = rw (reads_all rules records xs c at r.done r.reads h)
 
 module _ (rules : Rules) (records : ℕ) (xs : List ℕ) where
   -- what is kept of the channels up to c is what was read
-  pub kept_more : (kept : List (Option Last)) (c at used : ℕ) (x : Option Last) (b : Bool) → ReadsTo rules records xs c at (take c kept) → length kept ≡ 8
+  pub lasts_more : (lasts : List (Option Last)) (c at used : ℕ) (x : Option Last) (b : Bool) → ReadsTo rules records xs c at (take c lasts) → length lasts ≡ 8
       → c < 8 → b ≡ chooses rules c
-      → block_read rules.max_packet rules.layout b records (take (length xs - at) (drop at xs)) ≡ Ok (record { kept = x; octets = used })
+      → block_read rules.max_packet rules.layout b records (take (length xs - at) (drop at xs)) ≡ Ok (record { last = x; octets = used })
       → used ≤ length (take (length xs - at) (drop at xs))
-      → ReadsTo rules records xs (c + 1) (at + used) (take (c + 1) (slice_set kept c x))
-  kept_more kept c at used x b r eight h same e fits =
-      subst (ReadsTo rules records xs (c + 1) (at + used)) (sym (take_more_set kept c x (omega arith)))
-      (reads_more rules records xs c at used (take c kept) x r h (as_asked rules records xs c at b _ same e) (rw take_rest at fits))
+      → ReadsTo rules records xs (c + 1) (at + used) (take (c + 1) (slice_set lasts c x))
+  lasts_more lasts c at used x b r eight h same e fits =
+      subst (ReadsTo rules records xs (c + 1) (at + used)) (sym (take_more_set lasts c x (omega arith)))
+      (reads_more rules records xs c at used (take c lasts) x r h (as_asked rules records xs c at b _ same e) (rw take_rest at fits))
 
-  pub kept_fault : (kept : List (Option Last)) (c at : ℕ) (found : StateFault) (b : Bool) → ReadsTo rules records xs c at (take c kept) → c < 8 → b ≡ chooses rules c
+  pub asked_fault : (done : List (Option Last)) (c at : ℕ) (found : StateFault) (b : Bool) → ReadsTo rules records xs c at done → c < 8 → b ≡ chooses rules c
       → block_read rules.max_packet rules.layout b records (take (length xs - at) (drop at xs)) ≡ Err found → blocks_read rules records 8 0 xs ≡ Err found
-  kept_fault kept c at found b r h same e =
-      reads_fault rules records xs c at (take c kept) found r h (as_asked rules records xs c at b _ same e)
+  asked_fault done c at found b r h same e =
+      reads_fault rules records xs c at done found r h (as_asked rules records xs c at b _ same e)
 
-  pub kept_all : (kept : List (Option Last)) (c at : ℕ) → ReadsTo rules records xs c at (take c kept) → length kept ≡ 8 → 8 ≤ c
-      → blocks_read rules records 8 0 xs ≡ Ok (record { kept = kept; octets = at })
-  kept_all kept c at r eight h =
-      reads_all rules records xs c at (take c kept) r h
-      ∙ ap (λ (l : List (Option Last)). Ok (record { kept = l; octets = at })) (take_all c kept (omega arith))
+  pub lasts_all : (lasts : List (Option Last)) (c at : ℕ) → ReadsTo rules records xs c at (take c lasts) → length lasts ≡ 8 → 8 ≤ c
+      → blocks_read rules records 8 0 xs ≡ Ok (record { channels = lasts; octets = at })
+  lasts_all lasts c at r eight h =
+      reads_all rules records xs c at (take c lasts) r h
+      ∙ ap (λ (l : List (Option Last)). Ok (record { channels = l; octets = at })) (take_all c lasts (omega arith))

@@ -7,14 +7,14 @@ use Rattle.tm_items.specs.declared.items.Reason.TheVariants as why
 use Rattle.tm_items.specs.declared.items.Reason.{Reason}
 use Rattle.tm_reassembly.specs.State.{Tail}
 use Rattle.tm_reassembly.specs.Chain.{ChainMember, End, Ended, Unended, Run, Runs, stem_with, runs_after, has_frame_gap, with_member, cut_before}
-use Rattle.tm_reassembly.specs.Parts.{Part, fate_at, far_end, lead, parts}
+use Rattle.tm_reassembly.specs.Parts.{Part, fate_at, reach_of, lead, parts}
 use Rattle.tm_reassembly.specs.Items.{chain_parts}
 pub use Rattle.tm_reassembly.specs.Valid.{IsTail}
 pub use Rattle.tm_reassembly.specs.code.Fits.{IsOpenTail}
 use Rattle.tm_reassembly.specs.code.Field.{step_parts, step_tail, ended_parts, chain_parts_at, chain_tail_at}
 use Rattle.tm_reassembly.proofs.Sweep.{sweep, parts_from-sweep}
 use Rattle.tm_reassembly.proofs.Fresh.{fresh_body}
-use Rattle.tm_reassembly.proofs.Joined.{far-past, stem_sweep, after_same}
+use Rattle.tm_reassembly.proofs.Joined.{reach-past, stem_sweep, after_same}
 use Rattle.tm_reassembly.proofs.Step.{PlaceFits, sweep_tail}
 
 -- a tail at the end of its run
@@ -51,8 +51,8 @@ module _ (limit : ℕ) where
       at_octets [] h = absurd h
       at_octets (x ∷ xs) h =
           let nil : (x ∷ xs) ++ [] ≡ x ∷ xs = append-nil (x ∷ xs) in
-          let past : length ((x ∷ xs) ++ []) < far_end (x ∷ xs) [] = let p = far-past limit x xs [] h in omega (arith, ap length nil) in
-          rw (stem_sweep limit count t.first t.place x xs [] end h, h.0, lt-leb (far_end (x ∷ xs) []) (length ((x ∷ xs) ++ [])) past, nil)
+          let past : length ((x ∷ xs) ++ []) < reach_of (x ∷ xs) [] = let p = reach-past limit x xs [] h in omega (arith, ap length nil) in
+          rw (stem_sweep limit count t.first t.place x xs [] end h, h.0, lt-leb (reach_of (x ∷ xs) []) (length ((x ∷ xs) ++ [])) past, nil)
 
   -- the parts of a chain after a member with this count, which leaves a tail
   abbrev pub runs_parts : Option Tail → Runs → List Part

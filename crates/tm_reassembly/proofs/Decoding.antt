@@ -49,15 +49,15 @@ module _ (form : Form) (rules : Rules) (xs : List ℕ) (there : 4 ≤ length xs)
 -- ---- what is read is valid
 
 -- the state that blocks spell
-pub blocks_valid : (rules : Rules) (records used : ℕ) (kept : List (Option Last)) (xs : List ℕ) → AreOctets xs → records < 2 ^ 32
-    → blocks_read rules records 8 0 xs ≡ Ok (record { kept = kept; octets = used })
-    → IsLimit rules.max_packet → (master : Option ℕ) → IsCount master → IsValidState rules (record { records = records; master = master; channels = kept })
-blocks_valid rules records used kept xs octets small e range master octet =
+pub blocks_valid : (rules : Rules) (records used : ℕ) (channels : List (Option Last)) (xs : List ℕ) → AreOctets xs → records < 2 ^ 32
+    → blocks_read rules records 8 0 xs ≡ Ok (record { channels = channels; octets = used })
+    → IsLimit rules.max_packet → (master : Option ℕ) → IsCount master → IsValidState rules (record { records = records; master = master; channels = channels })
+blocks_valid rules records used channels xs octets small e range master octet =
     let all = blocks_sound rules records 8 0 xs _ octets e in
-    state-from rules (record { records = records; master = master; channels = kept }) range small octet all.many
-    (λ c n less. let there = slice_get-get_or kept c None (omega (arith, all.many)) in there ∙ ap (λ (x : Option Last). Some x) (unkept c n _ (all.each c _ there)))
+    state-from rules (record { records = records; master = master; channels = channels }) range small octet all.many
+    (λ c n less. let there = slice_get-get_or channels c None (omega (arith, all.many)) in there ∙ ap (λ (x : Option Last). Some x) (unchosen_none c n _ (all.each c _ there)))
     (λ c last f. (all.each c (Some last) f).1)
   where
-    unkept : (c : ℕ) → chooses rules c ≡ false → (x : Option Last) → Kept rules.max_packet rules.layout records (chooses rules (0 + c)) x → x ≡ None
-    unkept c n None k = refl
-    unkept c n (Some last) k = let zeroth : 0 + c ≡ c = omega arith in absurd (both_ways (chooses rules c) n (ap (chooses rules) (sym zeroth) ∙ k.0))
+    unchosen_none : (c : ℕ) → chooses rules c ≡ false → (x : Option Last) → Kept rules.max_packet rules.layout records (chooses rules (0 + c)) x → x ≡ None
+    unchosen_none c n None k = refl
+    unchosen_none c n (Some last) k = let zeroth : 0 + c ≡ c = omega arith in absurd (both_ways (chooses rules c) n (ap (chooses rules) (sym zeroth) ∙ k.0))

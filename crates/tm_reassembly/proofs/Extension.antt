@@ -9,7 +9,7 @@ use Rattle.tm_reassembly.specs.Chain.{ChainMember, Run, Runs, stem_of, stem_with
 use Rattle.tm_reassembly.specs.code.Fits.{AllReadingsFit, PlaceFits, PlacesFit, IsPlaced}
 use Rattle.tm_reassembly.proofs.Each.{Each, Each-append, Each-split, Each-at, Each-weaken}
 use Rattle.tm_reassembly.specs.Verdict.{Verdict, verdict, completed_at_once, Grow, GrowFrom, IsSettledIn, is_whole}
-use Rattle.tm_reassembly.specs.Parts.{text, far_end, begins_packet}
+use Rattle.tm_reassembly.specs.Parts.{text, reach_of, begins_packet}
 use Rattle.tm_items.specs.OnePacket.{packet_length}
 use Rattle.tm_items.proofs.Reaching.{packet_length-settled, packet_length-unsettled}
 use Rattle.tm_reassembly.proofs.Settled.{open-settled, agreement-settled, long-settled, whole-settled}
@@ -136,8 +136,8 @@ module _ (limit : ℕ) where
   at-once-settled start later =
       ⊎_elim
       (λ less.
-      let far : leb (far_end start later) (length start) ≡ false = lt-leb (far_end start later) (length start) (packet_length-unsettled start (text later) less) in
-      and_right (is_whole limit start later) _ far
+      let reach : leb (reach_of start later) (length start) ≡ false = lt-leb (reach_of start later) (length start) (packet_length-unsettled start (text later) less) in
+      and_right (is_whole limit start later) _ reach
       ∙ sym (and_right (begins_packet limit start) _ (lt-leb (packet_length start) (length start) less)))
       (λ whole. settled whole (packet_length-settled start (text later) whole))
       (cases_lt (length start) (packet_length start))
@@ -146,7 +146,7 @@ module _ (limit : ℕ) where
       both true = refl
       both false = refl
 
-      settled : packet_length start ≤ length start → far_end start later ≡ packet_length start
+      settled : packet_length start ≤ length start → reach_of start later ≡ packet_length start
           → completed_at_once limit start later ≡ (begins_packet limit start && leb (packet_length start) (length start))
       settled whole e =
           let len : length (start ++ text later) ≡ length start + length (text later) = length-append start (text later) in

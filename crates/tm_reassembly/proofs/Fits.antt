@@ -27,10 +27,10 @@ octets_cons x xs h k = record { below = λ i. either i }
     either zero = h
     either (suc i) = k.below i
 
-pub octets_front : (n : ℕ) (xs : List ℕ) → AreOctets xs → AreOctets (take n xs)
-octets_front zero xs h = record { below = λ i. omega arith }
-octets_front (suc n) [] h = record { below = λ i. omega arith }
-octets_front (suc n) (x ∷ xs) h = octets_cons x (take n xs) (h.below 0) (octets_front n xs (octets_after x xs h))
+pub octets_take : (n : ℕ) (xs : List ℕ) → AreOctets xs → AreOctets (take n xs)
+octets_take zero xs h = record { below = λ i. omega arith }
+octets_take (suc n) [] h = record { below = λ i. omega arith }
+octets_take (suc n) (x ∷ xs) h = octets_cons x (take n xs) (h.below 0) (octets_take n xs (octets_after x xs h))
 
 pub octets_append : (xs ys : List ℕ) → AreOctets xs → AreOctets ys → AreOctets (xs ++ ys)
 octets_append [] ys h k = k
@@ -99,7 +99,7 @@ good layout octets h long none = record {
   fits = good-fit layout octets none;
   count = part-below octets 24 32;
   master = part-below octets 16 24;
-  octets = octets_front (frame.field_length layout octets) (drop (frame.field_start octets) octets) (octets_behind (frame.field_start octets) octets h);
+  octets = octets_take (frame.field_length layout octets) (drop (frame.field_start octets) octets) (octets_behind (frame.field_start octets) octets h);
   most = λ some. let l = field-length layout octets in omega arith;
 }
 
@@ -108,5 +108,5 @@ reading-good layout octets h =
     let long : length (frame_of layout octets) ≤ layout.frame_length =
     omega (arith, length-take ((layout.skip_before + layout.frame_length) - layout.skip_before) (drop layout.skip_before octets)) in
     let inside : AreOctets (frame_of layout octets) =
-    octets_front ((layout.skip_before + layout.frame_length) - layout.skip_before) (drop layout.skip_before octets) (octets_behind layout.skip_before octets h) in
+    octets_take ((layout.skip_before + layout.frame_length) - layout.skip_before) (drop layout.skip_before octets) (octets_behind layout.skip_before octets h) in
     reading-by (IsRead layout) layout octets (λ fault. tt) (good layout (frame_of layout octets) inside long)

@@ -8,7 +8,7 @@ use Rattle.tm_items.specs.declared.items.Reason.{Reason}
 use Rattle.tm_reassembly.specs.State.{Tail}
 use Rattle.tm_reassembly.specs.Chain.{ChainMember}
 use Rattle.tm_reassembly.proofs.Long.{agrees-place}
-use Rattle.tm_reassembly.specs.Parts.{Part, agrees, agrees_at, begins_packet, reason_at, lead_part, front_of}
+use Rattle.tm_reassembly.specs.Parts.{Part, agrees, agrees_at, begins_packet, reason_at, lead_part, lead_octets}
 use Rattle.tm_items.specs.OnePacket.{packet_length}
 use Rattle.tm_reassembly.specs.code.Field.{end_place_of, field_parts, unfinished, parts_in, left_in, tail_at, frame_parts, frame_tail, tail_parts, tail_left, step_parts, step_tail, ended_parts, chain_parts_at, chain_tail_at}
 use Rattle.tm_reassembly.specs.Tiles.{Spot, field_spots, spot_octets, BeginsAt, IsHeld}
@@ -48,13 +48,13 @@ take-field (suc k) number place (x ∷ xs) =
     ap (λ (t : List Spot). record { record_number = number; place = place; octet = x } ∷ t) (take-field k number (place + 1) xs)
 take-field k number place o = refl
 
--- up to where a packet that a frame agrees with ends, there are the tail and the frame's front
-front_taken : (place : Option ℕ) (d : ℕ) (t f : List ℕ) → agrees_at d (length t) (length f) place ≡ true → d ≤ length t + length f
-    → take d (t ++ f) ≡ t ++ front_of place f
-front_taken None d t f e h =
+-- up to where a packet that a frame agrees with ends, there are the tail and the frame's lead
+lead_taken : (place : Option ℕ) (d : ℕ) (t f : List ℕ) → agrees_at d (length t) (length f) place ≡ true → d ≤ length t + length f
+    → take d (t ++ f) ≡ t ++ lead_octets place f
+lead_taken None d t f e h =
     let all : d ≡ length t + length f = let l = leb-true (length t + length f) d e in omega arith in
     ap (λ (k : ℕ). take k (t ++ f)) all ∙ take-append-add t f (length f) ∙ ap (λ (o : List ℕ). t ++ o) (take-length f)
-front_taken (Some place) d t f e h = ap (λ (k : ℕ). take k (t ++ f)) (eqb-true d (length t + place) e) ∙ take-append-add t f place
+lead_taken (Some place) d t f e h = ap (λ (k : ℕ). take k (t ++ f)) (eqb-true d (length t + place) e) ∙ take-append-add t f place
 
 take_next : {A : Type 0} (n : ℕ) (x : A) (xs : List A) → 0 < n → take n (x ∷ xs) ++ drop (pred n) xs ≡ x ∷ xs
 take_next zero x xs h = absurd (omega arith)
@@ -118,12 +118,12 @@ module _ (limit : ℕ) where
       (cases_Bool (begins_packet limit (x ∷ xs)))
   field_lays number place stop skip o h = ([], refl, refl)
 
-  -- a frame past its front
-  front_lays : (m : ChainMember)
-      → (middle : List Spot) × (spots_of m ≡ field_spots m.number m.base (front_of m.place m.field) ++ middle) × Laid middle (frame_parts limit m) (frame_tail limit m)
-  front_lays m =
+  -- a frame past its lead
+  rest_lays : (m : ChainMember)
+      → (middle : List Spot) × (spots_of m ≡ field_spots m.number m.base (lead_octets m.place m.field) ++ middle) × Laid middle (frame_parts limit m) (frame_tail limit m)
+  rest_lays m =
       elim m.place as (λ v.
-      (middle : List Spot) × (field_spots m.number m.base m.field ≡ field_spots m.number m.base (front_of v m.field) ++ middle)
+      (middle : List Spot) × (field_spots m.number m.base m.field ≡ field_spots m.number m.base (lead_octets v m.field) ++ middle)
       × Laid middle (parts_in limit m.number (end_place_of m) v m.field) (tail_at m.number (end_place_of m) (left_in limit v m.field))) [
         | None ↦ ([], sym (append-nil (field_spots m.number m.base m.field)), ([], refl, refl))
         | Some place ↦
@@ -132,12 +132,12 @@ module _ (limit : ℕ) where
       ]
 
   frame_lays : (m : ChainMember) (reason : Reason)
-      → Laid (spots_of m) (lead_part m reason (front_of m.place m.field) ++ frame_parts limit m) (frame_tail limit m)
+      → Laid (spots_of m) (lead_part m reason (lead_octets m.place m.field) ++ frame_parts limit m) (frame_tail limit m)
   frame_lays m reason =
-      let f = front_lays m in
-      let front : List ℕ = front_of m.place m.field in
-      let lead = Lay-more (field_spots m.number m.base front) [] f.0 (lead_part m reason front) (lead_lays m reason front) in
-      (f.2.0, rw f.1 (Lay-append _ f.0 f.2.0 (lead_part m reason front) (frame_parts limit m) lead f.2.1), f.2.2)
+      let f = rest_lays m in
+      let lead : List ℕ = lead_octets m.place m.field in
+      let laid = Lay-more (field_spots m.number m.base lead) [] f.0 (lead_part m reason lead) (lead_lays m reason lead) in
+      (f.2.0, rw f.1 (Lay-append _ f.0 f.2.0 (lead_part m reason lead) (frame_parts limit m) laid f.2.1), f.2.2)
 
   -- a tail and a frame
   tail_lays : (t : Tail) (m : ChainMember) (h : List Spot) → IsHeld (Some t) h
@@ -153,12 +153,12 @@ module _ (limit : ℕ) where
       let octets = both_octets h (spots_of m) t.octets m.field held.0 (octets-field m.number m.base m.field) in
       rw (agree, lt-leb d whole past) (h ++ spots_of m, refl, (octets, begins-more t.first t.place h (spots_of m) held.1)))
       (λ within.
-      let front : List Spot = field_spots m.number m.base (front_of m.place m.field) in
-      let f = front_lays m in
-      let split = ap (λ (s : List Spot). h ++ s) f.1 ∙ sym (append_assoc h front f.0) in
-      let octets = both_octets h front t.octets (front_of m.place m.field) held.0 (octets-field m.number m.base (front_of m.place m.field))
-      ∙ sym (front_taken m.place d t.octets m.field (agrees-place limit d a m agree) (omega (arith, length-append t.octets m.field))) in
-      rw (agree, le-leb d whole within) (f.2.0, (f.0, (h ++ front, split, octets, begins-more t.first t.place h front held.1), f.2.1), f.2.2))
+      let lead : List Spot = field_spots m.number m.base (lead_octets m.place m.field) in
+      let f = rest_lays m in
+      let split = ap (λ (s : List Spot). h ++ s) f.1 ∙ sym (append_assoc h lead f.0) in
+      let octets = both_octets h lead t.octets (lead_octets m.place m.field) held.0 (octets-field m.number m.base (lead_octets m.place m.field))
+      ∙ sym (lead_taken m.place d t.octets m.field (agrees-place limit d a m agree) (omega (arith, length-append t.octets m.field))) in
+      rw (agree, le-leb d whole within) (f.2.0, (f.0, (h ++ lead, split, octets, begins-more t.first t.place h lead held.1), f.2.1), f.2.2))
       (cases_lt whole d))
       (λ (differ : agrees limit d a m ≡ false).
       let f = frame_lays m (reason_at d a m) in

@@ -4,7 +4,7 @@ use Rattle.std.specs.List.{flat_map}
 use Rattle.std.proofs.lemmas.Bool.{cond-true, false_from_ne_true}
 use Rattle.tm_items.specs.declared.items.Reason.TheVariants as why
 use Rattle.tm_reassembly.specs.Chain.{ChainMember}
-use Rattle.tm_reassembly.specs.Parts.{Start, Claim, text, far_end, begins_packet, agrees, agrees_at, reason_at, open_after, starts_of, claim, claims, lead, front_lost}
+use Rattle.tm_reassembly.specs.Parts.{Start, Claim, text, reach_of, begins_packet, agrees, agrees_at, reason_at, open_after, starts_of, claim, claims, lead, lost_lead}
 use Rattle.tm_reassembly.specs.Absolute.{packet_length_at, frame_begin, frame_end, IsLong, AgreesAt, Agrees, IsOpen, Iff, IsStart, IsIn, LiesAfter, FrameInRun, text_of_run, IsOpenIn, AgreesByPlace, lead_in}
 use Rattle.tm_reassembly.proofs.OneOpen.{one-open}
 use Rattle.tm_reassembly.proofs.Places.{place-at, agreement-at, open-at}
@@ -73,17 +73,17 @@ module _ (limit : ℕ) where
   -- starts at q. The frame begins at n.
   abbrev IsOne : List Claim → ChainMember → List ℕ → ℕ → ℕ → Type 0
   IsOne cs m t q n =
-      (c : Claim) × (cs ≡ c ∷ []) × Iff (agrees limit c.far c.at m ≡ true) (Agrees limit t q n m)
-      × Iff (agrees_at c.far c.at (length m.field) m.place ≡ true) (AgreesAt (packet_length_at t q) n (length m.field) m.place)
+      (c : Claim) × (cs ≡ c ∷ []) × Iff (agrees limit c.reach c.at m ≡ true) (Agrees limit t q n m)
+      × Iff (agrees_at c.reach c.at (length m.field) m.place ≡ true) (AgreesAt (packet_length_at t q) n (length m.field) m.place)
 
   one-start : (earlier between later : List ChainMember) (f m : ChainMember) (s : Start) (skipped : List ℕ) → IsIn s (starts_of limit f) → LiesAfter f s skipped
       → IsOpen limit (text (earlier ++ f ∷ (between ++ m ∷ later))) (length (text earlier) + length skipped) (earlier ++ f ∷ []) between
       → IsOne (claims limit (earlier ++ f ∷ between) (m ∷ later)) m (text (earlier ++ f ∷ (between ++ m ∷ later)))
       (length (text earlier) + length skipped) (length (text ((earlier ++ f ∷ []) ++ between)))
   one-start earlier between later f m s skipped i lies opened =
-      let c : Claim = record { far = far_end s.octets (between ++ m ∷ later); at = length s.octets + length (text between) } in
+      let c : Claim = record { reach = reach_of s.octets (between ++ m ∷ later); at = length s.octets + length (text between) } in
       let own : claim limit between (m ∷ later) s ≡ c ∷ [] =
-      cond-true (begins_packet limit s.octets && open_after limit (far_end s.octets (between ++ m ∷ later)) (length s.octets) between) _ _
+      cond-true (begins_packet limit s.octets && open_after limit (reach_of s.octets (between ++ m ∷ later)) (length s.octets) between) _ _
       ((open-at limit earlier f skipped s.octets lies.0 lies.2 between (between ++ m ∷ later)).1 opened) in
       let has = has-claim earlier between (m ∷ later) f s c i own in (
         c,
@@ -94,7 +94,7 @@ module _ (limit : ℕ) where
 
   module _ (r : FrameInRun) where
     -- no start is open
-    pub lead-no_start : ((q : ℕ) → IsOpenIn limit r q → ⊥) → lead_in limit r ≡ front_lost r.frame why.NoStart
+    pub lead-no_start : ((q : ℕ) → IsOpenIn limit r q → ⊥) → lead_in limit r ≡ lost_lead r.frame why.NoStart
     lead-no_start h = ap (λ (cs : List Claim). lead limit cs r.frame) (none-claimed r.before (r.frame ∷ r.later) none)
       where
         none : (earlier between : List ChainMember) (f : ChainMember) (s : Start) → r.before ≡ earlier ++ f ∷ between → IsIn s (starts_of limit f)
@@ -104,7 +104,7 @@ module _ (limit : ℕ) where
             let lies = there.1 in
             let q : ℕ = length (text earlier) + length there.0 in
             let same = sym (text-at r.before r.later earlier between f r.frame e) in
-            let closed : (begins_packet limit s.octets && open_after limit (far_end s.octets (between ++ r.frame ∷ r.later)) (length s.octets) between) ≡ false =
+            let closed : (begins_packet limit s.octets && open_after limit (reach_of s.octets (between ++ r.frame ∷ r.later)) (length s.octets) between) ≡ false =
             false_from_ne_true _ (λ o.
             let opened = (open-at limit earlier f there.0 s.octets lies.0 lies.2 between (between ++ r.frame ∷ r.later)).0 o in
             h q (earlier, between, f, e, rw same at there.2, subst (λ (t : List ℕ). IsOpen limit t q (earlier ++ f ∷ []) between) same opened)) in
@@ -132,24 +132,24 @@ module _ (limit : ℕ) where
 
     -- one is, and the frame agrees with it, or doesn't
     lead-differs : (c : Claim) (reason : Reason) → claims limit r.before (r.frame ∷ r.later) ≡ c ∷ []
-        → (agrees limit c.far c.at r.frame ≡ true → ⊥) → reason_at c.far c.at r.frame ≡ reason → lead_in limit r ≡ front_lost r.frame reason
+        → (agrees limit c.reach c.at r.frame ≡ true → ⊥) → reason_at c.reach c.at r.frame ≡ reason → lead_in limit r ≡ lost_lead r.frame reason
     lead-differs c reason e differs why_not =
-        ap (λ (cs : List Claim). lead limit cs r.frame) e ∙ rw (false_from_ne_true (agrees limit c.far c.at r.frame) differs, why_not)
+        ap (λ (cs : List Claim). lead limit cs r.frame) e ∙ rw (false_from_ne_true (agrees limit c.reach c.at r.frame) differs, why_not)
 
-    pub lead-pointer : (q : ℕ) → IsOpenIn limit r q → (AgreesByPlace r q → ⊥) → lead_in limit r ≡ front_lost r.frame why.Pointer
+    pub lead-pointer : (q : ℕ) → IsOpenIn limit r q → (AgreesByPlace r q → ⊥) → lead_in limit r ≡ lost_lead r.frame why.Pointer
     lead-pointer q o differs =
         let one = one-at q o in
         lead-differs one.0 why.Pointer one.1 (λ agree. differs (one.2.0 agree).0)
-        (rw (false_from_ne_true (agrees_at one.0.far one.0.at (length r.frame.field) r.frame.place) (λ place. differs (one.3.0 place))))
+        (rw (false_from_ne_true (agrees_at one.0.reach one.0.at (length r.frame.field) r.frame.place) (λ place. differs (one.3.0 place))))
 
     pub lead-long : (q : ℕ) → IsOpenIn limit r q → AgreesByPlace r q → IsLong limit (text_of_run r) q (frame_end r.before r.frame)
-        → lead_in limit r ≡ front_lost r.frame why.Length
+        → lead_in limit r ≡ lost_lead r.frame why.Length
     lead-long q o place long =
         let one = one-at q o in
         lead-differs one.0 why.Length one.1 (λ agree. (one.2.0 agree).1 long)
-        (cond-true (agrees_at one.0.far one.0.at (length r.frame.field) r.frame.place) _ _ (one.3.1 place))
+        (cond-true (agrees_at one.0.reach one.0.at (length r.frame.field) r.frame.place) _ _ (one.3.1 place))
 
     pub lead-joined : (q : ℕ) → IsOpenIn limit r q → Agrees limit (text_of_run r) q (frame_begin r.before) r.frame → lead_in limit r ≡ []
     lead-joined q o agree =
         let one = one-at q o in
-        ap (λ (cs : List Claim). lead limit cs r.frame) one.1 ∙ cond-true (agrees limit one.0.far one.0.at r.frame) _ _ (one.2.1 agree)
+        ap (λ (cs : List Claim). lead limit cs r.frame) one.1 ∙ cond-true (agrees limit one.0.reach one.0.at r.frame) _ _ (one.2.1 agree)

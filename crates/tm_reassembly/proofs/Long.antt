@@ -13,20 +13,20 @@ pub not-long : (limit d stop : ℕ) → stop < 6 → is_long limit d stop ≡ fa
 not-long limit d stop h = let e : leb 6 stop ≡ false = lt-leb 6 stop h in rw e refl
 
 -- what isn't long where its header is there is within the limit
-pub within-limit : (limit far stop : ℕ) → 6 ≤ stop → is_long limit far stop ≡ false → far ≤ limit
-within-limit limit far stop there h =
-    ⊎_elim (λ e. absurd (omega (arith, leb-false 6 stop e))) (λ e. ltb-false limit far e) (and_cases (leb 6 stop) (ltb limit far) h)
+pub within-limit : (limit reach stop : ℕ) → 6 ≤ stop → is_long limit reach stop ≡ false → reach ≤ limit
+within-limit limit reach stop there h =
+    ⊎_elim (λ e. absurd (omega (arith, leb-false 6 stop e))) (λ e. ltb-false limit reach e) (and_cases (leb 6 stop) (ltb limit reach) h)
 
-module _ (limit far at : ℕ) (m : ChainMember) (agree : agrees limit far at m ≡ true) where
+module _ (limit reach at : ℕ) (m : ChainMember) (agree : agrees limit reach at m ≡ true) where
   -- a frame that agrees does so by its place
-  pub agrees-place : agrees_at far at (length m.field) m.place ≡ true
-  agrees-place = (and_parts (agrees_at far at (length m.field) m.place) (not (is_long limit far (at + length m.field))) agree).0
+  pub agrees-place : agrees_at reach at (length m.field) m.place ≡ true
+  agrees-place = (and_parts (agrees_at reach at (length m.field) m.place) (not (is_long limit reach (at + length m.field))) agree).0
 
   -- and the packet isn't long there
-  pub agrees-short : is_long limit far (at + length m.field) ≡ false
+  pub agrees-short : is_long limit reach (at + length m.field) ≡ false
   agrees-short =
-      not-true (is_long limit far (at + length m.field))
-      (and_parts (agrees_at far at (length m.field) m.place) (not (is_long limit far (at + length m.field))) agree).1
+      not-true (is_long limit reach (at + length m.field))
+      (and_parts (agrees_at reach at (length m.field) m.place) (not (is_long limit reach (at + length m.field))) agree).1
 
 pub begins-zero : (limit : ℕ) (start : List ℕ) → begins_packet limit start ≡ true → is_packet start ≡ true
 begins-zero limit start h = (and_parts (is_packet start) (not (is_long limit (packet_length start) (length start))) h).0

@@ -31,7 +31,7 @@ use Rattle.tm_reassembly.proofs.Records.{good-items, items-cons, after-cons, own
 one-more : (records : ℕ) (x : Result ReadBlocks StateFault) → with_channels records None 5 x ≡ one_octet_more (with_channels records None 4 x)
 one-more records (Ok all) =
     let more : 5 + all.octets ≡ (4 + all.octets) + 1 = omega arith in
-    ap (λ (n : ℕ). Ok (record { state = record { records = records; master = None; channels = all.kept }; octets = n })) more
+    ap (λ (n : ℕ). Ok (record { state = record { records = records; master = None; channels = all.channels }; octets = n })) more
 one-more records (Err found) = refl
 
 -- with a 0 put in behind the number of records, the newer form reads what the older one reads without
@@ -132,7 +132,7 @@ module _ (limit : ℕ) (chosen : ℕ → Bool) where
       ∙ ap (λ (z : State). items_of_readings limit chosen (without_master s) (Ok g ∷ []) ++ items_of_readings limit chosen z rs) same
       ∙ ap (λ (xs : List Item). xs ++ behind) (good-items limit chosen (without_master s) g) in
       let here : List ℕ = s.records ∷ [] in
-      let kept : without_gaps_at here (gap ++ (own_items limit chosen s g ++ behind)) ≡ own_items limit chosen s g ++ behind =
+      let untouched : without_gaps_at here (gap ++ (own_items limit chosen s g ++ behind)) ≡ own_items limit chosen s g ++ behind =
       without-append here gap (own_items limit chosen s g ++ behind)
       ∙ ap (λ (xs : List Item). xs ++ without_gaps_at here (own_items limit chosen s g ++ behind)) (gap-left s g)
       ∙ without-none here (own_items limit chosen s g ++ behind)
@@ -147,7 +147,7 @@ module _ (limit : ℕ) (chosen : ℕ → Bool) where
             (after-cons limit chosen (without_master s) (Ok g) (valid-from limit chosen (without_master s) w) fits.0 rs
             ∙ ap (λ (z : State). state_after_readings limit chosen z rs) same
             ∙ sym (after-cons limit chosen s (Ok g) (valid-from limit chosen s v) fits.0 rs));
-        without_first = λ later. b ∙ sym kept ∙ ap (without_gaps_at here) (sym a);
+        without_first = λ later. b ∙ sym untouched ∙ ap (without_gaps_at here) (sym a);
       }
 
 -- the same of raw records

@@ -9,7 +9,7 @@ use Rattle.tm_items.specs.declared.items.Reason.TheVariants as why
 use Rattle.tm_items.specs.declared.items.Reason.{Reason}
 use Rattle.tm_reassembly.specs.State.{Tail}
 use Rattle.tm_reassembly.specs.Chain.{ChainMember, Run, Runs, End, Unended, Ended, runs_after, has_frame_gap, cut_before, with_member}
-use Rattle.tm_reassembly.specs.Parts.{Part, Claim, Start, text, far_end, begins_packet, agrees, breaker, starts, starts_from, starts_of, fate_at, packet_part, part_from, start_part, claims, lead, lead_part, reason_at, front_of, parts_from, parts}
+use Rattle.tm_reassembly.specs.Parts.{Part, Claim, Start, text, reach_of, begins_packet, agrees, breaker, starts, starts_from, starts_of, fate_at, packet_part, part_from, start_part, claims, lead, lead_part, reason_at, lead_octets, parts_from, parts}
 use Rattle.tm_items.specs.OnePacket.{packet_length}
 use Rattle.tm_reassembly.specs.Items.{held_part, chain_parts}
 use Rattle.tm_reassembly.proofs.Split.{start_at, starts-last, starts-unfinished, start_part-whole}
@@ -25,13 +25,13 @@ lead_part-tails m reason (x ∷ xs) = refl
 module _ (limit : ℕ) where
   -- a start that reaches past all later frames, and each of them agrees with it
   abbrev Stays : List ChainMember → Type 0
-  Stays later = (start : List ℕ) × (breaker limit (far_end start later) (length start) later ≡ None) × (length start + length (text later) < far_end start later)
+  Stays later = (start : List ℕ) × (breaker limit (reach_of start later) (length start) later ≡ None) × (length start + length (text later) < reach_of start later)
 
   lead-tails : (cs : List Claim) (m : ChainMember) → tails (lead limit cs m) ≡ []
-  lead-tails [] m = lead_part-tails m why.NoStart (front_of m.place m.field)
+  lead-tails [] m = lead_part-tails m why.NoStart (lead_octets m.place m.field)
   lead-tails (c ∷ more) m =
-      cond_both (agrees limit c.far c.at m) [] (lead_part m (reason_at c.far c.at m) (front_of m.place m.field)) (λ (ps : List Part). tails ps ≡ [])
-      (λ e. refl) (λ e. lead_part-tails m (reason_at c.far c.at m) (front_of m.place m.field))
+      cond_both (agrees limit c.reach c.at m) [] (lead_part m (reason_at c.reach c.at m) (lead_octets m.place m.field)) (λ (ps : List Part). tails ps ≡ [])
+      (λ e. refl) (λ e. lead_part-tails m (reason_at c.reach c.at m) (lead_octets m.place m.field))
 
   -- the tails of a frame's starts, and of the frames after it
   split-tails : (before : List ChainMember) (m : ChainMember) (later : List ChainMember) (end : End)
@@ -46,19 +46,19 @@ module _ (limit : ℕ) where
       (flat_map-append (λ p. held_part p p.fate) first own ∙ ap (λ (ts : List Tail). ts ++ tails own) (lead-tails (claims limit before (m ∷ later)) m))
 
   -- after such a start no frame has a start, so nothing is held
-  stays-alone : (far at : ℕ) (later : List ChainMember) → breaker limit far at later ≡ None → at + length (text later) < far
+  stays-alone : (reach at : ℕ) (later : List ChainMember) → breaker limit reach at later ≡ None → at + length (text later) < reach
       → (before : List ChainMember) (end : End) → tails (parts_from limit before later end) ≡ []
-  stays-alone far at [] h past before end = refl
-  stays-alone far at (m ∷ later) h past before end =
+  stays-alone reach at [] h past before end = refl
+  stays-alone reach at (m ∷ later) h past before end =
       let len : length (m.field ++ text later) ≡ length m.field + length (text later) = length-append m.field (text later) in
-      let there : ltb at far ≡ true = lt-ltb at far (omega arith) in
+      let there : ltb at reach ≡ true = lt-ltb at reach (omega arith) in
       ⊎_elim
-      (λ (agree : agrees limit far at m ≡ true).
+      (λ (agree : agrees limit reach at m ≡ true).
       split-tails before m later end
-      ∙ rw (no-starts limit far at m agree (omega arith))
-      (stays-alone far (at + length m.field) later (rw (there, agree) at h) (omega arith) (before ++ m ∷ []) end))
-      (λ (differ : agrees limit far at m ≡ false). absurd (none-some m (sym (rw (there, differ) at h))))
-      (cases_Bool (agrees limit far at m))
+      ∙ rw (no-starts limit reach at m agree (omega arith))
+      (stays-alone reach (at + length m.field) later (rw (there, agree) at h) (omega arith) (before ++ m ∷ []) end))
+      (λ (differ : agrees limit reach at m ≡ false). absurd (none-some m (sym (rw (there, differ) at h))))
+      (cases_Bool (agrees limit reach at m))
 
   -- no tail, or one, of a start that stays
   abbrev OneTail : List Tail → List ChainMember → End → Type 0
@@ -67,7 +67,7 @@ module _ (limit : ℕ) where
   one-part : (first place : ℕ) (later : List ChainMember) (end : End) (start : List ℕ) → OneTail (tails (part_from limit first place later end start ∷ [])) later end
   one-part first place later end start =
       cond_both (begins_packet limit start) _ _ (λ (p : Part). OneTail (tails (p ∷ [])) later end)
-      (λ v. broken (breaker limit (far_end start later) (length start) later) refl)
+      (λ v. broken (breaker limit (reach_of start later) (length start) later) refl)
       (λ v. inl refl)
     where
       by_end : (e : End) → Stays later
@@ -75,14 +75,14 @@ module _ (limit : ℕ) where
       by_end Unended s = inr (refl, refl, s)
       by_end (Ended reason seen) s = inl refl
 
-      broken : (b : Option ChainMember) → breaker limit (far_end start later) (length start) later ≡ b
-          → OneTail (tails (packet_part limit first place later end start (far_end start later) b ∷ [])) later end
+      broken : (b : Option ChainMember) → breaker limit (reach_of start later) (length start) later ≡ b
+          → OneTail (tails (packet_part limit first place later end start (reach_of start later) b ∷ [])) later end
       broken (Some m) e = inl refl
       broken None e =
-          cond_both (leb (far_end start later) (length (start ++ text later))) _ _ (λ (p : Part). OneTail (tails (p ∷ [])) later end)
+          cond_both (leb (reach_of start later) (length (start ++ text later))) _ _ (λ (p : Part). OneTail (tails (p ∷ [])) later end)
           (λ v. inl refl)
           (λ v.
-          by_end end (start, e, omega (arith, leb-false (far_end start later) (length (start ++ text later)) v, length-append start (text later))))
+          by_end end (start, e, omega (arith, leb-false (reach_of start later) (length (start ++ text later)) v, length-append start (text later))))
 
   module _ (m : ChainMember) (later : List ChainMember) (end : End) where
     -- a frame's starts leave no tail, or its last one does
@@ -120,7 +120,7 @@ module _ (limit : ℕ) where
       (λ none. rw none (run-tails (before ++ m ∷ []) later end))
       (λ one.
       let s = one.2 in
-      let nothing : rest ≡ [] = stays-alone (far_end s.0 later) (length s.0) later s.1 s.2 (before ++ m ∷ []) end in
+      let nothing : rest ≡ [] = stays-alone (reach_of s.0 later) (length s.0) later s.1 s.2 (before ++ m ∷ []) end in
       rw (nothing, append-nil own, one.0) (omega arith))
       (own-tails m later end))
 

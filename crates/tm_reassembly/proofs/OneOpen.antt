@@ -4,7 +4,7 @@ use Rattle.std.specs.List.{flat_map}
 use Rattle.std.proofs.lemmas.List.{append-nil}
 use Rattle.std.proofs.lemmas.Bool.{cases_Bool, ltb-true, eqb-true, and_parts}
 use Rattle.tm_reassembly.specs.Chain.{ChainMember}
-use Rattle.tm_reassembly.specs.Parts.{Claim, Start, text, far_end, begins_packet, open_after, agrees, agrees_at, claim, claims, starts_from, starts_of}
+use Rattle.tm_reassembly.specs.Parts.{Claim, Start, text, reach_of, begins_packet, open_after, agrees, agrees_at, claim, claims, starts_from, starts_of}
 use Rattle.tm_reassembly.specs.code.Field.{end_place_of, unfinished}
 use Rattle.tm_reassembly.proofs.Long.{agrees-place}
 use Rattle.tm_reassembly.proofs.Sweep.{step, own_claims, claims-push}
@@ -18,8 +18,8 @@ module _ (limit : ℕ) where
 
   claim-one : (between ahead : List ChainMember) (start : Start) → length (claim limit between ahead start) ≤ 1
   claim-one between ahead start =
-      at-most (begins_packet limit start.octets && open_after limit (far_end start.octets (between ++ ahead)) (length start.octets) between)
-      (record { far = far_end start.octets (between ++ ahead); at = length start.octets + length (text between) })
+      at-most (begins_packet limit start.octets && open_after limit (reach_of start.octets (between ++ ahead)) (length start.octets) between)
+      (record { reach = reach_of start.octets (between ++ ahead); at = length start.octets + length (text between) })
 
   last-one : (later : List ChainMember) (stop : ℕ) (u : List ℕ) → OpenTail limit u → length (flat_map (claim limit [] later) (last_start limit stop u)) ≤ 1
   last-one later stop [] h = omega arith
@@ -38,24 +38,24 @@ module _ (limit : ℕ) where
       ]
 
   -- a frame that agrees with a start that reaches past it has no starts: it has no place, or one that isn't inside its field
-  pub no-starts : (far at : ℕ) (m : ChainMember) → agrees limit far at m ≡ true → at + length m.field < far → starts_of limit m ≡ []
-  no-starts far at m agree past = by_place m.place (agrees-place limit far at m agree)
+  pub no-starts : (reach at : ℕ) (m : ChainMember) → agrees limit reach at m ≡ true → at + length m.field < reach → starts_of limit m ≡ []
+  no-starts reach at m agree past = by_place m.place (agrees-place limit reach at m agree)
     where
-      by_place : (v : Option ℕ) → agrees_at far at (length m.field) v ≡ true → starts_from limit m.base v m.field ≡ []
+      by_place : (v : Option ℕ) → agrees_at reach at (length m.field) v ≡ true → starts_from limit m.base v m.field ≡ []
       by_place None e = refl
       by_place (Some place) e =
-          starts-past limit m.base place m.field (omega (arith, eqb-true far (at + place) e))
+          starts-past limit m.base place m.field (omega (arith, eqb-true reach (at + place) e))
 
   -- and where an earlier start stays open past it, none
   step-one : (m : ChainMember) (later : List ChainMember) (c : Claim)
       → (step limit m c ≡ []) ⊎ ((length (step limit m c) ≡ 1) × (own_claims limit m later ≡ []))
   step-one m later c =
       ⊎_elim
-      (λ (e : (agrees limit c.far c.at m && ltb (c.at + length m.field) c.far) ≡ true).
-      let both = and_parts (agrees limit c.far c.at m) (ltb (c.at + length m.field) c.far) e in
-      inr (rw e, ap (flat_map (claim limit [] later)) (no-starts c.far c.at m both.0 (ltb-true (c.at + length m.field) c.far both.1))))
-      (λ (e : (agrees limit c.far c.at m && ltb (c.at + length m.field) c.far) ≡ false). inl (rw e))
-      (cases_Bool (agrees limit c.far c.at m && ltb (c.at + length m.field) c.far))
+      (λ (e : (agrees limit c.reach c.at m && ltb (c.at + length m.field) c.reach) ≡ true).
+      let both = and_parts (agrees limit c.reach c.at m) (ltb (c.at + length m.field) c.reach) e in
+      inr (rw e, ap (flat_map (claim limit [] later)) (no-starts c.reach c.at m both.0 (ltb-true (c.at + length m.field) c.reach both.1))))
+      (λ (e : (agrees limit c.reach c.at m && ltb (c.at + length m.field) c.reach) ≡ false). inl (rw e))
+      (cases_Bool (agrees limit c.reach c.at m && ltb (c.at + length m.field) c.reach))
 
   step-all : (m : ChainMember) (later : List ChainMember) (cs : List Claim) → length cs ≤ 1 → length (flat_map (step limit m) cs ++ own_claims limit m later) ≤ 1
   step-all m later [] h = own-one m later

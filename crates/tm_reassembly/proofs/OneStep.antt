@@ -17,7 +17,7 @@ use Rattle.tm_reassembly.specs.Valid.{HasShape}
 use Rattle.tm_reassembly.proofs.Chained.{IsOpenTail}
 use Rattle.tm_reassembly.proofs.Masters.{master_after, master-moved}
 use Rattle.tm_reassembly.proofs.Joining.{before_of, tail_of, member_items, items_after, channel_items-is, items-here}
-use Rattle.tm_reassembly.proofs.Records.{HasOpenTails, IsFit, at_eight, state_same, good-items, before-kept, tail-kept, before-moved, tail-moved, channel_after-is, tail_after-end}
+use Rattle.tm_reassembly.proofs.Records.{HasOpenTails, IsFit, at_eight, state_same, good-items, before-same, tail-same, before-moved, tail-moved, channel_after-is, tail_after-end}
 
 -- two lists with the same at each place
 ext_get : {A : Type 0} (xs ys : List A) → length xs ≡ length ys → ((c : ℕ) → c < length xs → slice_get xs c ≡ slice_get ys c) → xs ≡ ys
@@ -30,10 +30,10 @@ ext_get (x ∷ xs) (y ∷ ys) e h =
     cc
 
 -- what was kept of a channel is what is made of it again
-kept_again : (x : Option (Option Last)) → x ≢ None → Some (last_with (tail_of x) (before_of x)) ≡ x
-kept_again None h = absurd (h refl)
-kept_again (Some None) h = refl
-kept_again (Some (Some last)) h = refl
+last_again : (x : Option (Option Last)) → x ≢ None → Some (last_with (tail_of x) (before_of x)) ≡ x
+last_again None h = absurd (h refl)
+last_again (Some None) h = refl
+last_again (Some (Some last)) h = refl
 
 there_is : (xs : List (Option Last)) (c : ℕ) → c < length xs → slice_get xs c ≢ None
 there_is xs c h e = none-some _ (sym e ∙ slice_get-get_or xs c None h)
@@ -51,10 +51,10 @@ get_set-other (x ∷ xs) c d y h = refl
 
 from_view : (y : Option (Option Last)) (n : ℕ) (t : Option Tail) → before_of y ≡ Some n → tail_of y ≡ t
     → y ≡ Some (Some (record { count = n; tail = t }))
-from_view y n t e f = sym (kept_again y (λ z. none-some n (sym (ap before_of z) ∙ e))) ∙ rw (e, f) refl
+from_view y n t e f = sym (last_again y (λ z. none-some n (sym (ap before_of z) ∙ e))) ∙ rw (e, f) refl
 
 same_view : (y x : Option (Option Last)) → y ≢ None → x ≢ None → before_of y ≡ before_of x → tail_of y ≡ tail_of x → y ≡ x
-same_view y x h k e f = sym (kept_again y h) ∙ rw (e, f) (kept_again x k)
+same_view y x h k e f = sym (last_again y h) ∙ rw (e, f) (last_again x k)
 
 module _ (limit : ℕ) where
   -- a state that may be has open tails
@@ -84,7 +84,7 @@ module _ (limit : ℕ) where
       ∙ ⊎_elim
       (λ e.
       rw (channel_after-is limit chosen s [] c e, tail_after-end limit (before_of (slice_get s.channels c)) (tail_of (slice_get s.channels c)) (valid.tails_open c small e))
-      (kept_again (slice_get s.channels c) (there_is s.channels c (rw v.eight_channels small))))
+      (last_again (slice_get s.channels c) (there_is s.channels c (rw v.eight_channels small))))
       (λ e. rw e (sym (v.only_chosen c e small)))
       (cases_Bool (chosen c))) in
       state_same (omega arith) (master-nil s.master) channels
@@ -111,9 +111,9 @@ module _ (limit : ℕ) where
       ∙ items-here limit g.channel (before_of x) (tail_of x) m [] (valid.tails_open g.channel fit.0 is_chosen) fit.1 tt)
 
   -- a channel stays as it is where a record has no frame for it, and so does one that isn't chosen
-  kept-at : (chosen : ℕ → Bool) (s : State) (r : Reading) → HasShape limit chosen s → IsFit r → (c : ℕ) → c < 8 → (chosen c ≡ true → member_of c s.records r ≡ [])
+  channel-same : (chosen : ℕ → Bool) (s : State) (r : Reading) → HasShape limit chosen s → IsFit r → (c : ℕ) → c < 8 → (chosen c ≡ true → member_of c s.records r ≡ [])
       → slice_get (map (channel_after limit chosen s (r ∷ [])) eight) c ≡ slice_get s.channels c
-  kept-at chosen s r v fit c small none =
+  channel-same chosen s r v fit c small none =
       let valid = valid-from chosen s v in
       let there : slice_get (map (channel_after limit chosen s (r ∷ [])) eight) c ≡ Some (channel_after limit chosen s (r ∷ []) c) =
       at_eight (channel_after limit chosen s (r ∷ [])) c small in
@@ -121,7 +121,7 @@ module _ (limit : ℕ) where
       (λ e.
       same_view (slice_get (map (channel_after limit chosen s (r ∷ [])) eight) c) (slice_get s.channels c)
       (λ z. none-some _ (sym z ∙ there)) (there_is s.channels c (rw v.eight_channels small))
-      (before-kept limit chosen s r valid fit c small e (none e)) (tail-kept limit chosen s r valid fit c small e (none e)))
+      (before-same limit chosen s r valid fit c small e (none e)) (tail-same limit chosen s r valid fit c small e (none e)))
       (λ e. there ∙ rw e (sym (v.only_chosen c e small)))
       (cases_Bool (chosen c))
 
@@ -158,21 +158,21 @@ module _ (limit : ℕ) where
       other : (c : ℕ) → c < 8 → (c ≡ g.channel → ⊥)
           → slice_get (map (channel_after limit chosen s (Ok g ∷ [])) eight) c ≡ slice_get (set s.channels g.channel (Some (last_moved s g))) c
       other c small ne =
-          kept-at chosen s (Ok g) v fit c small (λ e. cond-false (eqb g.channel c) _ _ (ne_eqb g.channel c (λ z. ne (sym z))))
+          channel-same chosen s (Ok g) v fit c small (λ e. cond-false (eqb g.channel c) _ _ (ne_eqb g.channel c (λ z. ne (sym z))))
           ∙ sym (get_set-other s.channels g.channel c (Some (last_moved s g)) ne)
 
   -- a record that has no frame of a chosen channel leaves all channels as they are
-  channels-kept : (chosen : ℕ → Bool) (s : State) (r : Reading) → HasShape limit chosen s → IsFit r
+  channels-same : (chosen : ℕ → Bool) (s : State) (r : Reading) → HasShape limit chosen s → IsFit r
       → ((c : ℕ) → c < 8 → chosen c ≡ true → member_of c s.records r ≡ [])
       → state_after_readings limit chosen s (r ∷ []) ≡ record { records = s.records + 1; master = master_after s.master r; channels = s.channels }
-  channels-kept chosen s r v fit none =
+  channels-same chosen s r v fit none =
       state_same (omega arith) (master-moved s r)
-      (ext_get (map (channel_after limit chosen s (r ∷ [])) eight) s.channels (sym v.eight_channels) (λ c small. kept-at chosen s r v fit c small (none c small)))
+      (ext_get (map (channel_after limit chosen s (r ∷ [])) eight) s.channels (sym v.eight_channels) (λ c small. channel-same chosen s r v fit c small (none c small)))
 
   -- a bad record
   pub after-bad : (chosen : ℕ → Bool) (s : State) (fault : FrameFault) → HasShape limit chosen s
       → state_after_readings limit chosen s (Err fault ∷ []) ≡ record { records = s.records + 1; master = s.master; channels = s.channels }
-  after-bad chosen s fault v = channels-kept chosen s (Err fault) v tt (λ c small e. refl)
+  after-bad chosen s fault v = channels-same chosen s (Err fault) v tt (λ c small e. refl)
 
   -- a good frame of a channel that isn't chosen
   pub items-other : (chosen : ℕ → Bool) (s : State) (g : GoodFrame) → chosen g.channel ≡ false → items_of_readings limit chosen s (Ok g ∷ []) ≡ gap_at master_gap_item s.master (master_member s.records g)
@@ -182,7 +182,7 @@ module _ (limit : ℕ) where
   pub after-other : (chosen : ℕ → Bool) (s : State) (g : GoodFrame) → HasShape limit chosen s → IsFit (Ok g) → chosen g.channel ≡ false
       → state_after_readings limit chosen s (Ok g ∷ []) ≡ record { records = s.records + 1; master = Some g.master_count; channels = s.channels }
   after-other chosen s g v fit not_chosen =
-      channels-kept chosen s (Ok g) v fit
+      channels-same chosen s (Ok g) v fit
       (λ c small e.
       cond-false (eqb g.channel c) (member s.records g ∷ []) []
       (ne_eqb g.channel c (λ z. both_ways (chosen c) (ap chosen (sym z) ∙ not_chosen) e)))

@@ -43,8 +43,8 @@ at_eight f (suc (suc (suc (suc (suc (suc (suc zero))))))) h = refl
 at_eight f (suc (suc (suc (suc (suc (suc (suc (suc c)))))))) h = absurd (omega arith)
 
 -- at the start nothing is kept
-pub none_kept : (c : ℕ) (last : Last) → slice_get empty.channels c ≡ Some (Some last) → ⊥
-none_kept c last e = let there = at_eight (λ d. None) c (slice_get_within empty.channels c (Some last) e) in cc
+pub none_last : (c : ℕ) (last : Last) → slice_get empty.channels c ≡ Some (Some last) → ⊥
+none_last c last e = let there = at_eight (λ d. None) c (slice_get_within empty.channels c (Some last) e) in cc
 
 -- a record has no frame of the channel, or one
 abbrev OneFrame : ℕ → List ChainMember → Type 0
@@ -152,11 +152,11 @@ module _ (limit : ℕ) where
     new-is = at_eight (channel_after limit chosen s (r ∷ [])) c small ∙ ap (λ (x : Option Last). Some x) (channel_after-is chosen s (r ∷ []) c is_chosen)
 
     -- no frame of the channel: the channel's state stays
-    pub before-kept : own ≡ [] → before_of (slice_get next.channels c) ≡ before
-    before-kept e = ap before_of new-is ∙ rw (before_with, e)
+    pub before-same : own ≡ [] → before_of (slice_get next.channels c) ≡ before
+    before-same e = ap before_of new-is ∙ rw (before_with, e)
 
-    pub tail-kept : own ≡ [] → tail_of (slice_get next.channels c) ≡ tail
-    tail-kept e =
+    pub tail-same : own ≡ [] → tail_of (slice_get next.channels c) ≡ tail
+    tail-same e =
         let t : tail_after before tail (own ++ []) ≡ tail = rw e (tail_after-end before tail open_tail) in
         let n : last_frame_count before (own ++ []) ≡ before = rw e in
         ap tail_of new-is ∙ tail_with _ _ (λ z. t ∙ no_tail (slice_get s.channels c) (sym n ∙ z)) ∙ t
@@ -181,7 +181,7 @@ module _ (limit : ℕ) where
     items-later rs n ne =
         ap (seen_at n) (channel_items-is limit c (slice_get s.channels c) (own ++ frames c (s.records + 1) rs))
         ∙ ⊎_elim
-        (λ (e : own ≡ []). rw (before-kept e, tail-kept e, e))
+        (λ (e : own ≡ []). rw (before-same e, tail-same e, e))
         (λ (w : OneFrame s.records own).
         rw (before-moved w.0 w.1 w.3, tail-moved w.0 w.1 w.3, w.1)
         (items-there limit c before tail w.0 (frames c (s.records + 1) rs) open_tail w.3 n (λ q. ne (sym w.2 ∙ q))))
@@ -208,7 +208,7 @@ module _ (limit : ℕ) where
     channel-later rs =
         channel_after-is chosen s (r ∷ rs) c is_chosen
         ∙ ⊎_elim
-        (λ (e : own ≡ []). rw (before-kept e, tail-kept e, e))
+        (λ (e : own ≡ []). rw (before-same e, tail-same e, e))
         (λ (w : OneFrame s.records own).
         rw (before-moved w.0 w.1 w.3, tail-moved w.0 w.1 w.3, w.1, tail_after-step before tail w.0 (frames c (s.records + 1) rs) open_tail w.3))
         (frame_cases c s.records r fit)
@@ -218,7 +218,7 @@ module _ (limit : ℕ) where
     pub tail-later : IsOpenTail limit (tail_of (slice_get next.channels c))
     tail-later =
         ⊎_elim
-        (λ (e : own ≡ []). rw (tail-kept e) open_tail)
+        (λ (e : own ≡ []). rw (tail-same e) open_tail)
         (λ (w : OneFrame s.records own).
         rw (tail-moved w.0 w.1 w.3) (chain_tail_at-open limit (has_frame_gap before w.0) w.0.is_vca tail w.0 open_tail))
         (frame_cases c s.records r fit)

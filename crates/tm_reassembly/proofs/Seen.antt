@@ -9,7 +9,7 @@ use Rattle.tm_items.specs.declared.items.Reason.{Reason}
 use Rattle.tm_reassembly.specs.State.{Tail}
 use Rattle.tm_items.specs.Item.{Item, seen_of}
 use Rattle.tm_reassembly.specs.Chain.{ChainMember}
-use Rattle.tm_reassembly.specs.Parts.{Part, Fate, Given, Lost, Held, agrees, begins_packet, lead, lead_part, front_of, is_long}
+use Rattle.tm_reassembly.specs.Parts.{Part, Fate, Given, Lost, Held, agrees, begins_packet, lead, lead_part, lead_octets, is_long}
 use Rattle.tm_items.specs.OnePacket.{packet_length}
 use Rattle.tm_reassembly.specs.code.Field.{end_place_of, field_parts, unfinished, parts_in, left_in, tail_at, frame_parts, frame_tail, step_parts, step_tail, ended_parts, chain_parts_at, chain_tail_at}
 use Rattle.tm_reassembly.specs.Items.{seen_at, held_part}
@@ -77,20 +77,20 @@ module _ (limit : ℕ) where
   frame_parts-at m = elim m.place as (λ v. AllAt m.number (parts_in limit m.number (end_place_of m) v m.field)) [ None ↦ tt | Some place ↦ field_parts-at m.number (end_place_of m) place m.field ]
 
   step_parts-at : (tail : Option Tail) (m : ChainMember) → AllAt m.number (step_parts limit tail m)
-  step_parts-at None m = Each-append (λ p. IsAt m.number p p.fate) (lead limit [] m) (frame_parts limit m) (lead_part-at m _ (front_of m.place m.field)) (frame_parts-at m)
+  step_parts-at None m = Each-append (λ p. IsAt m.number p p.fate) (lead limit [] m) (frame_parts limit m) (lead_part-at m _ (lead_octets m.place m.field)) (frame_parts-at m)
   step_parts-at (Some t) m =
-      let far : ℕ = packet_length (t.octets ++ m.field) in
-      cond_both (agrees limit far (length t.octets) m) _ _ (AllAt m.number)
-      (λ p. cond_both (leb far (length (t.octets ++ m.field))) _ _ (AllAt m.number)
+      let reach : ℕ = packet_length (t.octets ++ m.field) in
+      cond_both (agrees limit reach (length t.octets) m) _ _ (AllAt m.number)
+      (λ p. cond_both (leb reach (length (t.octets ++ m.field))) _ _ (AllAt m.number)
       (λ q. (
         (
           refl,
-          whole-most (t.octets ++ m.field) (length t.octets + length m.field) (agrees-short limit far (length t.octets) m p)
-              (leb-true far (length (t.octets ++ m.field)) q) (omega (arith, length-append t.octets m.field)),
+          whole-most (t.octets ++ m.field) (length t.octets + length m.field) (agrees-short limit reach (length t.octets) m p)
+              (leb-true reach (length (t.octets ++ m.field)) q) (omega (arith, length-append t.octets m.field)),
         ),
         frame_parts-at m,
       )) (λ q. tt))
-      (λ p. (refl, Each-append (λ p. IsAt m.number p p.fate) _ (frame_parts limit m) (lead_part-at m _ (front_of m.place m.field)) (frame_parts-at m)))
+      (λ p. (refl, Each-append (λ p. IsAt m.number p p.fate) _ (frame_parts limit m) (lead_part-at m _ (lead_octets m.place m.field)) (frame_parts-at m)))
 
   pub chain_parts_at-at : (gap vca : Bool) (tail : Option Tail) (m : ChainMember) → AllAt m.number (chain_parts_at limit gap vca tail m)
   chain_parts_at-at true true tail m = ended_parts-at tail _ m.number

@@ -14,7 +14,7 @@ use Rattle.tm_items.specs.OnePacket.{packet_length}
 use Rattle.tm_reassembly.specs.Parts.{begins_packet}
 use Rattle.tm_reassembly.specs.State.{Last, Tail}
 use Rattle.tm_reassembly.proofs.Chained.{IsTail}
-use Rattle.tm_reassembly.proofs.Fits.{octets_front}
+use Rattle.tm_reassembly.proofs.Fits.{octets_take}
 use Rattle.tm_reassembly.proofs.States.{Keeps}
 use Rattle.tm_reassembly.specs.Checkpoint.{four_octets, block, master_octets, state_spelling, old_spelling, four_at, ReadBlock, ReadBlocks, DecodedState, is_unfinished, tail_block, block_read, blocks_read, in_front, and_then_blocks, ReadMaster, master_read, with_channels, with_master, state_decoding_of, old_decoding_of}
 
@@ -102,7 +102,7 @@ none_spelled [] e long = absurd (omega arith)
 module _ (limit : ℕ) (layout : LayoutParts) (records : ℕ) (chosen : Bool) (xs : List ℕ) where
   -- the octets at the front are the block of what was read, which may be kept
   abbrev IsSpelled : Result ReadBlock StateFault → Type 0
-  IsSpelled r = IfOk r (λ one. Begins xs one.octets (block one.kept) × Kept limit layout records chosen one.kept)
+  IsSpelled r = IfOk r (λ one. Begins xs one.octets (block one.last) × Kept limit layout records chosen one.last)
 
   tail_sound : AreOctets xs → chosen ≡ true → 12 ≤ length xs → slice_index xs 0 ≡ 2 → IsSpelled (tail_block limit layout records xs)
   tail_sound h is_chosen enough flag =
@@ -127,7 +127,7 @@ module _ (limit : ℕ) (layout : LayoutParts) (records : ℕ) (chosen : Bool) (x
           record {
             count = h.below 1;
             open_tail = open-of limit (slice_range xs 12 (12 + size)) (omega arith) (not-false (is_unfinished limit (slice_range xs 12 (12 + size))) x);
-            within = record { first = first_in; place = place_in; octets = octets_front ((12 + size) - 12) (drop 12 xs) (octets_behind 12 xs h) };
+            within = record { first = first_in; place = place_in; octets = octets_take ((12 + size) - 12) (drop 12 xs) (octets_behind 12 xs h) };
           },
         ),
       )))))
@@ -160,13 +160,13 @@ module _ (limit : ℕ) (layout : LayoutParts) (records : ℕ) (chosen : Bool) (x
 -- ---- the blocks
 
 -- so many channels from c on, and each keeps what it may
-pub record SoundAll (rules : Rules) (records : ℕ) (n c : ℕ) (kept : List (Option Last)) : Type 0 where
-  pub many : length kept ≡ n
-  pub each : (i : ℕ) (x : Option Last) → slice_get kept i ≡ Some x → Kept rules.max_packet rules.layout records (chooses rules (c + i)) x
+pub record SoundAll (rules : Rules) (records : ℕ) (n c : ℕ) (channels : List (Option Last)) : Type 0 where
+  pub many : length channels ≡ n
+  pub each : (i : ℕ) (x : Option Last) → slice_get channels i ≡ Some x → Kept rules.max_packet rules.layout records (chooses rules (c + i)) x
 
 -- the octets at the front are the blocks of what was read, which may be kept
 abbrev AllSpelled : Rules → ℕ → ℕ → ℕ → List ℕ → Result ReadBlocks StateFault → Type 0
-AllSpelled rules records n c xs r = IfOk r (λ all. Begins xs all.octets (flat_map block all.kept) × SoundAll rules records n c all.kept)
+AllSpelled rules records n c xs r = IfOk r (λ all. Begins xs all.octets (flat_map block all.channels) × SoundAll rules records n c all.channels)
 
 module _ (rules : Rules) (records n c : ℕ) (xs : List ℕ) where
   then_spelled : (x : Result ReadBlock StateFault) (others : ℕ → Result ReadBlocks StateFault) → IsSpelled rules.max_packet rules.layout records (chooses rules c) xs x
@@ -177,11 +177,11 @@ module _ (rules : Rules) (records n c : ℕ) (xs : List ℕ) where
       by_rest : (x : Result ReadBlocks StateFault) → AllSpelled rules records n (c + 1) (drop one.octets xs) x → AllSpelled rules records (suc n) c xs (in_front one x)
       by_rest (Err found) k = tt
       by_rest (Ok rest) k =
-          (both xs one.octets rest.octets (block one.kept) (flat_map block rest.kept) h.0 k.0, record { many = ap suc k.1.many; each = λ i x e. at i x e })
+          (both xs one.octets rest.octets (block one.last) (flat_map block rest.channels) h.0 k.0, record { many = ap suc k.1.many; each = λ i x e. at i x e })
         where
-          at : (i : ℕ) (x : Option Last) → slice_get (one.kept ∷ rest.kept) i ≡ Some x → Kept rules.max_packet rules.layout records (chooses rules (c + i)) x
+          at : (i : ℕ) (x : Option Last) → slice_get (one.last ∷ rest.channels) i ≡ Some x → Kept rules.max_packet rules.layout records (chooses rules (c + i)) x
           at zero x e =
-              let same : one.kept ≡ x = cc in
+              let same : one.last ≡ x = cc in
               let z : c + 0 ≡ c = omega arith in
               rw z (subst (Kept rules.max_packet rules.layout records (chooses rules c)) same h.1)
           at (suc i) x e =
@@ -197,7 +197,7 @@ blocks_spelled rules records (suc n) c xs h =
     (λ used. blocks_spelled rules records n (c + 1) (drop used xs) (octets_behind used xs h))
 
 pub blocks_sound : (rules : Rules) (records n c : ℕ) (xs : List ℕ) (all : ReadBlocks) → AreOctets xs → blocks_read rules records n c xs ≡ Ok all
-    → SoundAll rules records n c all.kept
+    → SoundAll rules records n c all.channels
 blocks_sound rules records n c xs all h e = (subst (AllSpelled rules records n c xs) e (blocks_spelled rules records n c xs h)).1
 
 -- ---- the state
@@ -232,7 +232,7 @@ channels_spelled : (rules : Rules) (xs : List ℕ) (read : ReadMaster) (x : Resu
     → AllSpelled rules (four_at xs 0) 8 0 (drop read.octets (drop 4 xs)) x → StateSpelled xs (with_channels (four_at xs 0) read.count (4 + read.octets) x)
 channels_spelled rules xs read (Ok all) h long m g =
     let n : 4 + (read.octets + all.octets) ≡ (4 + read.octets) + all.octets = omega arith in
-    subst (λ (k : ℕ). Begins xs k (four_octets (four_at xs 0) ++ (master_octets read.count ++ flat_map block all.kept))) n
+    subst (λ (k : ℕ). Begins xs k (four_octets (four_at xs 0) ++ (master_octets read.count ++ flat_map block all.channels))) n
     (both xs 4 (read.octets + all.octets) _ _ (four_spelled xs h long) (both (drop 4 xs) read.octets all.octets _ _ m g.0))
 channels_spelled rules xs read (Err found) h long m g = tt
 

@@ -33,7 +33,7 @@ not_zero n h = ne_eqb n 0 (λ e. omega arith)
 -- ---- a block
 
 abbrev good : Last → ℕ → Result ReadBlock StateFault
-good last octets = Ok (record { kept = Some last; octets = octets })
+good last octets = Ok (record { last = Some last; octets = octets })
 
 unfinished-is : (limit : ℕ) (octets : List ℕ) → ok.IsTail limit octets → is_unfinished limit octets ≡ true
 unfinished-is limit [] h = absurd h
@@ -54,7 +54,7 @@ module _ (limit : ℕ) (least : 7 ≤ limit) (layout : LayoutParts) (records : �
   tail-again : (xs : List ℕ) (count : ℕ) (t : Tail) (rest : List ℕ) → slice_index xs 1 ≡ count → drop 12 xs ≡ t.octets ++ rest
       → length xs ≡ 12 + length t.octets + length rest → ok.IsTail limit t.octets → IsWithin layout records t
       → tail_read limit layout records xs t.first t.place (length t.octets)
-      ≡ Ok (record { kept = Some (record { count = count; tail = Some t }); octets = 12 + length t.octets })
+      ≡ Ok (record { last = Some (record { count = count; tail = Some t }); octets = 12 + length t.octets })
   tail-again xs count t rest at_one behind long h within =
       let size : ℕ = length t.octets in
       let there : ltb (length xs) (12 + size) ≡ false = le-ltb (length xs) (12 + size) (omega arith) in
@@ -66,13 +66,13 @@ module _ (limit : ℕ) (least : 7 ≤ limit) (layout : LayoutParts) (records : �
   unfolding block_read
   by_flag b xs h = cond-false (eqb (length xs) 0) _ _ (not_zero (length xs) h)
 
-  kept-again : (count : ℕ) (tail : Option Tail) (rest : List ℕ) → Keeps limit layout records (record { count = count; tail = tail })
+  with_tail-again : (count : ℕ) (tail : Option Tail) (rest : List ℕ) → Keeps limit layout records (record { count = count; tail = tail })
       → block_read limit layout true records (with_tail count tail ++ rest)
-      ≡ Ok (record { kept = Some (record { count = count; tail = tail }); octets = length (with_tail count tail) })
-  kept-again count None rest h =
+      ≡ Ok (record { last = Some (record { count = count; tail = tail }); octets = length (with_tail count tail) })
+  with_tail-again count None rest h =
       let xs : List ℕ = with_tail count None ++ rest in
       by_flag true xs (omega arith) ∙ cond-false (ltb (length xs) 2) _ _ (le-ltb (length xs) 2 (omega arith))
-  kept-again count (Some t) rest h =
+  with_tail-again count (Some t) rest h =
       let xs : List ℕ = with_tail count (Some t) ++ rest in
       let size : ℕ = length t.octets in
       let long : length xs ≡ 12 + size + length rest = let l = length-append t.octets rest in omega arith in
@@ -82,16 +82,16 @@ module _ (limit : ℕ) (least : 7 ≤ limit) (layout : LayoutParts) (records : �
       (tail-again xs count t rest refl refl long h.open_tail h.within ∙ ap (λ (n : ℕ). good (record { count = count; tail = Some t }) n) all)
 
   pub block-again : (b : Bool) (o : Option Last) (rest : List ℕ) → Kept limit layout records b o
-      → block_read limit layout b records (block o ++ rest) ≡ Ok (record { kept = o; octets = length (block o) })
+      → block_read limit layout b records (block o ++ rest) ≡ Ok (record { last = o; octets = length (block o) })
   block-again b None rest h = by_flag b (0 ∷ rest) (omega arith)
   block-again false (Some last) rest h = absurd (true≢false (sym h.0))
-  block-again true (Some last) rest h = kept-again last.count last.tail rest h.1
+  block-again true (Some last) rest h = with_tail-again last.count last.tail rest h.1
 
 -- ---- the blocks
 
 blocks-again : (rules : Rules) (least : 7 ≤ rules.max_packet) (records c : ℕ) (os : List (Option Last)) (rest : List ℕ)
     → ((i : ℕ) (o : Option Last) → slice_get os i ≡ Some o → Kept rules.max_packet rules.layout records (chooses rules (c + i)) o)
-    → blocks_read rules records (length os) c (flat_map block os ++ rest) ≡ Ok (record { kept = os; octets = length (flat_map block os) })
+    → blocks_read rules records (length os) c (flat_map block os ++ rest) ≡ Ok (record { channels = os; octets = length (flat_map block os) })
 unfolding blocks_read
 blocks-again rules least records c [] rest h = refl
 blocks-again rules least records c (o ∷ os) rest h =
@@ -114,20 +114,20 @@ abbrev pub decoded : State → ℕ → Result DecodedState StateFault
 decoded state octets = Ok (record { state = state; octets = octets })
 
 module _ (rules : Rules) where
-  channel_kept : (s : State) → IsValidState rules s → (c : ℕ) (o : Option Last) → slice_get s.channels c ≡ Some o
+  channel_keeps : (s : State) → IsValidState rules s → (c : ℕ) (o : Option Last) → slice_get s.channels c ≡ Some o
       → Kept rules.max_packet rules.layout s.records (chooses rules (0 + c)) o
-  channel_kept s v c None e = tt
-  channel_kept s v c (Some last) e =
+  channel_keeps s v c None e = tt
+  channel_keeps s v c (Some last) e =
       let zeroth : 0 + c ≡ c = omega arith in
       let eight = v.shape.eight_channels in
       let there = slice_get_within s.channels c (Some last) e in
       (rw zeroth (true_from_ne_false (chooses rules c) (λ p. let none = v.shape.only_chosen c p (omega arith) in absurd (cc))), keeps-at rules s v c last e)
 
   channels-again : (s : State) (rest : List ℕ) → IsValidState rules s
-      → blocks_read rules s.records 8 0 (flat_map block s.channels ++ rest) ≡ Ok (record { kept = s.channels; octets = length (flat_map block s.channels) })
+      → blocks_read rules s.records 8 0 (flat_map block s.channels ++ rest) ≡ Ok (record { channels = s.channels; octets = length (flat_map block s.channels) })
   channels-again s rest v =
       ap (λ (n : ℕ). blocks_read rules s.records n 0 (flat_map block s.channels ++ rest)) (sym v.shape.eight_channels)
-      ∙ blocks-again rules v.limit.least s.records 0 s.channels rest (channel_kept s v)
+      ∙ blocks-again rules v.limit.least s.records 0 s.channels rest (channel_keeps s v)
 
   pub read-again : (s : State) (rest : List ℕ) → IsValidState rules s → state_decoding_of rules (state_spelling s ++ rest) ≡ Ok (record { state = s; octets = length (state_spelling s) })
   unfolding state_decoding_of

@@ -25,7 +25,7 @@ use Rattle.tm_reassembly.specs.Valid.{IsCount, IsValidState, IsWithin, AllOctets
 use Rattle.tm_reassembly.proofs.Chained.{IsOpenTail, IsTail}
 use Rattle.tm_reassembly.proofs.Seen.{chain_tail_at-open}
 use Rattle.tm_reassembly.proofs.Joining.{before_of, tail_of}
-use Rattle.tm_reassembly.proofs.Records.{after-append, at_eight, none_kept}
+use Rattle.tm_reassembly.proofs.Records.{after-append, at_eight, none_last}
 use Rattle.tm_reassembly.proofs.OneStep.{last_moved, valid-from, after-nil, after-one, after-bad, after-other, get_set-same, get_set-other, open-at}
 use Rattle.tm_reassembly.proofs.Long.{begins-short, within-limit}
 use Rattle.tm_frame.specs.Rules.{Rules, IsLimit, chooses}
@@ -75,11 +75,11 @@ module _ (limit : ℕ) where
         let rest = rest_left (start_place_of f.kind) (counted_field f.kind f.field) (octets_field f.kind f.field good.octets).0 in
         within-at (left_in limit (start_place_of f.kind) (counted_field f.kind f.field)) rest.0 rest.1
 
-    within-left : (t : Tail) (far : ℕ) → IsWithin layout records t → Within layout (records + 1) (tail_left limit t (member records f) far)
-    within-left t far h =
-        cond_both (agrees limit far (length t.octets) (member records f)) _ _ (Within layout (records + 1))
+    within-left : (t : Tail) (reach : ℕ) → IsWithin layout records t → Within layout (records + 1) (tail_left limit t (member records f) reach)
+    within-left t reach h =
+        cond_both (agrees limit reach (length t.octets) (member records f)) _ _ (Within layout (records + 1))
         (λ p.
-        cond_both (leb far (length (t.octets ++ counted_field f.kind f.field))) _ _ (Within layout (records + 1))
+        cond_both (leb reach (length (t.octets ++ counted_field f.kind f.field))) _ _ (Within layout (records + 1))
         (λ q. within-frame)
         (λ q. let w : IsWithin layout (records + 1) (record { first = t.first; place = t.place; octets = t.octets ++ counted_field f.kind f.field }) = record {
           first = (omega (arith, h.first));
@@ -134,31 +134,31 @@ keeps-more limit layout records last k = record { count = k.count; open_tail = k
 
 module _ (rules : Rules) (s : State) (v : IsValidState rules s) (more : s.records + 1 < 2 ^ 32) where
   -- where the channels stay, the state stays valid
-  kept-valid : (master : Option ℕ) → ok.IsCount master → IsValidState rules (record { records = s.records + 1; master = master; channels = s.channels })
-  kept-valid master octet =
+  channels-valid : (master : Option ℕ) → ok.IsCount master → IsValidState rules (record { records = s.records + 1; master = master; channels = s.channels })
+  channels-valid master octet =
       state-from rules (record { records = s.records + 1; master = master; channels = s.channels }) v.limit more octet v.shape.eight_channels v.shape.only_chosen
       (λ c last e. keeps-more rules.max_packet rules.layout s.records last (keeps-at rules s v c last e))
 
   -- where one chosen channel keeps something else that it may
-  set-valid : (master : Option ℕ) → ok.IsCount master → (channel : ℕ) (kept : Last) → channel < 8 → chooses rules channel ≡ true → Keeps rules.max_packet rules.layout (s.records + 1) kept
-      → IsValidState rules (record { records = s.records + 1; master = master; channels = set s.channels channel (Some kept) })
-  set-valid master octet channel kept small e k =
-      state-from rules (record { records = s.records + 1; master = master; channels = set s.channels channel (Some kept) }) v.limit more octet
-      (length-set s.channels channel (Some kept) ∙ v.shape.eight_channels)
+  set-valid : (master : Option ℕ) → ok.IsCount master → (channel : ℕ) (newest : Last) → channel < 8 → chooses rules channel ≡ true → Keeps rules.max_packet rules.layout (s.records + 1) newest
+      → IsValidState rules (record { records = s.records + 1; master = master; channels = set s.channels channel (Some newest) })
+  set-valid master octet channel newest small e k =
+      state-from rules (record { records = s.records + 1; master = master; channels = set s.channels channel (Some newest) }) v.limit more octet
+      (length-set s.channels channel (Some newest) ∙ v.shape.eight_channels)
       (λ c n less.
-      get_set-other s.channels channel c (Some kept) (λ z. both_ways (chooses rules c) n (ap (chooses rules) z ∙ e))
+      get_set-other s.channels channel c (Some newest) (λ z. both_ways (chooses rules c) n (ap (chooses rules) z ∙ e))
       ∙ v.shape.only_chosen c n less)
       (λ c last f. ⊎_elim (at_it c last f) (other c last f) (cases_eq c channel))
     where
-      at_it : (c : ℕ) (last : Last) → slice_get (set s.channels channel (Some kept)) c ≡ Some (Some last) → c ≡ channel → Keeps rules.max_packet rules.layout (s.records + 1) last
+      at_it : (c : ℕ) (last : Last) → slice_get (set s.channels channel (Some newest)) c ≡ Some (Some last) → c ≡ channel → Keeps rules.max_packet rules.layout (s.records + 1) last
       at_it c last f z =
-          let there : slice_get (set s.channels channel (Some kept)) channel ≡ Some (Some kept) = get_set-same s.channels channel (Some kept) (rw v.shape.eight_channels small) in
-          let same : kept ≡ last = same_Some kept last (same_Some (Some kept) (Some last) (sym there ∙ ap (λ (k : ℕ). slice_get (set s.channels channel (Some kept)) k) (sym z) ∙ f)) in
+          let there : slice_get (set s.channels channel (Some newest)) channel ≡ Some (Some newest) = get_set-same s.channels channel (Some newest) (rw v.shape.eight_channels small) in
+          let same : newest ≡ last = same_Some newest last (same_Some (Some newest) (Some last) (sym there ∙ ap (λ (k : ℕ). slice_get (set s.channels channel (Some newest)) k) (sym z) ∙ f)) in
           subst (Keeps rules.max_packet rules.layout (s.records + 1)) same k
 
-      other : (c : ℕ) (last : Last) → slice_get (set s.channels channel (Some kept)) c ≡ Some (Some last) → (c ≡ channel → ⊥) → Keeps rules.max_packet rules.layout (s.records + 1) last
+      other : (c : ℕ) (last : Last) → slice_get (set s.channels channel (Some newest)) c ≡ Some (Some last) → (c ≡ channel → ⊥) → Keeps rules.max_packet rules.layout (s.records + 1) last
       other c last f ne =
-          keeps-more rules.max_packet rules.layout s.records last (keeps-at rules s v c last (sym (get_set-other s.channels channel c (Some kept) ne) ∙ f))
+          keeps-more rules.max_packet rules.layout s.records last (keeps-at rules s v c last (sym (get_set-other s.channels channel c (Some newest) ne) ∙ f))
 
   -- what the entry of a channel says
   within_now : (c : ℕ) (x : Option (Option Last)) → slice_get s.channels c ≡ x → Within rules.layout s.records (tail_of x)
@@ -167,11 +167,11 @@ module _ (rules : Rules) (s : State) (v : IsValidState rules s) (more : s.record
   within_now c (Some (Some last)) e = (keeps-at rules s v c last e).within
 
   read-valid : (r : Reading) → IsRead rules.layout r → IsValidState rules (read.state_after_readings rules.max_packet (chooses rules) s (r ∷ []))
-  read-valid (Err fault) h = subst (IsValidState rules) (sym (after-bad rules.max_packet (chooses rules) s fault v.shape)) (kept-valid s.master v.master)
+  read-valid (Err fault) h = subst (IsValidState rules) (sym (after-bad rules.max_packet (chooses rules) s fault v.shape)) (channels-valid s.master v.master)
   read-valid (Ok g) h =
       ⊎_elim
       (λ e. subst (IsValidState rules) (sym (after-one rules.max_packet (chooses rules) s g v.shape h.fits e)) (set-valid (Some g.master_count) h.master g.channel _ h.fits.0 e next))
-      (λ e. subst (IsValidState rules) (sym (after-other rules.max_packet (chooses rules) s g v.shape h.fits e)) (kept-valid (Some g.master_count) h.master))
+      (λ e. subst (IsValidState rules) (sym (after-other rules.max_packet (chooses rules) s g v.shape h.fits e)) (channels-valid (Some g.master_count) h.master))
       (cases_Bool (chooses rules g.channel))
     where
       next : Keeps rules.max_packet rules.layout (s.records + 1) (last_moved rules.max_packet s g)
@@ -187,7 +187,7 @@ module _ (rules : Rules) (s : State) (v : IsValidState rules s) (more : s.record
 -- the state of no records is valid
 pub empty-valid : (rules : Rules) → IsLimit rules.max_packet → IsValidState rules empty
 empty-valid rules range =
-    state-from rules empty range (omega arith) tt refl (λ c n less. at_eight (λ d. None) c less) (λ c last e. absurd (none_kept c last e))
+    state-from rules empty range (omega arith) tt refl (λ c n less. at_eight (λ d. None) c less) (λ c last e. absurd (none_last c last e))
 
 -- and so is the state after one record, and after any
 pub record-valid : (rules : Rules) (s : State) (octets : List ℕ) → IsValidState rules s → AreOctets octets

@@ -26,13 +26,13 @@ octets_again first place [] = refl
 octets_again first place (x ∷ xs) = refl
 
 -- a tail and a prefix of the field are the packet whose end was reckoned from both
-pub whole_with : (octets field : List ℕ) (far start : ℕ) → is_packet octets ≡ true → 0 < length octets → start ≤ length field
-    → far ≡ packet_length (octets ++ field) → far ≡ length octets + start → IsOnePacket (octets ++ take start field)
-whole_with [] field far start version some inside e stop = absurd (omega arith)
-whole_with (x ∷ xs) field far start version some inside e stop =
-    let reaches : far ≤ length ((x ∷ xs) ++ field) = omega (arith, length-append (x ∷ xs) field) in
+pub whole_with : (octets field : List ℕ) (reach start : ℕ) → is_packet octets ≡ true → 0 < length octets → start ≤ length field
+    → reach ≡ packet_length (octets ++ field) → reach ≡ length octets + start → IsOnePacket (octets ++ take start field)
+whole_with [] field reach start version some inside e stop = absurd (omega arith)
+whole_with (x ∷ xs) field reach start version some inside e stop =
+    let reaches : reach ≤ length ((x ∷ xs) ++ field) = omega (arith, length-append (x ∷ xs) field) in
     subst (λ (o : List ℕ). IsOnePacket o) (ap (λ (n : ℕ). take n ((x ∷ xs) ++ field)) stop ∙ take-append-add (x ∷ xs) field start)
-    (one-front ((x ∷ xs) ++ field) far e reaches version)
+    (one-front ((x ∷ xs) ++ field) reach e reaches version)
 
 -- a packet that ends at the frame's place
 pub step_completed : (limit : ℕ) (tail : Option Tail) (seen start : ℕ) (field : List ℕ) → 0 < length (octets_in tail) → start ≤ length field
@@ -41,18 +41,18 @@ pub step_completed : (limit : ℕ) (tail : Option Tail) (seen start : ℕ) (fiel
     → completed tail (take start field) seen ++ frame_parts limit (member_at seen (Some start) field) ≡ step_parts limit tail (member_at seen (Some start) field)
 step_completed limit None seen start field some inside h short = absurd (omega arith)
 step_completed limit (Some t) seen start field some inside h short =
-    let far : ℕ = packet_length (t.octets ++ field) in
+    let reach : ℕ = packet_length (t.octets ++ field) in
     let l : length (t.octets ++ field) ≡ length t.octets + length field = length-append t.octets field in
-    rw (eq-eqb far (length t.octets + start) (sym h), short, le-leb far (length (t.octets ++ field)) (omega arith), ← h, take-append-add t.octets field start)
+    rw (eq-eqb reach (length t.octets + start) (sym h), short, le-leb reach (length (t.octets ++ field)) (omega arith), ← h, take-append-add t.octets field start)
 
 -- the same, by what the code tests
-pub step_completed_at : (limit : ℕ) (tail : Option Tail) (seen start : ℕ) (field : List ℕ) (far held : ℕ) (place : Option ℕ) → place ≡ Some start
-    → far ≡ packet_length (octets_in tail ++ field) → held ≡ length (octets_in tail) → 0 < held → start ≤ length field
-    → agrees_at far held (length field) place ≡ true → is_long limit far (held + length field) ≡ false
+pub step_completed_at : (limit : ℕ) (tail : Option Tail) (seen start : ℕ) (field : List ℕ) (reach held : ℕ) (place : Option ℕ) → place ≡ Some start
+    → reach ≡ packet_length (octets_in tail ++ field) → held ≡ length (octets_in tail) → 0 < held → start ≤ length field
+    → agrees_at reach held (length field) place ≡ true → is_long limit reach (held + length field) ≡ false
     → completed tail (take start field) seen ++ frame_parts limit (member_at seen (Some start) field) ≡ step_parts limit tail (member_at seen place field)
-step_completed_at limit tail seen start field far held place at e same some inside agree short =
-    let there : agrees_at far held (length field) (Some start) ≡ true = subst (λ (p : Option ℕ). agrees_at far held (length field) p ≡ true) at agree in
-    let stop : far ≡ held + start = eqb-true far (held + start) there in
+step_completed_at limit tail seen start field reach held place at e same some inside agree short =
+    let there : agrees_at reach held (length field) (Some start) ≡ true = subst (λ (p : Option ℕ). agrees_at reach held (length field) p ≡ true) at agree in
+    let stop : reach ≡ held + start = eqb-true reach (held + start) there in
     let s : is_long limit (packet_length (octets_in tail ++ field)) (length (octets_in tail) + length field) ≡ false = rw (← e, ← same) short in
     step_completed limit tail seen start field (omega (arith, same)) inside (omega (arith, e, same, stop)) s
     ∙ ap (λ (p : Option ℕ). step_parts limit tail (member_at seen p field)) (sym at)

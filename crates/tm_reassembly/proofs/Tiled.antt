@@ -25,7 +25,7 @@ use Rattle.tm_reassembly.specs.Tiles.{Spot, field_spots, kind_spots, record_spot
 use Rattle.tm_reassembly.proofs.Chained.{IsOpenTail}
 use Rattle.tm_reassembly.proofs.Seen.{AllAt, chain_parts_at-at, IsAt}
 use Rattle.tm_reassembly.proofs.Joining.{before_of, member_items, gap-each}
-use Rattle.tm_reassembly.proofs.Records.{HasOpenTails, valid-after, items-cons, after-cons, tail-kept, tail-moved, at_eight, none_kept}
+use Rattle.tm_reassembly.proofs.Records.{HasOpenTails, valid-after, items-cons, after-cons, tail-same, tail-moved, at_eight, none_last}
 use Rattle.tm_reassembly.proofs.OneStep.{items-one-valid, items-other, after-nil}
 use Rattle.tm_reassembly.proofs.Laying.{Lay, Laid, spots_of, plain_spots, chain_lays}
 
@@ -49,14 +49,14 @@ tile-parts : (limit c n : ℕ) (spots rest : List Spot) (ps : List Part) → All
 tile-parts limit c n spots rest [] k h = h
 tile-parts limit c n spots rest (p ∷ ps) k h = one p.fate k.0 (tile-parts limit c n h.0 rest ps k.1 h.2)
   where
-    kept : (b : Bool) → b ≡ true → (x : Item) (xs : List Item) → Covers spots x h.0 → Tile h.0 xs rest → Tile spots (if b then x ∷ xs else xs) rest
-    kept b e x xs t u = subst (λ (z : Bool). Tile spots (if z then x ∷ xs else xs) rest) (sym e) (h.0, t, u)
+    longer : (b : Bool) → b ≡ true → (x : Item) (xs : List Item) → Covers spots x h.0 → Tile h.0 xs rest → Tile spots (if b then x ∷ xs else xs) rest
+    longer b e x xs t u = subst (λ (z : Bool). Tile spots (if z then x ∷ xs else xs) rest) (sym e) (h.0, t, u)
 
     one : (f : Fate) → IsAt limit n p f → Tile h.0 (parts_of c (part_items c ps)) rest → Tile spots (parts_of c (part_item c p f ++ part_items c ps)) rest
     one (Given seen) e t =
-        kept (eqb c c) (eq-eqb c c refl) (item.Packet seen c p.first p.place p.octets) (parts_of c (part_items c ps)) h.1 t
+        longer (eqb c c) (eq-eqb c c refl) (item.Packet seen c p.first p.place p.octets) (parts_of c (part_items c ps)) h.1 t
     one (Lost reason seen) e t =
-        kept (eqb c c) (eq-eqb c c refl) (item.Dropped seen c p.first p.place (length p.octets) reason) (parts_of c (part_items c ps))
+        longer (eqb c c) (eq-eqb c c refl) (item.Dropped seen c p.first p.place (length p.octets) reason) (parts_of c (part_items c ps))
         (h.1.0, h.1.1, sym (length-map h.1.0 (λ x. x.octet)) ∙ ap length h.1.2, h.1.3) t
     one Held e t = absurd e
 
@@ -86,7 +86,7 @@ empty-tail : (c : ℕ) → held_tail empty c ≡ None
 empty-tail c = by_entry (slice_get empty.channels c) refl
   where
     by_entry : (x : Option (Option Last)) → slice_get empty.channels c ≡ x → tail_of x ≡ None
-    by_entry (Some (Some last)) e = absurd (none_kept c last e)
+    by_entry (Some (Some last)) e = absurd (none_last c last e)
     by_entry None e = refl
     by_entry (Some None) e = refl
 
@@ -112,7 +112,7 @@ module _ (limit : ℕ) where
       → IsHeld (held_tail s c) h → parts_of c (items_of_readings limit chosen s (r ∷ [])) ≡ [] → record_spots c s.records r ≡ [] → member_of c s.records r ≡ []
       → Result chosen s r c h
   quiet chosen s r c h valid fit small is_chosen held nothing no_spots no_frame =
-      (h, rw (nothing, no_spots) (append-nil h), rw (tail-kept limit chosen s r valid fit c small is_chosen no_frame) held)
+      (h, rw (nothing, no_spots) (append-nil h), rw (tail-same limit chosen s r valid fit c small is_chosen no_frame) held)
 
   own-record : (chosen : ℕ → Bool) (s : State) (g : GoodFrame) (h : List Spot) → HasOpenTails limit chosen s → IsFit (Ok g) → chosen g.channel ≡ true
       → IsHeld (held_tail s g.channel) h → Result chosen s (Ok g) g.channel h
@@ -179,7 +179,7 @@ module _ (limit : ℕ) where
   empty-state chosen = record {
     eight_channels = refl;
     only_chosen = λ c e small. at_eight (λ d. None) c small;
-    tails = λ c last t e f. absurd (none_kept c last e);
+    tails = λ c last t e f. absurd (none_last c last e);
   }
 
 pub tiled : (rules : Rules) (channel : ℕ) (records : List (List ℕ)) → channel < 8 → chooses rules channel ≡ true

@@ -2,7 +2,7 @@
 use Rattle.std.specs.Prelude.{◌≡◌, ◌⊎◌, ℕ, ◌+◌, ◌<◌, ◌≤◌, nat_le, Option, Some, None, List, [], ◌∷◌, ◌++◌, length, take, drop, slice_range, if◌then◌else◌}
 use Rattle.tm_packet.specs.Header.{packet_version_of, packet_header_of}
 use Rattle.tm_reassembly.specs.Chain.{ChainMember, End}
-use Rattle.tm_reassembly.specs.Parts.{Part, Fate, Lost, Start, text, far_end, claims, lead, start_part}
+use Rattle.tm_reassembly.specs.Parts.{Part, Fate, Lost, Start, text, reach_of, claims, lead, start_part}
 use Rattle.tm_items.specs.declared.items.Reason.{Reason}
 
 -- the text of a run: of a frame, with those before it and those behind it
@@ -48,19 +48,19 @@ module _ (limit : ℕ) where
   abbrev pub Agrees : List ℕ → ℕ → ℕ → ChainMember → Type 0
   Agrees t q begin m = AgreesAt (packet_length_at t q) begin (length m.field) m.place × (IsLong t q (begin + length m.field) → ⊥)
 
-  -- The frames `front` are those up to and with the start's own, and `between` those from there to the frame in question. A
+  -- The frames `prefix` are those up to and with the start's own, and `between` those from there to the frame in question. A
   -- packet that is read begins at the start, it reaches past the frame's beginning, and each frame between agrees with it.
   abbrev pub IsOpen : List ℕ → ℕ → List ChainMember → List ChainMember → Type 0
-  IsOpen t q front between =
-      BeginsPacket t q (frame_begin front) × (frame_begin (front ++ between) < packet_length_at t q)
-      × ((earlier later : List ChainMember) (g : ChainMember) → between ≡ earlier ++ g ∷ later → Agrees t q (frame_begin (front ++ earlier)) g)
+  IsOpen t q prefix between =
+      BeginsPacket t q (frame_begin prefix) × (frame_begin (prefix ++ between) < packet_length_at t q)
+      × ((earlier later : List ChainMember) (g : ChainMember) → between ≡ earlier ++ g ∷ later → Agrees t q (frame_begin (prefix ++ earlier)) g)
 
   -- a packet that is read begins at q, the text ends it, and each later frame at which it is open agrees with it
   abbrev pub IsWhole : List ℕ → ℕ → List ChainMember → List ChainMember → Type 0
-  IsWhole t q front later =
-      BeginsPacket t q (frame_begin front) × (packet_length_at t q ≤ length t)
-      × ((between more : List ChainMember) (m : ChainMember) → later ≡ between ++ m ∷ more → IsOpen t q front between
-      → Agrees t q (frame_begin (front ++ between)) m)
+  IsWhole t q prefix later =
+      BeginsPacket t q (frame_begin prefix) × (packet_length_at t q ≤ length t)
+      × ((between more : List ChainMember) (m : ChainMember) → later ≡ between ++ m ∷ more → IsOpen t q prefix between
+      → Agrees t q (frame_begin (prefix ++ between)) m)
 
   -- The starts of a frame whose octets are those of the text from `begin` up to, not with, `stop`. They are its place, and each
   -- place in it where a packet ends that is read at a start.
@@ -138,8 +138,8 @@ abbrev pub place_of_start : StartInRun → ℕ
 place_of_start p = start_in_text p.before p.skipped
 
 -- how many octets there are from it to where its packet ends
-abbrev pub far_of_start : StartInRun → ℕ
-far_of_start p = far_end p.octets p.later
+abbrev pub reach_of_start : StartInRun → ℕ
+reach_of_start p = reach_of p.octets p.later
 
 -- the frames up to and with its own
 abbrev pub frames_up_to : StartInRun → List ChainMember

@@ -50,7 +50,7 @@ four_at xs i = 65536 * two_at xs i + two_at xs (i + 2)
 
 -- what is kept of a channel, and how many octets spelled it
 pub record ReadBlock : Type 0 where
-  pub kept : Option Last
+  pub last : Option Last
   pub octets : ℕ
 
 module _ (limit : ℕ) where
@@ -66,7 +66,7 @@ module _ (limit : ℕ) where
       else if nat_lt (length xs) (12 + size) then Err fault.Short
       else if not (is_unfinished (slice_range xs 12 (12 + size))) then Err fault.Tail
       else Ok (record {
-        kept = Some (record {
+        last = Some (record {
           count = slice_index xs 1;
           tail = Some (record { first = first; place = place; octets = slice_range xs 12 (12 + size) });
         });
@@ -80,10 +80,10 @@ module _ (limit : ℕ) where
   -- the block of a channel, by its flag
   abbrev pub flagged : LayoutParts → Bool → ℕ → List ℕ → ℕ → Result ReadBlock StateFault
   flagged layout chosen records xs flag =
-      if flag == 0 then Ok (record { kept = None; octets = 1 })
+      if flag == 0 then Ok (record { last = None; octets = 1 })
       else if not chosen || nat_lt 2 flag then Err fault.Flag
       else if flag == 1
-      then (if nat_lt (length xs) 2 then Err fault.Short else Ok (record { kept = Some (record { count = slice_index xs 1; tail = None }); octets = 2 }))
+      then (if nat_lt (length xs) 2 then Err fault.Short else Ok (record { last = Some (record { count = slice_index xs 1; tail = None }); octets = 2 }))
       else if nat_lt (length xs) 12 then Err fault.Short
       else tail_block layout records xs
 
@@ -97,12 +97,12 @@ channel_block rules channel records xs = block_read rules.max_packet rules.layou
 
 -- what is kept of several channels, and how many octets spelled it
 pub record ReadBlocks : Type 0 where
-  pub kept : List (Option Last)
+  pub channels : List (Option Last)
   pub octets : ℕ
 
 -- one more in front
 abbrev pub in_front : ReadBlock → Result ReadBlocks StateFault → Result ReadBlocks StateFault
-in_front one (Ok rest) = Ok (record { kept = one.kept ∷ rest.kept; octets = one.octets + rest.octets })
+in_front one (Ok rest) = Ok (record { channels = one.last ∷ rest.channels; octets = one.octets + rest.octets })
 in_front one (Err found) = Err found
 
 -- a block, and then the others behind its octets
@@ -112,7 +112,7 @@ and_then_blocks (Err found) others = Err found
 
 -- the blocks of n channels from channel c on: the first fault, or what they spell
 unfoldable pub blocks_read : Rules → ℕ → ℕ → ℕ → List ℕ → Result ReadBlocks StateFault
-blocks_read rules records zero c xs = Ok (record { kept = []; octets = 0 })
+blocks_read rules records zero c xs = Ok (record { channels = []; octets = 0 })
 blocks_read rules records (suc n) c xs =
     and_then_blocks (channel_block rules c records xs) (λ used. blocks_read rules records n (c + 1) (drop used xs))
 
@@ -138,7 +138,7 @@ pub record DecodedState : Type 0 where
 -- a number of records, a last master channel count, which the first so many octets spelled, and the channels
 abbrev pub with_channels : ℕ → Option ℕ → ℕ → Result ReadBlocks StateFault → Result DecodedState StateFault
 with_channels records master octets (Ok all) =
-    Ok (record { state = record { records = records; master = master; channels = all.kept }; octets = octets + all.octets })
+    Ok (record { state = record { records = records; master = master; channels = all.channels }; octets = octets + all.octets })
 with_channels records master octets (Err found) = Err found
 
 -- a number of records, a last master channel count, and the channels of the octets behind it

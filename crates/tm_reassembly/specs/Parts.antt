@@ -19,22 +19,22 @@ pub record Start : Type 0 where
   pub place : ℕ
   pub octets : List ℕ
 
--- Octets are counted from the start itself: `far` is how many there are to where its packet ends, and `at` how many there are to
+-- Octets are counted from the start itself: `reach` is how many there are to where its packet ends, and `at` how many there are to
 -- a frame's beginning.
 
 -- how many octets there are from a start to where its packet ends, by the whole text ahead
-abbrev pub far_end : List ℕ → List ChainMember → ℕ
-far_end start later = packet_length (start ++ text later)
+abbrev pub reach_of : List ℕ → List ChainMember → ℕ
+reach_of start later = packet_length (start ++ text later)
 
 -- by its place a frame agrees with a packet: it has no place, and the packet reaches its end; or the packet reaches just its place
 abbrev pub agrees_at : ℕ → ℕ → ℕ → Option ℕ → Bool
-agrees_at far at len None = nat_le (at + len) far
-agrees_at far at len (Some place) = far == at + place
+agrees_at reach at len None = nat_le (at + len) reach
+agrees_at reach at len (Some place) = reach == at + place
 
 -- the record that holds a packet's last octet, where the octets before `at` end in the record of this number
 abbrev pub holder : ℕ → ℕ → ℕ → List ChainMember → ℕ
-holder far at number [] = number
-holder far at number (m ∷ later) = if nat_le far at then number else holder far (at + length m.field) m.number later
+holder reach at number [] = number
+holder reach at number (m ∷ later) = if nat_le reach at then number else holder reach (at + length m.field) m.number later
 
 -- what becomes of a part: a packet is given at a record, or octets are lost at a record, or a tail is held at the end
 pub data Fate : Type 0 where
@@ -55,25 +55,25 @@ fate_at (Ended reason seen) = Lost reason seen
 
 -- a start that is open at a frame
 pub record Claim : Type 0 where
-  pub far : ℕ
+  pub reach : ℕ
   pub at : ℕ
 
 -- the octets before the place, or all of them without one
-abbrev pub front_of : Option ℕ → List ℕ → List ℕ
-front_of None field = field
-front_of (Some place) field = take place field
+abbrev pub lead_octets : Option ℕ → List ℕ → List ℕ
+lead_octets None field = field
+lead_octets (Some place) field = take place field
 
 abbrev pub lead_part : ChainMember → Reason → List ℕ → List Part
 lead_part m reason [] = []
 lead_part m reason (x ∷ xs) = record { first = m.number; place = m.base; octets = x ∷ xs; fate = Lost reason m.number } ∷ []
 
 -- the octets before a frame's place, lost for this reason
-abbrev pub front_lost : ChainMember → Reason → List Part
-front_lost m reason = lead_part m reason (front_of m.place m.field)
+abbrev pub lost_lead : ChainMember → Reason → List Part
+lost_lead m reason = lead_part m reason (lead_octets m.place m.field)
 
 -- why a frame doesn't agree: only because the packet is long, where its place agrees; else by its place
 abbrev pub reason_at : ℕ → ℕ → ChainMember → Reason
-reason_at far at m = if agrees_at far at (length m.field) m.place then why.Length else why.Pointer
+reason_at reach at m = if agrees_at reach at (length m.field) m.place then why.Length else why.Pointer
 
 -- why the rest of a frame is unread: the packet that starts there is long, where it is of version 0; else it is of another version
 abbrev pub unread_reason : List ℕ → Reason
@@ -81,19 +81,19 @@ unread_reason start = if is_packet start then why.Length else why.Version
 
 -- a tail that a frame breaks off
 abbrev pub broken_part : ℕ → ℕ → List ℕ → ℕ → ChainMember → Part
-broken_part first place octets far broken = record {
+broken_part first place octets reach broken = record {
   first = first;
   place = place;
   octets = octets;
-  fate = Lost (reason_at far (length octets) broken) broken.number;
+  fate = Lost (reason_at reach (length octets) broken) broken.number;
 }
 
 -- All that follows depends on the limit: how many octets a packet may have at most.
 module _ (limit : ℕ) where
-  -- A packet is long at a frame if it has more octets than the limit, `far`, and its whole header lies before the frame's end.
+  -- A packet is long at a frame if it has more octets than the limit, `reach`, and its whole header lies before the frame's end.
   -- That end is `stop` octets from the start.
   abbrev pub is_long : ℕ → ℕ → Bool
-  is_long far stop = nat_le 6 stop && nat_lt limit far
+  is_long reach stop = nat_le 6 stop && nat_lt limit reach
 
   -- whether a start begins a packet that is read: it is of version 0, and not long in its own frame
   abbrev pub begins_packet : List ℕ → Bool
@@ -117,37 +117,37 @@ module _ (limit : ℕ) where
 
   -- a frame agrees with a packet: by its place, and the packet isn't long there
   abbrev pub agrees : ℕ → ℕ → ChainMember → Bool
-  agrees far at m = agrees_at far at (length m.field) m.place && not (is_long far (at + length m.field))
+  agrees reach at m = agrees_at reach at (length m.field) m.place && not (is_long reach (at + length m.field))
 
   -- A start reaches past the frames `between`, and each of them agrees with it. For a start that begins a packet that is read
   -- this says that it is open at the frame after them.
   abbrev pub open_after : ℕ → ℕ → List ChainMember → Bool
-  open_after far at [] = nat_lt at far
-  open_after far at (m ∷ between) = agrees far at m && open_after far (at + length m.field) between
+  open_after reach at [] = nat_lt at reach
+  open_after reach at (m ∷ between) = agrees reach at m && open_after reach (at + length m.field) between
 
   -- looking ahead, the frames at which a start is open and that agree with it
   abbrev pub joined : ℕ → ℕ → List ChainMember → List ChainMember
-  joined far at [] = []
-  joined far at (m ∷ later) = if nat_lt at far && agrees far at m then m ∷ joined far (at + length m.field) later else []
+  joined reach at [] = []
+  joined reach at (m ∷ later) = if nat_lt at reach && agrees reach at m then m ∷ joined reach (at + length m.field) later else []
 
   -- looking ahead, the frame at which a start is open and that doesn't agree with it
   abbrev pub breaker : ℕ → ℕ → List ChainMember → Option ChainMember
-  breaker far at [] = None
-  breaker far at (m ∷ later) =
-      if nat_lt at far then (if agrees far at m then breaker far (at + length m.field) later else Some m) else None
+  breaker reach at [] = None
+  breaker reach at (m ∷ later) =
+      if nat_lt at reach then (if agrees reach at m then breaker reach (at + length m.field) later else Some m) else None
 
   -- A start that begins a packet that is read. It is a tail up to the frame that doesn't agree; else a whole packet, if the text
   -- has it; else a tail up to the end of the run.
   abbrev pub packet_part : ℕ → ℕ → List ChainMember → End → List ℕ → ℕ → Option ChainMember → Part
-  packet_part first place later end start far (Some broken) =
-      broken_part first place (start ++ text (joined far (length start) later)) far broken
-  packet_part first place later end start far None =
-      if nat_le far (length (start ++ text later))
+  packet_part first place later end start reach (Some broken) =
+      broken_part first place (start ++ text (joined reach (length start) later)) reach broken
+  packet_part first place later end start reach None =
+      if nat_le reach (length (start ++ text later))
       then record {
         first = first;
         place = place;
-        octets = take far (start ++ text later);
-        fate = Given (holder far (length start) first later);
+        octets = take reach (start ++ text later);
+        fate = Given (holder reach (length start) first later);
       }
       else record { first = first; place = place; octets = start ++ text later; fate = fate_at end }
 
@@ -155,7 +155,7 @@ module _ (limit : ℕ) where
   abbrev pub part_from : ℕ → ℕ → List ChainMember → End → List ℕ → Part
   part_from first place later end start =
       if begins_packet start
-      then packet_part first place later end start (far_end start later) (breaker (far_end start later) (length start) later)
+      then packet_part first place later end start (reach_of start later) (breaker (reach_of start later) (length start) later)
       else record { first = first; place = place; octets = start; fate = Lost (unread_reason start) first }
 
   abbrev pub start_part : ChainMember → List ChainMember → End → Start → Part
@@ -164,8 +164,8 @@ module _ (limit : ℕ) where
   -- what one start claims at the first of `ahead`, where `between` are the frames after its own
   abbrev pub claim : List ChainMember → List ChainMember → Start → List Claim
   claim between ahead start =
-      if begins_packet start.octets && open_after (far_end start.octets (between ++ ahead)) (length start.octets) between
-      then record { far = far_end start.octets (between ++ ahead); at = length start.octets + length (text between) } ∷ []
+      if begins_packet start.octets && open_after (reach_of start.octets (between ++ ahead)) (length start.octets) between
+      then record { reach = reach_of start.octets (between ++ ahead); at = length start.octets + length (text between) } ∷ []
       else []
 
   -- the claims at the first of `ahead`, of the starts in the frames before it
@@ -176,8 +176,8 @@ module _ (limit : ℕ) where
   -- the lead of a frame: lost where no start is open there, or where one is and the frame doesn't agree (there is at most one, which is
   -- proved)
   abbrev pub lead : List Claim → ChainMember → List Part
-  lead [] m = front_lost m why.NoStart
-  lead (c ∷ more) m = if agrees c.far c.at m then [] else front_lost m (reason_at c.far c.at m)
+  lead [] m = lost_lead m why.NoStart
+  lead (c ∷ more) m = if agrees c.reach c.at m then [] else lost_lead m (reason_at c.reach c.at m)
 
   -- the parts of a run from a frame on, in the order of the text
   abbrev pub parts_from : List ChainMember → List ChainMember → End → List Part

@@ -70,9 +70,10 @@ module _ {S K F : Type 0} (known : S → K) (takes : K → Item → K → Type 0
 abbrev pub rules_of : LayoutParts → List Bool → ℕ → Rules
 rules_of layout channels max_packet = record { layout = layout; channels = channels; max_packet = max_packet }
 
--- so many octets were read, and they spell this state
-abbrev pub IsDecoded : Result DecodedState StateFault → State → ℕ → Type 0
-IsDecoded decoded state octets = decoded ≡ Ok (record { state = state; octets = octets })
+-- so many octets were read, and they spell the state of this progress, which has the rules and room for a packet in each channel
+abbrev pub IsRestored : (Rules → List ℕ → Result DecodedState StateFault) → Rules → List ℕ → Progress × ℕ → Type 0
+IsRestored decoding rules octets read =
+    (decoding rules octets ≡ Ok (record { state = read.0.state; octets = read.1 })) × (read.0 ≡ progress_in rules read.0.state)
 
 -- why octets aren't read: by their first fault; or they have none, and memory ran out
 abbrev pub IsRefusal : Result DecodedState StateFault → StateFault → Type 0

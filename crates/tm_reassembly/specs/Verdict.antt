@@ -1,11 +1,11 @@
 -- What is said of a start at a later frame of its run, and how runs grow.
 use Rattle.std.specs.Prelude.{◌≡◌, ℕ, ◌+◌, nat_lt, nat_le, Bool, ◌&&◌, Some, is_none, List, [], ◌∷◌, ◌++◌, length, slice_get}
 use Rattle.tm_reassembly.specs.Chain.{ChainMember, Run, Unended}
-use Rattle.tm_reassembly.specs.Parts.{text, far_end, is_long, begins_packet, open_after, agrees, breaker}
+use Rattle.tm_reassembly.specs.Parts.{text, reach_of, is_long, begins_packet, open_after, agrees, breaker}
 
 -- whether a packet ends in a frame that it reaches into
 abbrev pub ends_in : ℕ → ℕ → ChainMember → Bool
-ends_in far at m = nat_lt at far && nat_le far (at + length m.field)
+ends_in reach at m = nat_lt at reach && nat_le reach (at + length m.field)
 
 -- whether the start is open at the frame, whether the frame agrees with it, whether its packet is long there, and whether it is whole
 -- with its last octet there
@@ -20,22 +20,22 @@ module _ (limit : ℕ) where
   abbrev pub is_whole : List ℕ → List ChainMember → Bool
   is_whole start later =
       begins_packet limit start
-      && (is_none (breaker limit (far_end start later) (length start) later) && nat_le (far_end start later) (length (start ++ text later)))
+      && (is_none (breaker limit (reach_of start later) (length start) later) && nat_le (reach_of start later) (length (start ++ text later)))
 
   -- for a start, by the frames between its own and m, by m, and by the frames after m
   abbrev pub verdict : List ℕ → List ChainMember → ChainMember → List ChainMember → Verdict
   verdict start between m later =
       record {
-        opened = begins_packet limit start && open_after limit (far_end start (between ++ m ∷ later)) (length start) between;
-        agreed = agrees limit (far_end start (between ++ m ∷ later)) (length start + length (text between)) m;
-        long = is_long limit (far_end start (between ++ m ∷ later)) ((length start + length (text between)) + length m.field);
+        opened = begins_packet limit start && open_after limit (reach_of start (between ++ m ∷ later)) (length start) between;
+        agreed = agrees limit (reach_of start (between ++ m ∷ later)) (length start + length (text between)) m;
+        long = is_long limit (reach_of start (between ++ m ∷ later)) ((length start + length (text between)) + length m.field);
         completed = is_whole start (between ++ m ∷ later)
-            && ends_in (far_end start (between ++ m ∷ later)) (length start + length (text between)) m;
+            && ends_in (reach_of start (between ++ m ∷ later)) (length start + length (text between)) m;
       }
 
   -- whether the start is whole with its last octet in its own frame
   abbrev pub completed_at_once : List ℕ → List ChainMember → Bool
-  completed_at_once start later = is_whole start later && nat_le (far_end start later) (length start)
+  completed_at_once start later = is_whole start later && nat_le (reach_of start later) (length start)
 
 -- the first of these runs goes on from a run that nothing ended
 abbrev pub GoesOn : Run → List Run → Type 0

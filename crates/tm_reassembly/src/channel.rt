@@ -1,7 +1,7 @@
 //! What is kept of a channel from frame to frame.
 
 ghost use Rattle.std.specs.Prelude.{◌≡◌, ◌+◌, ◌<◌, ◌≤◌, vec_len, vec_capacity, ◌∷◌, ◌++◌, length, IfOk, IfErr, OnOk, Option, None, Some, IsSome, true, false};
-ghost use Rattle.tm_reassembly.specs.code.Blocks.{block_last};
+ghost use Rattle.tm_reassembly.specs.code.Blocks.{Appends, block_last};
 ghost use Rattle.tm_reassembly.specs.Checkpoint.{block};
 ghost use Rattle.tm_reassembly.specs.Chain.{member, has_frame_gap};
 ghost use Rattle.tm_frame.specs.Frame.{is_vca_kind};
@@ -9,7 +9,7 @@ ghost use Rattle.tm_reassembly.specs.code.DataFields.{IsDataField, member_with};
 ghost use Rattle.tm_reassembly.specs.code.Field.{chain_parts_at, chain_tail_at, ended_parts, step_parts, step_tail, part_items, GivesParts};
 ghost use Rattle.tm_reassembly.specs.Items.{gap_item, master_gap_item, gap_at, vca_at, close_last, last_with};
 ghost use Rattle.tm_items.specs.Item as value;
-ghost use Rattle.tm_reassembly.specs.code.Slots.{LeavesLast, Slot, frame_count_in, tail_in, kept_items, last_after, data_items, last_with_data, slot_parts, slot_after, vca_items, counted, missed_count};
+ghost use Rattle.tm_reassembly.specs.code.Slots.{HoldsLast, LeavesLast, Slot, frame_count_in, tail_in, frame_items, last_after, data_items, last_with_data, slot_parts, slot_after, vca_items, counted, missed_count};
 ghost use Rattle.tm_reassembly.specs.State.{octets_in, Last};
 ghost use Rattle.tm_frame.specs.Rules.{IsLimit};
 ghost use Rattle.tm_items.specs.Giving.{Gives};
@@ -43,7 +43,7 @@ impl ChannelState {
     /// The state of a channel that had no frame, with capacity for a tail.
     pub fn new(alloc: Global, limit: usize) -> Result<ChannelState, AllocError>
         requires { IsLimit limit }
-        ensures { IfOk result (λ kept. kept ≡ record { limit = limit; room = limit; last = None }) }
+        ensures { IfOk result (λ state. state ≡ record { limit = limit; room = limit; last = None }) }
     {
         Ok(ChannelState {
             count: None,
@@ -76,7 +76,7 @@ impl ChannelState {
         requires channel { channel < 8 }
         requires open { IsOpenTail self.old.limit (tail_in self.old.last) }
         ensures given { Gives S.Sink sink.old sink.new
-            (kept_items self.old.limit channel self.old.last (member seen frame.now)) result }
+            (frame_items self.old.limit channel self.old.last (member seen frame.now)) result }
         ensures left { LeavesLast self.old self.new (last_after self.old.limit self.old.last (member seen frame.now)) result }
     {
         let count = frame.count();
@@ -143,8 +143,7 @@ impl ChannelState {
         field: DataField<'_>,
         sink: &mut S,
     ) -> Result<(), S::Fault>
-        requires channel { channel < 8 }
-        requires field { IsDataField field }
+        requires field { IsDataField channel field }
         requires open { IsOpenTail self.old.limit (tail_in self.old.last) }
         requires counted { IsSome (frame_count_in self.old.last) }
         ensures given { GivesParts S.Sink sink.old sink.new channel
@@ -188,9 +187,7 @@ impl ChannelState {
     /// Appends the spelling of the channel, for which there is room.
     pub fn push(&self, out: &mut Vec<u8>)
         requires { vec_len out.old + length (block self.now.last) ≤ vec_capacity out.old }
-        ensures items { out.new.items ≡ out.old.items ++ block self.now.last }
-        ensures len { vec_len out.new ≡ vec_len out.old + length (block self.now.last) }
-        ensures room { vec_capacity out.old ≤ vec_capacity out.new }
+        ensures { Appends out.old out.new (block self.now.last) (length (block self.now.last)) }
     {
         let Some(count) = self.count else {
             push(out, &[0]);
@@ -207,9 +204,7 @@ impl ChannelState {
     /// Keeps what a checkpoint says of the channel.
     pub fn restore(&mut self, read: &Block<'_>)
         requires { length read.now.tail.now ≤ self.old.limit }
-        ensures last { self.new.last ≡ block_last read.now }
-        ensures limit { self.new.limit ≡ self.old.limit }
-        ensures room { self.old.room ≤ self.new.room }
+        ensures { HoldsLast self.old self.new (block_last read.now) }
     {
         let tail = if read.count.is_some() { read.tail } else { &[] };
         self.count = read.count;

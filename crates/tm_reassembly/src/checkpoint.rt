@@ -3,7 +3,7 @@
 ghost use Rattle.std.specs.Prelude.{◌≡◌, ◌+◌, ◌<◌, ◌≤◌, ◌++◌, None, Some, Ok, Err, true, length, slice_index, vec_len, vec_capacity, IfOk, IfErr};
 ghost use Rattle.tm_reassembly.specs.Checkpoint.{four_octets, four_at, is_unfinished, master_octets, tail_block, flagged, channel_block};
 ghost use Rattle.tm_bits.specs.Bits.{two_at};
-ghost use Rattle.tm_reassembly.specs.code.Blocks.{block_last, IsBlock, master_read_in};
+ghost use Rattle.tm_reassembly.specs.code.Blocks.{Appends, IsBlock, IsMaster, master_read_in};
 ghost use Rattle.tm_frame.specs.Rules.{chooses};
 ghost use Rattle.tm_reassembly.specs.Valid.{IsCount};
 ghost use Rattle.tm_reassembly.specs.declared.fault.StateFault.TheVariants as found;
@@ -42,9 +42,7 @@ impl<'a> Block<'a> {
 /// Appends a number in four octets, for which there is room.
 pub fn push_four(out: &mut Vec<u8>, number: u32)
     requires { vec_len out.old + 4 ≤ vec_capacity out.old }
-    ensures items { out.new.items ≡ out.old.items ++ four_octets number }
-    ensures len { vec_len out.new ≡ vec_len out.old + 4 }
-    ensures room { vec_capacity out.old ≤ vec_capacity out.new }
+    ensures { Appends out.old out.new (four_octets number) 4 }
 {
     push(out, &number.to_be_bytes());
 }
@@ -82,9 +80,7 @@ pub fn master_length(master: Option<u8>) -> usize
 /// Appends the last master channel count, for which there is room: 0 where there is none, else 1 and the count.
 pub fn push_master(out: &mut Vec<u8>, master: Option<u8>)
     requires { vec_len out.old + length (master_octets master) ≤ vec_capacity out.old }
-    ensures items { out.new.items ≡ out.old.items ++ master_octets master }
-    ensures len { vec_len out.new ≡ vec_len out.old + length (master_octets master) }
-    ensures room { vec_capacity out.old ≤ vec_capacity out.new }
+    ensures { Appends out.old out.new (master_octets master) (length (master_octets master)) }
 {
     match master {
         None => push(out, &[0]),
@@ -99,10 +95,7 @@ pub fn push_master(out: &mut Vec<u8>, master: Option<u8>)
 /// `Short` where octets are missing; `Flag` where the first is over 1.
 #[tactic(auto, unfolding(crate::specs::Checkpoint::master_read))]
 pub fn read_master(form: Form, octets: &[u8]) -> Result<(Option<u8>, usize), StateFault>
-    ensures ok { IfOk result (λ found. master_read_in form octets.now ≡ Ok (record { count = found.0; octets = found.1 })) }
-    ensures count { IfOk result (λ found. IsCount found.0) }
-    ensures inside { IfOk result (λ found. found.1 ≤ length octets.now) }
-    ensures most { IfOk result (λ found. found.1 ≤ 2) }
+    ensures ok { IfOk result (IsMaster form octets.now) }
     ensures refused { IfErr result (λ fault. master_read_in form octets.now ≡ Err fault) }
 {
     if form == Form::WithoutMaster {
@@ -129,9 +122,7 @@ pub fn read_block<'a>(
     records: u32,
     octets: &'a [u8],
 ) -> Result<(Block<'a>, usize), StateFault>
-    ensures ok { IfOk result (λ found. IsBlock (channel_block rules.now channel records octets.now) found.0 found.1) }
-    ensures inside { IfOk result (λ found. found.1 ≤ length octets.now) }
-    ensures most { IfOk result (λ found. length found.0.tail.now ≤ rules.now.max_packet) }
+    ensures ok { IfOk result (IsBlock (channel_block rules.now channel records) rules.now octets.now) }
     ensures refused { IfErr result (λ fault. channel_block rules.now channel records octets.now ≡ Err fault) }
 {
     if octets.is_empty() {
@@ -145,29 +136,19 @@ pub fn read_block<'a>(
         return Err(StateFault::Flag);
     }
     if flag == 1 {
-        return read_count(octets);
+        if octets.len() < 2 {
+            return Err(StateFault::Short);
+        }
+        let block = Block {
+            count: Some(octets[1]),
+            ..Block::NONE
+        };
+        return Ok((block, 2));
     }
     if octets.len() < 12 {
         return Err(StateFault::Short);
     }
     read_tail(rules, records, octets)
-}
-
-// Reads the block of a channel without a tail, whose flag is there.
-fn read_count<'a>(octets: &'a [u8]) -> Result<(Block<'a>, usize), StateFault>
-    ensures ok { IfOk result (λ found. (2 ≤ length octets.now)
-        × (block_last found.0 ≡ Some (record { count = slice_index octets.now 1; tail = None })) × (found.1 ≡ 2)
-        × (length found.0.tail.now ≡ 0)) }
-    ensures refused { IfErr result (λ fault. (length octets.now < 2) × (fault ≡ found.Short)) }
-{
-    if octets.len() < 2 {
-        return Err(StateFault::Short);
-    }
-    let block = Block {
-        count: Some(octets[1]),
-        ..Block::NONE
-    };
-    Ok((block, 2))
 }
 
 // Reads the block of a channel with a tail, whose fixed parts are there.
@@ -177,10 +158,7 @@ fn read_tail<'a>(
     octets: &'a [u8],
 ) -> Result<(Block<'a>, usize), StateFault>
     requires { 12 ≤ length octets.now }
-    ensures ok { IfOk result (λ found. IsBlock
-        (tail_block rules.now.max_packet rules.now.layout records octets.now) found.0 found.1) }
-    ensures inside { IfOk result (λ found. found.1 ≤ length octets.now) }
-    ensures most { IfOk result (λ found. length found.0.tail.now ≤ rules.now.max_packet) }
+    ensures ok { IfOk result (IsBlock (tail_block rules.now.max_packet rules.now.layout records) rules.now octets.now) }
     ensures refused { IfErr result (λ fault. tail_block rules.now.max_packet rules.now.layout records octets.now ≡ Err fault) }
 {
     let first = four_at(octets, 2);

@@ -16,9 +16,9 @@ ghost use Rattle.tm_items.specs.Among.{Among, is_of, is_master_gap};
 ghost use Rattle.tm_reassembly.specs.Recording.{readings, items, after};
 ghost use Rattle.tm_items.specs.declared.items.Reason.TheVariants as why;
 ghost use Rattle.tm_reassembly.specs.Chain.{ChainMember, Run, End, master_chain};
-ghost use Rattle.tm_reassembly.specs.Parts.{Start, starts_of, text, far_end, is_long, begins_packet, agrees, open_after, claims, holder, breaker, joined, Given, fate_at, front_lost};
+ghost use Rattle.tm_reassembly.specs.Parts.{Start, starts_of, text, reach_of, is_long, begins_packet, agrees, open_after, claims, holder, breaker, joined, Given, fate_at, lost_lead};
 ghost use Rattle.tm_items.specs.OnePacket.{packet_length};
-ghost use Rattle.tm_reassembly.specs.Absolute.{start_in_text, frame_begin, frame_end, packet_length_at, IsVersionZero, IsLong, BeginsPacket, Agrees, Iff, IsIn, LiesAfter, FrameInRun, text_of_run, IsStartIn, IsOpenIn, AgreesByPlace, lead_in, StartInRun, text_with, place_of_start, far_of_start, frames_up_to, IsLongUpTo, IsOpenBehind, GoesOnByPlace, GoesOnWith, IsWholeIn, part_of_start, part_up_to, part_in_frame, part_before};
+ghost use Rattle.tm_reassembly.specs.Absolute.{start_in_text, frame_begin, frame_end, packet_length_at, IsVersionZero, IsLong, BeginsPacket, Agrees, Iff, IsIn, LiesAfter, FrameInRun, text_of_run, IsStartIn, IsOpenIn, AgreesByPlace, lead_in, StartInRun, text_with, place_of_start, reach_of_start, frames_up_to, IsLongUpTo, IsOpenBehind, GoesOnByPlace, GoesOnWith, IsWholeIn, part_of_start, part_up_to, part_in_frame, part_before};
 ghost use Rattle.tm_reassembly.specs.Tiles.{Spot, channel_spots, parts_of, held_tail, Tile, IsHeld};
 ghost use Rattle.tm_reassembly.specs.Verdict.{completed_at_once, Grow, IsSettledIn, is_whole};
 
@@ -34,7 +34,7 @@ pub fn joining()
 /// valid state holds of a channel is shorter than the longest packet that the limit allows.
 pub fn valid_states()
     ensures none { (rules : Rules) → IsLimit rules.max_packet → IsValidState rules empty }
-    ensures kept { (o : Origin) (records : Records) → AllOctets records → o.state.records + length records < 2 ^ 32 →
+    ensures left_valid { (o : Origin) (records : Records) → AllOctets records → o.state.records + length records < 2 ^ 32 →
         IsValidState o.rules (state_behind o records) }
     ensures short_tails { (o : Origin) (c : ℕ) (t : Tail) → held_tail o.state c ≡ Some t → length t.octets < o.rules.max_packet }
 {}
@@ -93,7 +93,7 @@ pub fn settled_verdict()
     ensures own_frame { (limit : ℕ) (start : List ℕ) (later : List ChainMember) →
         completed_at_once limit start later ≡ (begins_packet limit start && nat_le (packet_length start) (length start)) }
     ensures own_long { (limit : ℕ) (start : List ℕ) (later : List ChainMember) →
-        is_long limit (far_end start later) (length start) ≡ is_long limit (packet_length start) (length start) }
+        is_long limit (reach_of start later) (length start) ≡ is_long limit (packet_length start) (length start) }
 {}
 
 /// Merged by record nothing is lost, and nothing is added. From a valid state, each item of a channel is seen at one of the
@@ -148,17 +148,17 @@ pub fn places_in_text()
     ensures starts_here { (limit : ℕ) (r : FrameInRun) (q : ℕ) → IsStartIn limit r q →
         (s : Start) × (skipped : List ℕ) × IsIn s (starts_of limit r.frame) × LiesAfter r.frame s skipped
         × (q ≡ start_in_text r.before skipped) }
-    ensures ends { (p : StartInRun) → packet_length_at (text_with p) (place_of_start p) ≡ place_of_start p + far_of_start p }
+    ensures ends { (p : StartInRun) → packet_length_at (text_with p) (place_of_start p) ≡ place_of_start p + reach_of_start p }
     ensures agreement { (limit : ℕ) (p : StartInRun) (between : List ChainMember) (m : ChainMember) →
-        Iff (agrees limit (far_of_start p) (length p.octets + length (text between)) m ≡ true) (GoesOnWith limit p between m) }
+        Iff (agrees limit (reach_of_start p) (length p.octets + length (text between)) m ≡ true) (GoesOnWith limit p between m) }
     ensures long { (limit : ℕ) (p : StartInRun) (between : List ChainMember) (m : ChainMember) →
-        Iff (is_long limit (far_of_start p) ((length p.octets + length (text between)) + length m.field) ≡ true)
+        Iff (is_long limit (reach_of_start p) ((length p.octets + length (text between)) + length m.field) ≡ true)
         (IsLongUpTo limit p (frame_end (frames_up_to p ++ between) m)) }
     ensures own_long { (limit : ℕ) (p : StartInRun) →
         Iff (is_long limit (packet_length p.octets) (length p.octets) ≡ true)
         (IsLongUpTo limit p (frame_begin (frames_up_to p))) }
     ensures opened { (limit : ℕ) (p : StartInRun) (between : List ChainMember) → 0 < length p.octets →
-        Iff ((begins_packet limit p.octets && open_after limit (far_of_start p) (length p.octets) between) ≡ true)
+        Iff ((begins_packet limit p.octets && open_after limit (reach_of_start p) (length p.octets) between) ≡ true)
         (IsOpenBehind limit p between) }
     ensures whole { (limit : ℕ) (p : StartInRun) → 0 < length p.octets
         → Iff (is_whole limit p.octets p.later ≡ true) (IsWholeIn limit p) }
@@ -167,14 +167,14 @@ pub fn places_in_text()
 /// Where parts end. A packet is seen at the frame that holds its last octet, which is a later one or the start's own. A start that a
 /// frame breaks off is open there, the frame doesn't agree with it, and the octets that it keeps are those up to that frame.
 pub fn part_ends()
-    ensures last_octet { (far at number : ℕ) (between more : List ChainMember) (m : ChainMember) →
-        at + length (text between) < far → far ≤ (at + length (text between)) + length m.field →
-        holder far at number (between ++ m ∷ more) ≡ m.number }
-    ensures own_frame { (far at number : ℕ) (later : List ChainMember) → far ≤ at → holder far at number later ≡ number }
-    ensures broken_off { (limit far at : ℕ) (later : List ChainMember) (m : ChainMember) → breaker limit far at later ≡ Some m →
-        (between : List ChainMember) × (more : List ChainMember) × (later ≡ between ++ m ∷ more)
-        × (open_after limit far at between ≡ true)
-        × (agrees limit far (at + length (text between)) m ≡ false) × (joined limit far at later ≡ between) }
+    ensures last_octet { (reach at number : ℕ) (between more : List ChainMember) (m : ChainMember) →
+        at + length (text between) < reach → reach ≤ (at + length (text between)) + length m.field →
+        holder reach at number (between ++ m ∷ more) ≡ m.number }
+    ensures own_frame { (reach at number : ℕ) (later : List ChainMember) → reach ≤ at → holder reach at number later ≡ number }
+    ensures broken_off { (limit reach at : ℕ) (later : List ChainMember) (m : ChainMember)
+        → breaker limit reach at later ≡ Some m → (between : List ChainMember) × (more : List ChainMember)
+        × (later ≡ between ++ m ∷ more) × (open_after limit reach at between ≡ true)
+        × (agrees limit reach (at + length (text between)) m ≡ false) × (joined limit reach at later ≡ between) }
 {}
 
 /// The parts with places in the text of the run. At a frame at which no start is open, the octets before its place are lost, or
@@ -185,11 +185,11 @@ pub fn part_ends()
 /// up to the end of the text, which are held, or lost as the run ends.
 pub fn parts_in_text()
     ensures no_start { (limit : ℕ) (r : FrameInRun) → ((q : ℕ) → IsOpenIn limit r q → ⊥)
-        → lead_in limit r ≡ front_lost r.frame why.NoStart }
+        → lead_in limit r ≡ lost_lead r.frame why.NoStart }
     ensures pointer { (limit : ℕ) (r : FrameInRun) (q : ℕ) → IsOpenIn limit r q → (AgreesByPlace r q → ⊥) →
-        lead_in limit r ≡ front_lost r.frame why.Pointer }
+        lead_in limit r ≡ lost_lead r.frame why.Pointer }
     ensures long_lead { (limit : ℕ) (r : FrameInRun) (q : ℕ) → IsOpenIn limit r q → AgreesByPlace r q →
-        IsLong limit (text_of_run r) q (frame_end r.before r.frame) → lead_in limit r ≡ front_lost r.frame why.Length }
+        IsLong limit (text_of_run r) q (frame_end r.before r.frame) → lead_in limit r ≡ lost_lead r.frame why.Length }
     ensures joined { (limit : ℕ) (r : FrameInRun) (q : ℕ) → IsOpenIn limit r q →
         Agrees limit (text_of_run r) q (frame_begin r.before) r.frame → lead_in limit r ≡ [] }
     ensures unread { (limit : ℕ) (p : StartInRun) (end : End) → 0 < length p.octets
@@ -201,15 +201,15 @@ pub fn parts_in_text()
     ensures packet { (limit : ℕ) (p : StartInRun) (end : End) → 0 < length p.octets → IsWholeIn limit p
         → part_of_start limit p end
         ≡ part_up_to p (packet_length_at (text_with p) (place_of_start p))
-        (Given (holder (far_of_start p) (length p.octets) p.frame.number p.later)) }
+        (Given (holder (reach_of_start p) (length p.octets) p.frame.number p.later)) }
     ensures broken { (limit : ℕ) (p : StartInRun) (end : End) → 0 < length p.octets
         → (between more : List ChainMember) (m : ChainMember) →
         p.later ≡ between ++ m ∷ more → IsOpenBehind limit p between → (GoesOnByPlace p between m → ⊥) →
         part_of_start limit p end ≡ part_before p between m why.Pointer }
     ensures long_broken { (limit : ℕ) (p : StartInRun) (end : End) → 0 < length p.octets
-        → (between more : List ChainMember) (m : ChainMember) →
-        p.later ≡ between ++ m ∷ more → IsOpenBehind limit p between → GoesOnByPlace p between m →
-        IsLongUpTo limit p (frame_end (frames_up_to p ++ between) m) → part_of_start limit p end ≡ part_before p between m why.Length }
+        → (between more : List ChainMember) (m : ChainMember) → p.later ≡ between ++ m ∷ more → IsOpenBehind limit p between
+        → GoesOnByPlace p between m → IsLongUpTo limit p (frame_end (frames_up_to p ++ between) m)
+        → part_of_start limit p end ≡ part_before p between m why.Length }
     ensures unended { (limit : ℕ) (p : StartInRun) (end : End) → 0 < length p.octets →
         BeginsPacket limit (text_with p) (place_of_start p) (frame_begin (frames_up_to p)) → (IsWholeIn limit p → ⊥) →
         ((between more : List ChainMember) (m : ChainMember) → p.later ≡ between ++ m ∷ more → IsOpenBehind limit p between →

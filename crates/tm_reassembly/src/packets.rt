@@ -2,8 +2,8 @@
 
 ghost use Rattle.std.specs.Prelude.{◌≡◌, ◌+◌, ◌^◌, ◌<◌, ◌≤◌, ◌==◌, true, false, length, take, drop, None, Some, ◌++◌, IfOk, IfErr, IfSome, OnOk};
 ghost use Rattle.tm_items.specs.OnePacket as one_packet;
-ghost use Rattle.tm_reassembly.specs.code.DataFields.{IsDataField, member_with};
-ghost use Rattle.tm_reassembly.specs.code.Field.{HasNoWholePacket, IsLeft, IsWholePacketOf, begun_parts, field_parts, unfinished, items_from, left_in, part_items, GivesParts};
+ghost use Rattle.tm_reassembly.specs.code.DataFields.{IsDataField, IsFieldOf, member_with};
+ghost use Rattle.tm_reassembly.specs.code.Field.{HasNoWholePacket, IsLeft, IsMeasured, IsWholePacketOf, begun_parts, field_parts, unfinished, items_from, left_in, part_items, GivesParts};
 ghost use Rattle.tm_reassembly.specs.code.Slots.{member_at};
 ghost use Rattle.tm_reassembly.specs.Parts as model;
 ghost use Rattle.tm_reassembly.specs.Parts.{begins_packet, unread_reason, lead_part};
@@ -58,10 +58,7 @@ pub fn agrees_at(length: usize, offset: usize, field_length: usize, place: Optio
 /// Why what begins here isn't read: it is of another version, or a packet that is long where these octets end.
 pub fn measure(limit: usize, octets: &[u8]) -> Result<usize, Reason>
     requires { 0 < length octets.now }
-    ensures ok { IfOk result (λ size. (begins_packet limit octets.now ≡ true) × (size ≡ one_packet.packet_length octets.now)) }
-    ensures packet { OnOk result (one_packet.is_packet octets.now ≡ true) }
-    ensures most { IfOk result (λ size. size ≤ 65542) }
-    ensures short { IfOk result (λ size. 6 ≤ length octets.now → size ≤ limit) }
+    ensures ok { IfOk result (IsMeasured limit octets.now) }
     ensures unread { IfErr result (λ reason. (begins_packet limit octets.now ≡ false) × (reason ≡ unread_reason octets.now)) }
 {
     if !is_packet(octets) {
@@ -139,7 +136,7 @@ pub fn give_lead<S: Sink>(
 // How many octets the packet has that begins here, where it is read and lies whole in these octets. No packet has fewer than seven.
 #[tactic(auto, using(tm_items::proofs::Reaching::packet_length_least))]
 fn whole_packet(limit: usize, octets: &[u8]) -> Option<usize>
-    ensures whole { IfSome result (λ size. IsWholePacketOf limit octets.now size) }
+    ensures whole { IfSome result (IsWholePacketOf limit octets.now) }
     ensures none { result ≡ None → HasNoWholePacket limit octets.now }
 {
     if octets.len() < 7 {
@@ -160,9 +157,7 @@ fn give_unread<S: Sink>(
     offset: usize,
     sink: &mut S,
 ) -> Result<usize, S::Fault>
-    requires channel { channel < 8 }
-    requires most { length field.now ≤ 2042 }
-    requires inside { offset ≤ length field.now }
+    requires field { IsFieldOf channel (Some offset) field.now }
     requires limit { IsLimit limit }
     requires none { HasNoWholePacket limit (drop offset field.now) }
     ensures given { Gives S.Sink sink.old sink.new (items_from limit seen channel field.now offset) result }
@@ -199,9 +194,7 @@ pub fn read_field<S: Sink>(
     place: usize,
     sink: &mut S,
 ) -> Result<usize, S::Fault>
-    requires channel { channel < 8 }
-    requires most { length field.now ≤ 2042 }
-    requires inside { place ≤ length field.now }
+    requires field { IsFieldOf channel (Some place) field.now }
     requires limit { IsLimit limit }
     ensures given { GivesParts S.Sink sink.old sink.new channel
         (field_parts limit seen (length field.now) place field.now) result }
@@ -227,8 +220,7 @@ pub fn give_field<S: Sink>(
     field: DataField<'_>,
     sink: &mut S,
 ) -> Result<usize, S::Fault>
-    requires channel { channel < 8 }
-    requires field { IsDataField field }
+    requires field { IsDataField channel field }
     requires limit { IsLimit limit }
     ensures given { GivesParts S.Sink sink.old sink.new channel (begun_parts limit reason (member_with seen field.entry)) result }
     ensures left { IfOk result (λ left. IsLeft limit field.entry.octets.now left

@@ -3,16 +3,16 @@
 ghost use Rattle.std.specs.Prelude.{◌≡◌, ◌⊎◌, ◌+◌, ◌*◌, ◌<◌, ◌≤◌, ◌++◌, IfOk, IfErr, OnOk, OnErr, IsOk, Ok, Err, vec_len, vec_capacity, replicate, List, Option, None, Some, true, false, [], ◌∷◌, length};
 ghost use Rattle.std.specs.List.{flat_map};
 ghost use Rattle.tm_frame.specs.Layout.{record_length_of};
-ghost use Rattle.tm_reassembly.specs.Checkpoint.{block, state_spelling, blocks_read, with_channels, state_decoding_of, old_decoding_of};
-ghost use Rattle.tm_reassembly.specs.code.Blocks.{decoding_in};
+ghost use Rattle.tm_reassembly.specs.Checkpoint.{block, state_spelling, blocks_read, state_decoding_of, old_decoding_of};
+ghost use Rattle.tm_reassembly.specs.code.Blocks.{KeepBlocks, channels_decoding, decoding_in};
 ghost use Rattle.tm_reassembly.specs.Items.{closing, close_channels};
-ghost use Rattle.tm_reassembly.specs.code.Slots.{HaveLimit, lasts, rooms, state_kept, unused};
+ghost use Rattle.tm_reassembly.specs.code.Slots.{HaveLimit, lasts, rooms, state_of, unused};
 ghost use Rattle.tm_reassembly.specs.State.{octets_in, State, Last};
 ghost use Rattle.tm_reassembly.specs.Recording.{items, after};
 ghost use Rattle.tm_frame.specs.Rules.{IsLimit, chooses};
 ghost use Rattle.tm_items.specs.Giving.{Gives};
 ghost use Rattle.tm_items.specs.Sinks.{TakesAll};
-ghost use Rattle.tm_reassembly.specs.Steps.{Progress, new_progress, most_records, progress_in, step_items, stepped, StepRefused, CloseRefused, last_count_of, rules_of, IsDecoded, IsRefusal};
+ghost use Rattle.tm_reassembly.specs.Steps.{Progress, new_progress, most_records, progress_in, step_items, stepped, StepRefused, CloseRefused, last_count_of, rules_of, IsRestored, IsRefusal};
 ghost use Rattle.tm_reassembly.specs.Tiles.{held_tail};
 ghost use Rattle.tm_reassembly.specs.Valid.{IsCount, IsValidState};
 
@@ -41,12 +41,12 @@ impl Model for Reassembly {
 
     ghost view = { λ r. record {
       rules = r.rules;
-      state = state_kept r.records r.master r.states;
+      state = state_of r.records r.master r.states;
       failed = r.failed;
       room = rooms r.states;
     } };
 
-    ghost invariant = { λ r. r.failed ≡ false → IsValidState r.rules (state_kept r.records r.master r.states)
+    ghost invariant = { λ r. r.failed ≡ false → IsValidState r.rules (state_of r.records r.master r.states)
         × HaveLimit r.rules.max_packet r.states };
 }
 
@@ -273,11 +273,8 @@ impl Reassembly {
         octets: &[u8],
     ) -> Result<(Reassembly, usize), StateFault>
         requires { IsLimit max_packet }
-        ensures ok { IfOk result (λ read. IsDecoded
-            (state_decoding_of (rules_of layout channels max_packet) octets.now) read.0.state read.1) }
-        ensures same { IfOk result (λ read. read.0 ≡ progress_in (rules_of layout channels max_packet) read.0.state) }
-        ensures refused { IfErr result (λ fault. IsRefusal
-            (state_decoding_of (rules_of layout channels max_packet) octets.now) fault) }
+        ensures ok { IfOk result (λ read. IsRestored state_decoding_of (rules_of layout channels max_packet) octets.now read) }
+        ensures refused { IfErr result (IsRefusal (state_decoding_of (rules_of layout channels max_packet) octets.now)) }
     {
         let rules = Rules {
             layout,
@@ -301,11 +298,8 @@ impl Reassembly {
         octets: &[u8],
     ) -> Result<(Reassembly, usize), StateFault>
         requires { IsLimit max_packet }
-        ensures ok { IfOk result (λ read. IsDecoded
-            (old_decoding_of (rules_of layout channels max_packet) octets.now) read.0.state read.1) }
-        ensures same { IfOk result (λ read. read.0 ≡ progress_in (rules_of layout channels max_packet) read.0.state) }
-        ensures refused { IfErr result (λ fault. IsRefusal
-            (old_decoding_of (rules_of layout channels max_packet) octets.now) fault) }
+        ensures ok { IfOk result (λ read. IsRestored old_decoding_of (rules_of layout channels max_packet) octets.now read) }
+        ensures refused { IfErr result (IsRefusal (old_decoding_of (rules_of layout channels max_packet) octets.now)) }
     {
         let rules = Rules {
             layout,
@@ -325,9 +319,8 @@ fn decode_form(
     octets: &[u8],
 ) -> Result<(Reassembly, usize), StateFault>
     requires { IsLimit rules.max_packet }
-    ensures ok { IfOk result (λ read. IsDecoded (decoding_in form rules octets.now) read.0.state read.1) }
-    ensures same { IfOk result (λ read. read.0 ≡ progress_in rules read.0.state) }
-    ensures refused { IfErr result (λ fault. IsRefusal (decoding_in form rules octets.now) fault) }
+    ensures ok { IfOk result (λ read. IsRestored (decoding_in form) rules octets.now read) }
+    ensures refused { IfErr result (IsRefusal (decoding_in form rules octets.now)) }
 {
     if octets.len() < 4 {
         return Err(StateFault::Short);
@@ -353,11 +346,8 @@ fn decode_channels(
     requires limit { IsLimit rules.max_packet }
     requires count { IsCount master }
     requires start { start ≤ 6 }
-    ensures ok { IfOk result (λ read. IsDecoded
-        (with_channels records master start (blocks_read rules records 8 0 octets.now)) read.0.state read.1) }
-    ensures same { IfOk result (λ read. read.0 ≡ progress_in rules read.0.state) }
-    ensures refused { IfErr result (λ fault. IsRefusal
-        (with_channels records master start (blocks_read rules records 8 0 octets.now)) fault) }
+    ensures ok { IfOk result (λ read. IsRestored (channels_decoding records master start) rules octets.now read) }
+    ensures refused { IfErr result (IsRefusal (channels_decoding records master start rules octets.now)) }
 {
     if let Err(fault) = check(&rules, records, octets) {
         return Err(fault);
@@ -433,12 +423,12 @@ fn add_record<S: Sink>(
     sink: &mut S,
 ) -> Result<(), S::Fault>
     requires record { length octets.now ≡ record_length_of rules.now.layout }
-    requires state { IsValidState rules.now (state_kept seen master.old states.old) }
+    requires state { IsValidState rules.now (state_of seen master.old states.old) }
     requires limit { HaveLimit rules.now.max_packet states.old }
     ensures given { Gives S.Sink sink.old sink.new
-        (items rules.now (state_kept seen master.old states.old) (octets.now ∷ [])) result }
-    ensures left { OnOk result (state_kept (seen + 1) master.new states.new
-        ≡ after rules.now (state_kept seen master.old states.old) (octets.now ∷ [])) }
+        (items rules.now (state_of seen master.old states.old) (octets.now ∷ [])) result }
+    ensures left { OnOk result (state_of (seen + 1) master.new states.new
+        ≡ after rules.now (state_of seen master.old states.old) (octets.now ∷ [])) }
     ensures limit { OnOk result (HaveLimit rules.now.max_packet states.new) }
 {
     match read(&rules.layout, octets) {
@@ -469,7 +459,7 @@ fn close_recording<S: Sink>(
     states: &[ChannelState; 8],
     sink: &mut S,
 ) -> Result<(), S::Fault>
-    ensures given { Gives S.Sink sink.old sink.new (closing (state_kept seen None states.now) rest) result }
+    ensures given { Gives S.Sink sink.old sink.new (closing (state_of seen None states.now) rest) result }
 {
     if rest > 0 {
         if let Err(fault) = sink.take(Item::Short { seen, octets: rest }) {
@@ -521,7 +511,7 @@ fn push_channels(out: &mut Vec<u8>, states: &[ChannelState; 8])
 }
 
 // The first fault of the channels' blocks, if there is one.
-#[tactic(auto, using(crate::proofs::Blocks::some_none, crate::proofs::Blocks::some_more, crate::proofs::Blocks::some_fault, crate::proofs::Blocks::some_all))]
+#[tactic(auto, using(crate::proofs::Blocks::some_none, crate::proofs::Blocks::some_more))]
 fn check(rules: &Rules, records: u32, octets: &[u8]) -> Result<(), StateFault>
     ensures ok { OnOk result (IsOk (blocks_read rules.now records 8 0 octets.now)) }
     ensures refused { IfErr result (λ fault. blocks_read rules.now records 8 0 octets.now ≡ Err fault) }
@@ -537,7 +527,7 @@ fn check(rules: &Rules, records: u32, octets: &[u8]) -> Result<(), StateFault>
 }
 
 // Keeps what the blocks say of the channels. Answers how many octets they have.
-#[tactic(auto, using(crate::proofs::Blocks::reads_none, crate::proofs::Blocks::kept_more, crate::proofs::Blocks::kept_fault, crate::proofs::Blocks::kept_all))]
+#[tactic(auto, using(crate::proofs::Blocks::reads_none, crate::proofs::Blocks::asked_fault))]
 fn restore(
     rules: &Rules,
     records: u32,
@@ -545,10 +535,8 @@ fn restore(
     states: &mut [ChannelState; 8],
 ) -> Result<usize, StateFault>
     requires { HaveLimit rules.now.max_packet states.old }
-    ensures ok { IfOk result (λ used. blocks_read rules.now records 8 0 octets.now
-        ≡ Ok (record { kept = lasts states.new; octets = used })) }
+    ensures ok { IfOk result (KeepBlocks rules.now records octets.now states.new) }
     ensures limit { OnOk result (HaveLimit rules.now.max_packet states.new) }
-    ensures inside { IfOk result (λ used. used ≤ length octets.now) }
     ensures refused { IfErr result (λ fault. blocks_read rules.now records 8 0 octets.now ≡ Err fault) }
 {
     let mut at = 0;

@@ -1,12 +1,12 @@
 //! The tail of a channel: the octets so far of a packet that isn't whole.
 
 ghost use Rattle.std.specs.Prelude.{◌≡◌, ◌+◌, ◌<◌, ◌≤◌, ◌++◌, length, take, IfOk, IfErr, OnOk, Option, None, Some, is_some, true, vec_len, vec_capacity};
-ghost use Rattle.tm_reassembly.specs.code.Blocks.{spelled_tail};
+ghost use Rattle.tm_reassembly.specs.code.Blocks.{Appends, spelled_tail};
 ghost use Rattle.tm_items.specs.declared.items.Reason.TheVariants as why;
-ghost use Rattle.tm_reassembly.specs.code.DataFields.{IsDataField, member_with};
+ghost use Rattle.tm_reassembly.specs.code.DataFields.{IsDataField, IsFieldOf, member_with};
 ghost use Rattle.tm_reassembly.specs.code.Field.{begun_parts, broken_off_parts, step_parts, step_tail, ended_parts, frame_parts, frame_tail, part_items, GivesParts};
 ghost use Rattle.tm_items.specs.Item as value;
-ghost use Rattle.tm_reassembly.specs.code.Slots.{Buffer, HoldsTail, LeavesTail, tail_of_octets, grown, completed, completed_parts, member_at};
+ghost use Rattle.tm_reassembly.specs.code.Slots.{Buffer, HoldsTail, LeavesTail, MayEnd, MayGrow, tail_of_octets, grown, completed, completed_parts, member_at};
 ghost use Rattle.tm_reassembly.specs.State.{octets_in};
 ghost use Rattle.tm_reassembly.specs.Parts as model;
 ghost use Rattle.tm_frame.specs.Rules.{IsLimit};
@@ -145,8 +145,7 @@ impl Tail {
         field: DataField<'_>,
         sink: &mut S,
     ) -> Result<(), S::Fault>
-        requires channel { channel < 8 }
-        requires field { IsDataField field }
+        requires field { IsDataField channel field }
         ensures given { GivesParts S.Sink sink.old sink.new channel
             (begun_parts self.old.limit reason (member_with seen field.entry)) result }
         ensures left { LeavesTail self.old self.new (frame_tail self.old.limit (member_with seen field.entry)) result }
@@ -168,8 +167,7 @@ impl Tail {
         field: DataField<'_>,
         sink: &mut S,
     ) -> Result<(), S::Fault>
-        requires channel { channel < 8 }
-        requires field { IsDataField field }
+        requires field { IsDataField channel field }
         requires open { IsOpenTail self.old.limit self.old.tail }
         ensures given { GivesParts S.Sink sink.old sink.new channel
             (step_parts self.old.limit self.old.tail (member_with seen field.entry)) result }
@@ -201,8 +199,7 @@ impl Tail {
     // Holds more octets of the packet.
     #[tactic(auto, using(crate::proofs::Tails::grown_octets, crate::proofs::Tails::octets_again))]
     fn grow(&mut self, more: &[u8])
-        requires some { 0 < length (octets_in self.old.tail) }
-        requires most { length (octets_in self.old.tail) + length more.now ≤ self.old.limit }
+        requires { MayGrow self.old more.now }
         ensures { HoldsTail self.old self.new (grown self.old.tail more.now) }
     {
         match self.octets.extend_from_slice(more) {
@@ -220,9 +217,7 @@ impl Tail {
         sink: &mut S,
     ) -> Result<(), S::Fault>
         requires channel { channel < 8 }
-        requires most { length (octets_in self.old.tail) + length last.now ≤ self.old.limit }
-        requires some { 0 < length (octets_in self.old.tail) }
-        requires whole { IsOnePacket (octets_in self.old.tail ++ last.now) }
+        requires whole { MayEnd self.old last.now }
         ensures given { GivesParts S.Sink sink.old sink.new channel (completed self.old.tail last.now seen) result }
         ensures left { LeavesTail self.old self.new None result }
     {
@@ -250,12 +245,8 @@ impl Tail {
         field: &[u8],
         sink: &mut S,
     ) -> Result<(), S::Fault>
-        requires channel { channel < 8 }
-        requires most { length field.now ≤ 2042 }
-        requires start { start ≤ length field.now }
-        requires some { 0 < length (octets_in self.old.tail) }
-        requires whole { IsOnePacket (octets_in self.old.tail ++ take start field.now) }
-        requires room { length (octets_in self.old.tail) + start ≤ self.old.limit }
+        requires field { IsFieldOf channel (Some start) field.now }
+        requires whole { MayEnd self.old (take start field.now) }
         ensures given { GivesParts S.Sink sink.old sink.new channel
             (completed_parts self.old.limit self.old.tail seen start field.now) result }
         ensures left { LeavesTail self.old self.new (frame_tail self.old.limit (member_at seen (Some start) field.now)) result }
@@ -282,8 +273,7 @@ impl Tail {
         field: DataField<'_>,
         sink: &mut S,
     ) -> Result<(), S::Fault>
-        requires channel { channel < 8 }
-        requires field { IsDataField field }
+        requires field { IsDataField channel field }
         ensures given { GivesParts S.Sink sink.old sink.new channel
             (broken_off_parts self.old.limit self.old.tail reason (member_with seen field.entry)) result }
         ensures left { LeavesTail self.old self.new (frame_tail self.old.limit (member_with seen field.entry)) result }
@@ -309,9 +299,7 @@ impl Tail {
     pub fn push(&self, out: &mut Vec<u8>)
         requires held { is_some self.now.tail ≡ true }
         requires room { vec_len out.old + (10 + length (octets_in self.now.tail)) ≤ vec_capacity out.old }
-        ensures items { out.new.items ≡ out.old.items ++ spelled_tail self.now.tail }
-        ensures len { vec_len out.new ≡ vec_len out.old + (10 + length (octets_in self.now.tail)) }
-        ensures room { vec_capacity out.old ≤ vec_capacity out.new }
+        ensures { Appends out.old out.new (spelled_tail self.now.tail) (10 + length (octets_in self.now.tail)) }
     {
         push_four(out, self.first);
         push_two(out, self.place);

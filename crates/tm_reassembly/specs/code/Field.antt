@@ -6,7 +6,7 @@ use Rattle.tm_items.specs.declared.items.Reason.TheVariants as why
 use Rattle.tm_items.specs.declared.items.Reason.{Reason}
 use Rattle.tm_reassembly.specs.State.{Tail}
 use Rattle.tm_reassembly.specs.Chain.{ChainMember}
-use Rattle.tm_reassembly.specs.Parts.{Part, Given, Lost, begins_packet, agrees, reason_at, unread_reason, front_lost, lead}
+use Rattle.tm_reassembly.specs.Parts.{Part, Given, Lost, begins_packet, agrees, reason_at, unread_reason, lost_lead, lead}
 use Rattle.tm_items.specs.declared.sink.Sink as sink
 use Rattle.tm_items.specs.Giving.{Gives}
 use Rattle.tm_items.specs.Item.{Item}
@@ -68,7 +68,7 @@ module _ (limit : ℕ) where
 
   -- likewise where no packet is open: what stands before its place is lost for this reason
   abbrev pub begun_parts : Reason → ChainMember → List Part
-  begun_parts reason m = front_lost m reason ++ frame_parts m
+  begun_parts reason m = lost_lead m reason ++ frame_parts m
 
   -- where a frame breaks off a tail: that is lost for this reason, and so is what stands before the frame's place
   abbrev pub broken_off_parts : Option Tail → Reason → ChainMember → List Part
@@ -78,21 +78,21 @@ module _ (limit : ℕ) where
   frame_tail m = tail_at m.number (end_place_of m) (left_in m.place m.field)
 
   abbrev pub tail_parts : Tail → ChainMember → ℕ → List Part
-  tail_parts t m far =
-      if agrees limit far (length t.octets) m
+  tail_parts t m reach =
+      if agrees limit reach (length t.octets) m
       then
-      (if nat_le far (length (t.octets ++ m.field))
+      (if nat_le reach (length (t.octets ++ m.field))
       then
-      record { first = t.first; place = t.place; octets = take far (t.octets ++ m.field); fate = Given m.number }
+      record { first = t.first; place = t.place; octets = take reach (t.octets ++ m.field); fate = Given m.number }
       ∷ frame_parts m
       else [])
-      else broken_off_parts (Some t) (reason_at far (length t.octets) m) m
+      else broken_off_parts (Some t) (reason_at reach (length t.octets) m) m
 
   abbrev pub tail_left : Tail → ChainMember → ℕ → Option Tail
-  tail_left t m far =
-      if agrees limit far (length t.octets) m
+  tail_left t m reach =
+      if agrees limit reach (length t.octets) m
       then
-      (if nat_le far (length (t.octets ++ m.field))
+      (if nat_le reach (length (t.octets ++ m.field))
       then frame_tail m
       else Some (record { first = t.first; place = t.place; octets = t.octets ++ m.field }))
       else frame_tail m
@@ -130,14 +130,20 @@ abbrev pub items_from : ℕ → ℕ → ℕ → List ℕ → ℕ → List Item
 items_from limit seen channel field at = part_items channel (field_parts limit seen (length field) 0 (drop at field))
 
 -- a packet of so many octets begins with these, is read, and lies whole in them
-pub record IsWholePacketOf (limit : ℕ) (octets : List ℕ) (far : ℕ) : Type 0 where
+pub record IsWholePacketOf (limit : ℕ) (octets : List ℕ) (reach : ℕ) : Type 0 where
   pub some : 0 < length octets
   pub version : is_packet octets ≡ true
   pub begins : begins_packet limit octets ≡ true
-  pub reaches : far ≡ packet_length octets
-  pub whole : far ≤ length octets
+  pub reaches : reach ≡ packet_length octets
+  pub whole : reach ≤ length octets
 
--- none does
+-- a packet of so many octets begins with these, and is read; it is no longer than the limit where its whole header is there
+abbrev pub IsMeasured : ℕ → List ℕ → ℕ → Type 0
+IsMeasured limit octets reach =
+    (begins_packet limit octets ≡ true) × (is_packet octets ≡ true) × (reach ≡ packet_length octets)
+    × (reach ≤ 65542) × (6 ≤ length octets → reach ≤ limit)
+
+-- none lies whole in them
 abbrev pub HasNoWholePacket : ℕ → List ℕ → Type 0
 HasNoWholePacket limit octets = begins_packet limit octets ≡ true → length octets < packet_length octets
 

@@ -1,12 +1,13 @@
 -- What the code keeps of a channel, as the state has it, and what a frame makes of it. These stand in private contracts alone, and in
 -- the model of the public type.
-use Rattle.std.specs.Prelude.{◌≡◌, ℕ, ◌+◌, ◌≤◌, ◌==◌, min, if◌then◌else◌, map, slice_get, Option, Some, None, List, [], ◌∷◌, ◌++◌, Bool, true, false, take, OnOk, Result}
+use Rattle.std.specs.Prelude.{◌≡◌, ℕ, ◌+◌, ◌<◌, ◌≤◌, ◌==◌, length, min, if◌then◌else◌, map, slice_get, Option, Some, None, List, [], ◌∷◌, ◌++◌, Bool, true, false, take, OnOk, Result}
 use Rattle.tm_reassembly.specs.Chain.{ChainMember, has_frame_gap, next_frame_count}
 use Rattle.tm_reassembly.specs.code.Field.{chain_parts_at, chain_tail_at, frame_parts, part_items}
 use Rattle.tm_items.specs.Item.{Item, Vca}
 use Rattle.tm_reassembly.specs.Items.{gap_item, gap_at, vca_at, last_with}
 use Rattle.tm_reassembly.specs.Parts.{Part, Given}
-use Rattle.tm_reassembly.specs.State.{Last, State, Tail}
+use Rattle.tm_reassembly.specs.State.{Last, State, Tail, octets_in}
+use Rattle.tm_items.specs.OnePacket.{IsOnePacket}
 
 -- what a tail's place is seen as: how many octets a packet may have, for how many octets there is room, and the tail that is held
 pub record Buffer : Type 0 where
@@ -72,9 +73,21 @@ HoldsTail old new tail = (new.tail ≡ tail) × (new.limit ≡ old.limit) × (ol
 abbrev pub LeavesTail : {T F : Type 0} → Buffer → Buffer → Option Tail → Result T F → Type 0
 LeavesTail old new tail r = OnOk r (new.tail ≡ tail) × (new.limit ≡ old.limit) × (old.room ≤ new.room)
 
--- the same of what is kept of a channel
+-- what is kept of the channel is this from then on; its limit stays, and its room doesn't shrink
+abbrev pub HoldsLast : Slot → Slot → Option Last → Type 0
+HoldsLast old new last = (new.last ≡ last) × (new.limit ≡ old.limit) × (old.room ≤ new.room)
+
+-- likewise, but that nothing is said of it where the call is refused
 abbrev pub LeavesLast : {T F : Type 0} → Slot → Slot → Option Last → Result T F → Type 0
 LeavesLast old new last r = OnOk r (new.last ≡ last) × (new.limit ≡ old.limit) × (old.room ≤ new.room)
+
+-- a tail is held, and a packet may have its octets and these behind them
+abbrev pub MayGrow : Buffer → List ℕ → Type 0
+MayGrow x more = (0 < length (octets_in x.tail)) × (length (octets_in x.tail) + length more ≤ x.limit)
+
+-- likewise, and these end the packet
+abbrev pub MayEnd : Buffer → List ℕ → Type 0
+MayEnd x more = MayGrow x more × IsOnePacket (octets_in x.tail ++ more)
 
 -- the packet of a tail with more octets behind it
 abbrev pub completed : Option Tail → List ℕ → ℕ → List Part
@@ -88,17 +101,17 @@ completed_parts limit tail seen start field = completed tail (take start field) 
 -- The items of one frame's data, after a gap or none, for a channel that keeps this, with no other frame in view. Then what is
 -- kept after it.
 abbrev pub data_items : ℕ → ℕ → Option Last → Bool → ChainMember → List Item
-data_items limit channel kept gap m = vca_at channel m ++ part_items channel (chain_parts_at limit gap m.is_vca (tail_in kept) m)
+data_items limit channel last gap m = vca_at channel m ++ part_items channel (chain_parts_at limit gap m.is_vca (tail_in last) m)
 
 abbrev pub last_with_data : ℕ → Option Last → Bool → ChainMember → Option Last
-last_with_data limit kept gap m = Some (record { count = m.count; tail = chain_tail_at limit gap m.is_vca (tail_in kept) m })
+last_with_data limit last gap m = Some (record { count = m.count; tail = chain_tail_at limit gap m.is_vca (tail_in last) m })
 
 -- Likewise of the frame with its gap. That these are what the definitions give for a list of one record is proved.
-abbrev pub kept_items : ℕ → ℕ → Option Last → ChainMember → List Item
-kept_items limit channel kept m = gap_at (gap_item channel) (frame_count_in kept) m ++ data_items limit channel kept (has_frame_gap (frame_count_in kept) m) m
+abbrev pub frame_items : ℕ → ℕ → Option Last → ChainMember → List Item
+frame_items limit channel last m = gap_at (gap_item channel) (frame_count_in last) m ++ data_items limit channel last (has_frame_gap (frame_count_in last) m) m
 
 abbrev pub last_after : ℕ → Option Last → ChainMember → Option Last
-last_after limit kept m = last_with_data limit kept (has_frame_gap (frame_count_in kept) m) m
+last_after limit last m = last_with_data limit last (has_frame_gap (frame_count_in last) m) m
 
 -- the parts that a field of packets gives, after a gap or none, and what is kept after it
 abbrev pub slot_parts : Slot → Bool → ChainMember → List Part
@@ -121,5 +134,5 @@ abbrev pub vca_items : Slot → ℕ → ℕ → Bool → List Item
 vca_items x seen channel gap = Vca seen channel ∷ part_items channel (chain_parts_at x.limit gap true (tail_in x.last) (counted seen 0))
 
 -- what the code has, as a state
-abbrev pub state_kept : ℕ → Option ℕ → List Slot → State
-state_kept records master slots = record { records = records; master = master; channels = lasts slots }
+abbrev pub state_of : ℕ → Option ℕ → List Slot → State
+state_of records master slots = record { records = records; master = master; channels = lasts slots }

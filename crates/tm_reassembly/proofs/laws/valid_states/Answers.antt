@@ -13,6 +13,6 @@ short o c t x e f = absurd (cc)
 pub returns : goal.returns
 returns c = record {
   none = empty-valid;
-  kept = λ o records. records-valid o.rules o.state records o.valid;
+  left_valid = λ o records. records-valid o.rules o.state records o.valid;
   short_tails = λ o c t. short o c t _ refl;
 }

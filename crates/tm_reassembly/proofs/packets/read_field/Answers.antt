@@ -7,7 +7,7 @@ use Rattle.tm_reassembly.proofs.ReadField.{read_none, read_more}
 use Rattle.tm_reassembly.proofs.packets.read_field.Goals as goal
 
 pub loop-length-init : goal.loop-length-init
-loop-length-init g c = read_none c.args.limit c.args.seen c.args.channel c.args.field.now c.args.place c.requires.inside
+loop-length-init g c = read_none c.args.limit c.args.seen c.args.channel c.args.field.now c.args.place c.requires.field.2
 
 pub loop-length-preserved : goal.loop-length-preserved
 loop-length-preserved g c =

@@ -10,6 +10,6 @@ pub loop-channel-preserved : goal.loop-channel-preserved
 loop-channel-preserved c =
     let e = spelled_rest c.args.states.now c.loop-channel.channel c.index-states-channel.result (omega (arith, c.loop-channel-test.true)) in
     let l = rest_length c.args.states.now c.loop-channel.channel c.index-states-channel.result (omega (arith, c.loop-channel-test.true)) in (
-      rw (c.push.ensures.items, append_assoc, ← e) c.loop-channel.invariant.0,
-      omega (arith, l, c.loop-channel.invariant.1, c.push.ensures.len, c.push.ensures.room),
+      rw (c.push.ensures.0, append_assoc, ← e) c.loop-channel.invariant.0,
+      omega (arith, l, c.loop-channel.invariant.1, c.push.ensures.1, c.push.ensures.2),
     )

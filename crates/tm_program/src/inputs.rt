@@ -99,7 +99,10 @@ pub(crate) fn prepare_inputs<R: Files + Print + AllocGlobal, E: Write>(
     errors: &mut E,
 ) -> Result<Inputs, ToolFault>
     requires { IsSome plan.now.settings }
-    ensures { IfErr result (MayCome plan.now) }
+    ensures found { IfOk result (λ i. (is_some i.definition ≡ is_some plan.now.definition)
+        × (is_some i.resumed ≡ is_some plan.now.resume)) }
+    ensures job { IfOk result (λ i. IfSome i.resumed (IsResumed i.settings)) }
+    ensures refused { IfErr result (MayCome plan.now) }
 {
     check_standard(rt, plan, errors)?;
     read_inputs(rt, plan)

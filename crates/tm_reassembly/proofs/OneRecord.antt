@@ -17,7 +17,7 @@ use Rattle.tm_items.specs.Item.{Item, Bad}
 use Rattle.tm_reassembly.specs.Chain.{member, has_frame_gap, master_member}
 use Rattle.tm_reassembly.specs.code.Field.{chain_tail_at}
 use Rattle.tm_reassembly.specs.Items as read
-use Rattle.tm_reassembly.specs.code.Slots.{Slot, HaveLimit, lasts, unused, frame_count_in, tail_in, counted, frame_items, last_after, state_of}
+use Rattle.tm_reassembly.specs.code.Slots.{Slot, HaveLimit, lasts, unused, frame_count_in, tail_in, counted, frame_items, last_after, state_in_slots}
 use Rattle.tm_reassembly.proofs.Slots.{last_at, lasts_set, lasts_length, limit_at, limit_set}
 use Rattle.tm_reassembly.specs.Recording.{items, after}
 use Rattle.tm_items.specs.Sinks.{RefusesOne}
@@ -140,14 +140,14 @@ counted_master None seen count g e = refl
 counted_master (Some before) seen count g e = ap (λ (n : ℕ). gap_at master_gap_item (Some before) (counted seen n)) e
 
 -- what is kept of the channels, in their slots
-module _ (rules : Rules) (seen : ℕ) (master : Option ℕ) (slots : List Slot) (v : IsValidState rules (state_of seen master slots)) (limits : HaveLimit rules.max_packet slots) where
+module _ (rules : Rules) (seen : ℕ) (master : Option ℕ) (slots : List Slot) (v : IsValidState rules (state_in_slots seen master slots)) (limits : HaveLimit rules.max_packet slots) where
   eight_slots : length slots ≡ 8
   eight_slots = sym (lasts_length slots) ∙ v.shape.eight_channels
 
   pub open_slot : (c : ℕ) (d : Slot) → c < 8 → IsOpenTail (slice_index_or slots c d).limit (tail_in (slice_index_or slots c d).last)
   open_slot c d small =
       let at : c < length slots = omega (arith, eight_slots) in
-      rw ((limit_at rules.max_packet slots c d limits at).0, ← last_at slots c d) (open_entry rules (state_of seen master slots) v c d.last small)
+      rw ((limit_at rules.max_packet slots c d limits at).0, ← last_at slots c d) (open_entry rules (state_in_slots seen master slots) v c d.last small)
 
   pub limit_slot : (c : ℕ) (d x : Slot) → c < 8 → x.limit ≡ (slice_index_or slots c d).limit → (slice_index_or slots c d).room ≤ x.room
       → HaveLimit rules.max_packet (slice_set slots c x)
@@ -157,17 +157,17 @@ module _ (rules : Rules) (seen : ℕ) (master : Option ℕ) (slots : List Slot) 
 
   module _ (octets : List ℕ) (g : GoodFrame) (e : frame_reading_of rules.layout octets ≡ Ok g) (count : ℕ) (counts : count ≡ g.master_count) where
     abbrev one_record : List Item
-    one_record = items rules (state_of seen master slots) (octets ∷ [])
+    one_record = items rules (state_in_slots seen master slots) (octets ∷ [])
 
     abbrev gap : List Item
     gap = gap_at master_gap_item master (counted seen count)
 
     -- a frame of a channel that isn't chosen
     pub items_unchosen : chooses rules g.channel ≡ false → gap ≡ one_record
-    items_unchosen h = counted_master master seen count g counts ∙ items_other_record rules (state_of seen master slots) v octets g e h
+    items_unchosen h = counted_master master seen count g counts ∙ items_other_record rules (state_in_slots seen master slots) v octets g e h
 
-    pub after_unchosen : chooses rules g.channel ≡ false → state_of (seen + 1) (Some count) slots ≡ after rules (state_of seen master slots) (octets ∷ [])
-    after_unchosen h = rw counts (after_other_record rules (state_of seen master slots) v octets g e h)
+    pub after_unchosen : chooses rules g.channel ≡ false → state_in_slots (seen + 1) (Some count) slots ≡ after rules (state_in_slots seen master slots) (octets ∷ [])
+    after_unchosen h = rw counts (after_other_record rules (state_in_slots seen master slots) v octets g e h)
 
     -- for one that is
     module _ (c : ℕ) (d : Slot) (same : c ≡ g.channel) (is_chosen : chooses rules c ≡ true) where
@@ -177,15 +177,15 @@ module _ (rules : Rules) (seen : ℕ) (master : Option ℕ) (slots : List Slot) 
       pub items_slot : gap ++ frame_items (slice_index_or slots c d).limit c (slice_index_or slots c d).last (member seen g) ≡ one_record
       items_slot =
           rw (counted_master master seen count g counts, (limit_at rules.max_packet slots c d limits inside).0, ← last_at slots c d)
-          (items_one_record rules (state_of seen master slots) v octets g e c d.last same is_chosen)
+          (items_one_record rules (state_in_slots seen master slots) v octets g e c d.last same is_chosen)
 
       pub after_slot : (x : Slot) → x.last ≡ last_after (slice_index_or slots c d).limit (slice_index_or slots c d).last (member seen g)
-          → state_of (seen + 1) (Some count) (slice_set slots c x) ≡ after rules (state_of seen master slots) (octets ∷ [])
+          → state_in_slots (seen + 1) (Some count) (slice_set slots c x) ≡ after rules (state_in_slots seen master slots) (octets ∷ [])
       after_slot x h =
           let k : x.last ≡ last_after rules.max_packet (slice_index_or (lasts slots) c d.last) (member seen g) =
           h ∙ rw ((limit_at rules.max_packet slots c d limits inside).0, ← last_at slots c d) refl in
           state_same refl (ap (λ (n : ℕ). Some n) counts) (lasts_set slots c x ∙ ap (λ (y : Option Last). slice_set (lasts slots) c y) k)
-          ∙ after_one_record rules (state_of seen master slots) v octets g e c d.last same is_chosen
+          ∙ after_one_record rules (state_in_slots seen master slots) v octets g e c d.last same is_chosen
 
     -- the items of a good frame begin with its master gap
     pub items_good : (rest : List Item) × (gap ++ rest ≡ one_record)

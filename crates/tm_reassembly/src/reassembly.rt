@@ -6,7 +6,7 @@ ghost use Rattle.tm_frame.specs.Layout.{record_length_of};
 ghost use Rattle.tm_reassembly.specs.Checkpoint.{block, state_spelling, blocks_read, state_decoding_of, old_decoding_of};
 ghost use Rattle.tm_reassembly.specs.code.Blocks.{KeepBlocks, channels_decoding, decoding_in};
 ghost use Rattle.tm_reassembly.specs.Items.{closing, close_channels};
-ghost use Rattle.tm_reassembly.specs.code.Slots.{HaveLimit, lasts, rooms, state_of, unused};
+ghost use Rattle.tm_reassembly.specs.code.Slots.{HaveLimit, lasts, rooms, state_in_slots, unused};
 ghost use Rattle.tm_reassembly.specs.State.{octets_in, State, Last};
 ghost use Rattle.tm_reassembly.specs.Recording.{items, after};
 ghost use Rattle.tm_frame.specs.Rules.{IsLimit, chooses};
@@ -41,12 +41,12 @@ impl Model for Reassembly {
 
     ghost view = { λ r. record {
       rules = r.rules;
-      state = state_of r.records r.master r.states;
+      state = state_in_slots r.records r.master r.states;
       failed = r.failed;
       room = rooms r.states;
     } };
 
-    ghost invariant = { λ r. r.failed ≡ false → IsValidState r.rules (state_of r.records r.master r.states)
+    ghost invariant = { λ r. r.failed ≡ false → IsValidState r.rules (state_in_slots r.records r.master r.states)
         × HaveLimit r.rules.max_packet r.states };
 }
 
@@ -423,12 +423,12 @@ fn add_record<S: Sink>(
     sink: &mut S,
 ) -> Result<(), S::Fault>
     requires record { length octets.now ≡ record_length_of rules.now.layout }
-    requires state { IsValidState rules.now (state_of seen master.old states.old) }
+    requires state { IsValidState rules.now (state_in_slots seen master.old states.old) }
     requires limit { HaveLimit rules.now.max_packet states.old }
     ensures given { Gives S.Sink sink.old sink.new
-        (items rules.now (state_of seen master.old states.old) (octets.now ∷ [])) result }
-    ensures left { OnOk result (state_of (seen + 1) master.new states.new
-        ≡ after rules.now (state_of seen master.old states.old) (octets.now ∷ [])) }
+        (items rules.now (state_in_slots seen master.old states.old) (octets.now ∷ [])) result }
+    ensures left { OnOk result (state_in_slots (seen + 1) master.new states.new
+        ≡ after rules.now (state_in_slots seen master.old states.old) (octets.now ∷ [])) }
     ensures limit { OnOk result (HaveLimit rules.now.max_packet states.new) }
 {
     match read(&rules.layout, octets) {
@@ -459,7 +459,7 @@ fn close_recording<S: Sink>(
     states: &[ChannelState; 8],
     sink: &mut S,
 ) -> Result<(), S::Fault>
-    ensures given { Gives S.Sink sink.old sink.new (closing (state_of seen None states.now) rest) result }
+    ensures given { Gives S.Sink sink.old sink.new (closing (state_in_slots seen None states.now) rest) result }
 {
     if rest > 0 {
         if let Err(fault) = sink.take(Item::Short { seen, octets: rest }) {

@@ -6,7 +6,7 @@ ghost use Rattle.tm_items.specs.declared.items.Reason.TheVariants as why;
 ghost use Rattle.tm_reassembly.specs.code.DataFields.{IsDataField, IsFieldOf, member_with};
 ghost use Rattle.tm_reassembly.specs.code.Field.{begun_parts, broken_off_parts, step_parts, step_tail, ended_parts, frame_parts, frame_tail, part_items, GivesParts};
 ghost use Rattle.tm_items.specs.Item as value;
-ghost use Rattle.tm_reassembly.specs.code.Slots.{Buffer, HoldsTail, LeavesTail, MayEnd, MayGrow, tail_of_octets, grown, completed, completed_parts, member_at};
+ghost use Rattle.tm_reassembly.specs.code.Slots.{Buffer, HoldsTail, LeavesTail, MayComplete, MayGrow, tail_of_octets, grown, completed, completed_parts, member_at};
 ghost use Rattle.tm_reassembly.specs.State.{octets_in};
 ghost use Rattle.tm_reassembly.specs.Parts as model;
 ghost use Rattle.tm_frame.specs.Rules.{IsLimit};
@@ -217,7 +217,7 @@ impl Tail {
         sink: &mut S,
     ) -> Result<(), S::Fault>
         requires channel { channel < 8 }
-        requires whole { MayEnd self.old last.now }
+        requires whole { MayComplete self.old last.now }
         ensures given { GivesParts S.Sink sink.old sink.new channel (completed self.old.tail last.now seen) result }
         ensures left { LeavesTail self.old self.new None result }
     {
@@ -246,7 +246,7 @@ impl Tail {
         sink: &mut S,
     ) -> Result<(), S::Fault>
         requires field { IsFieldOf channel (Some start) field.now }
-        requires whole { MayEnd self.old (take start field.now) }
+        requires whole { MayComplete self.old (take start field.now) }
         ensures given { GivesParts S.Sink sink.old sink.new channel
             (completed_parts self.old.limit self.old.tail seen start field.now) result }
         ensures left { LeavesTail self.old self.new (frame_tail self.old.limit (member_at seen (Some start) field.now)) result }

@@ -86,8 +86,8 @@ abbrev pub MayGrow : Buffer → List ℕ → Type 0
 MayGrow x more = (0 < length (octets_in x.tail)) × (length (octets_in x.tail) + length more ≤ x.limit)
 
 -- likewise, and these end the packet
-abbrev pub MayEnd : Buffer → List ℕ → Type 0
-MayEnd x more = MayGrow x more × IsOnePacket (octets_in x.tail ++ more)
+abbrev pub MayComplete : Buffer → List ℕ → Type 0
+MayComplete x more = MayGrow x more × IsOnePacket (octets_in x.tail ++ more)
 
 -- the packet of a tail with more octets behind it
 abbrev pub completed : Option Tail → List ℕ → ℕ → List Part
@@ -134,5 +134,5 @@ abbrev pub vca_items : Slot → ℕ → ℕ → Bool → List Item
 vca_items x seen channel gap = Vca seen channel ∷ part_items channel (chain_parts_at x.limit gap true (tail_in x.last) (counted seen 0))
 
 -- what the code has, as a state
-abbrev pub state_of : ℕ → Option ℕ → List Slot → State
-state_of records master slots = record { records = records; master = master; channels = lasts slots }
+abbrev pub state_in_slots : ℕ → Option ℕ → List Slot → State
+state_in_slots records master slots = record { records = records; master = master; channels = lasts slots }

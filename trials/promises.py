@@ -6,8 +6,8 @@ The entries stand before the section on what is only tested, each in the section
 
 What the page names has to be there: the files and headings that it links to; the definitions, in the file of specs/ that is linked; the
 functions, in the file of src/ that is linked, and the clauses at them, at least one if none is named; the planted bugs, in their crate's
-must-fail/; the tests, in their file; and the groups of trials, in theirs. The same goes for the functions, planted bugs and trials of the
-section on what the contracts let through.
+must-fail/; the tests, in their file; and the groups of trials, in theirs. The same goes for the functions, planted bugs, their clauses and
+the trials of the section on what the contracts let through.
 
 An entry has to name each file of must-fail/, each test, and each public function that has a contract. Each heading has an anchor of its
 own, and no line is over 160 columns.
@@ -304,6 +304,21 @@ def wrong_trials(text, groups):
                 yield f"{name} is no group of trials of {path.name}"
 
 
+def wrong_refusals(text, functions):
+    """Rows of the planted bugs that were looked at whose bug isn't there, or whose clause is at no such function of its crate."""
+    rows = re.findall(r"^\| `(.*?)` \| (.*?) \| ", text, re.M)
+    for bug, clause in rows:
+        crate, _, name = bug.partition("/")
+        if not (CRATES / crate / "must-fail" / f"{name}.edit").exists():
+            yield f"{bug}, which was looked at, is no planted bug"
+        *clauses, function = QUOTED.findall(clause) or [""]
+        found = [it for path in functions if CRATES / crate in path.parents for it in named_functions(functions, path, function)]
+        if not any(has_them(it, "ensures", clauses, "") for it in found):
+            yield f"{clause}, which {bug} breaks, is no clause of {crate}"
+    bugs = [bug for bug, _ in rows]
+    yield from (f"{it} was looked at twice" for it in dict.fromkeys(bugs) if bugs.count(it) > 1)
+
+
 def wrong_bodies(text, functions, groups):
     """Names in the section on what the contracts let through that are none of the tree's."""
     section = text.partition(LET_THROUGH)[2]
@@ -317,8 +332,7 @@ def wrong_bodies(text, functions, groups):
             owner, _, last = name.rpartition("::")
             if name not in known and not any(it.name == last and owner in ("", it.owner) for it in every):
                 yield f"{name}, whose bodies the contracts let through, is no function"
-    edits = {path.stem for path in CRATES.glob("*/must-fail/*.edit")}
-    yield from (f"{it}, which was looked at, is no planted bug" for it in QUOTED.findall(refusals) if it not in edits | crates)
+    yield from wrong_refusals(refusals, functions)
     for several in TRIALS.findall(re.sub(r"\s+", " ", section)):
         yield from (f"{it} is no group of trials" for it in QUOTED.findall(several) if it not in groups)
     if not tables.strip() or not refusals.strip():

@@ -6,7 +6,7 @@ use Rattle.std.proofs.lemmas.Bool.{and_parts, not-false, le-ltb, ltb-false, eqb-
 use Rattle.std.proofs.lemmas.List.{append-nil, get_or-append-add, get_or-drop, take_all, take-append-drop}
 use Rattle.std.proofs.lemmas.Slice.Eq.{bytes_eq-Decides}
 use Rattle.std.proofs.Math.Seq.{get_or-append_seam, take-add, drop-cons, take-append_seam, drop-append_seam}
-use Rattle.tm_bits.specs.Bits.{AreOctets}
+use Rattle.tm_bits.specs.Bits.{AreOctets, two_octets, two_at}
 use Rattle.tm_bits.proofs.PartLemmas.{octets_behind}
 use Rattle.tm_frame.specs.ErrorControl.{error_control_of}
 use Rattle.tm_packet.specs.declared.tracker.TrackerFault.{TrackerFault}
@@ -17,7 +17,6 @@ use Rattle.tm_packet.proofs.Spelled as sequence_read
 use Rattle.tm_packet.proofs.SpellingLemmas as sequence_written
 use Rattle.tm_reassembly.specs.declared.fault.StateFault.{StateFault}
 use Rattle.tm_reassembly.specs.Checkpoint as reassembly
-use Rattle.tm_bits.specs.Bits.{two_octets, two_at}
 use Rattle.tm_frame.specs.Rules.{Rules, IsLimit}
 use Rattle.tm_reassembly.specs.State.{State}
 use Rattle.tm_reassembly.specs.Valid.{IsValidState}

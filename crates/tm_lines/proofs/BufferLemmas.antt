@@ -1,8 +1,8 @@
 -- How many octets numbers and words have, and what a buffer holds after it was written.
 use Rattle.std.proofs.Common.{◌≡◌, ℕ, ◌+◌, ◌-◌, ◌<◌, ◌≤◌, ◌^◌, zero, suc, List, [], ◌∷◌, ◌++◌, length, take, drop, get_or, set, refl, sym, ap, ◌∙◌, arith, length-drop}
 use Rattle.std.specs.Fmt.{decimal}
-use Rattle.std.proofs.lemmas.Fmt.{length-decimal-le}
-use Rattle.std.proofs.lemmas.List.{drop-drop, drop-set-add, drop_all}
+use Rattle.std.proofs.lemmas.Fmt.{decimal_digit, length-decimal-le}
+use Rattle.std.proofs.lemmas.List.{drop-drop, drop-set, drop-set-add, drop_all}
 use Rattle.tm_frame.specs.declared.fault.FrameFault.{FrameFault}
 use Rattle.tm_frame.specs.declared.fault.FrameFault.TheVariants.{Crc, Version, Spacecraft, SecondaryFlag, OcfFlag, SecondaryVersion, Layout, Pointer}
 use Rattle.tm_frame.specs.FaultWords.{fault_word}
@@ -49,6 +49,10 @@ last_set [] last octet e = absurd (omega arith)
 last_set (x ∷ []) zero octet e = refl
 last_set (x ∷ y ∷ buffer) zero octet e = absurd (omega arith)
 last_set (x ∷ buffer) (suc last) octet e = last_set buffer last octet (omega arith)
+
+-- a digit in front of what stands in a buffer
+pub digit_before : (buffer : List ℕ) (begin digit : ℕ) → begin < length buffer → digit < 10 → drop begin (set buffer begin (48 + digit)) ≡ decimal digit ++ drop (begin + 1) buffer
+digit_before buffer begin digit h small = drop-set buffer begin (48 + digit) h ∙ ap (λ (l : List ℕ). l ++ drop (begin + 1) buffer) (sym (decimal_digit digit small))
 
 -- a further octet of a text in its place, before what was there
 prepend_step : (text old : List ℕ) (i : ℕ) → i < length text → i < length old

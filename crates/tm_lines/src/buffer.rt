@@ -24,7 +24,7 @@ impl Model for LineBuffer {
 }
 
 impl LineBuffer {
-    ghost use Rattle.std.specs.Prelude.{[], ◌≡◌, ◌+◌, ◌≤◌, ◌++◌, length, codes};
+    ghost use Rattle.std.specs.Prelude.{[], ◌≡◌, ◌+◌, ◌<◌, ◌≤◌, ◌++◌, length, codes};
     ghost use Rattle.std.specs.Fmt.{decimal};
 
     /// A line of no octets.
@@ -78,6 +78,20 @@ impl LineBuffer {
         for i in 0..N {
             octets[begin + i] = text[i];
         }
+        self.begin = begin;
+    }
+
+    /// Puts a number below ten in front. It is one digit.
+    #[inline(always)]
+    #[tactic(auto, using(crate::proofs::BufferLemmas::digit_before, crate::proofs::BufferLemmas::behind_begin))]
+    pub fn prepend_digit(&mut self, digit: u8)
+        requires digit { digit < 10 }
+        requires room { 1 + length self.old ≤ 320 }
+        ensures text { self.new ≡ decimal digit ++ self.old }
+        ensures len { length self.new ≡ 1 + length self.old }
+    {
+        let begin = self.begin - 1;
+        self.octets[begin] = b'0' + digit;
         self.begin = begin;
     }
 

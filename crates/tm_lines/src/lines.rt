@@ -64,7 +64,7 @@ pub fn format_frame(line: &mut LineBuffer, seen: u32, frame: &Frame<'_>)
     line.start();
     line.prepend_long_number(frame.field().len() as u64);
     line.prepend_text(b" octets=");
-    line.prepend_number(u32::from(frame.segment()));
+    line.prepend_digit(frame.segment());
     line.prepend_text(b" segment=");
     line.prepend_text(bit_text(frame.order_flag()));
     line.prepend_text(b" order=");
@@ -80,7 +80,7 @@ pub fn format_frame(line: &mut LineBuffer, seen: u32, frame: &Frame<'_>)
     line.prepend_text(b" count=");
     line.prepend_number(u32::from(frame.master_count()));
     line.prepend_text(b" master=");
-    line.prepend_number(u32::from(frame.channel()));
+    line.prepend_digit(frame.channel());
     line.prepend_text(b" channel=");
     line.prepend_number(seen);
     line.prepend_text(b"frame record=");

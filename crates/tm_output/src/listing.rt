@@ -19,6 +19,7 @@ use tm_lines::{LineBuffer, format_bad, format_frame, format_short};
 use tm_settings::Settings;
 
 // Makes the line of a record.
+#[inline(always)]
 #[tactic(auto, unfolding(crate::specs::Listing::record_line))]
 fn make_record_line(line: &mut LineBuffer, layout: &Layout, seen: u32, octets: &[u8])
     requires { length octets.now ≡ record_length_of layout.now }

@@ -287,7 +287,10 @@ fn stopped_in_several_versions(rt: HostRuntime) {
         assert!(rt; run == Some(true) && split == Some(true), "{versions:?}");
     }
     for (version, text) in [(3, GAP), (2, GAP_2), (1, GAP_1)] {
-        assert!(rt; is_in_version(alloc, version, text) == Some(true), "version {version}");
+        assert!(rt;
+            is_in_version(alloc, version, text) == Some(true),
+            "version {version}"
+        );
     }
 }
 

@@ -7,7 +7,6 @@ mod listing;
 mod nowhere;
 mod refusal;
 mod request;
-mod room;
 mod running;
 mod summary;
 

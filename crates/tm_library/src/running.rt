@@ -10,8 +10,8 @@ ghost use Rattle.tm_library.specs.Refusals.{IsRunRefused};
 
 use crate::Refusal;
 use crate::chunk::Chunk;
-use crate::room::Room;
 use std::alloc::Global;
+use tm_devices::Room;
 use tm_tool::{CheckpointFault, Command, Ending, Job, RunFault, Settings, run};
 
 /// The job that a checkpoint says, or a new one where the checkpoint has no octets.

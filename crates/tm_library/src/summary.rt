@@ -8,9 +8,9 @@ ghost use Rattle.tm_library.specs.Chunks.{IsSummary};
 ghost use Rattle.tm_library.specs.Refusals.{IsRequestRefused};
 
 use crate::chunk::Chunk;
-use crate::room::Room;
 use crate::{Answer, Refusal};
 use std::alloc::Global;
+use tm_devices::Room;
 use tm_tool::{RunFault, Settings, summarize};
 
 /// Writes the lines of the summary of a whole recording into a room. What a summary counts stands in no checkpoint, so it takes one call.

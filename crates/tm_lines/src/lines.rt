@@ -58,6 +58,7 @@ fn bit_text(b: bool) -> &'static [u8; 1]
 }
 
 /// The line of a good frame.
+#[inline(always)]
 pub fn format_frame(line: &mut LineBuffer, seen: u32, frame: &Frame<'_>)
     ensures { line.new ≡ frame_line seen frame.now }
 {

@@ -1,8 +1,8 @@
-//! Room for an output, which the caller gives.
+//! A drain into memory that the caller gives.
 
 ghost use Rattle.std.specs.Prelude.{◌≡◌, ◌≤◌, ◌<◌, ◌+◌, ◌++◌, Some, length, take};
 
-use tm_tool::{DeviceFailed, Drain};
+use crate::{DeviceFailed, Drain};
 
 /// A drain into a room. What doesn't fit goes into memory, so in the end it is known how much is enough. A write fails only where memory runs
 /// out.

@@ -6,7 +6,7 @@ ghost use Rattle.tm_files.specs.code.Files.{IsRunFault};
 ghost use Rattle.tm_files.specs.code.Replacements.{replaced_name};
 ghost use Rattle.tm_files.specs.Names.{AreClear};
 ghost use Rattle.tm_program.specs.code.Blames.{IsBlamed, IsBlamedBeside};
-ghost use Rattle.tm_program.specs.code.Endings.{HasCheckpoint, HasDone, HasShown, IsDone};
+ghost use Rattle.tm_program.specs.code.Endings.{HasCheckpoint, HasDone, HasShown};
 ghost use Rattle.tm_program.specs.Program.{IsAsked, MayCome, MayEnd};
 ghost use Rattle.tm_program.specs.code.Faults.{HasFolderFault, IsOfOutputs};
 
@@ -28,7 +28,7 @@ use tm_files::{
     writes_errors,
 };
 use tm_tool::{
-    BufferedSource, Command, Done, Drain, Ending, Job, Settings, list_frames, summarize,
+    BufferedSource, Command, Done, Drain, Job, Settings, list_frames, summarize,
 };
 
 // The plan of the arguments.
@@ -100,21 +100,23 @@ fn choose_command<'a>(plan: &Plan, definition: Option<&'a Definition>) -> Comman
     }
 }
 
-// Gives the packets of a recording on standard output.
+// Gives the packets of a recording on standard output, from the job of the checkpoint, or else from a new one.
 #[tactic(auto, using(tm_files::proofs::FaultLemmas::no_memory_run, crate::proofs::BlameLemmas::run_blames, crate::proofs::BlameLemmas::no_memory_blames, crate::proofs::EndingLemmas::ran_done))]
 fn give_packets<R: Print + AllocGlobal, S: BufferedSource, V: Drain>(
     rt: &R,
-    job: Job,
-    command: Command<'_>,
+    plan: &Plan,
+    inputs: &mut Inputs,
     source: &mut S,
     report: &mut V,
-    ending: Ending,
 ) -> Result<Done, ToolFault>
-    ensures done { IfOk result (IsDone ending job.work) }
+    ensures done { IfOk result (HasDone plan.now inputs.old.settings inputs.old.resumed) }
     ensures blamed { IfErr result (IsBlamedBeside (S.failures source.old) (S.failures source.new) (V.failures report.old)
         (V.failures report.new)) }
     ensures refused { IfErr result IsRunFault }
 {
+    let job = make_job(rt, inputs.resumed.take(), &inputs.settings)?;
+    let command = choose_command(plan, inputs.definition.as_ref());
+    let ending = choose_ending(plan);
     let alloc = rt.alloc();
     let mut out = make_drain(alloc, io::writer(rt))?;
     match tm_tool::run(alloc, job, command, source, &mut out, report, ending) {
@@ -123,8 +125,7 @@ fn give_packets<R: Print + AllocGlobal, S: BufferedSource, V: Drain>(
     }
 }
 
-// Goes on with the job of the checkpoint, or else with a new one, to where the plan wants the packets. Names are looked up anew, now that the
-// report is made: before, it may have been none.
+// Runs the job to where the plan wants the packets. Names are looked up anew, now that the report is made: before, it may have been none.
 #[tactic(auto, using(tm_files::proofs::FaultLemmas::no_memory_run, crate::proofs::ProgramLemmas::folder_there, crate::proofs::ProgramLemmas::split_there))]
 fn run_to_destination<R: Files + Print + AllocGlobal, S: BufferedSource, V: Drain>(
     rt: &R,
@@ -137,15 +138,9 @@ fn run_to_destination<R: Files + Print + AllocGlobal, S: BufferedSource, V: Drai
     ensures refused { IfErr result (λ fault. IsRunFault fault ⊎ HasFolderFault plan.now.dir fault) }
 {
     let identities = identify_files(rt, plan)?;
-    let shelf = make_shelf(rt, plan, &identities)?;
-    let job = make_job(rt, inputs.resumed.take(), &inputs.settings)?;
-    let ending = choose_ending(plan);
-    match shelf {
-        Some(mut shelf) => split_packets(rt, job, &mut shelf, source, report, ending),
-        None => {
-            let command = choose_command(plan, inputs.definition.as_ref());
-            give_packets(rt, job, command, source, report, ending)
-        }
+    match make_shelf(rt, plan, &identities)? {
+        Some(mut shelf) => split_packets(rt, plan, inputs, &mut shelf, source, report),
+        None => give_packets(rt, plan, inputs, source, report),
     }
 }
 
@@ -180,7 +175,7 @@ fn run_job<'p, R: Files + Print + AllocGlobal, S: BufferedSource, E: Write + Dro
     plan: &'p Plan,
     inputs: &mut Inputs,
     source: &mut S,
-    errors: E,
+    errors: &mut E,
     checked: Checked,
 ) -> Result<Finished<'p>, ToolFault>
     ensures done { IfOk result (λ finished. HasDone plan.now inputs.old.settings inputs.old.resumed finished.done) }
@@ -218,7 +213,7 @@ fn run_on_recording<'p, R: Files + Print + AllocGlobal, S: BufferedSource, E: Wr
     plan: &'p Plan,
     inputs: &mut Inputs,
     source: &mut S,
-    errors: E,
+    errors: &mut E,
 ) -> Result<Ended<'p>, ToolFault>
     ensures ok { OnOk result (AreClear plan.now) }
     ensures done { IfOk result (λ ended. MatchOption ended.job (is_job plan.now.action ≡ false)
@@ -248,7 +243,7 @@ fn run_plan<R: Files + Input + Print + AllocGlobal, E: Write + Drop>(
     rt: &R,
     plan: &Plan,
     inputs: &mut Inputs,
-    errors: E,
+    errors: &mut E,
 ) -> Result<Outcome, ToolFault>
     ensures ok { OnOk result (AreClear plan.now) }
     ensures refused { IfErr result (MayCome plan.now) }
@@ -283,5 +278,5 @@ pub fn run<R: Files + Input + Print + AllocGlobal, E: Write + Drop>(
 {
     let plan = read_arguments(rt.alloc(), arguments)?;
     let mut inputs = prepare_inputs(rt, &plan, &mut errors)?;
-    run_plan(rt, &plan, &mut inputs, errors)
+    run_plan(rt, &plan, &mut inputs, &mut errors)
 }

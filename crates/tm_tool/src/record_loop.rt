@@ -8,7 +8,7 @@ ghost use Rattle.tm_packet.specs.Merge.{Entries};
 ghost use Rattle.tm_checkpoint.specs.Works.{IsGoing, Work, work_of};
 ghost use Rattle.tm_tool.specs.RecordingPieces.{worked};
 ghost use Rattle.tm_tool.specs.Runs.{WantsFurther};
-ghost use Rattle.tm_tool.specs.code.RecordLoop.{Enough, HasStepped, NextStopped, PassesRecords, StillTakes, TakesRecords, TakingStopped, ThenRefuses, TookNext};
+ghost use Rattle.tm_tool.specs.code.RecordLoop.{Enough, HasPassed, HasStepped, NextStopped, PassesRecords, PassingStopped, StillTakes, TakesRecords, TakingStopped, ThenRefuses, TookNext};
 ghost use Rattle.tm_output.specs.code.Next.{EndsNext};
 
 use crate::{BufferedSource, Ending, RunFault};
@@ -64,28 +64,33 @@ pub(crate) trait RecordHandler {
             (Self.held self.old) (Self.held self.new)) };
 }
 
-// Reads the records that are done, one by one.
-fn read_over<R: BufferedSource>(
+// Passes over the records that are done in one step, where the recording can do so, and answers whether it did.
+fn pass_at_once<R: BufferedSource>(
     count: u32,
-    buffer: &mut [u8],
+    size: usize,
     recording: &mut R,
-) -> Result<(), RunFault>
-    requires some { 0 < length buffer.old }
-    ensures { PassesRecords (length buffer.old) count (R.left recording.old) (R.left recording.new) (R.failures recording.old)
-        (R.failures recording.new) result }
+) -> Result<bool, RunFault>
+    requires some { 0 < size }
+    ensures passed { IfOk result (λ passed. passed ≡ true → HasPassed size count (R.left recording.old) (R.left recording.new)
+        × (R.failures recording.new ≡ R.failures recording.old)) }
+    ensures left { IfOk result (λ passed. passed ≡ false → (R.left recording.new ≡ R.left recording.old)
+        × (R.failures recording.new ≡ R.failures recording.old)) }
+    ensures failed { IfErr result (PassingStopped size count (R.left recording.old) (R.left recording.new)
+        (R.failures recording.old) (R.failures recording.new)) }
 {
-    for _passed in 0..count {
-        let Ok(octets) = fill(recording, buffer) else {
-            return Err(RunFault::Read);
-        };
-        if octets < buffer.len() {
-            return Err(RunFault::ShortRecording);
-        }
+    if count == 0 {
+        return Ok(true);
     }
-    Ok(())
+    let Some(octets) = u64::from(count).checked_mul(size as u64) else {
+        return Ok(false);
+    };
+    match recording.pass_over(octets) {
+        Ok(passed) => Ok(passed),
+        Err(_) => Err(RunFault::Read),
+    }
 }
 
-// Passes over the records that are done: in one step where the recording can do so, else it reads them.
+// Passes over the records that are done: in one step where the recording can do so, else it reads them one by one.
 fn skip_records<R: BufferedSource>(
     count: u32,
     buffer: &mut [u8],
@@ -95,17 +100,18 @@ fn skip_records<R: BufferedSource>(
     ensures { PassesRecords (length buffer.old) count (R.left recording.old) (R.left recording.new) (R.failures recording.old)
         (R.failures recording.new) result }
 {
-    if count == 0 {
+    if pass_at_once(count, buffer.len(), recording)? {
         return Ok(());
     }
-    if let Some(octets) = u64::from(count).checked_mul(buffer.len() as u64) {
-        match recording.pass_over(octets) {
-            Ok(true) => return Ok(()),
-            Ok(false) => {}
-            Err(_) => return Err(RunFault::Read),
+    for _passed in 0..count {
+        let Ok(octets) = fill(recording, buffer) else {
+            return Err(RunFault::Read);
+        };
+        if octets < buffer.len() {
+            return Err(RunFault::ShortRecording);
         }
     }
-    read_over(count, buffer, recording)
+    Ok(())
 }
 
 // Whether to read on: `done` records were done at the start, `records` are now.

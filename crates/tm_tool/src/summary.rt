@@ -141,13 +141,13 @@ pub fn summarize<R: BufferedSource, W: Drain>(
     recording: &mut R,
     out: &mut W,
 ) -> Result<u32, RunFault>
-    // The drain is the same one.
-    ensures same { W.fixed out.new ≡ W.fixed out.old }
-
     // With Ok all was read, and just the lines of the summary of what was read were written, and passed on.
     ensures summarized { IfOk result (IsSummarized settings.now (R.left recording.old) (R.left recording.new) (W.written out.old)
         (W.written out.new)) }
     ensures flushed { OnOk result (Keeps (W.flushed out.new) (W.written out.new)) }
+
+    // The drain is the same one.
+    ensures same { W.fixed out.new ≡ W.fixed out.old }
 
     // After a fault there is one place up to which lines were written: none before all was read.
     ensures stopped { IfErr result (IsSummaryStop settings.now (R.left recording.old) (R.left recording.new)

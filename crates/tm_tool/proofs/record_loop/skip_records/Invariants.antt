@@ -1,7 +1,7 @@
 -- So many records were passed over, and no call failed.
 use Rattle.std.proofs.Common.{◌≡◌, length}
 use Rattle.tm_tool.specs.code.RecordLoop.{HasPassed}
-use Rattle.tm_tool.proofs.record_loop.read_over.Given as goal
+use Rattle.tm_tool.proofs.record_loop.skip_records.Given as goal
 
 abbrev pub invariant-loop-passed : goal.invariant-loop-passed
 invariant-loop-passed g l = record {

@@ -3,7 +3,7 @@
 ghost use Rattle.std.specs.Prelude.{◌+◌, ◌<◌, ◌^◌, IfErr, OnOk, length};
 ghost use Rattle.tm_items.specs.Item as value;
 ghost use Rattle.tm_items.specs.Sinks.{item_of, ItemFits, RefusesOne, TakesAll};
-ghost use Rattle.tm_items.specs.code.Spans.{IsSpan, items_of};
+ghost use Rattle.tm_items.specs.code.Spans.{IsSpan, items_of_span};
 
 use crate::items::Item;
 use crate::packets::packet_length;
@@ -48,9 +48,9 @@ pub trait Sink {
         requires channel { span.channel < 8 }
         requires places { span.place + length span.octets.now < 2 ^ 16 }
         requires packets { IsSpan span.octets.now }
-        ensures accepted { OnOk result (TakesAll takes (known self.old) (items_of span.entry) (known self.new)) }
+        ensures accepted { OnOk result (TakesAll takes (known self.old) (items_of_span span.entry) (known self.new)) }
         ensures refused { IfErr result (λ fault.
-            RefusesOne takes refuses (known self.old) (items_of span.entry) fault (known self.new)) }
+            RefusesOne takes refuses (known self.old) (items_of_span span.entry) fault (known self.new)) }
     {
         let mut offset = 0;
         while offset < span.octets.len() {

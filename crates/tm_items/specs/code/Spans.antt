@@ -31,5 +31,5 @@ abbrev pub span_items : ℕ → ℕ → ℕ → List ℕ → List Item
 span_items seen channel place octets = placed seen channel place (packets_in octets)
 
 -- the packets of a span, as items
-abbrev pub items_of : Span → List Item
-items_of s = span_items s.seen s.channel s.place s.octets.now
+abbrev pub items_of_span : Span → List Item
+items_of_span s = span_items s.seen s.channel s.place s.octets.now

@@ -7,4 +7,4 @@ mod sink;
 
 pub use items::{Item, Reason};
 pub use packets::packet_length;
-pub use sink::Sink;
+pub use sink::{Sink, Span};

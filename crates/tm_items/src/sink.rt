@@ -3,10 +3,23 @@
 ghost use Rattle.std.specs.Prelude.{◌+◌, ◌<◌, ◌^◌, IfErr, OnOk, length};
 ghost use Rattle.tm_items.specs.Item as value;
 ghost use Rattle.tm_items.specs.Sinks.{item_of, ItemFits, RefusesOne, TakesAll};
-ghost use Rattle.tm_items.specs.code.Spans.{IsSpan, span_items};
+ghost use Rattle.tm_items.specs.code.Spans.{IsSpan, items_of_span};
 
 use crate::items::Item;
 use crate::packets::packet_length;
+
+/// Packets of a channel that lie end to end in the data field of one record.
+#[derive(Clone, Copy, Debug)]
+pub struct Span<'a> {
+    /// The record, counted from 0.
+    pub seen: u32,
+    /// The channel, at most 7.
+    pub channel: u8,
+    /// Where the first of them begins in the data field.
+    pub place: u16,
+    /// Their octets.
+    pub octets: &'a [u8],
+}
 
 /// Takes items one by one.
 pub trait Sink {
@@ -30,31 +43,24 @@ pub trait Sink {
         ensures accepted { OnOk result (takes (known self.old) (item_of item.entry) (known self.new)) }
         ensures refused { IfErr result (λ fault. refuses (known self.old) (item_of item.entry) fault (known self.new)) };
 
-    /// Takes, as if one by one, packets of a channel that lie end to end in the data field of the record `seen`, the first of them at `place`.
-    fn take_span(
-        &mut self,
-        seen: u32,
-        channel: u8,
-        place: u16,
-        octets: &[u8],
-    ) -> Result<(), Self::Fault>
-        requires channel { channel < 8 }
-        requires places { place + length octets.now < 2 ^ 16 }
-        requires packets { IsSpan octets.now }
-        ensures accepted { OnOk result (TakesAll takes (known self.old) (span_items seen channel place octets.now)
-            (known self.new)) }
+    /// Takes the packets of a span as if one by one.
+    fn take_span(&mut self, span: Span<'_>) -> Result<(), Self::Fault>
+        requires channel { span.channel < 8 }
+        requires places { span.place + length span.octets.now < 2 ^ 16 }
+        requires packets { IsSpan span.octets.now }
+        ensures accepted { OnOk result (TakesAll takes (known self.old) (items_of_span span.entry) (known self.new)) }
         ensures refused { IfErr result (λ fault.
-            RefusesOne takes refuses (known self.old) (span_items seen channel place octets.now) fault (known self.new)) }
+            RefusesOne takes refuses (known self.old) (items_of_span span.entry) fault (known self.new)) }
     {
         let mut offset = 0;
-        while offset < octets.len() {
-            let rest = &octets[offset..];
+        while offset < span.octets.len() {
+            let rest = &span.octets[offset..];
             let length = packet_length(rest);
             let packet = Item::Packet {
-                seen,
-                channel,
-                first: seen,
-                place: place + offset as u16,
+                seen: span.seen,
+                channel: span.channel,
+                first: span.seen,
+                place: span.place + offset as u16,
                 octets: &rest[..length],
             };
             if let Err(fault) = self.take(packet) {

@@ -1,5 +1,6 @@
 -- Whole packets that lie end to end, so that a sink may take all of them in one step.
 use Rattle.std.specs.Prelude.{ℕ, suc, zero, pred, ◌+◌, List, [], ◌∷◌, length, take}
+use Rattle.tm_items.specs.declared.sink.Span.{Span}
 use Rattle.tm_items.specs.Item.{Item, Packet}
 use Rattle.tm_items.specs.OnePacket.{IsOnePacket, packet_length}
 
@@ -28,3 +29,7 @@ placed seen channel place (p ∷ ps) = Packet seen channel seen place p ∷ plac
 
 abbrev pub span_items : ℕ → ℕ → ℕ → List ℕ → List Item
 span_items seen channel place octets = placed seen channel place (packets_in octets)
+
+-- the packets of a span, as items
+abbrev pub items_of_span : Span → List Item
+items_of_span s = span_items s.seen s.channel s.place s.octets.now

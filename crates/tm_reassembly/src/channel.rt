@@ -16,7 +16,7 @@ ghost use Rattle.tm_items.specs.Giving.{Gives};
 ghost use Rattle.tm_reassembly.specs.code.Fits.{IsOpenTail};
 
 use crate::checkpoint::Block;
-use crate::packets::DataField;
+use crate::packets::{DataField, Site};
 use crate::tail::Tail;
 use std::alloc::{AllocError, Global};
 use std::marker::Model;
@@ -83,7 +83,7 @@ impl ChannelState {
         match give_gap(seen, channel, self.count, count, sink) {
             Ok(gap) => {
                 self.count = Some(count);
-                self.add_data(seen, channel, gap, frame, sink)
+                self.add_data(Site { seen, channel }, gap, frame, sink)
             }
             Err(fault) => Err(fault),
         }
@@ -92,44 +92,41 @@ impl ChannelState {
     // Takes what the frame holds, after a gap or none.
     fn add_data<S: Sink>(
         &mut self,
-        seen: u32,
-        channel: u8,
+        site: Site,
         gap: bool,
         frame: &Frame<'_>,
         sink: &mut S,
     ) -> Result<(), S::Fault>
-        requires channel { channel < 8 }
+        requires channel { site.channel < 8 }
         requires open { IsOpenTail self.old.limit (tail_in self.old.last) }
         requires counted { frame_count_in self.old.last ≡ Some frame.now.count }
         ensures given { Gives S.Sink sink.old sink.new
-            (data_items self.old.limit channel self.old.last gap (member seen frame.now)) result }
+            (data_items self.old.limit site.channel self.old.last gap (member site.seen frame.now)) result }
         ensures left { LeavesLast self.old self.new
-            (last_with_data self.old.limit self.old.last gap (member seen frame.now)) result }
+            (last_with_data self.old.limit self.old.last gap (member site.seen frame.now)) result }
     {
         let (place, octets): (Option<u16>, &[u8]) = match frame.kind() {
-            Kind::Vca => return self.add_vca(seen, channel, gap, sink),
+            Kind::Vca => return self.add_vca(site, gap, sink),
             Kind::Idle => (None, &[]),
             Kind::NoStart => (None, frame.field()),
             Kind::Packets(place) => (Some(place), frame.field()),
         };
-        self.add_field(seen, channel, gap, DataField { place, octets }, sink)
+        self.add_field(site, gap, DataField { place, octets }, sink)
     }
 
     // Takes a VCA frame: the tail is lost.
-    fn add_vca<S: Sink>(
-        &mut self,
-        seen: u32,
-        channel: u8,
-        gap: bool,
-        sink: &mut S,
-    ) -> Result<(), S::Fault>
-        requires { channel < 8 }
-        ensures given { Gives S.Sink sink.old sink.new (vca_items self.old seen channel gap) result }
+    fn add_vca<S: Sink>(&mut self, site: Site, gap: bool, sink: &mut S) -> Result<(), S::Fault>
+        requires { site.channel < 8 }
+        ensures given { Gives S.Sink sink.old sink.new (vca_items self.old site.seen site.channel gap) result }
         ensures left { LeavesLast self.old self.new (last_with None (frame_count_in self.old.last)) result }
     {
         let reason = if gap { Reason::Gap } else { Reason::Vca };
-        match sink.take(Item::Vca { seen, channel }) {
-            Ok(()) => self.tail.end(seen, channel, reason, sink),
+        let vca = Item::Vca {
+            seen: site.seen,
+            channel: site.channel,
+        };
+        match sink.take(vca) {
+            Ok(()) => self.tail.end(site, reason, sink),
             Err(fault) => Err(fault),
         }
     }
@@ -137,24 +134,23 @@ impl ChannelState {
     // Takes a field of packets, after a gap or none.
     fn add_field<S: Sink>(
         &mut self,
-        seen: u32,
-        channel: u8,
+        site: Site,
         gap: bool,
         field: DataField<'_>,
         sink: &mut S,
     ) -> Result<(), S::Fault>
-        requires field { IsDataField channel field }
+        requires field { IsDataField site.channel field }
         requires open { IsOpenTail self.old.limit (tail_in self.old.last) }
         requires counted { IsSome (frame_count_in self.old.last) }
-        ensures given { GivesParts S.Sink sink.old sink.new channel
-            (slot_parts self.old gap (member_with seen field.entry)) result }
-        ensures left { LeavesLast self.old self.new (slot_after self.old gap (member_with seen field.entry)) result }
+        ensures given { GivesParts S.Sink sink.old sink.new site.channel
+            (slot_parts self.old gap (member_with site.seen field.entry)) result }
+        ensures left { LeavesLast self.old self.new (slot_after self.old gap (member_with site.seen field.entry)) result }
     {
         if !gap {
-            return self.tail.add_field(seen, channel, field, sink);
+            return self.tail.add_field(site, field, sink);
         }
-        match self.tail.end(seen, channel, Reason::Gap, sink) {
-            Ok(()) => self.tail.begin(seen, channel, Reason::NoStart, field, sink),
+        match self.tail.end(site, Reason::Gap, sink) {
+            Ok(()) => self.tail.begin(site, Reason::NoStart, field, sink),
             Err(fault) => Err(fault),
         }
     }
@@ -164,7 +160,10 @@ impl ChannelState {
         requires { channel < 8 }
         ensures given { Gives S.Sink sink.old sink.new (close_last seen channel self.now.last) result }
     {
-        match self.tail.give_lost(seen, channel, Reason::Close, sink) {
+        match self
+            .tail
+            .give_lost(Site { seen, channel }, Reason::Close, sink)
+        {
             Ok(()) => Ok(()),
             Err(fault) => Err(fault),
         }

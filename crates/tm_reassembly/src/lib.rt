@@ -12,4 +12,4 @@ mod tail;
 pub use fault::{NoMemory, StateFault, StepFault};
 pub use reassembly::Reassembly;
 pub use tm_frame::Channels;
-pub use tm_items::{Item, Reason, Sink};
+pub use tm_items::{Item, Reason, Sink, Span};

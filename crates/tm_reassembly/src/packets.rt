@@ -11,8 +11,15 @@ ghost use Rattle.tm_frame.specs.Rules.{IsLimit};
 ghost use Rattle.tm_items.specs.Giving.{Gives};
 ghost use Rattle.tm_reassembly.specs.code.Fits.{PlaceFits};
 
-use tm_items::{Item, Reason, Sink, packet_length};
+use tm_items::{Item, Reason, Sink, Span, packet_length};
 use tm_packet::packet_version;
+
+/// Where items are given: at this record, at a closed end the number of records, and of this channel.
+#[derive(Clone, Copy)]
+pub struct Site {
+    pub seen: u32,
+    pub channel: u8,
+}
 
 /// A data field, and the place of the first packet that starts in it, if one does.
 #[derive(Clone, Copy)]
@@ -103,24 +110,23 @@ fn join_header(tail: &[u8], field: &[u8]) -> [u8; 6]
 
 /// Gives octets before which no packet starts, if there are any: they are lost.
 pub fn give_lead<S: Sink>(
-    seen: u32,
-    channel: u8,
+    site: Site,
     reason: Reason,
     lead: &[u8],
     sink: &mut S,
 ) -> Result<(), S::Fault>
-    requires channel { channel < 8 }
+    requires channel { site.channel < 8 }
     requires most { length lead.now ≤ 2042 }
-    ensures given { GivesParts S.Sink sink.old sink.new channel
-        (lead_part (member_at seen None lead.now) reason lead.now) result }
+    ensures given { GivesParts S.Sink sink.old sink.new site.channel
+        (lead_part (member_at site.seen None lead.now) reason lead.now) result }
 {
     match lead {
         [] => Ok(()),
         [_, ..] => {
             let dropped = Item::Dropped {
-                seen,
-                channel,
-                first: seen,
+                seen: site.seen,
+                channel: site.channel,
+                first: site.seen,
                 place: 0,
                 octets: lead.len() as u32,
                 reason,
@@ -151,16 +157,15 @@ fn whole_packet(limit: usize, octets: &[u8]) -> Option<usize>
 // Gives what of a field stands behind its last whole packet: its unread part, if it has one. Answers as `read_field` does.
 fn give_unread<S: Sink>(
     limit: usize,
-    seen: u32,
-    channel: u8,
+    site: Site,
     field: &[u8],
     offset: usize,
     sink: &mut S,
 ) -> Result<usize, S::Fault>
-    requires field { IsFieldOf channel (Some offset) field.now }
+    requires field { IsFieldOf site.channel (Some offset) field.now }
     requires limit { IsLimit limit }
     requires none { HasNoWholePacket limit (drop offset field.now) }
-    ensures given { Gives S.Sink sink.old sink.new (items_from limit seen channel field.now offset) result }
+    ensures given { Gives S.Sink sink.old sink.new (items_from limit site.seen site.channel field.now offset) result }
     ensures left { IfOk result (λ left. IsLeft limit field.now left (unfinished limit 0 (drop offset field.now))) }
 {
     let left = &field[offset..];
@@ -171,9 +176,9 @@ fn give_unread<S: Sink>(
         return Ok(offset);
     };
     let unread = Item::Dropped {
-        seen,
-        channel,
-        first: seen,
+        seen: site.seen,
+        channel: site.channel,
+        first: site.seen,
         place: offset as u16,
         octets: left.len() as u32,
         reason,
@@ -188,55 +193,60 @@ fn give_unread<S: Sink>(
 /// with fewer octets than a packet may have.
 pub fn read_field<S: Sink>(
     limit: usize,
-    seen: u32,
-    channel: u8,
+    site: Site,
     field: &[u8],
     place: usize,
     sink: &mut S,
 ) -> Result<usize, S::Fault>
-    requires field { IsFieldOf channel (Some place) field.now }
+    requires field { IsFieldOf site.channel (Some place) field.now }
     requires limit { IsLimit limit }
-    ensures given { GivesParts S.Sink sink.old sink.new channel
-        (field_parts limit seen (length field.now) place field.now) result }
+    ensures given { GivesParts S.Sink sink.old sink.new site.channel
+        (field_parts limit site.seen (length field.now) place field.now) result }
     ensures left { IfOk result (λ left. IsLeft limit field.now left (unfinished limit place field.now)) }
 {
     let mut offset = place;
     while let Some(length) = whole_packet(limit, &field[offset..]) {
         offset += length;
     }
-    if let Err(fault) = sink.take_span(seen, channel, place as u16, &field[place..offset]) {
+    let whole = Span {
+        seen: site.seen,
+        channel: site.channel,
+        place: place as u16,
+        octets: &field[place..offset],
+    };
+    if let Err(fault) = sink.take_span(whole) {
         return Err(fault);
     }
-    give_unread(limit, seen, channel, field, offset, sink)
+    give_unread(limit, site, field, offset, sink)
 }
 
 /// Gives what a field has where no packet is open. What stands before its place is lost for this reason. Then come its packets and
 /// its unread part. Answers where its unfinished packet begins, as `read_field` does.
 pub fn give_field<S: Sink>(
     limit: usize,
-    seen: u32,
-    channel: u8,
+    site: Site,
     reason: Reason,
     field: DataField<'_>,
     sink: &mut S,
 ) -> Result<usize, S::Fault>
-    requires field { IsDataField channel field }
+    requires field { IsDataField site.channel field }
     requires limit { IsLimit limit }
-    ensures given { GivesParts S.Sink sink.old sink.new channel (begun_parts limit reason (member_with seen field.entry)) result }
+    ensures given { GivesParts S.Sink sink.old sink.new site.channel
+        (begun_parts limit reason (member_with site.seen field.entry)) result }
     ensures left { IfOk result (λ left. IsLeft limit field.entry.octets.now left
         (left_in limit field.entry.place field.entry.octets.now)) }
 {
     match field.place {
-        None => match give_lead(seen, channel, reason, field.octets, sink) {
+        None => match give_lead(site, reason, field.octets, sink) {
             Ok(()) => Ok(field.octets.len()),
             Err(fault) => Err(fault),
         },
         Some(place) => {
             let start = place as usize;
-            if let Err(fault) = give_lead(seen, channel, reason, &field.octets[..start], sink) {
+            if let Err(fault) = give_lead(site, reason, &field.octets[..start], sink) {
                 return Err(fault);
             }
-            match read_field(limit, seen, channel, field.octets, start, sink) {
+            match read_field(limit, site, field.octets, start, sink) {
                 Ok(left) => Ok(left),
                 Err(fault) => Err(fault),
             }

@@ -295,18 +295,18 @@ impl Reassembly {
         layout: Layout,
         channels: Channels,
         max_packet: u32,
-        octets: &[u8],
+        older: &[u8],
     ) -> Result<(Reassembly, usize), StateFault>
         requires { IsLimit max_packet }
-        ensures ok { IfOk result (λ read. IsRestored old_decoding_of (rules_of layout channels max_packet) octets.now read) }
-        ensures refused { IfErr result (IsRefusal (old_decoding_of (rules_of layout channels max_packet) octets.now)) }
+        ensures ok { IfOk result (λ read. IsRestored old_decoding_of (rules_of layout channels max_packet) older.now read) }
+        ensures refused { IfErr result (IsRefusal (old_decoding_of (rules_of layout channels max_packet) older.now)) }
     {
         let rules = Rules {
             layout,
             channels,
             max_packet,
         };
-        decode_form(alloc, rules, Form::WithoutMaster, octets)
+        decode_form(alloc, rules, Form::WithoutMaster, older)
     }
 }
 

@@ -4,7 +4,7 @@ ghost use Rattle.std.specs.Prelude.{◌≡◌, ◌+◌, ◌<◌, ◌≤◌, ◌+
 ghost use Rattle.tm_reassembly.specs.code.Blocks.{Appends, spelled_tail};
 ghost use Rattle.tm_items.specs.declared.items.Reason.TheVariants as why;
 ghost use Rattle.tm_reassembly.specs.code.DataFields.{IsDataField, IsFieldOf, member_with};
-ghost use Rattle.tm_reassembly.specs.code.Field.{begun_parts, broken_off_parts, step_parts, step_tail, ended_parts, frame_parts, frame_tail, part_items, GivesParts};
+ghost use Rattle.tm_reassembly.specs.code.Field.{broken_off_parts, step_parts, step_tail, ended_parts, frame_parts, frame_tail, part_items, GivesParts};
 ghost use Rattle.tm_items.specs.Item as value;
 ghost use Rattle.tm_reassembly.specs.code.Slots.{Buffer, HoldsTail, LeavesTail, MayComplete, MayGrow, tail_of_octets, grown, completed, completed_parts, member_at};
 ghost use Rattle.tm_reassembly.specs.State.{octets_in};
@@ -16,7 +16,9 @@ ghost use Rattle.tm_reassembly.specs.State as state;
 ghost use Rattle.tm_reassembly.specs.code.Fits.{IsOpenTail};
 
 use crate::checkpoint::push_four;
-use crate::packets::{DataField, agrees_at, give_field, is_long, packet_length_over, read_field};
+use crate::packets::{
+    DataField, Site, agrees_at, give_field, is_long, packet_length_over, read_field,
+};
 use std::alloc::{AllocError, Global};
 use std::marker::Model;
 use tm_bits::{push, push_two};
@@ -89,20 +91,19 @@ impl Tail {
     /// Gives the tail, if one is held, as lost for this reason.
     pub fn give_lost<S: Sink>(
         &self,
-        seen: u32,
-        channel: u8,
+        site: Site,
         reason: Reason,
         sink: &mut S,
     ) -> Result<(), S::Fault>
-        requires { channel < 8 }
-        ensures given { GivesParts S.Sink sink.old sink.new channel (ended_parts self.now.tail reason seen) result }
+        requires { site.channel < 8 }
+        ensures given { GivesParts S.Sink sink.old sink.new site.channel (ended_parts self.now.tail reason site.seen) result }
     {
         if self.octets.is_empty() {
             return Ok(());
         }
         let lost = Item::Dropped {
-            seen,
-            channel,
+            seen: site.seen,
+            channel: site.channel,
             first: self.first,
             place: self.place,
             octets: self.octets.len() as u32,
@@ -115,18 +116,12 @@ impl Tail {
     }
 
     /// Loses the tail, if one is held, for this reason.
-    pub fn end<S: Sink>(
-        &mut self,
-        seen: u32,
-        channel: u8,
-        reason: Reason,
-        sink: &mut S,
-    ) -> Result<(), S::Fault>
-        requires { channel < 8 }
-        ensures given { GivesParts S.Sink sink.old sink.new channel (ended_parts self.old.tail reason seen) result }
+    pub fn end<S: Sink>(&mut self, site: Site, reason: Reason, sink: &mut S) -> Result<(), S::Fault>
+        requires { site.channel < 8 }
+        ensures given { GivesParts S.Sink sink.old sink.new site.channel (ended_parts self.old.tail reason site.seen) result }
         ensures left { LeavesTail self.old self.new None result }
     {
-        match self.give_lost(seen, channel, reason, sink) {
+        match self.give_lost(site, reason, sink) {
             Ok(()) => {
                 self.octets.clear();
                 Ok(())
@@ -135,24 +130,26 @@ impl Tail {
         }
     }
 
-    /// Takes a frame while no packet is open: what stands before its place is lost for this reason, its packets are given, and its
-    /// unfinished packet is held.
+    /// Takes a frame that doesn't go on with a tail. The tail, if one is held, is lost for this reason, and so is what stands before
+    /// the frame's place. Its packets are given, and its unfinished packet is held.
     pub fn begin<S: Sink>(
         &mut self,
-        seen: u32,
-        channel: u8,
+        site: Site,
         reason: Reason,
         field: DataField<'_>,
         sink: &mut S,
     ) -> Result<(), S::Fault>
-        requires field { IsDataField channel field }
-        ensures given { GivesParts S.Sink sink.old sink.new channel
-            (begun_parts self.old.limit reason (member_with seen field.entry)) result }
-        ensures left { LeavesTail self.old self.new (frame_tail self.old.limit (member_with seen field.entry)) result }
+        requires field { IsDataField site.channel field }
+        ensures given { GivesParts S.Sink sink.old sink.new site.channel
+            (broken_off_parts self.old.limit self.old.tail reason (member_with site.seen field.entry)) result }
+        ensures left { LeavesTail self.old self.new (frame_tail self.old.limit (member_with site.seen field.entry)) result }
     {
-        match give_field(self.limit, seen, channel, reason, field, sink) {
+        if let Err(fault) = self.end(site, reason, sink) {
+            return Err(fault);
+        }
+        match give_field(self.limit, site, reason, field, sink) {
             Ok(at) => {
-                self.hold(seen, at as u16, &field.octets[at..]);
+                self.hold(site.seen, at as u16, &field.octets[at..]);
                 Ok(())
             }
             Err(fault) => Err(fault),
@@ -162,37 +159,36 @@ impl Tail {
     /// Takes a frame's field, by what is held and by the place of the first packet that starts in it.
     pub fn add_field<S: Sink>(
         &mut self,
-        seen: u32,
-        channel: u8,
+        site: Site,
         field: DataField<'_>,
         sink: &mut S,
     ) -> Result<(), S::Fault>
-        requires field { IsDataField channel field }
+        requires field { IsDataField site.channel field }
         requires open { IsOpenTail self.old.limit self.old.tail }
-        ensures given { GivesParts S.Sink sink.old sink.new channel
-            (step_parts self.old.limit self.old.tail (member_with seen field.entry)) result }
+        ensures given { GivesParts S.Sink sink.old sink.new site.channel
+            (step_parts self.old.limit self.old.tail (member_with site.seen field.entry)) result }
         ensures left { LeavesTail self.old self.new
-            (step_tail self.old.limit self.old.tail (member_with seen field.entry)) result }
+            (step_tail self.old.limit self.old.tail (member_with site.seen field.entry)) result }
     {
         if self.octets.is_empty() {
-            return self.begin(seen, channel, Reason::NoStart, field, sink);
+            return self.begin(site, Reason::NoStart, field, sink);
         }
         let held = self.octets.len();
         let end = held + field.octets.len();
         let length = packet_length_over(self.octets.as_slice(), field.octets);
         if !agrees_at(length, held, field.octets.len(), field.place) {
-            return self.break_off(seen, channel, Reason::Pointer, field, sink);
+            return self.begin(site, Reason::Pointer, field, sink);
         }
         if is_long(self.limit, length, end) {
-            return self.break_off(seen, channel, Reason::Length, field, sink);
+            return self.begin(site, Reason::Length, field, sink);
         }
         match field.place {
             None if end < length => {
                 self.grow(field.octets);
                 Ok(())
             }
-            None => self.complete(seen, channel, field.octets, sink),
-            Some(start) => self.complete_in(seen, channel, start, field.octets, sink),
+            None => self.complete(site, field.octets, sink),
+            Some(start) => self.complete_in(site, start, field.octets, sink),
         }
     }
 
@@ -209,22 +205,16 @@ impl Tail {
     }
 
     // Gives the packet, which is whole with these octets.
-    fn complete<S: Sink>(
-        &mut self,
-        seen: u32,
-        channel: u8,
-        last: &[u8],
-        sink: &mut S,
-    ) -> Result<(), S::Fault>
-        requires channel { channel < 8 }
+    fn complete<S: Sink>(&mut self, site: Site, last: &[u8], sink: &mut S) -> Result<(), S::Fault>
+        requires channel { site.channel < 8 }
         requires whole { MayComplete self.old last.now }
-        ensures given { GivesParts S.Sink sink.old sink.new channel (completed self.old.tail last.now seen) result }
+        ensures given { GivesParts S.Sink sink.old sink.new site.channel (completed self.old.tail last.now site.seen) result }
         ensures left { LeavesTail self.old self.new None result }
     {
         self.grow(last);
         let packet = Item::Packet {
-            seen,
-            channel,
+            seen: site.seen,
+            channel: site.channel,
             first: self.first,
             place: self.place,
             octets: self.octets.as_slice(),
@@ -239,50 +229,27 @@ impl Tail {
     // Gives the packet, which ends where the next one starts in the field, and reads on from there.
     fn complete_in<S: Sink>(
         &mut self,
-        seen: u32,
-        channel: u8,
+        site: Site,
         start: u16,
         field: &[u8],
         sink: &mut S,
     ) -> Result<(), S::Fault>
-        requires field { IsFieldOf channel (Some start) field.now }
+        requires field { IsFieldOf site.channel (Some start) field.now }
         requires whole { MayComplete self.old (take start field.now) }
-        ensures given { GivesParts S.Sink sink.old sink.new channel
-            (completed_parts self.old.limit self.old.tail seen start field.now) result }
-        ensures left { LeavesTail self.old self.new (frame_tail self.old.limit (member_at seen (Some start) field.now)) result }
+        ensures given { GivesParts S.Sink sink.old sink.new site.channel
+            (completed_parts self.old.limit self.old.tail site.seen start field.now) result }
+        ensures left { LeavesTail self.old self.new
+            (frame_tail self.old.limit (member_at site.seen (Some start) field.now)) result }
     {
         let start = start as usize;
-        if let Err(fault) = self.complete(seen, channel, &field[..start], sink) {
+        if let Err(fault) = self.complete(site, &field[..start], sink) {
             return Err(fault);
         }
-        match read_field(self.limit, seen, channel, field, start, sink) {
+        match read_field(self.limit, site, field, start, sink) {
             Ok(at) => {
-                self.hold(seen, at as u16, &field[at..]);
+                self.hold(site.seen, at as u16, &field[at..]);
                 Ok(())
             }
-            Err(fault) => Err(fault),
-        }
-    }
-
-    // The frame doesn't agree: the tail is lost for this reason, and so is what stands before the frame's place.
-    fn break_off<S: Sink>(
-        &mut self,
-        seen: u32,
-        channel: u8,
-        reason: Reason,
-        field: DataField<'_>,
-        sink: &mut S,
-    ) -> Result<(), S::Fault>
-        requires field { IsDataField channel field }
-        ensures given { GivesParts S.Sink sink.old sink.new channel
-            (broken_off_parts self.old.limit self.old.tail reason (member_with seen field.entry)) result }
-        ensures left { LeavesTail self.old self.new (frame_tail self.old.limit (member_with seen field.entry)) result }
-    {
-        if let Err(fault) = self.end(seen, channel, reason, sink) {
-            return Err(fault);
-        }
-        match self.begin(seen, channel, reason, field, sink) {
-            Ok(()) => Ok(()),
             Err(fault) => Err(fault),
         }
     }

@@ -7,11 +7,11 @@ use Rattle.tm_reassembly.proofs.ReadField.{read_none, read_more}
 use Rattle.tm_reassembly.proofs.packets.read_field.Goals as goal
 
 pub loop-length-init : goal.loop-length-init
-loop-length-init g c = read_none c.args.limit c.args.seen c.args.channel c.args.field.now c.args.place c.requires.field.2
+loop-length-init g c = read_none c.args.limit c.args.site.seen c.args.site.channel c.args.field.now c.args.place c.requires.field.2
 
 pub loop-length-preserved : goal.loop-length-preserved
 loop-length-preserved g c =
-    read_more c.args.limit c.args.seen c.args.channel c.args.field.now c.args.place c.loop-length.offset c.in-Some.length _ refl
+    read_more c.args.limit c.args.site.seen c.args.site.channel c.args.field.now c.args.place c.loop-length.offset c.in-Some.length _ refl
     c.loop-length.invariant c.in-Some.ensures.whole
 
 pub returns-in-Err-clause-given : goal.returns-in-Err-clause-given

@@ -43,5 +43,5 @@ returns-in-Some-clause-given g c =
     let reach : c.packet_length_over-length.result ≡ packet_length (octets_in c.args.self.now.tail ++ c.args.field.octets.now) = c.packet_length_over-length.ensures.value ∙ ap (λ (o : List ℕ). packet_length (o ++ c.args.field.octets.now)) (c.as_slice.ensures.value ∙ sym same) in
     let items : c.len-held.result ≡ length c.self.inside.octets.items = search rules in
     let held : c.len-held.result ≡ length (octets_in c.args.self.now.tail) = items ∙ ap length (sym same) in
-    let e = step_completed_at c.args.self.now.limit c.args.self.now.tail c.args.seen c.in-Some.start c.args.field.octets.now c.packet_length_over-length.result c.len-held.result c.args.field.place c.in-Some.is reach held some inside agree (rw (← limit) short) in
+    let e = step_completed_at c.args.self.now.limit c.args.self.now.tail c.args.site.seen c.in-Some.start c.args.field.octets.now c.packet_length_over-length.result c.len-held.result c.args.field.place c.in-Some.is reach held some inside agree (rw (← limit) short) in
     rw (← e) c.complete_in.ensures.given

@@ -164,6 +164,21 @@ pub fn format_packet(line: &mut LineBuffer, packet: &Packet<'_>)
 
 // ---- the report
 
+// What the counts of a gap are, and how many are missing.
+fn format_counts(line: &mut LineBuffer, expected: u16, found: u16, missing: u16)
+    requires { 56 + length line.old ≤ 320 }
+    ensures most { length line.new ≤ 56 + length line.old }
+    ensures text { line.new ≡ codes " expected="
+        ++ (decimal expected ++ (codes " found=" ++ (decimal found ++ (codes " missing=" ++ (decimal missing ++ line.old))))) }
+{
+    line.prepend_number(u32::from(missing));
+    line.prepend_text(b" missing=");
+    line.prepend_number(u32::from(found));
+    line.prepend_text(b" found=");
+    line.prepend_number(u32::from(expected));
+    line.prepend_text(b" expected=");
+}
+
 /// The line of a gap in the counts of a channel's frames.
 pub fn format_gap(
     line: &mut LineBuffer,
@@ -176,12 +191,7 @@ pub fn format_gap(
     ensures { line.new ≡ gap_line seen channel expected found missing }
 {
     line.start();
-    line.prepend_number(u32::from(missing));
-    line.prepend_text(b" missing=");
-    line.prepend_number(u32::from(found));
-    line.prepend_text(b" found=");
-    line.prepend_number(u32::from(expected));
-    line.prepend_text(b" expected=");
+    format_counts(line, expected.into(), found.into(), missing.into());
     line.prepend_number(u32::from(channel));
     line.prepend_text(b" channel=");
     line.prepend_number(seen);
@@ -193,12 +203,7 @@ pub fn format_master_gap(line: &mut LineBuffer, seen: u32, expected: u8, found: 
     ensures { line.new ≡ master_gap_line seen expected found missing }
 {
     line.start();
-    line.prepend_number(u32::from(missing));
-    line.prepend_text(b" missing=");
-    line.prepend_number(u32::from(found));
-    line.prepend_text(b" found=");
-    line.prepend_number(u32::from(expected));
-    line.prepend_text(b" expected=");
+    format_counts(line, expected.into(), found.into(), missing.into());
     line.prepend_number(seen);
     line.prepend_text(b"mastergap record=");
 }
@@ -216,8 +221,8 @@ pub fn format_vca(line: &mut LineBuffer, seen: u32, channel: u8)
 
 /// The line of a dropped part.
 #[tactic(auto, using(crate::proofs::BufferLemmas::short_reason_word))]
-pub fn format_drop(line: &mut LineBuffer, part: DroppedPart)
-    ensures { line.new ≡ drop_line part.seen part.channel part.first part.place part.octets part.reason }
+pub fn format_drop(line: &mut LineBuffer, seen: u32, channel: u8, part: DroppedPart)
+    ensures { line.new ≡ drop_line seen channel part.first part.place part.octets part.reason }
 {
     line.start();
     line.prepend_word(part.reason.word());
@@ -228,9 +233,9 @@ pub fn format_drop(line: &mut LineBuffer, part: DroppedPart)
     line.prepend_text(b" at=");
     line.prepend_number(part.first);
     line.prepend_text(b" from=");
-    line.prepend_number(u32::from(part.channel));
+    line.prepend_number(u32::from(channel));
     line.prepend_text(b" channel=");
-    line.prepend_number(part.seen);
+    line.prepend_number(seen);
     line.prepend_text(b"drop record=");
 }
 
@@ -301,12 +306,7 @@ pub fn format_note(line: &mut LineBuffer, seen: u32, channel: u8, apid: u16, not
             found,
             missing,
         } => {
-            line.prepend_number(u32::from(missing));
-            line.prepend_text(b" missing=");
-            line.prepend_number(u32::from(found));
-            line.prepend_text(b" found=");
-            line.prepend_number(u32::from(expected));
-            line.prepend_text(b" expected=");
+            format_counts(line, expected, found, missing);
             format_place_of_note(line, seen, channel, apid);
             line.prepend_text(b"seqgap record=");
         }

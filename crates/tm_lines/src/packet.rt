@@ -3,12 +3,9 @@
 use tm_items::Reason;
 use tm_packet::Header;
 
-/// A dropped part of a channel. `seen` is the record that shows the loss, `first` and `place` are the record in which the part begins and its
-/// place in that record's data field.
+/// A dropped part of a channel. `first` and `place` are the record in which it begins and its place in that record's data field.
 #[derive(Clone, Copy)]
 pub struct DroppedPart {
-    pub seen: u32,
-    pub channel: u8,
     pub first: u32,
     pub place: u16,
     pub octets: u32,

@@ -1,27 +1,28 @@
--- Packets that lie end to end: the first of them, those that add nothing to the report, and their octets.
+-- Packets that lie end to end: the first of them, and those that add nothing to the report.
 use Rattle.std.proofs.Common.{◌≡◌, ◌≢◌, ℕ, ◌+◌, ◌-◌, ◌<◌, ◌≤◌, Ok, Err, Result, List, [], ◌∷◌, ◌++◌, length, take, drop, refl, sym, ap, subst, ◌∙◌, append-nil, arith, inl, inr, ⊎_elim}
+use Rattle.std.specs.Borrow.{Bor}
 use Rattle.std.proofs.KnownBytes.{Appends-nil}
 use Rattle.std.proofs.lemmas.Bool.{cases_lt, eqb-true}
 use Rattle.std.proofs.lemmas.List.{drop-append-le, drop-drop, drop_at, length-drop, length-take-le, take-append-drop, take-append-le, take_at, take_rest}
 use Rattle.tm_packet.specs.declared.header.PacketFault.{PacketFault}
 use Rattle.tm_packet.specs.Header.{Fields, packet_header_of, header_reading_of, packet_version_of}
+use Rattle.tm_items.specs.declared.sink.Span.{Span}
 use Rattle.tm_items.specs.Item.{Item, Packet}
 use Rattle.tm_items.specs.OnePacket.{IsOnePacket, packet_length}
 use Rattle.tm_items.specs.Sinks.{RefusesOne, TakesAll}
-use Rattle.tm_items.specs.code.Spans.{IsSpan, placed, packets_in, span_items}
+use Rattle.tm_items.specs.code.Spans.{IsSpan, items_of_span, placed, packets_in, span_items}
 use Rattle.tm_items.proofs.Headers.{header-front, packet_length_read, reading-ok, reading-err}
 use Rattle.tm_items.proofs.Reaching.{packet_length_least}
 use Rattle.tm_items.proofs.Leads.{RefusesOne-left}
-use Rattle.tm_items.proofs.Spans.{joined, joined-all, packets-first, packets-one, span-both, span-first, span-longer, span-next}
+use Rattle.tm_items.proofs.Spans.{packets-first, packets-one, span-both, span-first, span-longer, span-next}
 use Rattle.tm_devices.specs.Devices.{raised}
 use Rattle.tm_faults.specs.declared.fault.RunFault.TheVariants.{Write}
 use Rattle.tm_output.specs.Outputs.{PutsPart, SameCounts, Buffering, view}
 use Rattle.tm_packet.specs.Merge.{Entries}
-use Rattle.tm_output.specs.Pieces.{Texts, noted, noted_all, packet_octets, piece_of, text_of}
+use Rattle.tm_output.specs.Pieces.{Texts, noted, noted_all, piece_of}
 use Rattle.tm_output.specs.Seen.{OutputState}
-use Rattle.tm_output.specs.declared.command.Command.TheVariants.{Extract}
 use Rattle.tm_output.specs.code.Packets.{item_with}
-use Rattle.tm_output.specs.code.Quiet.{AreQuiet, HasNoted, IsFirstPacket, IsQuiet, IsAccepted, outs_of}
+use Rattle.tm_output.specs.code.Quiet.{AreQuiet, HasNoted, IsFirstPacket, IsQuiet, IsAccepted, first_items, outs_of}
 use Rattle.tm_lines.specs.declared.packet.Packet as lent
 use Rattle.tm_output.specs.code.Sinking.{Refuses, Takes}
 use Rattle.tm_output.proofs.PacketLemmas.{none_both, version_front}
@@ -54,17 +55,6 @@ first_not octets r fault some span is refused =
     let short = reading-err octets fault zero (sym is ∙ refused) in
     omega (arith, packet_length_least octets, first.inside)
 
--- ---- octets
-
-octets_placed : (seen channel place : ℕ) (ps : List (List ℕ)) → outs_of (text_of Extract) (placed seen channel place ps) ≡ joined ps
-unfolding packet_octets
-octets_placed seen channel place [] = refl
-octets_placed seen channel place (p ∷ ps) = ap (λ (l : List ℕ). p ++ l) (octets_placed seen channel (place + length p) ps)
-
--- as they are
-pub span_octets : (seen channel place : ℕ) (octets : List ℕ) → outs_of (text_of Extract) (span_items seen channel place octets) ≡ octets
-span_octets seen channel place octets = octets_placed seen channel place (packets_in octets) ∙ joined-all octets
-
 -- ---- that add nothing to the report
 
 noted_more : (entries : Entries) (xs : List Item) (x : Item) → noted_all entries (xs ++ x ∷ []) ≡ noted (noted_all entries xs) x
@@ -76,24 +66,25 @@ quiet_more : {A : Type 0} (text : Texts A) (entries : Entries) (xs : List Item) 
 quiet_more text entries [] x quiet none = (none, tt)
 quiet_more text entries (y ∷ ys) x quiet none = (quiet.0, quiet_more text (noted entries y) ys x quiet.1 none)
 
-module _ {A : Type 0} (text : Texts A) (old : Entries) (seen channel place : ℕ) (octets : List ℕ) where
-  pub noted_none : IsSpan octets → HasNoted text old old seen channel place octets 0
-  noted_none span = record { inside = omega arith; prefix = tt; rest = span; noted_is = refl; quiet = tt }
+module _ {A : Type 0} (text : Texts A) (old : Entries) (span : Span) where
+  pub noted_none : IsSpan span.octets.now → HasNoted text old old span 0
+  noted_none whole = record { inside = omega arith; prefix = tt; rest = whole; noted_is = refl; quiet = tt }
 
   -- and the next one
-  pub noted_next : (now next : Entries) (at : ℕ) (left : List ℕ) (packet : lent.Packet) → left ≡ take (length octets - at) (drop at octets) → at < length octets
-      → HasNoted text old now seen channel place octets at → IsFirstPacket seen channel (place + at) left packet
-      → IsQuiet text now (item_with packet) → next ≡ noted now (item_with packet)
-      → HasNoted text old next seen channel place octets (at + length packet.octets.now)
+  pub noted_next : (now next : Entries) (at : ℕ) (left : Bor (List ℕ)) (packet : lent.Packet)
+      → left.now ≡ take (length span.octets.now - at) (drop at span.octets.now) → at < length span.octets.now
+      → HasNoted text old now span at → IsFirstPacket (record span { place = span.place + at; octets = left }) packet
+      → IsQuiet text now (item_with packet) → next ≡ noted now (item_with packet) → HasNoted text old next span (at + length packet.octets.now)
   noted_next now next at left packet is some done head silent after =
+      let octets = span.octets.now in
       let far = length packet.octets.now in
-      let all : left ≡ drop at octets = is ∙ take_rest octets at in
-      let step = span-next seen channel place at far octets left is head.length_is some done.rest in
-      let x = Packet seen channel seen (place + at) (take far left) in
+      let all : left.now ≡ drop at octets = is ∙ take_rest octets at in
+      let step = span-next span.seen span.channel span.place at far octets left.now is head.length_is some done.rest in
+      let x = Packet span.seen span.channel span.seen (span.place + at) (take far left.now) in
       let own : item_with packet ≡ x = rw head.length_is head.item in
-      let longer = span-longer seen channel place at far octets (omega arith) done.prefix (rw all at step.one) in
-      let before = span_items seen channel place (take at octets) in
-      let items : span_items seen channel place (take (at + far) octets) ≡ before ++ x ∷ [] = rw all longer.items in
+      let longer = span-longer span.seen span.channel span.place at far octets (omega arith) done.prefix (rw all at step.one) in
+      let before = first_items span at in
+      let items : first_items span (at + far) ≡ before ++ x ∷ [] = rw all longer.items in
       record {
         inside = step.inside;
         prefix = longer.span;
@@ -103,9 +94,8 @@ module _ {A : Type 0} (text : Texts A) (old : Entries) (seen channel place : ℕ
       }
 
 -- no octets were noted, and so nothing
-pub nothing_noted : {A : Type 0} (text : Texts A) (old new : Entries) (seen channel place : ℕ) (octets : List ℕ) (many : ℕ)
-    → HasNoted text old new seen channel place octets many → many ≡ 0 → new ≡ old
-nothing_noted text old new seen channel place octets many done none = rw none at done.noted_is
+pub nothing_noted : {A : Type 0} (text : Texts A) (old new : Entries) (span : Span) (many : ℕ) → HasNoted text old new span many → many ≡ 0 → new ≡ old
+nothing_noted text old new span many done none = rw none at done.noted_is
 
 -- ---- taken
 
@@ -129,15 +119,16 @@ module _ {A K M : Type 0} (grows : K → K → List A → Type 0) (grows-nil : (
     (grows-trans : (j k l : K) (xs ys : List A) → grows j k xs → grows k l ys → grows j l (xs ++ ys))
     (grows-split : (j l : K) (xs ys : List A) → grows j l (xs ++ ys) → (k : K) × grows j k xs × grows k l ys)
     (text : M → Texts A) (buffering : Buffering) where
-  module _ (s t : OutputState K M) {seen channel place : ℕ} {octets : List ℕ} {packet : lent.Packet} (some : 0 < length octets)
-      (head : IsFirstPacket seen channel place octets packet) where
+  module _ (s t : OutputState K M) {span : Span} {packet : lent.Packet} (some : 0 < length span.octets.now) (head : IsFirstPacket span packet) where
     -- the first packet, alone
-    pub one_taken : IsSpan octets → Takes grows text buffering s (item_with packet) t → IsAccepted (Takes grows text buffering) s t seen channel place octets (length packet.octets.now)
-    one_taken span accepted =
-        let first = span-first octets some span in
+    pub one_taken : IsSpan span.octets.now → Takes grows text buffering s (item_with packet) t
+        → IsAccepted (Takes grows text buffering) s t span (length packet.octets.now)
+    one_taken whole accepted =
+        let octets = span.octets.now in
+        let first = span-first octets some whole in
         let far = length packet.octets.now in
         let one : IsOnePacket (take far octets) = rw head.length_is first.one in
-        let own : item_with packet ≡ Packet seen channel seen place (take far octets) = rw head.length_is head.item in
+        let own : item_with packet ≡ Packet span.seen span.channel span.seen span.place (take far octets) = rw head.length_is head.item in
         record {
           prefix = rw (packets-one (take far octets) one) (one, tt);
           rest = rw head.length_is first.others;
@@ -206,22 +197,23 @@ module _ {A K M : Type 0} (grows : K → K → List A → Type 0) (grows-nil : (
       ))
       (cases_lt (length prefix) (length own))
 
-  module _ (s t : OutputState K M) {seen channel place many : ℕ} {octets : List ℕ} (some : many ≡ 0 → ⊥)
-      (done : HasNoted (text s.fixture.texts) s.entries t.entries seen channel place octets many)
+  module _ (s t : OutputState K M) {span : Span} {many : ℕ} (some : many ≡ 0 → ⊥) (done : HasNoted (text s.fixture.texts) s.entries t.entries span many)
       (same : t.fixture ≡ s.fixture) (report : t.view.report ≡ s.view.report) where
-    abbrev items : List Item
-    items = placed seen channel place (take (packet_length (take many octets)) (take many octets) ∷ packets_in (drop (packet_length (take many octets)) (take many octets)))
+    abbrev octets : List ℕ
+    octets = take many span.octets.now
 
-    first : span_items seen channel place (take many octets) ≡ items
-    first = ap (placed seen channel place) (packets-first (take many octets) (omega (arith, length-take-le many octets done.inside)))
+    abbrev items : List Item
+    items = placed span.seen span.channel span.place (take (packet_length octets) octets ∷ packets_in (drop (packet_length octets) octets))
+
+    first : first_items span many ≡ items
+    first = ap (placed span.seen span.channel span.place) (packets-first octets (omega (arith, length-take-le many span.octets.now done.inside)))
 
     quiet : AreQuiet (text s.fixture.texts) s.entries items
     quiet = rw first at done.quiet
 
     -- the packets in front that are noted
-    pub span_taken : SameCounts s.view t.view
-        → grows s.view.out t.view.out (outs_of (text s.fixture.texts) (span_items seen channel place (take many octets)))
-        → IsAccepted (Takes grows text buffering) s t seen channel place octets many
+    pub span_taken : SameCounts s.view t.view → grows s.view.out t.view.out (outs_of (text s.fixture.texts) (first_items span many))
+        → IsAccepted (Takes grows text buffering) s t span many
     span_taken counts grown = record {
       prefix = done.prefix;
       rest = done.rest;
@@ -229,12 +221,12 @@ module _ {A K M : Type 0} (grows : K → K → List A → Type 0) (grows-nil : (
     }
 
     pub span_stopped : t.view.out_failures ≡ raised s.view.out_failures → t.view.report_failures ≡ s.view.report_failures
-        → PutsPart grows s.view.out t.view.out (outs_of (text s.fixture.texts) (span_items seen channel place (take many octets)))
-        → RefusesOne (Takes grows text buffering) (Refuses grows text buffering) s (span_items seen channel place octets) Write t
+        → PutsPart grows s.view.out t.view.out (outs_of (text s.fixture.texts) (first_items span many))
+        → RefusesOne (Takes grows text buffering) (Refuses grows text buffering) s (items_of_span span) Write t
     span_stopped out_failed report_failed part =
-        rw (span-both seen channel place many octets done.inside done.prefix)
-        (RefusesOne-left (Takes grows text buffering) (Refuses grows text buffering) s t (span_items seen channel place (take many octets))
-        (span_items seen channel (place + many) (drop many octets)) Write
+        rw (span-both span.seen span.channel span.place many span.octets.now done.inside done.prefix)
+        (RefusesOne-left (Takes grows text buffering) (Refuses grows text buffering) s t (first_items span many)
+        (span_items span.seen span.channel (span.place + many) (drop many span.octets.now)) Write
         (rw first (one_stopped s t _ _ quiet same report out_failed report_failed (rw first at part))))
 
 -- what is left of packets that lie end to end, once so many octets of them were taken

@@ -9,6 +9,8 @@ mod output;
 
 pub use command::{Command, Ending};
 pub use listing::{list_frames, write_record_line, write_rest_line};
-pub use outlet::{Outlet, PacketLines, PacketOctets, PacketRows, PacketShelf};
+pub use outlet::{
+    Outlet, PacketLines, PacketOctets, PacketRows, PacketShelf, PacketText, PacketTexts,
+};
 pub use output::{Output, header_in};
 pub use tm_lines::Packet;

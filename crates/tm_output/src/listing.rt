@@ -197,13 +197,13 @@ pub fn list_frames<R: BufferedSource, W: Drain>(
     recording: &mut R,
     out: &mut W,
 ) -> Result<u32, RunFault>
-    // The drain is the same one.
-    ensures same { W.fixed out.new ≡ W.fixed out.old }
-
     // With Ok all was read, and just the lines of what was read were written, and passed on.
     ensures listed { IfOk result (IsListed settings.now.layout (R.left recording.old) (R.left recording.new) (W.written out.old)
         (W.written out.new)) }
     ensures flushed { OnOk result (Keeps (W.flushed out.new) (W.written out.new)) }
+
+    // The drain is the same one.
+    ensures same { W.fixed out.new ≡ W.fixed out.old }
 
     // After a fault there is one place up to which lines were written, and nothing was read past the record whose line was being written.
     ensures stopped { IfErr result (IsListingStop settings.now.layout (R.left recording.old) (R.left recording.new)

@@ -1,16 +1,17 @@
 //! Where packets go: their octets into a drain or a shelf, or a line or a row for each into a drain.
 
-ghost use Rattle.std.specs.Prelude.{◌≡◌, ◌≢◌, ◌++◌, ◌==◌, [], ℕ, Bool, true, false, List, Option, OnOk, OnErr, IfErr, IfOk};
+ghost use Rattle.std.specs.Prelude.{◌≡◌, ◌≢◌, ◌++◌, ◌==◌, [], ℕ, Bool, true, false, List, Option, OnOk, OnErr, IfErr, IfOk, refl};
+ghost use Rattle.std.specs.List.{flat_map};
 ghost use Rattle.std.specs.Io.KnownBytes.{Appends, Keeps};
 ghost use Rattle.std.proofs.KnownBytes.{Appends-nil, Appends-trans};
 ghost use Rattle.tm_items.specs.Item.{Item};
-ghost use Rattle.tm_items.specs.code.Spans.{span_items};
+ghost use Rattle.tm_items.specs.code.Spans.{items_of_span, span_items};
 ghost use Rattle.tm_devices.specs.Devices.{Counts, raised};
 ghost use Rattle.tm_output.specs.code.Packets.{HasHeader, item_with};
-ghost use Rattle.tm_output.specs.code.Outlets.{GivesNone, PutStopped, appends_split, no_text};
+ghost use Rattle.tm_output.specs.code.Outlets.{GivesNone, PutStopped, appends_split, listed_none, octets_joined, octets_none};
 ghost use Rattle.tm_output.specs.code.Quiet.{outs_of};
 ghost use Rattle.tm_output.specs.Outputs.{FixedDrain, PutsPart, Buffering, lines_buffering, octets_buffering};
-ghost use Rattle.tm_output.specs.Pieces.{HasLine, Texts, text_of};
+ghost use Rattle.tm_output.specs.Pieces.{HasLine, Texts, listed, no_remark, packet_octets};
 ghost use Rattle.tm_output.specs.code.ShelfLaws.{no_shelf, shelves_nil, shelves_split, shelves_trans};
 ghost use Rattle.tm_output.specs.Shelves.{Shelved, Shelves, shelf_text, shelf_buffering};
 
@@ -19,6 +20,7 @@ use std::alloc::AllocError;
 use tm_devices::{DeviceFailed, Drain, Shelf, write_all};
 use tm_faults::RunFault;
 use tm_fields::{Lead, RowFault, Rows};
+use tm_items::Span;
 use tm_lines::{LineBuffer, format_packet, format_short_packet};
 use tm_packet::Header;
 
@@ -75,6 +77,14 @@ pub trait Outlet {
             (Self.failures self.old) (Self.failures self.new)
             ((Self.text (Self.fixed self.old)).out (item_with packet.now))) };
 
+    /// Passes on all that was written.
+    fn flush(&mut self) -> Result<(), DeviceFailed>
+        ensures same { Self.fixed self.new ≡ Self.fixed self.old }
+        ensures kept { Self.grows (Self.held self.old) (Self.held self.new) [] }
+        ensures passed { OnOk result (Self.passed self.new) }
+        ensures failed { OnErr result (Self.buffering.flush ≡ true) }
+        ensures counts { Counts (Self.failures self.old) (Self.failures self.new) result };
+
     /// Packets that lie end to end may be put at once.
     ghost can_join: { Bool };
 
@@ -83,30 +93,15 @@ pub trait Outlet {
 
     /// Writes at once what belongs here for packets that lie end to end, if the outlet joins them, and answers whether it did. If not, nothing
     /// changes.
-    fn write_span(
-        &mut self,
-        seen: u32,
-        channel: u8,
-        place: u16,
-        octets: &[u8],
-    ) -> Result<bool, DeviceFailed>
+    fn write_span(&mut self, span: Span<'_>) -> Result<bool, DeviceFailed>
         ensures same { Self.fixed self.new ≡ Self.fixed self.old }
         ensures joined { IfOk result (λ put. put ≡ Self.can_join) }
         ensures whole { IfOk result (λ put. put ≡ true → Self.grows (Self.held self.old) (Self.held self.new)
-            (outs_of (Self.text (Self.fixed self.old)) (span_items seen channel place octets.now))
-            × (Self.failures self.new ≡ Self.failures self.old)) }
+            (outs_of (Self.text (Self.fixed self.old)) (items_of_span span.entry)) × (Self.failures self.new ≡ Self.failures self.old)) }
         ensures apart { IfOk result (λ put. put ≡ false → self.new ≡ self.old) }
         ensures stopped { OnErr result ((Self.failures self.new ≡ raised (Self.failures self.old))
             × PutsPart Self.grows (Self.held self.old) (Self.held self.new)
-            (outs_of (Self.text (Self.fixed self.old)) (span_items seen channel place octets.now))) };
-
-    /// Passes on all that was written.
-    fn flush(&mut self) -> Result<(), DeviceFailed>
-        ensures same { Self.fixed self.new ≡ Self.fixed self.old }
-        ensures kept { Self.grows (Self.held self.old) (Self.held self.new) [] }
-        ensures passed { OnOk result (Self.passed self.new) }
-        ensures failed { OnErr result (Self.buffering.flush ≡ true) }
-        ensures counts { Counts (Self.failures self.old) (Self.failures self.new) result };
+            (outs_of (Self.text (Self.fixed self.old)) (items_of_span span.entry))) };
 
     /// An item that has a line gives nothing to the outlet, and nothing more to the report.
     ghost text_none: { (f : Fixed) (x : Item) → HasLine x → GivesNone (text f) x };
@@ -121,159 +116,155 @@ pub trait Outlet {
     ghost grows_split: { (j l : Held) (xs ys : List Part) → grows j l (xs ++ ys) → (k : Held) × grows j k xs × grows k l ys };
 }
 
-/// Packets' octets into a drain.
-#[derive(Drop)]
-pub struct PacketOctets<'a, W> {
-    pub out: &'a mut W,
+/// What is written of a packet into a drain. The report says nothing more of it.
+pub trait PacketText {
+    /// The text of an item.
+    ghost text: { Item → List ℕ };
+
+    /// Packets that lie end to end may be put at once.
+    ghost can_join: { Bool };
+
+    fn can_join(&self) -> bool
+        ensures { result ≡ can_join };
+
+    /// The octets of a packet's text.
+    fn octets<'t>(&'t mut self, packet: &'t Packet<'_>) -> &'t [u8]
+        requires { HasHeader packet.now }
+        ensures { result.now ≡ text (item_with packet.now) };
+
+    /// An item that has a line has no text here.
+    ghost text_none: { (x : Item) → HasLine x → text x ≡ [] };
+
+    /// Where packets may be put at once, their texts are the octets in which they lie.
+    ghost text_joined: { can_join ≡ true → (seen channel place : ℕ) (octets : List ℕ)
+        → flat_map text (span_items seen channel place octets) ≡ octets };
 }
 
-impl<W: Drain> Outlet for PacketOctets<'_, W> {
-    ghost use Rattle.tm_output.specs.declared.command.Command.TheVariants.{Extract};
+/// A packet's own octets.
+#[derive(Drop)]
+pub struct PacketOctets;
 
-    ghost Part = { ℕ };
-
-    ghost Held = { Option (List ℕ) };
-
-    ghost Fixed = { FixedDrain };
-
-    ghost fixed = { λ o. record { name = o.out.ghost_name; number = W.fixed o.out.now } };
-
-    ghost failures = { λ o. W.failures o.out.now };
-
-    ghost held = { λ o. W.written o.out.now };
-
-    ghost grows = { Appends };
-
-    ghost text = { λ _. text_of Extract };
-
-    ghost buffering = { octets_buffering };
-
-    ghost passed = { λ o. Keeps (W.flushed o.out.now) (W.written o.out.now) };
-
-    ghost text_none = { λ _. no_text Extract };
-
-    ghost grows_nil = { Appends-nil };
-
-    ghost grows_trans = { Appends-trans };
-
-    ghost grows_split = { appends_split };
-
-    fn adds_nothing_to_report(&self, _packet: &Packet<'_>) -> bool {
-        true
-    }
-
-    fn remark(&self, _lines: &mut Vec<u8>, _packet: &Packet<'_>) -> Result<(), AllocError> {
-        Ok(())
-    }
-
-    #[tactic(auto, unfolding(crate::specs::Pieces::packet_octets))]
-    fn write(&mut self, packet: &Packet<'_>) -> Result<(), RunFault> {
-        match write_all(self.out, packet.octets) {
-            Ok(()) => Ok(()),
-            Err(_) => Err(RunFault::Write),
-        }
-    }
+impl PacketText for PacketOctets {
+    ghost text = { packet_octets };
 
     ghost can_join = { true };
+
+    ghost text_none = { octets_none };
+
+    ghost text_joined = { λ _. octets_joined };
 
     fn can_join(&self) -> bool {
         true
     }
 
-    #[tactic(auto, using(crate::proofs::SpanLemmas::span_octets))]
-    fn write_span(
-        &mut self,
-        _seen: u32,
-        _channel: u8,
-        _place: u16,
-        octets: &[u8],
-    ) -> Result<bool, DeviceFailed> {
-        match write_all(self.out, octets) {
-            Ok(()) => Ok(true),
-            Err(fault) => Err(fault),
-        }
-    }
-
-    fn flush(&mut self) -> Result<(), DeviceFailed> {
-        self.out.flush()
+    #[inline(always)]
+    #[tactic(auto, unfolding(crate::specs::Pieces::packet_octets))]
+    fn octets<'t>(&'t mut self, packet: &'t Packet<'_>) -> &'t [u8] {
+        packet.octets
     }
 }
 
-/// A line for each packet into a drain.
+/// A packet's line.
 #[derive(Drop)]
-pub struct PacketLines<'a, W> {
-    /// Where the lines go.
-    pub out: &'a mut W,
+pub struct PacketLines {
     /// The memory in which each is made.
     pub line: LineBuffer,
 }
 
-impl<W: Drain> Outlet for PacketLines<'_, W> {
-    ghost use Rattle.tm_output.specs.declared.command.Command.TheVariants.{Packets};
+impl PacketText for PacketLines {
+    ghost use Rattle.std.proofs.lemmas.Bool.{false≢true};
 
-    ghost Part = { ℕ };
-
-    ghost Held = { Option (List ℕ) };
-
-    ghost Fixed = { FixedDrain };
-
-    ghost fixed = { λ o. record { name = o.out.ghost_name; number = W.fixed o.out.now } };
-
-    ghost failures = { λ o. W.failures o.out.now };
-
-    ghost held = { λ o. W.written o.out.now };
-
-    ghost grows = { Appends };
-
-    ghost text = { λ _. text_of Packets };
-
-    ghost buffering = { octets_buffering };
-
-    ghost passed = { λ o. Keeps (W.flushed o.out.now) (W.written o.out.now) };
-
-    ghost text_none = { λ _. no_text Packets };
-
-    ghost grows_nil = { Appends-nil };
-
-    ghost grows_trans = { Appends-trans };
-
-    ghost grows_split = { appends_split };
-
-    fn adds_nothing_to_report(&self, _packet: &Packet<'_>) -> bool {
-        true
-    }
-
-    fn remark(&self, _lines: &mut Vec<u8>, _packet: &Packet<'_>) -> Result<(), AllocError> {
-        Ok(())
-    }
-
-    #[tactic(auto, unfolding(crate::specs::Pieces::listed))]
-    fn write(&mut self, packet: &Packet<'_>) -> Result<(), RunFault> {
-        format_packet(&mut self.line, packet);
-        match write_all(self.out, self.line.as_slice()) {
-            Ok(()) => Ok(()),
-            Err(_) => Err(RunFault::Write),
-        }
-    }
+    ghost text = { listed };
 
     ghost can_join = { false };
+
+    ghost text_none = { listed_none };
+
+    ghost text_joined = { λ joins. absurd (false≢true joins) };
 
     fn can_join(&self) -> bool {
         false
     }
 
-    fn write_span(
-        &mut self,
-        _seen: u32,
-        _channel: u8,
-        _place: u16,
-        _octets: &[u8],
-    ) -> Result<bool, DeviceFailed> {
-        Ok(false)
+    #[inline(always)]
+    #[tactic(auto, unfolding(crate::specs::Pieces::listed))]
+    fn octets<'t>(&'t mut self, packet: &'t Packet<'_>) -> &'t [u8] {
+        format_packet(&mut self.line, packet);
+        self.line.as_slice()
+    }
+}
+
+/// The text of each packet into a drain.
+#[derive(Drop)]
+pub struct PacketTexts<'a, W, T> {
+    /// Where the texts go.
+    pub out: &'a mut W,
+    /// What makes them.
+    pub text: T,
+}
+
+impl<W: Drain, T: PacketText> Outlet for PacketTexts<'_, W, T> {
+    ghost Part = { ℕ };
+
+    ghost Held = { Option (List ℕ) };
+
+    ghost Fixed = { FixedDrain };
+
+    ghost fixed = { λ o. record { name = o.out.ghost_name; number = W.fixed o.out.now } };
+
+    ghost failures = { λ o. W.failures o.out.now };
+
+    ghost held = { λ o. W.written o.out.now };
+
+    ghost grows = { Appends };
+
+    ghost text = { λ _. record { out = T.text; remark = no_remark } };
+
+    ghost buffering = { octets_buffering };
+
+    ghost passed = { λ o. Keeps (W.flushed o.out.now) (W.written o.out.now) };
+
+    ghost can_join = { T.can_join };
+
+    ghost text_none = { λ _ x has. (T.text_none x has, refl) };
+
+    ghost grows_nil = { Appends-nil };
+
+    ghost grows_trans = { Appends-trans };
+
+    ghost grows_split = { appends_split };
+
+    fn adds_nothing_to_report(&self, _packet: &Packet<'_>) -> bool {
+        true
+    }
+
+    fn remark(&self, _lines: &mut Vec<u8>, _packet: &Packet<'_>) -> Result<(), AllocError> {
+        Ok(())
+    }
+
+    fn write(&mut self, packet: &Packet<'_>) -> Result<(), RunFault> {
+        match write_all(self.out, self.text.octets(packet)) {
+            Ok(()) => Ok(()),
+            Err(_) => Err(RunFault::Write),
+        }
     }
 
     fn flush(&mut self) -> Result<(), DeviceFailed> {
         self.out.flush()
+    }
+
+    fn can_join(&self) -> bool {
+        self.text.can_join()
+    }
+
+    fn write_span(&mut self, span: Span<'_>) -> Result<bool, DeviceFailed> {
+        if !self.text.can_join() {
+            return Ok(false);
+        }
+        match write_all(self.out, span.octets) {
+            Ok(()) => Ok(true),
+            Err(fault) => Err(fault),
+        }
     }
 }
 
@@ -330,25 +321,19 @@ impl<H: Shelf> Outlet for PacketShelf<'_, H> {
         Ok(())
     }
 
+    fn flush(&mut self) -> Result<(), DeviceFailed> {
+        self.shelf.write_out();
+        Ok(())
+    }
+
     ghost can_join = { false };
 
     fn can_join(&self) -> bool {
         false
     }
 
-    fn write_span(
-        &mut self,
-        _seen: u32,
-        _channel: u8,
-        _place: u16,
-        _octets: &[u8],
-    ) -> Result<bool, DeviceFailed> {
+    fn write_span(&mut self, _span: Span<'_>) -> Result<bool, DeviceFailed> {
         Ok(false)
-    }
-
-    fn flush(&mut self) -> Result<(), DeviceFailed> {
-        self.shelf.write_out();
-        Ok(())
     }
 }
 
@@ -445,23 +430,17 @@ impl<W: Drain> Outlet for PacketRows<'_, '_, '_, W> {
         }
     }
 
+    fn flush(&mut self) -> Result<(), DeviceFailed> {
+        self.out.flush()
+    }
+
     ghost can_join = { false };
 
     fn can_join(&self) -> bool {
         false
     }
 
-    fn write_span(
-        &mut self,
-        _seen: u32,
-        _channel: u8,
-        _place: u16,
-        _octets: &[u8],
-    ) -> Result<bool, DeviceFailed> {
+    fn write_span(&mut self, _span: Span<'_>) -> Result<bool, DeviceFailed> {
         Ok(false)
-    }
-
-    fn flush(&mut self) -> Result<(), DeviceFailed> {
-        self.out.flush()
     }
 }

@@ -5,14 +5,14 @@ ghost use Rattle.std.specs.Io.KnownBytes.{Keeps};
 ghost use Rattle.tm_packet.specs.Merge as sequence;
 ghost use Rattle.tm_packet.specs.Header.{packet_header_of};
 ghost use Rattle.tm_items.specs.Sinks.{RefusesOne, item_of};
-ghost use Rattle.tm_items.specs.code.Spans.{IsSpan, span_items};
+ghost use Rattle.tm_items.specs.code.Spans.{IsSpan, items_of_span};
 ghost use Rattle.tm_items.specs.OnePacket.{IsOnePacket};
 ghost use Rattle.tm_lines.specs.Lines.{note_line, note_lines};
 ghost use Rattle.tm_output.specs.Outputs.{Written};
-ghost use Rattle.tm_output.specs.Pieces.{HasLine, item_line, noted, notes_of, unclosed_piece, unclosed_pieces};
+ghost use Rattle.tm_output.specs.Pieces.{HasLine, item_line, noted, report_of, unclosed_piece, unclosed_pieces};
 ghost use Rattle.tm_output.specs.code.Packets.{HasHeader, item_with};
 ghost use Rattle.tm_output.specs.code.Quiet.{HasNoted, IsFirstPacket, IsQuiet, IsAccepted};
-ghost use Rattle.tm_output.specs.code.Sinking.{Refuses, Takes, WritesItem};
+ghost use Rattle.tm_output.specs.code.Sinking.{NotesItem, Refuses, Takes, WritesItem};
 ghost use Rattle.tm_output.specs.Seen.{OutputState, fixture, output_both, output_state};
 
 use crate::Packet;
@@ -20,7 +20,7 @@ use crate::outlet::Outlet;
 use std::alloc::AllocError;
 use tm_devices::{Drain, write_all};
 use tm_faults::RunFault;
-use tm_items::{Item, Sink};
+use tm_items::{Item, Sink, Span};
 use tm_lines::{
     DroppedPart, LineBuffer, format_bad, format_drop, format_gap, format_master_gap, format_note,
     format_short, format_vca,
@@ -103,9 +103,9 @@ fn make_line(line: &mut LineBuffer, item: Item<'_>)
             reason,
         } => format_drop(
             line,
+            seen,
+            channel,
             DroppedPart {
-                seen,
-                channel,
                 first,
                 place,
                 octets,
@@ -130,45 +130,43 @@ pub fn header_in(octets: &[u8]) -> Header
 }
 
 // Takes note of a packet, and makes the lines of its notes.
-#[tactic(auto, using(crate::proofs::PacketLemmas::notes_one))]
+#[tactic(auto, using(crate::proofs::PacketLemmas::notes_one), unfolding(crate::specs::Pieces::noted, crate::specs::Pieces::report_of))]
 fn note_packet(
     tracker: &mut Tracker,
     lines: &mut Vec<u8>,
-    seen: u32,
-    channel: u8,
-    header: Header,
+    packet: &Packet<'_>,
 ) -> Result<(), AllocError>
-    requires { channel < 8 }
-    ensures noted { tracker.new ≡ sequence.entries_after tracker.old (record { channel = channel; header = header } ∷ []) }
-    ensures lines { OnOk result (lines.new.items
-        ≡ note_lines seen channel header.application (notes_of tracker.old (record { channel = channel; header = header }))) }
-    ensures memory { OnErr result (note_lines seen channel header.application
-        (notes_of tracker.old (record { channel = channel; header = header })) ≢ []) }
+    requires channel { packet.now.channel < 8 }
+    requires header { HasHeader packet.now }
+    ensures noted { tracker.new ≡ noted tracker.old (item_with packet.now) }
+    ensures lines { OnOk result (lines.new.items ≡ report_of tracker.old (item_with packet.now)) }
+    ensures memory { OnErr result (report_of tracker.old (item_with packet.now) ≢ []) }
 {
     lines.clear();
-    let notes = tracker.take(channel, header);
-    push_notes(lines, seen, channel, header.application(), &notes)
+    let notes = tracker.take(packet.channel, packet.header);
+    let application = packet.header.application();
+    push_notes(lines, packet.seen, packet.channel, application, &notes)
 }
 
-// The first of packets that lie end to end in a record's data field, from `place` on.
+// The first packet of a span.
 #[inline(always)]
 #[tactic(auto, using(crate::proofs::SpanLemmas::first_not))]
-fn first_packet(seen: u32, channel: u8, place: u16, octets: &[u8]) -> Packet<'_>
-    requires some { 0 < length octets.now }
-    requires packets { IsSpan octets.now }
-    ensures { IsFirstPacket seen channel place octets.now result }
+fn first_packet(span: Span<'_>) -> Packet<'_>
+    requires some { 0 < length span.octets.now }
+    requires packets { IsSpan span.octets.now }
+    ensures { IsFirstPacket span.entry result }
 {
-    let header = match read_header(octets) {
+    let header = match read_header(span.octets) {
         Ok(header) => header,
         Err(_) => unreachable!(),
     };
     Packet {
-        seen,
-        channel,
-        first: seen,
-        place,
+        seen: span.seen,
+        channel: span.channel,
+        first: span.seen,
+        place: span.place,
         header,
-        octets: &octets[..header.length() as usize],
+        octets: &span.octets[..header.length() as usize],
     }
 }
 
@@ -188,24 +186,21 @@ fn note_if_quiet<O: Outlet>(tracker: &mut Tracker, outlet: &O, packet: &Packet<'
     tracker.add_without_notes(packet.channel, packet.header)
 }
 
-// Takes note of the first packets that add nothing to the report, and answers how many octets they have.
+// Takes note of the first packets of a span that add nothing to the report, and answers how many octets they have.
 #[inline(always)]
-fn note_quiet<O: Outlet>(
-    tracker: &mut Tracker,
-    outlet: &O,
-    seen: u32,
-    channel: u8,
-    place: u16,
-    octets: &[u8],
-) -> usize
-    requires channel { channel < 8 }
-    requires places { place + length octets.now < 2 ^ 16 }
-    requires packets { IsSpan octets.now }
-    ensures { HasNoted (O.text (O.fixed outlet.now)) tracker.old tracker.new seen channel place octets.now result }
+fn note_quiet<O: Outlet>(tracker: &mut Tracker, outlet: &O, span: Span<'_>) -> usize
+    requires channel { span.channel < 8 }
+    requires places { span.place + length span.octets.now < 2 ^ 16 }
+    requires packets { IsSpan span.octets.now }
+    ensures { HasNoted (O.text (O.fixed outlet.now)) tracker.old tracker.new span.entry result }
 {
     let mut at = 0;
-    while at < octets.len() {
-        let packet = first_packet(seen, channel, place + at as u16, &octets[at..]);
+    while at < span.octets.len() {
+        let packet = first_packet(Span {
+            place: span.place + at as u16,
+            octets: &span.octets[at..],
+            ..span
+        });
         if !note_if_quiet(tracker, outlet, &packet) {
             return at;
         }
@@ -217,23 +212,13 @@ fn note_quiet<O: Outlet>(
 impl<O: Outlet, V: Drain> Output<'_, O, V> {
     // Takes a packet that may add something to the report. It stands apart, since of most packets the report says nothing.
     #[inline(never)]
-    #[tactic(auto, unfolding(crate::specs::Pieces::report_of, crate::specs::Pieces::noted))]
     fn write_reported(&mut self, packet: &Packet<'_>) -> Result<(), RunFault>
         requires channel { packet.now.channel < 8 }
         requires header { HasHeader packet.now }
-        ensures same { fixture O.Outlet V.Drain self.new ≡ fixture O.Outlet V.Drain self.old }
-        ensures noted { self.new.tracker.now ≡ noted self.old.tracker.now (item_with packet.now) }
-        ensures written { WritesItem O.grows O.text O.buffering (output_state O.Outlet V.Drain self.old)
-            (output_state O.Outlet V.Drain self.new)
-            (item_with packet.now) result }
+        ensures noted { NotesItem O.Outlet V.Drain self.old self.new (item_with packet.now) }
+        ensures written { WritesItem O.Outlet V.Drain self.old self.new (item_with packet.now) result }
     {
-        if let Err(_) = note_packet(
-            self.tracker,
-            self.notes,
-            packet.seen,
-            packet.channel,
-            packet.header,
-        ) {
+        if let Err(_) = note_packet(self.tracker, self.notes, packet) {
             return Err(RunFault::NoMemory);
         }
         if let Err(_) = self.outlet.remark(self.notes, packet) {
@@ -250,15 +235,11 @@ impl<O: Outlet, V: Drain> Output<'_, O, V> {
 
     // Takes a packet.
     #[inline(always)]
-    #[tactic(auto, unfolding(crate::specs::Pieces::noted))]
     fn write_packet(&mut self, packet: &Packet<'_>) -> Result<(), RunFault>
         requires channel { packet.now.channel < 8 }
         requires header { HasHeader packet.now }
-        ensures same { fixture O.Outlet V.Drain self.new ≡ fixture O.Outlet V.Drain self.old }
-        ensures noted { self.new.tracker.now ≡ noted self.old.tracker.now (item_with packet.now) }
-        ensures written { WritesItem O.grows O.text O.buffering (output_state O.Outlet V.Drain self.old)
-            (output_state O.Outlet V.Drain self.new)
-            (item_with packet.now) result }
+        ensures noted { NotesItem O.Outlet V.Drain self.old self.new (item_with packet.now) }
+        ensures written { WritesItem O.Outlet V.Drain self.old self.new (item_with packet.now) result }
     {
         if !note_if_quiet(self.tracker, self.outlet, packet) {
             return self.write_reported(packet);
@@ -269,42 +250,35 @@ impl<O: Outlet, V: Drain> Output<'_, O, V> {
         Ok(())
     }
 
-    // Takes one or some of the packets in front, and answers how many octets they have.
+    // Takes one or some of the packets in front of a span, and answers how many octets they have.
     #[inline(always)]
-    fn write_first(
-        &mut self,
-        seen: u32,
-        channel: u8,
-        place: u16,
-        octets: &[u8],
-    ) -> Result<usize, RunFault>
-        requires channel { channel < 8 }
-        requires some { 0 < length octets.now }
-        requires places { place + length octets.now < 2 ^ 16 }
-        requires packets { IsSpan octets.now }
-        ensures many { IfOk result (λ many. (0 < many) × (many ≤ length octets.now)) }
+    fn write_first(&mut self, span: Span<'_>) -> Result<usize, RunFault>
+        requires channel { span.channel < 8 }
+        requires some { 0 < length span.octets.now }
+        requires places { span.place + length span.octets.now < 2 ^ 16 }
+        requires packets { IsSpan span.octets.now }
+        ensures many { IfOk result (λ many. (0 < many) × (many ≤ length span.entry.octets.now)) }
         ensures accepted { IfOk result (λ many. IsAccepted (Takes O.grows O.text O.buffering)
-            (output_state O.Outlet V.Drain self.old) (output_state O.Outlet V.Drain self.new)
-            seen channel place octets.now many) }
+            (output_state O.Outlet V.Drain self.old) (output_state O.Outlet V.Drain self.new) span.entry many) }
         ensures refused { IfErr result (λ fault. RefusesOne (Takes O.grows O.text O.buffering)
             (Refuses O.grows O.text O.buffering)
-            (output_state O.Outlet V.Drain self.old) (span_items seen channel place octets.now) fault
-            (output_state O.Outlet V.Drain self.new)) }
+            (output_state O.Outlet V.Drain self.old) (items_of_span span.entry) fault (output_state O.Outlet V.Drain self.new)) }
     {
         if self.outlet.can_join() {
-            let quiet = note_quiet(self.tracker, self.outlet, seen, channel, place, octets);
+            let quiet = note_quiet(self.tracker, self.outlet, span);
             if quiet > 0 {
-                return match self
-                    .outlet
-                    .write_span(seen, channel, place, &octets[..quiet])
-                {
+                let front = Span {
+                    octets: &span.octets[..quiet],
+                    ..span
+                };
+                return match self.outlet.write_span(front) {
                     Ok(true) => Ok(quiet),
                     Ok(false) => unreachable!(),
                     Err(_) => Err(RunFault::Write),
                 };
             }
         }
-        let packet = first_packet(seen, channel, place, octets);
+        let packet = first_packet(span);
         match self.write_packet(&packet) {
             Ok(()) => Ok(packet.octets.len()),
             Err(fault) => Err(fault),
@@ -315,11 +289,8 @@ impl<O: Outlet, V: Drain> Output<'_, O, V> {
     #[tactic(auto, unfolding(crate::specs::Pieces::report_of, crate::specs::Pieces::noted))]
     fn write_item_line(&mut self, item: Item<'_>) -> Result<(), RunFault>
         requires { HasLine (item_of item) }
-        ensures same { fixture O.Outlet V.Drain self.new ≡ fixture O.Outlet V.Drain self.old }
-        ensures noted { self.new.tracker.now ≡ noted self.old.tracker.now (item_of item.entry) }
-        ensures written { WritesItem O.grows O.text O.buffering (output_state O.Outlet V.Drain self.old)
-            (output_state O.Outlet V.Drain self.new)
-            (item_of item.entry) result }
+        ensures noted { NotesItem O.Outlet V.Drain self.old self.new (item_of item.entry) }
+        ensures written { WritesItem O.Outlet V.Drain self.old self.new (item_of item.entry) result }
     {
         let mut line = LineBuffer::new();
         make_line(&mut line, item);
@@ -433,16 +404,15 @@ impl<O: Outlet, V: Drain> Sink for Output<'_, O, V> {
         }
     }
 
-    fn take_span(
-        &mut self,
-        seen: u32,
-        channel: u8,
-        place: u16,
-        octets: &[u8],
-    ) -> Result<(), RunFault> {
+    fn take_span(&mut self, span: Span<'_>) -> Result<(), RunFault> {
         let mut at = 0;
-        while at < octets.len() {
-            match self.write_first(seen, channel, place + at as u16, &octets[at..]) {
+        while at < span.octets.len() {
+            let rest = Span {
+                place: span.place + at as u16,
+                octets: &span.octets[at..],
+                ..span
+            };
+            match self.write_first(rest) {
                 Ok(many) => at += many,
                 Err(fault) => return Err(fault),
             }

@@ -17,7 +17,7 @@ use std::alloc::Global;
 use tm_devices::write_all;
 use tm_fields::Rows;
 use tm_lines::LineBuffer;
-use tm_output::{PacketLines, PacketOctets, PacketRows};
+use tm_output::{PacketLines, PacketOctets, PacketRows, PacketTexts};
 
 /// Writes the head of the command's rows, where that is due, and flushes it if the recording may wait.
 pub fn write_csv_head<W: Drain>(
@@ -86,13 +86,17 @@ pub(crate) fn run_command<R: BufferedSource, W: Drain, V: Drain>(
 {
     match command {
         Command::Extract => {
-            let mut outlet = PacketOctets { out };
+            let mut outlet = PacketTexts {
+                out,
+                text: PacketOctets,
+            };
             run_into(extractor, recording, &mut outlet, report, ending)
         }
         Command::Packets => {
-            let mut outlet = PacketLines {
+            let line = LineBuffer::new();
+            let mut outlet = PacketTexts {
                 out,
-                line: LineBuffer::new(),
+                text: PacketLines { line },
             };
             run_into(extractor, recording, &mut outlet, report, ending)
         }

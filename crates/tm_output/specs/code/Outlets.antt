@@ -1,9 +1,12 @@
 -- Where packets go: what is known of it, and how it grows.
-use Rattle.std.specs.Prelude.{◌≡◌, ◌≢◌, refl, ℕ, true, List, [], ◌++◌, Option, None, Some}
+use Rattle.std.specs.Prelude.{◌≡◌, ◌≢◌, refl, ℕ, ◌+◌, true, List, [], ◌∷◌, ◌++◌, length, Option, None, Some}
 use Rattle.std.specs.Io.KnownBytes.{Appends}
-use Rattle.std.proofs.Common.{sym, ◌∙◌, append_assoc}
+use Rattle.std.specs.List.{flat_map}
+use Rattle.std.proofs.Common.{sym, ap, ◌∙◌, append_assoc}
 use Rattle.tm_fields.specs.declared.field.Field.{Field}
 use Rattle.tm_items.specs.Item.{Item, Bad, MasterGap, Gap, Vca, Dropped, Packet, Short}
+use Rattle.tm_items.specs.code.Spans.{packets_in, placed, span_items}
+use Rattle.tm_items.proofs.Spans.{joined, joined-all}
 use Rattle.tm_devices.specs.Devices.{raised}
 use Rattle.tm_output.specs.declared.command.Command.{Command}
 use Rattle.tm_output.specs.declared.command.Command.TheVariants.{Extract, Packets, Fields}
@@ -27,7 +30,7 @@ PutStopped grows buffering old new failures_old failures_new text NoMemory =
 abbrev pub GivesNone : {A : Type 0} → Texts A → Item → Type 0
 GivesNone text x = (text.out x ≡ []) × (text.remark x ≡ [])
 
-octets_none : (x : Item) → HasLine x → packet_octets x ≡ []
+pub octets_none : (x : Item) → HasLine x → packet_octets x ≡ []
 unfolding packet_octets
 octets_none (Bad seen fault) has = refl
 octets_none (MasterGap seen expected found missing) has = refl
@@ -37,7 +40,7 @@ octets_none (Dropped seen channel first place octets reason) has = refl
 octets_none (Packet seen channel first place octets) has = absurd has
 octets_none (Short seen octets) has = refl
 
-listed_none : (x : Item) → HasLine x → listed x ≡ []
+pub listed_none : (x : Item) → HasLine x → listed x ≡ []
 unfolding listed
 listed_none (Bad seen fault) has = refl
 listed_none (MasterGap seen expected found missing) has = refl
@@ -74,6 +77,15 @@ pub no_text : (command : Command) (x : Item) → HasLine x → GivesNone (text_o
 no_text Extract x has = (octets_none x has, refl)
 no_text Packets x has = (listed_none x has, refl)
 no_text (Fields definition application) x has = no_row definition.now application x has
+
+octets_placed : (seen channel place : ℕ) (ps : List (List ℕ)) → flat_map packet_octets (placed seen channel place ps) ≡ joined ps
+unfolding packet_octets
+octets_placed seen channel place [] = refl
+octets_placed seen channel place (p ∷ ps) = ap (λ (l : List ℕ). p ++ l) (octets_placed seen channel (place + length p) ps)
+
+-- packets that lie end to end give the octets in which they lie
+pub octets_joined : (seen channel place : ℕ) (octets : List ℕ) → flat_map packet_octets (span_items seen channel place octets) ≡ octets
+octets_joined seen channel place octets = octets_placed seen channel place (packets_in octets) ∙ joined-all octets
 
 -- octets that are added at once may be added in two steps
 pub appends_split : (j l : Option (List ℕ)) (xs ys : List ℕ) → Appends j l (xs ++ ys) → (k : Option (List ℕ)) × Appends j k xs × Appends k l ys

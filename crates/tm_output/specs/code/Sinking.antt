@@ -1,10 +1,13 @@
 -- What a sink of texts does with an item.
 use Rattle.std.specs.Prelude.{◌≡◌, List, [], ◌∷◌, Result}
 use Rattle.tm_items.specs.Item.{Item}
+use Rattle.tm_devices.specs.declared.device.Drain as drain
 use Rattle.tm_faults.specs.declared.fault.RunFault.{RunFault}
+use Rattle.tm_output.specs.declared.outlet.Outlet as outlet
+use Rattle.tm_output.specs.declared.output.Output.{Output}
 use Rattle.tm_output.specs.Outputs.{Buffering, Took, Stopped, Written}
 use Rattle.tm_output.specs.Pieces.{Texts, noted, piece_of}
-use Rattle.tm_output.specs.Seen.{OutputState}
+use Rattle.tm_output.specs.Seen.{OutputState, fixture, output_both}
 
 -- what stays the same says what is given of an item
 module _ {A K M : Type 0} (grows : K → K → List A → Type 0) (text : M → Texts A) (buffering : Buffering) where
@@ -19,6 +22,11 @@ module _ {A K M : Type 0} (grows : K → K → List A → Type 0) (text : M → 
     pub same : t.fixture ≡ s.fixture
     pub stopped : Stopped grows buffering s.view t.view (piece_of (text s.fixture.texts) s.entries x ∷ []) fault
 
-  -- its two texts were written, or writing stopped at one place of them
-  abbrev pub WritesItem : {T : Type 0} → OutputState K M → OutputState K M → Item → Result T RunFault → Type 0
-  WritesItem s t x r = Written grows buffering s.view t.view (piece_of (text s.fixture.texts) s.entries x ∷ []) r
+-- an output has noted an item, and what stays the same does
+abbrev pub NotesItem : {O V : Type 0} (o : outlet.Ghosts O) → drain.Ghosts V → Output O V → Output O V → Item → Type 0
+NotesItem o v old new x = (fixture o v new ≡ fixture o v old) × (new.tracker.now ≡ noted old.tracker.now x)
+
+-- it has written the two texts of an item, or writing stopped at one place of them
+abbrev pub WritesItem : {O V T : Type 0} (o : outlet.Ghosts O) → drain.Ghosts V → Output O V → Output O V → Item → Result T RunFault → Type 0
+WritesItem o v old new x r =
+    Written o.grows o.buffering (output_both o v old) (output_both o v new) (piece_of (o.text (o.fixed old.outlet.now)) old.tracker.now x ∷ []) r

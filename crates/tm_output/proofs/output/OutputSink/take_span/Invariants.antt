@@ -1,5 +1,5 @@
 use Rattle.std.proofs.Common.{length, ◌+◌, ◌-◌, ◌≤◌, drop}
-use Rattle.tm_items.specs.code.Spans.{IsSpan, span_items}
+use Rattle.tm_items.specs.code.Spans.{IsSpan, items_of_span, span_items}
 use Rattle.tm_items.proofs.Leads.{Leads}
 use Rattle.tm_output.specs.Seen.{output_state}
 use Rattle.tm_output.specs.code.Sinking.{Refuses, Takes}
@@ -9,9 +9,9 @@ abbrev pub invariant-loop-at : goal.invariant-loop-at
 invariant-loop-at g l =
     Leads (Takes g.O.Outlet.grows g.O.Outlet.text g.O.Outlet.buffering) (Refuses g.O.Outlet.grows g.O.Outlet.text g.O.Outlet.buffering)
     (output_state g.O.Outlet g.V.Drain l.initial.self) (output_state g.O.Outlet g.V.Drain l.self)
-    (span_items l.seen l.channel l.place l.octets) (span_items l.seen l.channel (l.place + l.at) (drop l.at l.octets))
-    × IsSpan (drop l.at l.octets)
-    × (l.at ≤ length l.octets)
+    (items_of_span l.span) (span_items l.span.seen l.span.channel (l.span.place + l.at) (drop l.at l.span.octets.now))
+    × IsSpan (drop l.at l.span.octets.now)
+    × (l.at ≤ length l.span.octets.now)
 
 abbrev pub decreases-loop-at : goal.decreases-loop-at
-decreases-loop-at g l = length l.octets - l.at
+decreases-loop-at g l = length l.span.octets.now - l.at

@@ -78,35 +78,6 @@ fn answer_chunk(
     }
 }
 
-// Gives the rows of an application. Applications have numbers up to 2047.
-fn answer_fields(
-    alloc: Global,
-    request: &TmxRequest<'_>,
-    out: &mut [u8],
-    report: &mut [u8],
-    checkpoint: &mut [u8],
-) -> TmxAnswer
-    ensures { IsFieldsAnswer request.now out.new report.new checkpoint.new result }
-{
-    if request.application > 2047 {
-        return refused_with(with_status(8, 0));
-    }
-    match Definition::read(alloc, request.definition) {
-        Ok(definition) => {
-            let rows = Command::Fields(&definition, request.application as u16);
-            answer_chunk(
-                alloc,
-                Wanted::Packets(rows),
-                request,
-                out,
-                report,
-                checkpoint,
-            )
-        }
-        Err(fault) => refused_with(definition_numbers(fault)),
-    }
-}
-
 // Gives the summary of a whole recording: it goes on from no checkpoint, and leaves none.
 fn answer_summary(alloc: Global, request: &TmxRequest<'_>, out: &mut [u8]) -> TmxAnswer
     ensures { IsSummaryAnswer request.now out.new result }
@@ -120,7 +91,7 @@ fn answer_summary(alloc: Global, request: &TmxRequest<'_>, out: &mut [u8]) -> Tm
     }
 }
 
-// The whole call.
+// The whole call. Applications have numbers up to 2047.
 fn answer_request(
     alloc: Global,
     request: &TmxRequest<'_>,
@@ -146,7 +117,15 @@ fn answer_request(
             let wanted = Wanted::Packets(Command::Packets);
             answer_chunk(alloc, wanted, request, out, report, checkpoint)
         }
-        2 => answer_fields(alloc, request, out, report, checkpoint),
+        2 if request.application > 2047 => refused_with(with_status(8, 0)),
+        2 => match Definition::read(alloc, request.definition) {
+            Ok(definition) => {
+                let rows = Command::Fields(&definition, request.application as u16);
+                let wanted = Wanted::Packets(rows);
+                answer_chunk(alloc, wanted, request, out, report, checkpoint)
+            }
+            Err(fault) => refused_with(definition_numbers(fault)),
+        },
         3 => answer_chunk(alloc, Wanted::Frames, request, out, report, checkpoint),
         4 => answer_summary(alloc, request, out),
         _ => refused_with(with_status(2, 0)),

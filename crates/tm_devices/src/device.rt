@@ -58,6 +58,19 @@ pub trait BufferedSource {
     /// A read may wait until octets come.
     ghost waits: { Self → Bool } = { λ _. true };
 
+    /// Whether a read may wait, as a source says it.
+    fn may_wait(&self) -> bool
+        ensures { waits self.now ≡ true → result ≡ true }
+    {
+        true
+    }
+
+    /// Reads as a source does.
+    fn read(&mut self, buffer: &mut [u8]) -> Result<usize, DeviceFailed>
+        ensures bound { IfOk result (λ n. n ≤ length buffer.new) }
+        ensures octets { ReadConsumes (left self.old) (left self.new) result buffer.new }
+        ensures counts { Counts (failures self.old) (failures self.new) result };
+
     /// The octets at hand.
     fn at_hand(&self) -> &[u8]
         ensures { result.now ≡ at_hand self.now };
@@ -69,25 +82,12 @@ pub trait BufferedSource {
         ensures rest { at_hand self.new ≡ drop octets (at_hand self.old) }
         ensures counts { failures self.new ≡ failures self.old };
 
-    /// Reads as a source does.
-    fn read(&mut self, buffer: &mut [u8]) -> Result<usize, DeviceFailed>
-        ensures bound { IfOk result (λ n. n ≤ length buffer.new) }
-        ensures octets { ReadConsumes (left self.old) (left self.new) result buffer.new }
-        ensures counts { Counts (failures self.old) (failures self.new) result };
-
     /// Passes over octets as a source does.
     fn pass_over(&mut self, _octets: u64) -> Result<bool, DeviceFailed>
         ensures octets { PassesOver (left self.old) (left self.new) _octets result }
         ensures counts { Counts (failures self.old) (failures self.new) result }
     {
         Ok(false)
-    }
-
-    /// Whether a read may wait, as a source says it.
-    fn may_wait(&self) -> bool
-        ensures { waits self.now ≡ true → result ≡ true }
-    {
-        true
     }
 }
 
@@ -98,22 +98,22 @@ impl<S: Source> BufferedSource for S {
 
     ghost waits = { λ s. S.waits s };
 
+    fn may_wait(&self) -> bool {
+        Source::may_wait(self)
+    }
+
+    fn read(&mut self, buffer: &mut [u8]) -> Result<usize, DeviceFailed> {
+        Source::read(self, buffer)
+    }
+
     fn at_hand(&self) -> &[u8] {
         &[]
     }
 
     fn consume(&mut self, _octets: usize) {}
 
-    fn read(&mut self, buffer: &mut [u8]) -> Result<usize, DeviceFailed> {
-        Source::read(self, buffer)
-    }
-
     fn pass_over(&mut self, octets: u64) -> Result<bool, DeviceFailed> {
         Source::pass_over(self, octets)
-    }
-
-    fn may_wait(&self) -> bool {
-        Source::may_wait(self)
     }
 }
 

@@ -1,6 +1,6 @@
 //! A drain into memory that the caller gives.
 
-ghost use Rattle.std.specs.Prelude.{◌≡◌, ◌≤◌, ◌<◌, ◌+◌, ◌++◌, Some, length, take};
+ghost use Rattle.std.specs.Prelude.{◌≡◌, ◌≤◌, ◌<◌, ◌+◌, [], ◌++◌, Some, length, take};
 
 use crate::{DeviceFailed, Drain};
 
@@ -20,7 +20,27 @@ pub struct Room<'a> {
     ghost full: { 0 < length overflow.now.items → filled ≡ length octets.now },
 }
 
-impl Room<'_> {
+impl<'a> Room<'a> {
+    /// A room over these octets, in which nothing is written yet. What doesn't fit goes into `overflow`, which holds nothing before.
+    pub fn new(octets: &'a mut [u8], overflow: &'a mut Vec<u8>) -> Room<'a>
+        requires { overflow.old.items ≡ [] }
+        ensures octets { result.octets.now ≡ octets.old }
+        ensures filled { result.filled ≡ 0 }
+        ensures overflow { result.overflow.now.items ≡ [] }
+        ensures failed { result.failed ≡ 0 }
+
+        // Both are written in place.
+        ensures same_octets { result.octets.ghost_name ≡ octets.entry.ghost_name }
+        ensures same_overflow { result.overflow.ghost_name ≡ overflow.entry.ghost_name }
+    {
+        Room {
+            octets,
+            filled: 0,
+            overflow,
+            failed: 0,
+        }
+    }
+
     /// How many octets were written.
     pub fn length(&self) -> usize
         ensures { result ≡ self.now.filled + length self.now.overflow.now.items }

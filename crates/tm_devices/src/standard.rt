@@ -67,16 +67,16 @@ impl<R: Read> BufferedSource for Buffered<R> {
 
     ghost at_hand = { λ s. reader_buffer s.reading.reader };
 
+    fn read(&mut self, buffer: &mut [u8]) -> Result<usize, DeviceFailed> {
+        Source::read(&mut self.reading, buffer)
+    }
+
     fn at_hand(&self) -> &[u8] {
         self.reading.reader.buffer()
     }
 
     fn consume(&mut self, octets: usize) {
         self.reading.reader.consume(octets);
-    }
-
-    fn read(&mut self, buffer: &mut [u8]) -> Result<usize, DeviceFailed> {
-        Source::read(&mut self.reading, buffer)
     }
 }
 
@@ -132,16 +132,20 @@ impl<R: Read + Seek> BufferedSource for Seeking<R> {
 
     ghost waits = { λ s. s.waits };
 
+    fn may_wait(&self) -> bool {
+        self.waits
+    }
+
+    fn read(&mut self, buffer: &mut [u8]) -> Result<usize, DeviceFailed> {
+        self.buffered.read(buffer)
+    }
+
     fn at_hand(&self) -> &[u8] {
         self.buffered.at_hand()
     }
 
     fn consume(&mut self, octets: usize) {
         self.buffered.consume(octets);
-    }
-
-    fn read(&mut self, buffer: &mut [u8]) -> Result<usize, DeviceFailed> {
-        self.buffered.read(buffer)
     }
 
     fn pass_over(&mut self, octets: u64) -> Result<bool, DeviceFailed>
@@ -160,10 +164,6 @@ impl<R: Read + Seek> BufferedSource for Seeking<R> {
                 Err(DeviceFailed)
             }
         }
-    }
-
-    fn may_wait(&self) -> bool {
-        self.waits
     }
 }
 

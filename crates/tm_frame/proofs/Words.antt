@@ -1,5 +1,5 @@
 -- A word of 64 bits divided by shifts.
-use Rattle.std.proofs.Common.{◌≡◌, ℕ, ◌*◌, ◌/◌, ◌%◌, ◌^◌, ◌<◌, true, false, refl, sym, ap₂, ◌∙◌, arith}
+use Rattle.std.proofs.Common.{◌≡◌, ℕ, ◌*◌, ◌/◌, ◌%◌, ◌^◌, ◌<◌, true, false, refl, sym, ap₂, ◌∙◌}
 use Rattle.std.specs.Prelude.{replicate, bit_and, bit_xor}
 use Rattle.std.proofs.lemmas.Nat.{and_mask, xor_comm, xor_mod}
 use Rattle.tm_bits.specs.Bits.{low_bits, number}

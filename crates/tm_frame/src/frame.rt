@@ -43,29 +43,11 @@ impl<'r> Model for Frame<'r> {
 
     ghost Value = { GoodFrame };
 
-    ghost view = { λ a. record {
-      field = a.field.now;
-      channel = a.channel;
-      master_count = a.master_count;
-      count = a.count;
-      kind = a.kind;
-      secondary_length = a.secondary_length;
-      has_ocf = a.has_ocf;
-      order_flag = a.order_flag;
-      segment = a.segment;
-    } };
+    ghost use Rattle.tm_frame.specs.code.Frames.{good_frame_in};
 
-    ghost invariant = { λ a. IsSoundFrame (record {
-      field = a.field.now;
-      channel = a.channel;
-      master_count = a.master_count;
-      count = a.count;
-      kind = a.kind;
-      secondary_length = a.secondary_length;
-      has_ocf = a.has_ocf;
-      order_flag = a.order_flag;
-      segment = a.segment;
-    }) };
+    ghost view = { good_frame_in };
+
+    ghost invariant = { λ a. IsSoundFrame (good_frame_in a) };
 }
 
 impl<'r> Frame<'r> {

@@ -44,8 +44,8 @@ pub holds : (room overflow octets : List ℕ) (filled : ℕ) → filled ≤ leng
 holds room overflow octets filled within full is = grind (arith, common_steps)
 
 -- what was written where nothing stood before
-pub written_first : (octets old text : List ℕ) → old ≡ [] → Appends (Some old) (Some octets) text → octets ≡ text
-written_first octets old text none h = cc
+pub written_first : (room overflow octets text : List ℕ) (filled : ℕ) → filled ≡ 0 → overflow ≡ [] → Appends (Some (take filled room ++ overflow)) (Some octets) text → octets ≡ text
+written_first room overflow octets text filled zero none h = rw (zero, none) at h
 
 -- ---- the recording that a run over a chunk reads
 

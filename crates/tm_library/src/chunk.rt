@@ -25,14 +25,8 @@ impl BufferedSource for Chunk<'_> {
 
     ghost waits = { λ _. false };
 
-    fn at_hand(&self) -> &[u8] {
-        if self.done == 0 { self.octets } else { &[] }
-    }
-
-    fn consume(&mut self, octets: usize) {
-        if self.done == 0 {
-            self.octets = &self.octets[octets..];
-        }
+    fn may_wait(&self) -> bool {
+        false
     }
 
     fn read(&mut self, buffer: &mut [u8]) -> Result<usize, DeviceFailed> {
@@ -50,15 +44,21 @@ impl BufferedSource for Chunk<'_> {
         Ok(1)
     }
 
+    fn at_hand(&self) -> &[u8] {
+        if self.done == 0 { self.octets } else { &[] }
+    }
+
+    fn consume(&mut self, octets: usize) {
+        if self.done == 0 {
+            self.octets = &self.octets[octets..];
+        }
+    }
+
     fn pass_over(&mut self, octets: u64) -> Result<bool, DeviceFailed> {
         if self.done < octets {
             return Ok(false);
         }
         self.done -= octets;
         Ok(true)
-    }
-
-    fn may_wait(&self) -> bool {
-        false
     }
 }

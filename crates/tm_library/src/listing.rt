@@ -110,12 +110,7 @@ pub fn list_into_room(
         Err(refusal) => return Err(refusal),
     };
     let mut more = Vec::new(alloc);
-    let mut room = Room {
-        octets: out,
-        filled: 0,
-        overflow: &mut more,
-        failed: 0,
-    };
+    let mut room = Room::new(out, &mut more);
     match write_lines(layout, first, octets, last, &mut room) {
         Ok(()) => Ok(Given {
             records: done.records,

@@ -75,18 +75,8 @@ pub fn run_into_rooms(
     let ending = chunk_ending(chunk.last);
     let mut recording = chunk;
     let (mut more_out, mut more_report) = (Vec::new(alloc), Vec::new(alloc));
-    let mut out = Room {
-        octets: out,
-        filled: 0,
-        overflow: &mut more_out,
-        failed: 0,
-    };
-    let mut report = Room {
-        octets: report,
-        filled: 0,
-        overflow: &mut more_report,
-        failed: 0,
-    };
+    let mut out = Room::new(out, &mut more_out);
+    let mut report = Room::new(report, &mut more_report);
     match run(
         alloc,
         job,

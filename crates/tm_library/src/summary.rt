@@ -43,12 +43,7 @@ pub fn summarize_recording(
         last: true,
     };
     let mut more = Vec::new(alloc);
-    let mut room = Room {
-        octets: out,
-        filled: 0,
-        overflow: &mut more,
-        failed: 0,
-    };
+    let mut room = Room::new(out, &mut more);
     match summarize(alloc, &settings, &mut recording, &mut room) {
         Ok(records) => Ok(Answer {
             records,

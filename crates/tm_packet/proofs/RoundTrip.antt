@@ -1,5 +1,5 @@
 -- What is written of a header that was read.
-use Rattle.std.proofs.Common.{◌≡◌, ℕ, zero, suc, ◌+◌, ◌-◌, ◌*◌, ◌^◌, ◌<◌, ◌≤◌, Bool, true, false, ◌==◌, List, [], ◌∷◌, ◌++◌, length, take, drop, refl, sym, ap, ◌∙◌, arith, length-drop, append_assoc}
+use Rattle.std.proofs.Common.{◌≡◌, ℕ, zero, suc, ◌+◌, ◌-◌, ◌<◌, ◌≤◌, Bool, true, false, ◌==◌, List, [], ◌∷◌, ◌++◌, length, take, drop, refl, sym, ap, ◌∙◌, arith, length-drop, append_assoc}
 use Rattle.std.proofs.lemmas.List.{take-append-drop, length-take-le, take_all, drop-drop}
 use Rattle.tm_bits.specs.Bits.{AreOctets, low_bits, bits_of, number, part}
 use Rattle.tm_packet.specs.Header.{Fields, flags_of, flags_number, packet_version_of, packet_header_of, header_bits}

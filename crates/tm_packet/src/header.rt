@@ -61,12 +61,14 @@ pub enum PacketFault {
 /// The header of a packet of version 0, its numbers within their bits.
 #[derive(Clone, Copy, Debug, PartialEq, Eq)]
 pub struct Header {
-    telecommand: bool,
-    secondary: bool,
+    // Where the packet belongs, and how long it is.
     application: u16,
     flags: Flags,
     count: u16,
     data_length: u16,
+    // What kind of packet it is.
+    telecommand: bool,
+    secondary: bool,
 }
 
 impl Model for Header {
@@ -74,23 +76,11 @@ impl Model for Header {
 
     ghost Value = { Fields };
 
-    ghost view = { λ h. record {
-      telecommand = h.telecommand;
-      secondary = h.secondary;
-      application = h.application;
-      flags = h.flags;
-      count = h.count;
-      data_length = h.data_length;
-    } };
+    ghost use Rattle.tm_packet.specs.code.Headers.{header_fields};
 
-    ghost invariant = { λ h. AreInRange (record {
-      telecommand = h.telecommand;
-      secondary = h.secondary;
-      application = h.application;
-      flags = h.flags;
-      count = h.count;
-      data_length = h.data_length;
-    }) };
+    ghost view = { header_fields };
+
+    ghost invariant = { λ h. AreInRange (header_fields h) };
 
     ghost inverse = { λ v. record {
       telecommand = v.telecommand;

@@ -1,6 +1,6 @@
 //! The job that a run goes on with, where the run ends, and the file that takes its checkpoint.
 
-ghost use Rattle.std.specs.Prelude.{◌≡◌, Ok, IfErr, IfOk, IfSome, MatchOption, option_map};
+ghost use Rattle.std.specs.Prelude.{◌≡◌, ◌⊎◌, Err, Ok, IfErr, IfOk, IfSome, MatchOption, option_map};
 ghost use Rattle.tm_checkpoint.specs.Works.{new_job};
 ghost use Rattle.tm_program.specs.code.Endings.{HasCheckpoint, ending_of, requested_checkpoint, work_from};
 ghost use Rattle.tm_files.specs.code.Files.{HasFault, IsNoMemory};
@@ -59,16 +59,16 @@ pub fn begin_checkpoint<'p, R: Files + AllocGlobal>(
     }
 }
 
-/// Removes that file again, where the run ended with a fault.
-pub fn abandon_checkpoint<R: Files>(rt: &R, replacement: Option<Replacement<'_, R::File>>) {
+// Removes that file again, where the run ended with a fault.
+fn abandon_checkpoint<R: Files>(rt: &R, replacement: Option<Replacement<'_, R::File>>) {
     if let Some(replacement) = replacement {
         abandon_replacement(rt, replacement);
     }
 }
 
-/// Writes the checkpoint of the job that a run kept, and answers which file it replaced. No contract can say what the file then holds.
+// Writes the checkpoint of the job that a run kept, and answers which file it replaced. No contract can say what the file then holds.
 #[tactic(auto, using(tm_files::proofs::FaultLemmas::no_memory_there))]
-pub fn store_checkpoint<'p, R: Files + AllocGlobal>(
+fn store_checkpoint<'p, R: Files + AllocGlobal>(
     rt: &R,
     replacement: Option<Replacement<'p, R::File>>,
     done: &Done,
@@ -90,6 +90,30 @@ pub fn store_checkpoint<'p, R: Files + AllocGlobal>(
         Err(_) => {
             abandon_replacement(rt, replacement);
             Err(no_memory())
+        }
+    }
+}
+
+/// Ends what was begun for the checkpoint, once the job has run: its file takes the checkpoint, or is removed again.
+pub fn end_checkpoint<'p, R: Files + AllocGlobal>(
+    rt: &R,
+    replacement: Option<Replacement<'p, R::File>>,
+    done: Result<Done, ToolFault>,
+) -> Result<(Done, Option<Replaced<'p>>), ToolFault>
+    ensures done { IfOk result (λ ended. done ≡ Ok ended.0) }
+    ensures replaced { IfOk result (λ ended. option_map replaced_name ended.1
+        ≡ requested_checkpoint (option_map replacement_name replacement.entry) ended.0.kept) }
+    ensures octets { IfOk result (λ ended. IfSome ended.1 (HasCheckpoint ended.0)) }
+    ensures refused { IfErr result (λ fault. HasFault (option_map replacement_name replacement.entry) fault ⊎ (done ≡ Err fault)) }
+{
+    match done {
+        Ok(done) => {
+            let replaced = store_checkpoint(rt, replacement, &done)?;
+            Ok((done, replaced))
+        }
+        Err(fault) => {
+            abandon_checkpoint(rt, replacement);
+            Err(fault)
         }
     }
 }

@@ -5,18 +5,15 @@ ghost use Rattle.tm_split_files.specs.Names.{file_in};
 ghost use Rattle.tm_split_files.specs.Shelves.{HoldsNone};
 ghost use Rattle.tm_files.specs.code.Files.{IsNoMemory, IsRunFault};
 ghost use Rattle.tm_program.specs.code.Blames.{IsBlamedBeside, put_fault_of, split_end_of};
-ghost use Rattle.tm_program.specs.code.Endings.{HasDone};
+ghost use Rattle.tm_program.specs.code.Endings.{IsDone};
 ghost use Rattle.tm_program.specs.code.Faults.{IsFolderFault, IsOfPut};
 
-use crate::checkpoint_file::{choose_ending, make_job};
-use crate::inputs::Inputs;
 use crate::opening::no_memory;
 use std::alloc::Global;
 use std::rt::Files;
-use tm_arguments::Plan;
 use tm_files::ToolFault;
 use tm_split_files::{FileShelf, ShelfFault, name_in};
-use tm_tool::{BufferedSource, Done, Drain, Octets, RunFault, split};
+use tm_tool::{BufferedSource, Done, Drain, Ending, Job, Octets, RunFault, split};
 
 // The name of the file of this application, which is another file of the run, where there is one.
 fn clashing_file(
@@ -74,17 +71,17 @@ fn split_end(
     }
 }
 
-// Gives the packets of a recording to a file for each application, from the job of the checkpoint, or else from a new one.
+// Gives the packets of a recording to a file for each application.
 #[tactic(auto, using(tm_files::proofs::FaultLemmas::no_memory_run, crate::proofs::BlameLemmas::split_blames, crate::proofs::BlameLemmas::no_memory_blames, crate::proofs::EndingLemmas::ran_done, crate::proofs::ProgramLemmas::put_there))]
 pub(crate) fn split_packets<R: Files + AllocGlobal, S: BufferedSource, V: Drain>(
     rt: &R,
-    plan: &Plan,
-    inputs: &mut Inputs,
+    job: Job,
     shelf: &mut FileShelf<'_, R>,
     source: &mut S,
     report: &mut V,
+    ending: Ending,
 ) -> Result<Done, ToolFault>
-    ensures done { IfOk result (HasDone plan.now inputs.old.settings inputs.old.resumed) }
+    ensures done { IfOk result (IsDone ending job.work) }
     ensures written { OnOk result (HoldsNone shelf.new.held) }
     ensures blamed { IfErr result (IsBlamedBeside (S.failures source.old) (S.failures source.new) (V.failures report.old)
         (V.failures report.new)) }
@@ -92,8 +89,7 @@ pub(crate) fn split_packets<R: Files + AllocGlobal, S: BufferedSource, V: Drain>
 {
     let alloc = rt.alloc();
     let dir = shelf.dir();
-    let job = make_job(rt, inputs.resumed.take(), &inputs.settings)?;
-    let done = split(alloc, job, source, shelf, report, choose_ending(plan));
+    let done = split(alloc, job, source, shelf, report, ending);
     let written = shelf.write_held();
     let clashing = clashing_file(alloc, dir, shelf.clashing())?;
     split_end(done, written, shelf.out_of_memory(), clashing)

@@ -1,18 +1,16 @@
 //! The order of steps: the arguments, the checks, what is read and opened, the run, and the checkpoint that it leaves.
 
-ghost use Rattle.std.specs.Prelude.{◌≡◌, ◌⊎◌, false, IfErr, IfOk, IfSome, MatchOption, OnOk, map, option_map, string_bytes};
+ghost use Rattle.std.specs.Prelude.{◌≡◌, ◌⊎◌, false, IfErr, IfOk, IfSome, IsSome, MatchOption, OnOk, map, option_map, string_bytes};
 ghost use Rattle.tm_files.specs.code.Decisions.{is_job};
 ghost use Rattle.tm_files.specs.code.Files.{IsRunFault};
 ghost use Rattle.tm_files.specs.code.Replacements.{replaced_name};
 ghost use Rattle.tm_files.specs.Names.{AreClear};
 ghost use Rattle.tm_program.specs.code.Blames.{IsBlamed, IsBlamedBeside};
-ghost use Rattle.tm_program.specs.code.Endings.{HasCheckpoint, HasDone, HasShown};
+ghost use Rattle.tm_program.specs.code.Endings.{HasCheckpoint, HasDone, HasShown, IsDone};
 ghost use Rattle.tm_program.specs.Program.{IsAsked, MayCome, MayEnd};
 ghost use Rattle.tm_program.specs.code.Faults.{HasFolderFault, IsOfOutputs};
 
-use crate::checkpoint_file::{
-    abandon_checkpoint, begin_checkpoint, choose_ending, make_job, store_checkpoint,
-};
+use crate::checkpoint_file::{begin_checkpoint, choose_ending, end_checkpoint, make_job};
 use crate::checks::{check_file_names, check_folder};
 use crate::folder::split_packets;
 use crate::inputs::{Inputs, prepare_inputs};
@@ -28,7 +26,7 @@ use tm_files::{
     writes_errors,
 };
 use tm_tool::{
-    BufferedSource, Command, Done, Drain, Job, Settings, list_frames, summarize,
+    BufferedSource, Command, Done, Drain, Ending, Job, Settings, list_frames, summarize,
 };
 
 // The plan of the arguments.
@@ -100,23 +98,21 @@ fn choose_command<'a>(plan: &Plan, definition: Option<&'a Definition>) -> Comman
     }
 }
 
-// Gives the packets of a recording on standard output, from the job of the checkpoint, or else from a new one.
+// Gives the packets of a recording on standard output.
 #[tactic(auto, using(tm_files::proofs::FaultLemmas::no_memory_run, crate::proofs::BlameLemmas::run_blames, crate::proofs::BlameLemmas::no_memory_blames, crate::proofs::EndingLemmas::ran_done))]
 fn give_packets<R: Print + AllocGlobal, S: BufferedSource, V: Drain>(
     rt: &R,
-    plan: &Plan,
-    inputs: &mut Inputs,
+    job: Job,
+    command: Command<'_>,
     source: &mut S,
     report: &mut V,
+    ending: Ending,
 ) -> Result<Done, ToolFault>
-    ensures done { IfOk result (HasDone plan.now inputs.old.settings inputs.old.resumed) }
+    ensures done { IfOk result (IsDone ending job.work) }
     ensures blamed { IfErr result (IsBlamedBeside (S.failures source.old) (S.failures source.new) (V.failures report.old)
         (V.failures report.new)) }
     ensures refused { IfErr result IsRunFault }
 {
-    let job = make_job(rt, inputs.resumed.take(), &inputs.settings)?;
-    let command = choose_command(plan, inputs.definition.as_ref());
-    let ending = choose_ending(plan);
     let alloc = rt.alloc();
     let mut out = make_drain(alloc, io::writer(rt))?;
     match tm_tool::run(alloc, job, command, source, &mut out, report, ending) {
@@ -125,7 +121,8 @@ fn give_packets<R: Print + AllocGlobal, S: BufferedSource, V: Drain>(
     }
 }
 
-// Runs the job to where the plan wants the packets. Names are looked up anew, now that the report is made: before, it may have been none.
+// Goes on with the job of the checkpoint, or else with a new one, to where the plan wants the packets. Names are looked up anew, now that the
+// report is made: before, it may have been none.
 #[tactic(auto, using(tm_files::proofs::FaultLemmas::no_memory_run, crate::proofs::ProgramLemmas::folder_there, crate::proofs::ProgramLemmas::split_there))]
 fn run_to_destination<R: Files + Print + AllocGlobal, S: BufferedSource, V: Drain>(
     rt: &R,
@@ -137,11 +134,19 @@ fn run_to_destination<R: Files + Print + AllocGlobal, S: BufferedSource, V: Drai
     ensures done { IfOk result (HasDone plan.now inputs.old.settings inputs.old.resumed) }
     ensures refused { IfErr result (λ fault. IsRunFault fault ⊎ HasFolderFault plan.now.dir fault) }
 {
+    let job = make_job(rt, inputs.resumed.take(), &inputs.settings)?;
+    let ending = choose_ending(plan);
     let identities = identify_files(rt, plan)?;
-    match make_shelf(rt, plan, &identities)? {
-        Some(mut shelf) => split_packets(rt, plan, inputs, &mut shelf, source, report),
-        None => give_packets(rt, plan, inputs, source, report),
-    }
+    let done = match make_shelf(rt, plan, &identities) {
+        Ok(Some(mut shelf)) => split_packets(rt, job, &mut shelf, source, report, ending),
+        Ok(None) => {
+            let command = choose_command(plan, inputs.definition.as_ref());
+            give_packets(rt, job, command, source, report, ending)
+        }
+        Err(fault) => Err(fault),
+    };
+    drop(identities);
+    done
 }
 
 // What the run of a job did, the file that took its checkpoint, where the plan has one, and what the run has seen.
@@ -186,18 +191,19 @@ fn run_job<'p, R: Files + Print + AllocGlobal, S: BufferedSource, E: Write + Dro
     check_folder(rt, plan)?;
     let before = records_before(&inputs.resumed);
     let mut report = Counted::new(make_drain(rt.alloc(), open_report(rt, plan, checked, errors)?)?);
-    let replacement = begin_checkpoint(rt, plan)?;
-    let done = match run_to_destination(rt, plan, inputs, source, &mut report) {
-        Ok(done) => done,
-        Err(fault) => {
-            abandon_checkpoint(rt, replacement);
-            return Err(fault);
+    let ended = match begin_checkpoint(rt, plan) {
+        Ok(replacement) => {
+            let done = run_to_destination(rt, plan, inputs, source, &mut report);
+            end_checkpoint(rt, replacement, done)
         }
+        Err(fault) => Err(fault),
     };
-    let replaced = store_checkpoint(rt, replacement, &done)?;
+    let bad = report.bad();
+    drop(report);
+    let (done, replaced) = ended?;
     let outcome = Outcome {
         records: done.records.saturating_sub(before),
-        bad: report.bad(),
+        bad,
         reports_to_errors: writes_errors(plan),
     };
     Ok(Finished {
@@ -237,28 +243,30 @@ fn run_on_recording<'p, R: Files + Print + AllocGlobal, S: BufferedSource, E: Wr
     Ok(Ended { job: None, outcome })
 }
 
-// Does what the plan asks for, once its other files are read, and answers what the run has seen.
+// Reads the files of the plan, does what it asks for, and answers what the run has seen.
 #[tactic(auto, using(tm_files::proofs::FaultLemmas::no_memory_run, crate::proofs::ProgramLemmas::file_comes, crate::proofs::ProgramLemmas::outputs_come, crate::proofs::ProgramLemmas::run_comes))]
 fn run_plan<R: Files + Input + Print + AllocGlobal, E: Write + Drop>(
     rt: &R,
     plan: &Plan,
-    inputs: &mut Inputs,
     errors: &mut E,
 ) -> Result<Outcome, ToolFault>
+    requires { IsSome plan.now.settings }
     ensures ok { OnOk result (AreClear plan.now) }
     ensures refused { IfErr result (MayCome plan.now) }
 {
+    let mut inputs = prepare_inputs(rt, plan, errors)?;
     let ended = match choose_recording(plan) {
-        Recording::File(name) => {
-            let mut source = open_recording(rt, name)?;
-            run_on_recording(rt, plan, inputs, &mut source, errors)?
-        }
-        Recording::Input => {
-            let mut source = source_of_input(rt)?;
-            run_on_recording(rt, plan, inputs, &mut source, errors)?
-        }
+        Recording::File(name) => match open_recording(rt, name) {
+            Ok(mut source) => run_on_recording(rt, plan, &mut inputs, &mut source, errors),
+            Err(fault) => Err(fault),
+        },
+        Recording::Input => match source_of_input(rt) {
+            Ok(mut source) => run_on_recording(rt, plan, &mut inputs, &mut source, errors),
+            Err(fault) => Err(fault),
+        },
     };
-    Ok(ended.outcome)
+    drop(inputs);
+    Ok(ended?.outcome)
 }
 
 /// Does what these arguments of the command line ask for, and answers what the run has seen. A report that has no file goes to `errors`, all of it
@@ -277,6 +285,5 @@ pub fn run<R: Files + Input + Print + AllocGlobal, E: Write + Drop>(
     ensures refused { IfErr result (MayEnd (map string_bytes arguments.items)) }
 {
     let plan = read_arguments(rt.alloc(), arguments)?;
-    let mut inputs = prepare_inputs(rt, &plan, &mut errors)?;
-    run_plan(rt, &plan, &mut inputs, &mut errors)
+    run_plan(rt, &plan, &mut errors)
 }

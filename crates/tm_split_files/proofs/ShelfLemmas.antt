@@ -47,3 +47,6 @@ module _ {Z : Type 0} where
       → IfErr r (λ fault. is_out_of_memory fault ≡ true → AreKept old new ⊎ (octets ≡ 0))
       → IfErr r (λ fault. is_out_of_memory fault ≡ true → HoldsSame (buffer_octets old) (buffer_octets new) ⊎ (octets ≡ 0))
   no_memory_seen r old new octets h = simp slice_get-map h
+
+-- what is seen after a put
+pub ruleset after_a_put = (none_put, put_seen, refused_seen, no_memory_seen)

@@ -1,9 +1,8 @@
 //! The files of a folder, and what is held of each before it is written.
 
-ghost use Rattle.std.specs.Prelude.{◌≡◌, ◌≢◌, ◌<◌, ◌+◌, ◌++◌, ◌∷◌, ◌⊎◌, ℕ, [], None, Some, true, false, length, vec_len, slice_get, string_bytes, replicate, Err, IfErr, IfOk, IfSome, MatchResult, OnErr, OnOk};
-ghost use Rattle.tm_devices.specs.Devices.{Counts};
+ghost use Rattle.std.specs.Prelude.{◌≡◌, ◌≢◌, ◌<◌, ◌+◌, ◌++◌, ◌∷◌, ◌⊎◌, ℕ, [], None, Some, true, false, length, vec_len, slice_get, string_bytes, replicate, Err, IfErr, IfOk, IfSome, OnErr, OnOk};
 ghost use Rattle.tm_split_files.specs.code.Buffers.{AreEmpty, AreKept, AreKeptOrEmpty, AreLeft, IsDrained, IsExtended, IsKeptOrEmpty};
-ghost use Rattle.tm_split_files.specs.ShelfFaults.{is_out_of_memory, clashing_application};
+ghost use Rattle.tm_split_files.specs.ShelfFaults.{is_out_of_memory};
 ghost use Rattle.tm_split_files.specs.Names.{file_in};
 ghost use Rattle.tm_split_files.specs.code.Files.{IsClear};
 
@@ -53,15 +52,16 @@ fn remember(made: &mut Vec<FileIdentity>, identity: FileIdentity) -> Result<(), 
     }
 }
 
-// The folder of the files `apid-NNNN.pkt`, and how they are made and written there.
+/// The folder of the files `apid-NNNN.pkt`, and how they are made and written there.
 #[derive(Drop)]
-struct Folder<'a, R> {
-    rt: &'a R,
-    alloc: Global,
-    dir: &'a str,
-    goes_on: bool,
-    // What the names of the run's other files stand for.
-    identities: &'a FileIdentities,
+pub struct Folder<'a, R> {
+    pub rt: &'a R,
+    pub alloc: Global,
+    pub dir: &'a str,
+    /// Files that are there are appended to.
+    pub goes_on: bool,
+    /// What the names of the run's other files stand for.
+    pub identities: &'a FileIdentities,
 }
 
 impl<R: Files + AllocGlobal> Folder<'_, R> {
@@ -236,11 +236,6 @@ pub struct HeldFiles<'a, R> {
     // The identities of the files that were made.
     made: Vec<FileIdentity>,
     octets: usize,
-    refused: u64,
-    // A put was refused because memory ran out.
-    out_of_memory: bool,
-    // The application of a put that was refused since its file is another file of the run.
-    clashing: Option<usize>,
     // Why a file was not written out, until a call has told it.
     unwritten: Option<ShelfFault>,
     ghost all_held: { vec_len held ≡ 2048 },
@@ -248,49 +243,24 @@ pub struct HeldFiles<'a, R> {
 }
 
 impl<'a, R: Files + AllocGlobal> HeldFiles<'a, R> {
-    /// Files in this folder, none begun. Files that are there are appended to if the run resumes a job, and begin empty
-    /// otherwise. The identities are those of the run's other files.
-    pub fn new(
-        rt: &'a R,
-        dir: &'a str,
-        goes_on: bool,
-        identities: &'a FileIdentities,
-    ) -> Result<Self, AllocError>
-        ensures folder { IfOk result (λ s. (s.folder.dir ≡ dir.entry) × (s.folder.goes_on ≡ goes_on)
-            × (s.folder.identities ≡ identities.entry)) }
-        ensures counts { IfOk result (λ s. (s.octets ≡ 0) × (s.refused ≡ 0) × (s.out_of_memory ≡ false) × (s.clashing ≡ None)
-            × (s.unwritten ≡ None)) }
+    /// Files in this folder, none begun.
+    pub fn new(folder: Folder<'a, R>) -> Result<Self, AllocError>
+        ensures folder { IfOk result (λ s. s.folder ≡ folder.entry) }
+        ensures counts { IfOk result (λ s. (s.octets ≡ 0) × (s.unwritten ≡ None)) }
         ensures begun { IfOk result (λ s. (s.begun.items ≡ replicate 2048 false) × (vec_len s.made ≡ 0)) }
         ensures held { IfOk result (λ s. AreEmpty s.held.items) }
     {
-        let alloc = rt.alloc();
+        let alloc = folder.alloc;
         let begun = vec![in alloc; false; APPLICATIONS]?;
         let held = empty_buffers(alloc)?;
-        let folder = Folder {
-            rt,
-            alloc,
-            dir,
-            goes_on,
-            identities,
-        };
         Ok(HeldFiles {
             folder,
             held,
             begun,
             made: Vec::new(alloc),
             octets: 0,
-            refused: 0,
-            out_of_memory: false,
-            clashing: None,
             unwritten: None,
         })
-    }
-
-    /// A put was refused because memory ran out.
-    pub fn out_of_memory(&self) -> bool
-        ensures { result ≡ self.now.out_of_memory }
-    {
-        self.out_of_memory
     }
 
     /// The name of the files' folder.
@@ -300,14 +270,7 @@ impl<'a, R: Files + AllocGlobal> HeldFiles<'a, R> {
         self.folder.dir
     }
 
-    /// The application of the last refused put, if its file is another file of the run.
-    pub fn clashing(&self) -> Option<usize>
-        ensures { result ≡ self.now.clashing }
-    {
-        self.clashing
-    }
-
-    /// Writes all that is held. If a file can't be written, the others still are. A fault of `write_out` that no call has told is told first.
+    /// Writes all that is held. If a file can't be written, the others still are. A fault that is to be told is told first.
     pub fn write_held(&mut self) -> Result<(), ShelfFault>
         ensures held { OnOk result (AreEmpty self.new.held.items) }
         ensures told { IfSome self.old.unwritten (λ fault. result ≡ Err fault) }
@@ -316,8 +279,7 @@ impl<'a, R: Files + AllocGlobal> HeldFiles<'a, R> {
         ensures octets { self.new.octets ≡ 0 }
         ensures begun { self.new.begun ≡ self.old.begun }
         ensures made { self.new.made ≡ self.old.made }
-        ensures same { (self.new.folder ≡ self.old.folder) × (self.new.refused ≡ self.old.refused)
-            × (self.new.out_of_memory ≡ self.old.out_of_memory) × (self.new.clashing ≡ self.old.clashing) }
+        ensures same { self.new.folder ≡ self.old.folder }
     {
         self.octets = 0;
         let unwritten = self.unwritten.take();
@@ -328,20 +290,13 @@ impl<'a, R: Files + AllocGlobal> HeldFiles<'a, R> {
         }
     }
 
-    /// Writes all that is held. If a file can't be written, the next call of `put` or `write_held` tells it.
-    pub fn write_out(&mut self)
-        ensures held { self.new.unwritten ≡ None → AreEmpty self.new.held.items }
-        ensures told { IfSome self.old.unwritten (λ fault. self.new.unwritten ≡ Some fault) }
-        ensures left { AreKeptOrEmpty self.old.held.items self.new.held.items }
-        ensures octets { self.new.octets ≡ 0 }
-        ensures begun { self.new.begun ≡ self.old.begun }
-        ensures made { self.new.made ≡ self.old.made }
-        ensures same { (self.new.folder ≡ self.old.folder) × (self.new.refused ≡ self.old.refused)
-            × (self.new.out_of_memory ≡ self.old.out_of_memory) × (self.new.clashing ≡ self.old.clashing) }
+    /// The next call of `hold` or `write_held` tells this fault.
+    pub fn tell_later(&mut self, fault: ShelfFault)
+        ensures told { self.new.unwritten ≡ Some fault }
+        ensures same { (self.new.folder ≡ self.old.folder) × (self.new.held ≡ self.old.held) × (self.new.begun ≡ self.old.begun)
+            × (self.new.made ≡ self.old.made) × (self.new.octets ≡ self.old.octets) }
     {
-        if let Err(fault) = self.write_held() {
-            self.unwritten = Some(fault);
-        }
+        self.unwritten = Some(fault);
     }
 
     // Makes the file of an application, unless it was made, and holds octets of it or writes them.
@@ -356,8 +311,7 @@ impl<'a, R: Files + AllocGlobal> HeldFiles<'a, R> {
             ⊎ IsDrained self.old.held.items self.new.held.items application) }
         ensures kept { IfErr result (λ fault. is_out_of_memory fault ≡ true → AreKept self.old.held.items self.new.held.items) }
         ensures left { OnErr result (AreKeptOrEmpty self.old.held.items self.new.held.items) }
-        ensures same { (self.new.folder ≡ self.old.folder) × (self.new.octets ≡ self.old.octets) × (self.new.refused ≡ self.old.refused)
-            × (self.new.out_of_memory ≡ self.old.out_of_memory) × (self.new.clashing ≡ self.old.clashing)
+        ensures same { (self.new.folder ≡ self.old.folder) × (self.new.octets ≡ self.old.octets)
             × (self.new.unwritten ≡ self.old.unwritten) }
     {
         let begun = &mut self.begun[application];
@@ -366,39 +320,9 @@ impl<'a, R: Files + AllocGlobal> HeldFiles<'a, R> {
         self.folder.add(application, held, octets)
     }
 
-    // Holds octets of an application, or writes them. Its file is made at the first. All that is held is written where much came since it last was.
-    fn hold(&mut self, application: usize, octets: &[u8]) -> Result<(), ShelfFault>
-        requires { application < 2048 }
-        ensures begun { OnOk result (slice_get self.new.begun.items application ≡ Some true) }
-        ensures others { (other : ℕ) → other ≢ application
-            → slice_get self.new.begun.items other ≡ slice_get self.old.begun.items other }
-        ensures held { OnOk result (((IsExtended self.old.held.items self.new.held.items application octets.now
-            ⊎ IsDrained self.old.held.items self.new.held.items application)
-            × (self.new.octets ≡ self.old.octets + length octets.now)) ⊎ AreEmpty self.new.held.items) }
-        ensures made { OnOk result (slice_get self.old.begun.items application ≡ Some false
-            → vec_len self.new.made ≡ vec_len self.old.made + 1) }
-        ensures left { OnErr result (AreLeft self.old.held.items self.new.held.items application octets.now) }
-        ensures kept { IfErr result (λ fault. is_out_of_memory fault ≡ true → AreKept self.old.held.items self.new.held.items
-            ⊎ (self.new.octets ≡ 0)) }
-        ensures few { OnOk result (self.new.octets < 8388608) }
-        ensures told { IfSome self.old.unwritten (λ fault. result ≡ Err fault) }
-        ensures none { self.new.unwritten ≡ None }
-        ensures same { (self.new.folder ≡ self.old.folder) × (self.new.refused ≡ self.old.refused)
-            × (self.new.out_of_memory ≡ self.old.out_of_memory) × (self.new.clashing ≡ self.old.clashing) }
-    {
-        if let Some(fault) = self.unwritten.take() {
-            return Err(fault);
-        }
-        self.begin_and_add(application, octets)?;
-        self.octets = self.octets.saturating_add(octets.len());
-        if self.octets < MOST_HELD {
-            return Ok(());
-        }
-        self.write_held()
-    }
-
-    /// Holds octets of an application, and remembers a refusal and its cause.
-    pub fn put(&mut self, application: usize, octets: &[u8]) -> Result<(), ShelfFault>
+    /// Holds octets of an application, or writes them. Its file is made at the first. All that is held is written where much
+    /// came since it last was.
+    pub fn hold(&mut self, application: usize, octets: &[u8]) -> Result<(), ShelfFault>
         ensures begun { OnOk result (slice_get self.new.begun.items application ≡ Some true) }
         ensures others { (other : ℕ) → other ≢ application
             → slice_get self.new.begun.items other ≡ slice_get self.old.begun.items other }
@@ -413,26 +337,18 @@ impl<'a, R: Files + AllocGlobal> HeldFiles<'a, R> {
         ensures few { OnOk result (self.new.octets < 8388608) }
         ensures told { IfSome self.old.unwritten (λ fault. application < 2048 → result ≡ Err fault) }
         ensures same { self.new.folder ≡ self.old.folder }
-        ensures counts { Counts self.old.refused self.new.refused result }
-        ensures out_of_memory { MatchResult result (λ _. self.new.out_of_memory ≡ self.old.out_of_memory)
-            (λ fault. self.new.out_of_memory ≡ is_out_of_memory fault) }
-        ensures clashing { MatchResult result (λ _. self.new.clashing ≡ self.old.clashing)
-            (λ fault. self.new.clashing ≡ clashing_application application fault) }
     {
-        let put = if application < APPLICATIONS {
-            self.hold(application, octets)
-        } else {
-            Err(ShelfFault::NotWritten)
-        };
-        let Err(fault) = put else {
+        if application >= APPLICATIONS {
+            return Err(ShelfFault::NotWritten);
+        }
+        if let Some(fault) = self.unwritten.take() {
+            return Err(fault);
+        }
+        self.begin_and_add(application, octets)?;
+        self.octets = self.octets.saturating_add(octets.len());
+        if self.octets < MOST_HELD {
             return Ok(());
-        };
-        self.out_of_memory = matches!(fault, ShelfFault::NoMemory);
-        self.clashing = match fault {
-            ShelfFault::Clashes => Some(application),
-            ShelfFault::NotWritten | ShelfFault::NoMemory => None,
-        };
-        self.refused = self.refused.saturating_add(1);
-        Err(fault)
+        }
+        self.write_held()
     }
 }

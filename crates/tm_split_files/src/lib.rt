@@ -2,6 +2,7 @@
 #![tactic(auto)]
 
 mod files;
+mod refusals;
 mod shelf;
 
 pub use files::{ShelfFault, name_in};

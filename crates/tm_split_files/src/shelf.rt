@@ -5,7 +5,8 @@ ghost use Rattle.tm_devices.specs.Devices.{Counts, Puts, PutsPrefix, PutsNone};
 ghost use Rattle.tm_split_files.specs.ShelfFaults.{is_out_of_memory, clashing_application};
 ghost use Rattle.tm_split_files.specs.Shelves.{HoldsNone, HoldsSame, IsAdded, IsEmptied, IsKeptOrEmptied, IsRefused};
 
-use crate::files::{HeldFiles, ShelfFault};
+use crate::files::{Folder, HeldFiles, ShelfFault};
+use crate::refusals::Refusals;
 use std::alloc::AllocError;
 use std::marker::Model;
 use std::rt::Files;
@@ -17,6 +18,7 @@ use tm_file_identity::FileIdentities;
 #[derive(Drop)]
 pub struct FileShelf<'a, R> {
     files: HeldFiles<'a, R>,
+    refusals: Refusals,
 }
 
 impl<'a, R> Model for FileShelf<'a, R> {
@@ -32,9 +34,9 @@ impl<'a, R> Model for FileShelf<'a, R> {
       made = vec_len s.files.made;
       held = buffer_octets s.files.held.items;
       octets = s.files.octets;
-      refused = s.files.refused;
-      out_of_memory = s.files.out_of_memory;
-      clashing = s.files.clashing;
+      refused = s.refusals.count;
+      out_of_memory = s.refusals.out_of_memory;
+      clashing = s.refusals.clashing;
       unwritten = s.files.unwritten;
       identities = s.files.folder.identities.now;
     } };
@@ -57,15 +59,24 @@ impl<'a, R: Files + AllocGlobal> FileShelf<'a, R> {
         ensures begun { IfOk result (λ s. (s.begun ≡ replicate 2048 false) × (s.made ≡ 0)) }
         ensures held { IfOk result (λ s. HoldsNone s.held) }
     {
-        let files = HeldFiles::new(rt, dir, goes_on, identities)?;
-        Ok(FileShelf { files })
+        let files = HeldFiles::new(Folder {
+            rt,
+            alloc: rt.alloc(),
+            dir,
+            goes_on,
+            identities,
+        })?;
+        Ok(FileShelf {
+            files,
+            refusals: Refusals::none(),
+        })
     }
 
     /// The last refused put was refused because memory ran out.
     pub fn out_of_memory(&self) -> bool
         ensures { result ≡ self.now.out_of_memory }
     {
-        self.files.out_of_memory()
+        self.refusals.out_of_memory
     }
 
     /// The name of the files' folder.
@@ -79,7 +90,7 @@ impl<'a, R: Files + AllocGlobal> FileShelf<'a, R> {
     pub fn clashing(&self) -> Option<usize>
         ensures { result ≡ self.now.clashing }
     {
-        self.files.clashing()
+        self.refusals.clashing
     }
 
     /// Writes all that is held. If a file can't be written, the others still are. A fault of `write_out` that no put has told is told first.
@@ -87,15 +98,8 @@ impl<'a, R: Files + AllocGlobal> FileShelf<'a, R> {
     pub fn write_held(&mut self) -> Result<(), ShelfFault>
         ensures held { OnOk result (HoldsNone self.new.held) }
         ensures told { IfSome self.old.unwritten (λ fault. result ≡ Err fault) }
-        ensures none { self.new.unwritten ≡ None }
         ensures left { (application : ℕ) → IsKeptOrEmptied self.old.held self.new.held application }
-        ensures octets { self.new.octets ≡ 0 }
-        ensures begun { self.new.begun ≡ self.old.begun }
-        ensures made { self.new.made ≡ self.old.made }
-        ensures same { (self.new.folder ≡ self.old.folder) × (self.new.goes_on ≡ self.old.goes_on)
-            × (self.new.identities ≡ self.old.identities) }
-        ensures refusals { (self.new.refused ≡ self.old.refused) × (self.new.out_of_memory ≡ self.old.out_of_memory)
-            × (self.new.clashing ≡ self.old.clashing) }
+        ensures same { self.new ≡ record self.old { held = self.new.held; octets = 0; unwritten = None } }
     {
         self.files.write_held()
     }
@@ -107,7 +111,7 @@ impl<R: Files + AllocGlobal> Shelf for FileShelf<'_, R> {
     ghost refusals = { λ s. s.refused };
 
     // Its files don't tell what they have: so the first two clauses say nothing of them. What is held before it is written is said by those behind.
-    #[tactic(auto, using(crate::proofs::ShelfLemmas::none_put, crate::proofs::ShelfLemmas::put_seen, crate::proofs::ShelfLemmas::refused_seen, crate::proofs::ShelfLemmas::no_memory_seen))]
+    #[tactic(auto, using(crate::proofs::ShelfLemmas::after_a_put))]
     fn put(&mut self, application: u16, octets: &[u8]) -> Result<(), ShelfFault>
         ensures whole { OnOk result (Puts None None application octets.now) }
         ensures prefix { OnErr result (PutsPrefix None None application octets.now) }
@@ -130,24 +134,22 @@ impl<R: Files + AllocGlobal> Shelf for FileShelf<'_, R> {
         ensures same { (self.new.folder ≡ self.old.folder) × (self.new.goes_on ≡ self.old.goes_on)
             × (self.new.identities ≡ self.old.identities) }
     {
-        self.files.put(usize::from(application), octets)
+        let put = self.files.hold(usize::from(application), octets);
+        self.refusals.add(usize::from(application), put);
+        put
     }
 
     // Where a file can't be written, the next put or `write_held` tells it.
-    #[tactic(auto, using(crate::proofs::ShelfLemmas::none_of_call, crate::proofs::ShelfLemmas::kept_seen))]
     fn write_out(&mut self)
         ensures kept { PutsNone None None }
         ensures refusals { self.new.refused ≡ self.old.refused }
         ensures held { self.new.unwritten ≡ None → HoldsNone self.new.held }
         ensures told { IfSome self.old.unwritten (λ fault. self.new.unwritten ≡ Some fault) }
         ensures left { (application : ℕ) → IsKeptOrEmptied self.old.held self.new.held application }
-        ensures octets { self.new.octets ≡ 0 }
-        ensures begun { self.new.begun ≡ self.old.begun }
-        ensures made { self.new.made ≡ self.old.made }
-        ensures same { (self.new.folder ≡ self.old.folder) × (self.new.goes_on ≡ self.old.goes_on)
-            × (self.new.identities ≡ self.old.identities) }
-        ensures cause { (self.new.out_of_memory ≡ self.old.out_of_memory) × (self.new.clashing ≡ self.old.clashing) }
+        ensures same { self.new ≡ record self.old { held = self.new.held; octets = 0; unwritten = self.new.unwritten } }
     {
-        self.files.write_out();
+        if let Err(fault) = self.write_held() {
+            self.files.tell_later(fault);
+        }
     }
 }

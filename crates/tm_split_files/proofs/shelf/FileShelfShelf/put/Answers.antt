@@ -7,4 +7,4 @@ pub returns-clause-kept : goal.returns-clause-kept
 returns-clause-kept g c =
     let old = c.self.inside.files.held.items in
     let same : c.args.self.now.held ≡ buffer_octets old = cc in
-    rw same (no_memory_seen c.put.result old c.put.new.self.held.items c.put.new.self.octets c.put.ensures.kept)
+    rw same (no_memory_seen c.hold-put.result old c.hold-put.new.self.held.items c.hold-put.new.self.octets c.hold-put.ensures.kept)

@@ -18,8 +18,8 @@ use Rattle.clap.proofs.OnLiterals.{clap_on_literals}
 use Rattle.tm_arguments.specs.declared.request.Action.{Action}
 use Rattle.tm_arguments.specs.declared.request.Action.TheVariants.{Frames, Packets, Extract, Split, Fields, Summary}
 use Rattle.tm_arguments.specs.declared.request.Plan.{Plan}
-use Rattle.tm_arguments.specs.declared.request.UsageFault.{UsageFault}
-use Rattle.tm_arguments.specs.declared.request.UsageFault.TheVariants.{NoMemory}
+use Rattle.tm_faults.specs.declared.program.UsageFault.{UsageFault}
+use Rattle.tm_faults.specs.declared.program.UsageFault.TheVariants.{NoMemory}
 use Rattle.tm_arguments.specs.Refusals.{IsOfKind, IsOfOneKind}
 use Rattle.tm_arguments.specs.CommandLine.{tmx, plan_with, action_named, faults_of, matches_of, plan_of, HasNeeds, HasRequired, HasStop, IsBetween}
 use Rattle.tm_arguments.proofs.Filled.{Filled, find_all, IsInRange, IsRuled, level-filled, given-first, number_read, range_of}

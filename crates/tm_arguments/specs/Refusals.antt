@@ -3,8 +3,8 @@ use Rattle.std.specs.Prelude.{⊤, ◌≡◌, ◌≢◌, ◌⊎◌}
 use Rattle.clap.specs.Kinds.{IsAmong, Kinds}
 use Rattle.clap.specs.declared.error.kind.ErrorKind.{ErrorKind}
 use Rattle.clap.specs.declared.error.kind.ErrorKind.TheVariants.{DisplayHelp, DisplayVersion}
-use Rattle.tm_arguments.specs.declared.request.UsageFault.{UsageFault}
-use Rattle.tm_arguments.specs.declared.request.UsageFault.TheVariants.{Usage, Help, StopAfter, NoMemory}
+use Rattle.tm_faults.specs.declared.program.UsageFault.{UsageFault}
+use Rattle.tm_faults.specs.declared.program.UsageFault.TheVariants.{Usage, Help, StopAfter, NoMemory}
 
 -- an error of this kind says what is wrong with the arguments; of the others it answers what they ask for
 abbrev pub IsMistake : ErrorKind → Type 0

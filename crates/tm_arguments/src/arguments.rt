@@ -6,11 +6,12 @@ ghost use Rattle.tm_arguments.specs.Refusals.{IsOfKind, IsOfOneKind};
 ghost use Rattle.tm_arguments.specs.CommandLine.{HasRequired, HasStop, action_named, number_spelled, faults_of, is_accepted, lacks_checkpoint, matches_of, plan_in, plan_of};
 
 use crate::command::tmx_command;
-use crate::request::{Action, Plan, UsageFault};
+use crate::request::{Action, Plan};
 use clap::error::ErrorKind;
 use clap::{ArgMatches, Error};
 use std::alloc::{AllocError, Global};
 use tm_bits::Octets;
+use tm_faults::UsageFault;
 
 // A copy of a text.
 fn copy_of(alloc: Global, text: &str) -> Result<Octets, AllocError>

@@ -8,4 +8,5 @@ mod request;
 mod table;
 
 pub use arguments::plan;
-pub use request::{Action, Plan, UsageFault};
+pub use request::{Action, Plan};
+pub use tm_faults::UsageFault;

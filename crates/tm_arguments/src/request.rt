@@ -42,16 +42,3 @@ pub struct Plan {
     /// The application whose packets' fields are read, which reading fields needs.
     pub apid: Option<u16>,
 }
-
-/// Why the arguments are no plan.
-#[derive(Debug, Drop)]
-pub enum UsageFault {
-    /// The arguments are none that the command takes; this text says what is wrong.
-    Usage(Octets),
-    /// The arguments stop a run after some records, and name no file for its checkpoint.
-    StopAfter,
-    /// The arguments ask for this text: help, or the version.
-    Help(Octets),
-    /// Memory ran out.
-    NoMemory,
-}

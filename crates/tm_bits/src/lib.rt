@@ -5,8 +5,10 @@
 //! (`proofs/`) that they share. Its code reads and appends numbers in octets, as checkpoints have them.
 #![tactic(auto)]
 
+mod escape;
 mod numbers;
 mod octets;
 
+pub use escape::push_escaped;
 pub use numbers::{push, push_two, two_at};
 pub use octets::Octets;

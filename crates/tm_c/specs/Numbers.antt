@@ -1,15 +1,15 @@
 -- The numbers that stand for refusals, as include/tmx.h has them.
 use Rattle.std.specs.Prelude.{ℕ}
-use Rattle.tm_fields.specs.declared.faults.Column.{Column}
-use Rattle.tm_fields.specs.declared.faults.Column.TheVariants as column
-use Rattle.tm_fields.specs.declared.faults.DefinitionFault.{DefinitionFault}
-use Rattle.tm_fields.specs.declared.faults.DefinitionFault.TheVariants as definition
-use Rattle.tm_settings.specs.declared.key.Key.{Key}
-use Rattle.tm_settings.specs.declared.key.Key.TheVariants as key
-use Rattle.tm_settings.specs.declared.fault.SettingsFault.{SettingsFault}
-use Rattle.tm_settings.specs.declared.fault.SettingsFault.TheVariants as setting
-use Rattle.tm_faults.specs.declared.fault.CheckpointFault.{CheckpointFault}
-use Rattle.tm_faults.specs.declared.fault.CheckpointFault.TheVariants as checkpoint
+use Rattle.tm_faults.specs.declared.definition.Column.{Column}
+use Rattle.tm_faults.specs.declared.definition.Column.TheVariants as column
+use Rattle.tm_faults.specs.declared.definition.DefinitionFault.{DefinitionFault}
+use Rattle.tm_faults.specs.declared.definition.DefinitionFault.TheVariants as definition
+use Rattle.tm_faults.specs.declared.settings.Key.{Key}
+use Rattle.tm_faults.specs.declared.settings.Key.TheVariants as key
+use Rattle.tm_faults.specs.declared.settings.SettingsFault.{SettingsFault}
+use Rattle.tm_faults.specs.declared.settings.SettingsFault.TheVariants as setting
+use Rattle.tm_faults.specs.declared.run.CheckpointFault.{CheckpointFault}
+use Rattle.tm_faults.specs.declared.run.CheckpointFault.TheVariants as checkpoint
 use Rattle.tm_library.specs.declared.refusal.Refusal.{Refusal}
 use Rattle.tm_library.specs.declared.refusal.Refusal.TheVariants.{Settings, Checkpoint, TooMany, NoMemory}
 use Rattle.tm_c.specs.declared.structs.Numbers.{Numbers}

@@ -9,7 +9,7 @@ use Rattle.tm_packet.specs.Spelling.{state_of}
 use Rattle.tm_frame.specs.Channels.{all_channels}
 use Rattle.tm_reassembly.specs.Checkpoint.{block_read, blocks_read, state_decoding_of, master_read, old_decoding_of}
 use Rattle.tm_frame.specs.Rules.{Rules}
-use Rattle.tm_faults.specs.declared.fault.CheckpointFault.TheVariants as fault
+use Rattle.tm_faults.specs.declared.run.CheckpointFault.TheVariants as fault
 use Rattle.tm_checkpoint.specs.declared.version.Version.TheVariants.{One, Two}
 use Rattle.tm_checkpoint.specs.Checkpoints.{checkpoint_of, version_in, resumed, spelled_in, with_check, work_without_master}
 use Rattle.tm_checkpoint.specs.Works.{Work}

@@ -21,8 +21,8 @@ use Rattle.tm_frame.specs.Rules.{Rules, IsLimit}
 use Rattle.tm_reassembly.specs.State.{State}
 use Rattle.tm_reassembly.specs.Valid.{IsValidState}
 use Rattle.tm_reassembly.proofs.Fits.{octets_take}
-use Rattle.tm_faults.specs.declared.fault.CheckpointFault.{CheckpointFault}
-use Rattle.tm_faults.specs.declared.fault.CheckpointFault.TheVariants as fault
+use Rattle.tm_faults.specs.declared.run.CheckpointFault.{CheckpointFault}
+use Rattle.tm_faults.specs.declared.run.CheckpointFault.TheVariants as fault
 use Rattle.tm_checkpoint.specs.declared.version.Version.{Version}
 use Rattle.tm_checkpoint.specs.declared.version.Version.TheVariants.{One, Three}
 use Rattle.tm_checkpoint.specs.Works.{IsWork, JobState, Work}

@@ -13,8 +13,8 @@ use Rattle.tm_bits.specs.Bits.{two_octets, two_at}
 use Rattle.tm_reassembly.specs.OlderForms as forgotten
 use Rattle.tm_frame.specs.Rules.{Rules}
 use Rattle.tm_reassembly.specs.State.{State}
-use Rattle.tm_faults.specs.declared.fault.CheckpointFault.{CheckpointFault}
-use Rattle.tm_faults.specs.declared.fault.CheckpointFault.TheVariants as fault
+use Rattle.tm_faults.specs.declared.run.CheckpointFault.{CheckpointFault}
+use Rattle.tm_faults.specs.declared.run.CheckpointFault.TheVariants as fault
 use Rattle.tm_checkpoint.specs.declared.version.VersionForm.{VersionForm}
 use Rattle.tm_checkpoint.specs.declared.version.Version.{Version}
 use Rattle.tm_checkpoint.specs.declared.version.Version.TheVariants.{One, Two, Three}

@@ -4,7 +4,7 @@ use Rattle.std.specs.Prelude.{IfSome, MatchOption}
 use Rattle.std.specs.List.{All}
 use Rattle.std.proofs.lemmas.List.{take_all}
 use Rattle.std.proofs.lemmas.List.Elements.{All-more, All-weaker}
-use Rattle.tm_settings.specs.declared.key.Key.{Key}
+use Rattle.tm_faults.specs.declared.settings.Key.{Key}
 
 -- no key of these is nearer, and the number is that of the nearest, or four if none is near
 abbrev pub IsNearest : (Key → ℕ) → List Key → Option Key → ℕ → Type 0

@@ -3,11 +3,12 @@ use Rattle.std.specs.Prelude.{◌≡◌, ◌++◌, ℕ, List, Option, Some, None
 use Rattle.std.specs.Fmt.{decimal}
 use Rattle.std.specs.Str.{chars}
 use Rattle.strsim.specs.Edits.{levenshtein_row}
-use Rattle.tm_fields.specs.Escape.{escaped}
-use Rattle.tm_settings.specs.Keys.{key_name, limits_of}
-use Rattle.tm_settings.specs.declared.key.Key.{Key}
-use Rattle.tm_settings.specs.declared.key.Key.TheVariants.{Channels, ErrorControl}
-use Rattle.tm_settings.specs.declared.key.Limits.{Limits}
+use Rattle.tm_bits.specs.Escape.{escaped}
+use Rattle.tm_faults.specs.Keys.{key_name}
+use Rattle.tm_settings.specs.Limits.{limits_of}
+use Rattle.tm_faults.specs.declared.settings.Key.{Key}
+use Rattle.tm_faults.specs.declared.settings.Key.TheVariants.{Channels, ErrorControl}
+use Rattle.tm_settings.specs.declared.limits.Limits.{Limits}
 
 -- the line of a text: two spaces, the text as octets that may be anything are printed, and the end of the line
 abbrev pub line_of : List ℕ → List ℕ

@@ -12,10 +12,10 @@ use crate::settings::settings_text;
 use crate::texts::NO_CHECKPOINT;
 use std::alloc::{AllocError, Global};
 use std::rt::Files;
-use tm_arguments::{Plan, UsageFault, plan};
+use tm_arguments::{Plan, plan};
 use tm_bits::Octets;
-use tm_faults::RunFault;
-use tm_files::{ToolFault, read_file};
+use tm_faults::{RunFault, ToolFault, UsageFault};
+use tm_files::read_file;
 use tm_settings::Settings;
 
 // The octets of a file that the plan names, as they are now; none if it can't be read.

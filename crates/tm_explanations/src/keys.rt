@@ -2,12 +2,13 @@
 
 ghost use Rattle.std.specs.Prelude.{◌≡◌, ◌<◌, ◌≤◌, None, IfOk, IfSome};
 ghost use Rattle.std.specs.List.{All};
-ghost use Rattle.tm_settings.specs.Keys.{all_keys};
+ghost use Rattle.tm_faults.specs.Keys.{all_keys};
 ghost use Rattle.tm_explanations.specs.Explanations.{edits_to, wanted_of};
 
 use std::alloc::{AllocError, Global};
 use strsim::levenshtein;
-use tm_settings::{Key, Limits};
+use tm_faults::Key;
+use tm_settings::{Limits, number_limits};
 
 // How many edits lead from a text to the name of a key.
 fn edits_to(alloc: Global, text: &str, key: Key) -> Result<usize, AllocError>
@@ -49,7 +50,7 @@ pub(crate) fn nearest_key(alloc: Global, text: &str) -> Result<Option<Key>, Allo
 pub(crate) fn wanted_value(alloc: Global, key: Key) -> Result<Vec<u8>, AllocError>
     ensures { IfOk result (λ text. text.items ≡ wanted_of key) }
 {
-    let text = match (key, key.limits()) {
+    let text = match (key, number_limits(key)) {
         (_, Some(Limits { least, most })) => {
             return Ok(format!(in alloc; "an integer from {least} to {most}")?.into_bytes());
         }

@@ -4,7 +4,7 @@ ghost use Rattle.std.specs.Prelude.{◌≡◌, IfOk};
 ghost use Rattle.tm_explanations.specs.Explanations.{line_of};
 
 use std::alloc::{AllocError, Global};
-use tm_fields::push_escaped;
+use tm_bits::push_escaped;
 
 /// Memory ran out.
 #[derive(Clone, Copy, Debug, PartialEq, Eq)]

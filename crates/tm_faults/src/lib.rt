@@ -1,6 +1,14 @@
-//! Why a run ends before its end, and why octets are no checkpoint of a job.
+//! The faults that end the program: why, in which words, and with which line and status.
 #![tactic(auto)]
 
-mod fault;
+mod definition;
+mod lines;
+mod program;
+mod run;
+mod settings;
 
-pub use fault::{CheckpointFault, NoMemory, RunFault};
+pub use definition::{Column, DefinitionFault};
+pub use lines::{fault_line, status};
+pub use program::{ToolFault, UsageFault};
+pub use run::{CheckpointFault, NoMemory, RunFault};
+pub use settings::{Key, SettingsFault};

@@ -9,7 +9,7 @@ use Rattle.csv.specs.declared.reader.Reader.{Reader}
 use Rattle.csv.specs.declared.error.ErrorKind.{ErrorKind}
 use Rattle.csv.specs.declared.error.ErrorKind.TheVariants as kind
 use Rattle.tm_fields.specs.code.Reading.{fault_of_kind}
-use Rattle.tm_fields.specs.declared.faults.DefinitionFault.TheVariants.{Csv}
+use Rattle.tm_faults.specs.declared.definition.DefinitionFault.TheVariants.{Csv}
 
 -- the record that was read has another length than was expected
 pub cause : {R : Type 0} (rem : R → Option (List ℕ)) (a b : Reader R) (k : ErrorKind) → fault_of_kind k ≡ Csv → ExplainsRead rem a b false k

@@ -11,8 +11,8 @@ use Rattle.tm_fields.specs.Numbers.{number_within}
 use Rattle.tm_fields.specs.Reading.{definition_of}
 use Rattle.tm_fields.specs.Rows.{head_of, row_from}
 use Rattle.tm_fields.specs.declared.lead.Lead.{Lead}
-use Rattle.tm_fields.specs.declared.faults.Column.TheVariants as column
-use Rattle.tm_fields.specs.declared.faults.DefinitionFault.TheVariants as fault
+use Rattle.tm_faults.specs.declared.definition.Column.TheVariants as column
+use Rattle.tm_faults.specs.declared.definition.DefinitionFault.TheVariants as fault
 use Rattle.tm_fields.specs.declared.field.DataType.TheVariants.{Uint, Int, Float, Str, Fill}
 use Rattle.tm_fields.specs.declared.field.Field.{Field}
 

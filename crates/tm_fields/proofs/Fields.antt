@@ -4,7 +4,7 @@ use Rattle.std.proofs.Math.Seq.{drop-cons}
 use Rattle.tm_fields.specs.Reading.{end_of, defined_field_of, fields_from, last_end}
 use Rattle.tm_fields.specs.Rows.{bits_needed}
 use Rattle.tm_fields.specs.declared.columns.Columns.{Columns}
-use Rattle.tm_fields.specs.declared.faults.DefinitionFault.{DefinitionFault}
+use Rattle.tm_faults.specs.declared.definition.DefinitionFault.{DefinitionFault}
 use Rattle.tm_fields.specs.declared.field.Field.{Field}
 
 next_is : {X : Type 0} (f : X → List (List ℕ)) (records : List X) (i : ℕ) (values : X) → i < length records → values ≡ get_or records i values

@@ -1,6 +1,5 @@
 pub mod Causes
 pub mod Digits
-pub mod Escapes
 pub mod Examples
 pub mod Fields
 pub mod Kept

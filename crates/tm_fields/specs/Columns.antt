@@ -1,14 +1,15 @@
 -- The columns of a definition, by the headings of its first record.
 use Rattle.std.specs.Prelude.{ℕ, ◌+◌, if◌then◌else◌, List, [], ◌∷◌, Option, Some, None, Result, Ok, Err, codes}
 use Rattle.std.specs.Str.{bytes_eq}
+use Rattle.tm_faults.specs.Columns.{column_word}
 use Rattle.tm_fields.specs.Values.{trimmed}
 use Rattle.tm_fields.specs.declared.columns.Columns.{Columns}
 use Rattle.tm_fields.specs.declared.columns.Standing.{Standing}
 use Rattle.tm_fields.specs.declared.columns.Standing.TheVariants.{Nowhere, At, Often}
-use Rattle.tm_fields.specs.declared.faults.Column.{Column}
-use Rattle.tm_fields.specs.declared.faults.Column.TheVariants.{Name, DataType, BitLength, BitOffset}
-use Rattle.tm_fields.specs.declared.faults.DefinitionFault.{DefinitionFault}
-use Rattle.tm_fields.specs.declared.faults.DefinitionFault.TheVariants as fault
+use Rattle.tm_faults.specs.declared.definition.Column.{Column}
+use Rattle.tm_faults.specs.declared.definition.Column.TheVariants.{Name, DataType, BitLength, BitOffset}
+use Rattle.tm_faults.specs.declared.definition.DefinitionFault.{DefinitionFault}
+use Rattle.tm_faults.specs.declared.definition.DefinitionFault.TheVariants as fault
 
 -- what is read, or why the text is no definition
 abbrev pub ReadOrFault : Type 0 → Type 0
@@ -18,13 +19,6 @@ ReadOrFault A = Result A DefinitionFault
 abbrev pub and_then_read : {A B : Type 0} → ReadOrFault A → (A → ReadOrFault B) → ReadOrFault B
 and_then_read (Ok x) next = next x
 and_then_read (Err e) next = Err e
-
--- a column's heading
-abbrev pub column_word : Column → List ℕ
-column_word Name = codes "name"
-column_word DataType = codes "data_type"
-column_word BitLength = codes "bit_length"
-column_word BitOffset = codes "bit_offset"
 
 -- the places at which a heading stands, where the first of these headings is at the place `at`
 abbrev pub heading_places : List ℕ → ℕ → List (List ℕ) → List ℕ

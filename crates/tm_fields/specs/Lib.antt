@@ -3,6 +3,5 @@ pub mod Values
 pub mod Columns
 pub mod Reading
 pub mod Numbers
-pub mod Escape
 pub mod Rows
 pub mod code

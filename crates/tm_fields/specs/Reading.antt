@@ -6,8 +6,8 @@ use Rattle.tm_fields.specs.Columns.{ReadOrFault, and_then_read, columns_of}
 use Rattle.tm_fields.specs.Table.{same_lengths, table}
 use Rattle.tm_fields.specs.Values.{number_named, value}
 use Rattle.tm_fields.specs.declared.columns.Columns.{Columns}
-use Rattle.tm_fields.specs.declared.faults.Column.TheVariants as column
-use Rattle.tm_fields.specs.declared.faults.DefinitionFault.TheVariants as fault
+use Rattle.tm_faults.specs.declared.definition.Column.TheVariants as column
+use Rattle.tm_faults.specs.declared.definition.DefinitionFault.TheVariants as fault
 use Rattle.tm_fields.specs.declared.field.DataType.{DataType}
 use Rattle.tm_fields.specs.declared.field.DataType.TheVariants.{Uint, Int, Float, Str, Fill}
 use Rattle.tm_fields.specs.declared.field.Field.{Field}

@@ -5,7 +5,7 @@ use Rattle.std.specs.List.{flat_map}
 use Rattle.csv.specs.Writing.{default_writer, row_text}
 use Rattle.hex.specs.Hex.{encode_lower}
 use Rattle.tm_bits.specs.Bits.{part}
-use Rattle.tm_fields.specs.Escape.{escaped}
+use Rattle.tm_bits.specs.Escape.{escaped}
 use Rattle.tm_fields.specs.Numbers.{bits_in, octets_at}
 use Rattle.tm_fields.specs.Reading.{end_of, is_shown}
 use Rattle.tm_fields.specs.declared.lead.Lead.{Lead}

@@ -2,13 +2,14 @@
 
 ghost use Rattle.std.specs.Prelude.{◌≡◌};
 ghost use Rattle.csv.specs.Records.{fields_of};
-ghost use Rattle.tm_fields.specs.Columns.{at_most_one, columns_of, only, standing, column_word};
+ghost use Rattle.tm_faults.specs.Columns.{column_word};
+ghost use Rattle.tm_fields.specs.Columns.{at_most_one, columns_of, only, standing};
 ghost use Rattle.tm_fields.specs.code.Reading.{met};
 ghost use Rattle.tm_fields.specs.Values.{value};
 
-use crate::faults::{Column, DefinitionFault};
 use crate::words::{is_text, trim};
 use csv::ByteRecord;
+use tm_faults::{Column, DefinitionFault};
 
 /// Where a heading stands among those of a definition.
 #[derive(Clone, Copy)]

@@ -10,7 +10,7 @@ ghost use Rattle.tm_fields.specs.code.Line.{HasPassedOn};
 ghost use Rattle.tm_fields.specs.declared.field.Field.{Field};
 
 use crate::columns::{Columns, find_columns};
-use crate::faults::{Column, DefinitionFault, NoMemory, RowFault};
+use crate::faults::RowFault;
 use crate::field::Field;
 use crate::lead::{Lead, write_lead, write_lead_names};
 use crate::line::{begin, end, into_text, pass};
@@ -20,6 +20,7 @@ use crate::values::{write_field_name, write_field_value};
 use csv::{ByteRecord, Writer};
 use std::alloc::{AllocError, Global};
 use std::marker::Model;
+use tm_faults::{Column, DefinitionFault, NoMemory};
 
 /// The fields that packets are read by, at most 1000.
 #[derive(Drop)]

@@ -7,12 +7,12 @@
 
 mod columns;
 mod definition;
-mod escape;
 mod faults;
 mod field;
 mod lead;
 mod line;
 mod numbers;
+mod raw;
 mod reading;
 mod rows;
 mod table;
@@ -21,10 +21,10 @@ mod words;
 
 pub use columns::{Columns, Standing};
 pub use definition::Definition;
-pub use escape::push_escaped;
-pub use faults::{Column, DefinitionFault, NoMemory, RowFault};
+pub use faults::RowFault;
 pub use field::{DataType, Field};
 pub use lead::Lead;
 pub use numbers::number_at;
 pub use rows::Rows;
 pub use tm_bits::Octets;
+pub use tm_faults::{Column, DefinitionFault, NoMemory};

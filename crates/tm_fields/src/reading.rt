@@ -5,12 +5,12 @@ ghost use Rattle.csv.specs.Records.{fields_of};
 ghost use Rattle.tm_fields.specs.Reading.{begin_named, begin_of, defined_field_of, greatest_end, has_length, is_refused_name, is_sound, is_earlier_name, last_end, length_of, field_name_of, offset_text, type_of};
 
 use crate::columns::{Columns, value_at};
-use crate::faults::DefinitionFault;
 use crate::field::{DataType, Field, GREATEST_END};
 use crate::words::{data_type_named, is_array_text, is_text, number_in};
 use csv::ByteRecord;
 use std::alloc::{AllocError, Global};
 use tm_bits::Octets;
+use tm_faults::DefinitionFault;
 
 // The type in a row.
 fn read_type(row: u32, text: &[u8]) -> Result<DataType, DefinitionFault>

@@ -6,9 +6,9 @@ ghost use Rattle.csv.specs.Records.{fields_of};
 ghost use Rattle.tm_fields.specs.Table.{same_lengths, table};
 ghost use Rattle.tm_fields.specs.code.Reading.{fault_of_kind, kept};
 
-use crate::faults::DefinitionFault;
 use csv::{ByteRecord, Error, ErrorKind, ReaderBuilder};
 use std::alloc::{AllocError, Global};
+use tm_faults::DefinitionFault;
 
 // A text in memory gives no error of its own, so what isn't of lengths is of memory.
 fn fault_of(error: Error) -> DefinitionFault

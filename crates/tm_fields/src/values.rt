@@ -6,14 +6,15 @@ ghost use Rattle.tm_fields.specs.Numbers.{bits_in, octets_at};
 ghost use Rattle.tm_fields.specs.Reading.{end_of, greatest_end, has_length, is_sound};
 ghost use Rattle.tm_fields.specs.Rows.{named, printed, signed, typed_text};
 
-use crate::escape::{push_escaped, push_raw};
 use crate::field::{DataType, Field};
 use crate::line::write_value;
 use crate::numbers::number_from;
+use crate::raw::push_raw;
 use csv::Writer;
 use itoa::Buffer;
 use std::alloc::{AllocError, Global};
 use std::io::Write;
+use tm_bits::push_escaped;
 
 // Writes a number at the end of a text.
 fn push_number(text: &mut Vec<u8>, number: u64) -> Result<(), AllocError>

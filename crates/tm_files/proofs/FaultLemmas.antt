@@ -2,9 +2,9 @@
 use Rattle.std.proofs.Common.{ℕ, ◌≡◌, ◌⊎◌, List, Option, None, Some, ap, inl, inr, refl, subst, sym}
 use Rattle.tm_files.specs.code.Clashes.{first_clash}
 use Rattle.tm_files.specs.code.Files.{HasFault, IsFileFault, IsNoMemory, IsRunFault}
-use Rattle.tm_files.specs.declared.fault.ToolFault.{ToolFault}
-use Rattle.tm_files.specs.declared.fault.ToolFault.TheVariants as tool
-use Rattle.tm_faults.specs.declared.fault.RunFault.TheVariants.{NoMemory, Read, Report, ShortRecording, TooMany, Write}
+use Rattle.tm_faults.specs.declared.program.ToolFault.{ToolFault}
+use Rattle.tm_faults.specs.declared.program.ToolFault.TheVariants as tool
+use Rattle.tm_faults.specs.declared.run.RunFault.TheVariants.{NoMemory, Read, Report, ShortRecording, TooMany, Write}
 
 -- the fault of a file is that of its name, unless memory ran out
 pub fault_exactly : (name : List ℕ) (fault : ToolFault) → IsFileFault name fault → IsNoMemory fault ⊎ (Some (tool.File name) ≡ Some fault)

@@ -1,4 +1,3 @@
-pub mod FaultLines
 pub mod Names
 pub mod FileIdentities
 pub mod code

@@ -3,10 +3,9 @@
 ghost use Rattle.std.specs.Prelude.{◌≡◌};
 ghost use Rattle.tm_files.specs.code.Decisions.{is_job, IsDestination, IsReportTarget, IsRecording, stream_fault_of, writes_errors, writes_output};
 
-use crate::fault::ToolFault;
 use tm_arguments::{Action, Plan};
 use tm_bits::Octets;
-use tm_faults::RunFault;
+use tm_faults::{RunFault, ToolFault};
 
 /// Where the recording comes from.
 pub enum Recording<'p> {

@@ -4,13 +4,12 @@ ghost use Rattle.std.specs.Prelude.{◌≡◌, ◌<◌, ◌≤◌, length, vec_l
 ghost use Rattle.tm_files.specs.code.Files.{IsFaultOf, IsFileFault, most_octets};
 ghost use Rattle.tm_files.specs.code.Replacements.{replaced_name, replaced_octets, replacement_name};
 
-use crate::fault::ToolFault;
 use std::alloc::Global;
 use std::fs::{self, File, OpenFile, OpenOptions};
 use std::io::{self, ErrorKind, Read, Write};
 use std::rt::Files;
 use tm_bits::Octets;
-use tm_faults::RunFault;
+use tm_faults::{RunFault, ToolFault};
 
 // The octets that a file may have at the most.
 const MOST_OCTETS: usize = 1_048_576;

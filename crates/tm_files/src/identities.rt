@@ -7,11 +7,10 @@ ghost use Rattle.tm_files.specs.Names.{temporary_checkpoint};
 ghost use Rattle.tm_files.specs.FileIdentities.{IsInput, IsOfAny, IsOfName, IsOfStream, errors_name, output_name, stream_name};
 
 use crate::decisions::{Recording, Stream, choose_recording, writes_errors, writes_output};
-use crate::fault::ToolFault;
 use crate::names::temporary_checkpoint;
 use tm_arguments::Plan;
 use tm_bits::Octets;
-use tm_faults::RunFault;
+use tm_faults::{RunFault, ToolFault};
 use tm_file_identity::{FileIdentities, FileIdentity, Namespace};
 
 // What a path stands for.

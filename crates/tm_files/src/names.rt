@@ -7,12 +7,11 @@ ghost use Rattle.tm_files.specs.Names.{AreClear, temporary_checkpoint, has_name,
 ghost use Rattle.tm_files.specs.code.Files.{HasFault, IsNoMemory, IsRunFault};
 
 use crate::decisions::{Stream, stream_fault, writes_output};
-use crate::fault::ToolFault;
 use crate::files::file_fault;
 use std::alloc::Global;
 use tm_arguments::Plan;
 use tm_bits::Octets;
-use tm_faults::RunFault;
+use tm_faults::{RunFault, ToolFault};
 use tm_file_identity::FileIdentities;
 
 /// The names of a plan were checked. Only `check_names` says so, and `open_report` asks for it: so no report is opened

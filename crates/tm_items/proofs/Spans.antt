@@ -7,7 +7,7 @@ use Rattle.std.specs.List.{flat_map}
 use Rattle.tm_packet.specs.Header.{packet_version_of}
 use Rattle.tm_items.specs.Item.{Item, Packet}
 use Rattle.tm_items.specs.OnePacket.{IsOnePacket, is_packet, packet_length}
-use Rattle.tm_items.specs.code.Spans.{packets_behind, packets_in, ArePackets, IsSpan, placed, span_items}
+use Rattle.tm_items.specs.Spans.{packets_behind, packets_in, ArePackets, IsSpan, placed, span_items}
 use Rattle.tm_items.proofs.Reaching.{packet_length_least, packet_length-append, packet_length-settled}
 
 -- packets put together again

@@ -3,7 +3,7 @@
 ghost use Rattle.std.specs.Prelude.{◌+◌, ◌<◌, ◌^◌, IfErr, OnOk, length};
 ghost use Rattle.tm_items.specs.Item as value;
 ghost use Rattle.tm_items.specs.Sinks.{item_of, ItemFits, RefusesOne, TakesAll};
-ghost use Rattle.tm_items.specs.code.Spans.{IsSpan, items_of_span};
+ghost use Rattle.tm_items.specs.Spans.{IsSpan, items_of_span};
 
 use crate::items::Item;
 use crate::packets::packet_length;

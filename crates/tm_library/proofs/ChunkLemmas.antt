@@ -12,8 +12,8 @@ use Rattle.tm_checkpoint.specs.Checkpoints.{resumed}
 use Rattle.tm_checkpoint.specs.Works.{JobState, Work, new_job}
 use Rattle.tm_output.specs.declared.command.Command.{Command}
 use Rattle.tm_output.specs.declared.command.Ending.{Ending}
-use Rattle.tm_faults.specs.declared.fault.RunFault.{RunFault}
-use Rattle.tm_faults.specs.declared.fault.RunFault.TheVariants.{ShortRecording, TooMany}
+use Rattle.tm_faults.specs.declared.run.RunFault.{RunFault}
+use Rattle.tm_faults.specs.declared.run.RunFault.TheVariants.{ShortRecording, TooMany}
 use Rattle.tm_output.specs.Outputs.{AppendsPieces, Piece, View, line_pieces, reports}
 use Rattle.tm_output.specs.Pieces.{text_of, buffering_of}
 use Rattle.tm_output.specs.Records.{AreRecords, record_count, records, rest_of}

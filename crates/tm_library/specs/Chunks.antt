@@ -6,7 +6,7 @@ use Rattle.tm_frame.specs.declared.layout.LayoutParts.{LayoutParts}
 use Rattle.tm_frame.specs.Layout.{record_length_of}
 use Rattle.tm_frame.specs.Rules.{Rules}
 use Rattle.tm_settings.specs.Settings.{settings_from}
-use Rattle.tm_faults.specs.declared.fault.CheckpointFault.{CheckpointFault}
+use Rattle.tm_faults.specs.declared.run.CheckpointFault.{CheckpointFault}
 use Rattle.tm_checkpoint.specs.Checkpoints.{checkpoint_of, resumed}
 use Rattle.tm_checkpoint.specs.Works.{JobState, Work, new_job}
 use Rattle.tm_output.specs.declared.command.Command.{Command}

@@ -3,11 +3,11 @@ use Rattle.std.specs.Prelude.{◌≡◌, ⊤, ℕ, ◌+◌, ◌<◌, List, lengt
 use Rattle.toml.specs.Parse.{parse_document}
 use Rattle.tm_frame.specs.Layout.{most_records}
 use Rattle.tm_frame.specs.Rules.{Rules}
-use Rattle.tm_settings.specs.declared.fault.SettingsFault.{SettingsFault}
-use Rattle.tm_settings.specs.declared.fault.SettingsFault.TheVariants as setting
+use Rattle.tm_faults.specs.declared.settings.SettingsFault.{SettingsFault}
+use Rattle.tm_faults.specs.declared.settings.SettingsFault.TheVariants as setting
 use Rattle.tm_settings.specs.Settings.{settings_from}
-use Rattle.tm_faults.specs.declared.fault.CheckpointFault.{CheckpointFault}
-use Rattle.tm_faults.specs.declared.fault.CheckpointFault.TheVariants as checkpoint
+use Rattle.tm_faults.specs.declared.run.CheckpointFault.{CheckpointFault}
+use Rattle.tm_faults.specs.declared.run.CheckpointFault.TheVariants as checkpoint
 use Rattle.tm_output.specs.Records.{records}
 use Rattle.tm_checkpoint.specs.Works.{JobState}
 use Rattle.tm_library.specs.Chunks.{Begins, job_in, size_of}

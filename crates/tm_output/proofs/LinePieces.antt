@@ -6,8 +6,8 @@ use Rattle.std.proofs.KnownBytes.{Appends-kept, Appends-nil, Appends-trans}
 use Rattle.std.proofs.lemmas.List.{map-append}
 use Rattle.std.specs.Result.{OnErr}
 use Rattle.tm_devices.specs.Devices.{AppendsPrefix, Counts, raised}
-use Rattle.tm_faults.specs.declared.fault.RunFault.{RunFault}
-use Rattle.tm_faults.specs.declared.fault.RunFault.TheVariants.{Write}
+use Rattle.tm_faults.specs.declared.run.RunFault.{RunFault}
+use Rattle.tm_faults.specs.declared.run.RunFault.TheVariants.{Write}
 use Rattle.tm_output.specs.Outputs.{AppendsCut, Piece, Stopped, Took, View, Buffering, line_piece, line_pieces, outs, reports, view}
 use Rattle.tm_output.proofs.PieceLemmas.{cut_all, cut_more, cut_none, flush_out, stopped_put, took_failed, took_stopped, took_took}
 

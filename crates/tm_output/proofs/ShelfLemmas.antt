@@ -2,7 +2,7 @@
 use Rattle.std.proofs.Common.{◌≡◌, ◌≢◌, ℕ, List, [], ◌∷◌, refl, ap, ◌∙◌, Option}
 use Rattle.std.proofs.lemmas.List.{map-append}
 use Rattle.tm_devices.specs.Devices.{PutsPrefix, raised}
-use Rattle.tm_faults.specs.declared.fault.RunFault.TheVariants.{Write}
+use Rattle.tm_faults.specs.declared.run.RunFault.TheVariants.{Write}
 use Rattle.tm_output.specs.code.Outlets.{PutStopped}
 use Rattle.tm_output.specs.Outputs.{Buffering}
 use Rattle.tm_output.specs.Shelves.{shelved, Shelves}

@@ -10,18 +10,18 @@ use Rattle.tm_items.specs.declared.sink.Span.{Span}
 use Rattle.tm_items.specs.Item.{Item, Packet}
 use Rattle.tm_items.specs.OnePacket.{IsOnePacket, packet_length}
 use Rattle.tm_items.specs.Sinks.{RefusesOne, TakesAll}
-use Rattle.tm_items.specs.code.Spans.{IsSpan, items_of_span, placed, packets_in, span_items}
+use Rattle.tm_items.specs.Spans.{IsSpan, items_of_span, placed, packets_in, span_items}
 use Rattle.tm_items.proofs.Headers.{header-front, packet_length_read, reading-ok, reading-err}
 use Rattle.tm_items.proofs.Reaching.{packet_length_least}
 use Rattle.tm_items.proofs.Leads.{RefusesOne-left}
 use Rattle.tm_items.proofs.Spans.{packets-first, packets-one, span-both, span-first, span-longer, span-next}
 use Rattle.tm_devices.specs.Devices.{raised}
-use Rattle.tm_faults.specs.declared.fault.RunFault.TheVariants.{Write}
+use Rattle.tm_faults.specs.declared.run.RunFault.TheVariants.{Write}
 use Rattle.tm_output.specs.Outputs.{PutsPart, SameCounts, Buffering, view}
 use Rattle.tm_packet.specs.Merge.{Entries}
 use Rattle.tm_output.specs.Pieces.{Texts, noted, noted_all, piece_of}
 use Rattle.tm_output.specs.Seen.{OutputState}
-use Rattle.tm_output.specs.code.Packets.{item_with}
+use Rattle.tm_output.specs.Packets.{item_with}
 use Rattle.tm_output.specs.code.Quiet.{AreQuiet, HasNoted, IsFirstPacket, IsQuiet, IsAccepted, first_items, outs_of}
 use Rattle.tm_lines.specs.declared.packet.Packet as lent
 use Rattle.tm_output.specs.code.Sinking.{Refuses, Takes}

@@ -6,4 +6,5 @@ pub mod FieldRows
 pub mod Pieces
 pub mod Shelves
 pub mod Seen
+pub mod Packets
 pub mod code

@@ -7,8 +7,8 @@ use Rattle.tm_frame.specs.declared.layout.LayoutParts.{LayoutParts}
 use Rattle.tm_frame.specs.Fault.{frame_reading_of}
 use Rattle.tm_frame.specs.Frame.{GoodFrame}
 use Rattle.tm_frame.specs.Layout.{most_records, record_length_of}
-use Rattle.tm_faults.specs.declared.fault.RunFault.{RunFault}
-use Rattle.tm_faults.specs.declared.fault.RunFault.TheVariants.{Read, Write, Report, ShortRecording, TooMany, NoMemory}
+use Rattle.tm_faults.specs.declared.run.RunFault.{RunFault}
+use Rattle.tm_faults.specs.declared.run.RunFault.TheVariants.{Read, Write, Report, ShortRecording, TooMany, NoMemory}
 use Rattle.tm_lines.specs.Lines.{bad_line, frame_line, short_line}
 use Rattle.tm_output.specs.Outputs.{AppendsCut, Stopped, Took, View, line_piece, line_pieces, octets_buffering}
 use Rattle.tm_output.specs.Records.{HasRead, HasReadAll, record_count, records, rest_of}

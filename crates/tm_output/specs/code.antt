@@ -1,5 +1,4 @@
 pub mod Sinking
-pub mod Packets
 pub mod Outlets
 pub mod ShelfLaws
 pub mod Next

@@ -5,7 +5,7 @@ ghost use Rattle.std.specs.List.{concat};
 ghost use Rattle.std.specs.Io.KnownBytes.{Appends};
 ghost use Rattle.tm_frame.specs.declared.layout.LayoutParts.{LayoutParts};
 ghost use Rattle.tm_frame.specs.Layout.{record_length_of};
-ghost use Rattle.tm_faults.specs.declared.fault.RunFault.{RunFault};
+ghost use Rattle.tm_faults.specs.declared.run.RunFault.{RunFault};
 ghost use Rattle.tm_output.specs.Listing.{IsListed, IsListingStop, ListingStopped, listing};
 ghost use Rattle.tm_output.specs.Outputs.{View};
 ghost use Rattle.tm_output.specs.Records.{record_count};

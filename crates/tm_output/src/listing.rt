@@ -4,7 +4,7 @@ ghost use Rattle.std.specs.Prelude.{◌≡◌, ◌≢◌, ◌<◌, ◌≤◌, �
 ghost use Rattle.std.specs.Io.KnownBytes.{Appends, Keeps};
 ghost use Rattle.tm_frame.specs.Layout.{most_records, record_length_of};
 ghost use Rattle.tm_output.specs.Faults.{FaultsCounted};
-ghost use Rattle.tm_faults.specs.declared.fault.RunFault.TheVariants.{Write};
+ghost use Rattle.tm_faults.specs.declared.run.RunFault.TheVariants.{Write};
 ghost use Rattle.tm_output.specs.Listing.{IsListed, IsListingStop, record_line, rest_lines};
 ghost use Rattle.tm_output.specs.Outputs.{Stopped, Took, line_piece, line_pieces, octets_buffering};
 ghost use Rattle.tm_output.specs.Seen.{out_alone};

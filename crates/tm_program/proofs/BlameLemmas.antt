@@ -1,11 +1,11 @@
 -- Whom the fault of a run blames.
 use Rattle.std.proofs.Common.{ℕ, Bool, true, false, List, Option, None, Some, Result, Ok, Err}
 use Rattle.std.specs.Prelude.{⊤, IfErr}
-use Rattle.tm_faults.specs.declared.fault.RunFault.{RunFault}
-use Rattle.tm_faults.specs.declared.fault.RunFault.TheVariants as run
+use Rattle.tm_faults.specs.declared.run.RunFault.{RunFault}
+use Rattle.tm_faults.specs.declared.run.RunFault.TheVariants as run
 use Rattle.tm_files.specs.code.Files.{IsNoMemory}
-use Rattle.tm_files.specs.declared.fault.ToolFault.{ToolFault}
-use Rattle.tm_files.specs.declared.fault.ToolFault.TheVariants as tool
+use Rattle.tm_faults.specs.declared.program.ToolFault.{ToolFault}
+use Rattle.tm_faults.specs.declared.program.ToolFault.TheVariants as tool
 use Rattle.tm_output.specs.Faults.{RunCaused, RunCounted}
 use Rattle.tm_output.specs.Outputs.{View}
 use Rattle.tm_program.specs.code.Blames.{IsBlamedBeside, split_end_of}

@@ -5,9 +5,9 @@ use Rattle.tm_split_files.specs.Names.{file_in}
 use Rattle.tm_files.specs.code.Files.{HasFault, IsFaultOf, IsFileFault, IsRunFault}
 use Rattle.tm_program.specs.Program.{IsAsked, IsInFolder, IsNamed, IsOfFolder, IsReadWhole, MayCome, MayEnd}
 use Rattle.tm_program.specs.code.Faults.{HasFolderFault, HasReadFault, IsFolderFault, IsOfDefinition, IsOfOutputs, IsOfPut, IsOfResumed, IsOfSettings, IsOfStreams}
-use Rattle.tm_faults.specs.declared.fault.RunFault.TheVariants.{NoMemory, Read, Report, ShortRecording, TooMany, Write}
-use Rattle.tm_files.specs.declared.fault.ToolFault.{ToolFault}
-use Rattle.tm_files.specs.declared.fault.ToolFault.TheVariants as tool
+use Rattle.tm_faults.specs.declared.run.RunFault.TheVariants.{NoMemory, Read, Report, ShortRecording, TooMany, Write}
+use Rattle.tm_faults.specs.declared.program.ToolFault.{ToolFault}
+use Rattle.tm_faults.specs.declared.program.ToolFault.TheVariants as tool
 use Rattle.tm_arguments.specs.declared.request.Plan.{Plan}
 
 -- a file that the plan names can't be opened, made or written

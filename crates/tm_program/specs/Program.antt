@@ -2,11 +2,11 @@
 use Rattle.std.specs.Prelude.{◌≡◌, ◌⊎◌, ⊤, ℕ, true, false, List, [], Option, Some, None, IsSome}
 use Rattle.tm_arguments.specs.CommandLine.{HasRequired, faults_of, is_accepted, lacks_checkpoint, plan_of}
 use Rattle.tm_split_files.specs.Names.{file_in}
-use Rattle.tm_files.specs.declared.fault.ToolFault.{ToolFault}
-use Rattle.tm_files.specs.declared.fault.ToolFault.TheVariants as tool
+use Rattle.tm_faults.specs.declared.program.ToolFault.{ToolFault}
+use Rattle.tm_faults.specs.declared.program.ToolFault.TheVariants as tool
 use Rattle.tm_arguments.specs.declared.request.Plan.{Plan}
-use Rattle.tm_arguments.specs.declared.request.UsageFault.{UsageFault}
-use Rattle.tm_arguments.specs.declared.request.UsageFault.TheVariants as usage
+use Rattle.tm_faults.specs.declared.program.UsageFault.{UsageFault}
+use Rattle.tm_faults.specs.declared.program.UsageFault.TheVariants as usage
 
 -- ---- the files of a plan
 

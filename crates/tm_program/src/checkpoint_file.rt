@@ -9,8 +9,9 @@ ghost use Rattle.tm_files.specs.code.Replacements.{replaced_name, replacement_na
 use crate::opening::no_memory;
 use std::rt::Files;
 use tm_arguments::Plan;
+use tm_faults::ToolFault;
 use tm_files::{
-    Replaced, Replacement, ToolFault, abandon_replacement, begin_replacement, finish_replacement,
+    Replaced, Replacement, abandon_replacement, begin_replacement, finish_replacement,
 };
 use tm_tool::{Done, Ending, Job, RunFault, Settings};
 

@@ -12,9 +12,10 @@ use std::fs;
 use std::io::{self, ErrorKind, Write};
 use std::rt::Files;
 use tm_arguments::Plan;
+use tm_faults::ToolFault;
 use tm_files::{
-    Checked, Stream, ToolFault, check_errors, check_names, identify_files, stream_fault,
-    writes_errors, writes_output,
+    Checked, Stream, check_errors, check_names, identify_files, stream_fault, writes_errors,
+    writes_output,
 };
 use tm_tool::RunFault;
 

@@ -11,7 +11,7 @@ ghost use Rattle.tm_program.specs.code.Faults.{IsFolderFault, IsOfPut};
 use crate::opening::no_memory;
 use std::alloc::Global;
 use std::rt::Files;
-use tm_files::ToolFault;
+use tm_faults::ToolFault;
 use tm_split_files::{FileShelf, ShelfFault, name_in};
 use tm_tool::{BufferedSource, Done, Drain, Ending, Job, Octets, RunFault, split};
 

@@ -8,8 +8,9 @@ use crate::checks::check_standard;
 use std::io::Write;
 use std::rt::Files;
 use tm_arguments::Plan;
+use tm_faults::ToolFault;
 use tm_fields::Definition;
-use tm_files::{ToolFault, read_file};
+use tm_files::read_file;
 use tm_tool::{Job, Settings};
 
 // The settings in the plan's file.

@@ -11,6 +11,5 @@ mod steps;
 
 pub use outcome::Outcome;
 pub use steps::run;
-pub use tm_arguments::UsageFault;
-pub use tm_files::{NoMemory, ToolFault, fault_line, status};
+pub use tm_faults::{NoMemory, ToolFault, UsageFault, fault_line, status};
 pub use tm_tool::{Octets, RunFault};

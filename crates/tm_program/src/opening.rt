@@ -10,10 +10,11 @@ use std::fs::OpenFile;
 use std::io::{BufReader, BufWriter, Read, Write};
 use std::rt::Files;
 use tm_arguments::Plan;
+use tm_faults::ToolFault;
 use tm_file_identity::FileIdentities;
 use tm_files::{
-    Checked, Destination, Report, ReportTarget, ToolFault, append, choose_destination,
-    choose_report, create, file_fault, open,
+    Checked, Destination, Report, ReportTarget, append, choose_destination, choose_report, create,
+    file_fault, open,
 };
 use tm_split_files::FileShelf;
 use tm_tool::{Buffered, Octets, RunFault, Seeking, Writing};

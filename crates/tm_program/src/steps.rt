@@ -20,10 +20,10 @@ use std::alloc::Global;
 use std::io::{self, Write};
 use std::rt::Files;
 use tm_arguments::{Action, Plan, plan};
+use tm_faults::ToolFault;
 use tm_fields::Definition;
 use tm_files::{
-    Checked, Recording, Replaced, ToolFault, choose_recording, identify_files, is_job,
-    writes_errors,
+    Checked, Recording, Replaced, choose_recording, identify_files, is_job, writes_errors,
 };
 use tm_tool::{
     BufferedSource, Command, Done, Drain, Ending, Job, Settings, list_frames, summarize,

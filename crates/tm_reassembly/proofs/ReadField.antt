@@ -7,7 +7,7 @@ use Rattle.tm_reassembly.proofs.Split.{drop-pred, whole_part}
 use Rattle.tm_items.specs.Item.{Packet}
 use Rattle.tm_reassembly.specs.Parts.{begins_packet}
 use Rattle.tm_items.specs.OnePacket.{IsOnePacket, packet_length}
-use Rattle.tm_items.specs.code.Spans.{IsSpan, span_items}
+use Rattle.tm_items.specs.Spans.{IsSpan, span_items}
 use Rattle.tm_items.proofs.Spans.{one-front, span-longer}
 use Rattle.tm_reassembly.specs.code.Field.{IsWholePacketOf, field_parts, unfinished, items_from, part_items}
 

@@ -9,7 +9,7 @@ use Rattle.std.specs.Map.{keys_of}
 use Rattle.std.specs.String.{string_cmp}
 use Rattle.toml.specs.View.{members_view}
 use Rattle.toml.specs.declared.value.Value.{Value}
-use Rattle.tm_settings.specs.Keys.{is_name}
+use Rattle.tm_faults.specs.Keys.{is_name}
 use Rattle.tm_settings.specs.Settings.{least, least_of, unknown_keys}
 
 -- a key below those of the entries is the least

@@ -1,2 +1,2 @@
-pub mod Keys
+pub mod Limits
 pub mod Settings

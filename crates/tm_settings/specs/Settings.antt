@@ -9,11 +9,11 @@ use Rattle.tm_frame.specs.declared.layout.Presence.{Presence}
 use Rattle.tm_frame.specs.declared.layout.Presence.TheVariants.{Flag, Always, Never}
 use Rattle.tm_frame.specs.Channels.{all_channels, channels_of}
 pub use Rattle.tm_frame.specs.Rules.{Rules}
-use Rattle.tm_settings.specs.declared.key.Key.{Key}
-use Rattle.tm_settings.specs.declared.key.Key.TheVariants.{Spacecraft, FrameLength, SkipBefore, SkipAfter, Secondary, Ocf, ErrorControl, Channels, MaxPacket}
-use Rattle.tm_settings.specs.declared.fault.SettingsFault.{SettingsFault}
-use Rattle.tm_settings.specs.declared.fault.SettingsFault.TheVariants.{Toml, Unknown, Missing, Kind, Range}
-use Rattle.tm_settings.specs.Keys.{key_name, is_name}
+use Rattle.tm_faults.specs.declared.settings.Key.{Key}
+use Rattle.tm_faults.specs.declared.settings.Key.TheVariants.{Spacecraft, FrameLength, SkipBefore, SkipAfter, Secondary, Ocf, ErrorControl, Channels, MaxPacket}
+use Rattle.tm_faults.specs.declared.settings.SettingsFault.{SettingsFault}
+use Rattle.tm_faults.specs.declared.settings.SettingsFault.TheVariants.{Toml, Unknown, Missing, Kind, Range}
+use Rattle.tm_faults.specs.Keys.{key_name, is_name}
 
 -- ---- unknown keys
 

@@ -1,11 +1,10 @@
 //! The settings of a recording, read from a TOML document.
 #![tactic(auto)]
 
-mod fault;
-mod key;
+mod limits;
 mod settings;
 mod values;
 
-pub use fault::SettingsFault;
-pub use key::{Key, Limits};
+pub use limits::{Limits, number_limits};
 pub use settings::Settings;
+pub use tm_faults::{Key, SettingsFault};

@@ -7,15 +7,15 @@ ghost use Rattle.toml.specs.Parse.{parse_document};
 ghost use Rattle.toml.specs.View.{table_view};
 ghost use Rattle.tm_frame.specs.Layout.{IsInRange};
 ghost use Rattle.tm_frame.specs.Rules.{IsLimit};
-ghost use Rattle.tm_settings.specs.Keys.{is_name};
+ghost use Rattle.tm_faults.specs.Keys.{is_name};
 ghost use Rattle.tm_settings.specs.Settings.{choices_from, layout_from, least, settings_from, unknown_keys};
 
-use crate::key::{FRAME_LENGTH, SPACECRAFT};
+use crate::limits::{FRAME_LENGTH, SPACECRAFT};
 use crate::values::{channels_at, integer_at, limit_at, presence_at, skip_at, truth_at};
-use crate::{Key, SettingsFault};
 use std::alloc::Global;
 use std::marker::Model;
 use tm_bits::Octets;
+use tm_faults::{Key, SettingsFault};
 use tm_frame::{Channels, Layout, LayoutParts};
 use toml::Table;
 

@@ -6,9 +6,9 @@ ghost use Rattle.tm_frame.specs.Channels.{all_channels};
 ghost use Rattle.tm_frame.specs.Rules.{IsLimit};
 ghost use Rattle.tm_settings.specs.Settings.{channel_number, channels_at, integers, integer_between, integer_of, optional, presence_named, presence_of, required, truth_of, value_at};
 
-use crate::key::{Limits, MAX_PACKET, SKIP};
-use crate::{Key, SettingsFault};
+use crate::limits::{Limits, MAX_PACKET, SKIP};
 use std::alloc::{AllocError, Global};
+use tm_faults::{Key, SettingsFault};
 use tm_frame::{Channels, Presence};
 use toml::{Table, Value};
 

@@ -2,7 +2,7 @@
 use Rattle.std.proofs.Common.{◌≡◌, ◌||◌, Bool, true, false, List, [], ◌∷◌, refl, ap, ◌∙◌, inl, inr}
 use Rattle.tm_items.specs.Item.{Item}
 use Rattle.tm_items.specs.Sinks.{RefusesOne, TakesAll}
-use Rattle.tm_faults.specs.declared.fault.RunFault.{RunFault}
+use Rattle.tm_faults.specs.declared.run.RunFault.{RunFault}
 use Rattle.tm_packet.specs.Merge.{Entries}
 use Rattle.tm_output.specs.Pieces.{noted_all}
 use Rattle.tm_summary.specs.declared.counting.Counting.{Counting}

@@ -7,7 +7,7 @@ use Rattle.std.proofs.lemmas.Bool.{cases_lt}
 use Rattle.std.proofs.lemmas.List.{get_or_default, map-append}
 use Rattle.std.proofs.lemmas.List.Concat.{flat_map-append}
 use Rattle.tm_devices.specs.declared.device.Drain as drain
-use Rattle.tm_faults.specs.declared.fault.RunFault.{RunFault}
+use Rattle.tm_faults.specs.declared.run.RunFault.{RunFault}
 use Rattle.tm_output.specs.Outputs.{Piece, Stopped, Took, View, line_piece, line_pieces, octets_buffering}
 use Rattle.tm_output.specs.Seen.{out_alone}
 use Rattle.tm_output.proofs.PieceLemmas.{stopped_more, took_stopped, took_took}

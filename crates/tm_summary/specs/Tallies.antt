@@ -5,7 +5,7 @@ use Rattle.tm_packet.specs.declared.tracker.Unclosed.{Unclosed}
 use Rattle.tm_packet.specs.Header.{packet_header_of}
 use Rattle.tm_items.specs.Item.{Item, Packet}
 use Rattle.tm_items.specs.Sinks.{ItemFits}
-use Rattle.tm_faults.specs.declared.fault.RunFault.{RunFault}
+use Rattle.tm_faults.specs.declared.run.RunFault.{RunFault}
 use Rattle.tm_output.specs.Pieces.{noted, notes_of, sent}
 use Rattle.tm_summary.specs.declared.counting.Counting.{Counting}
 use Rattle.tm_summary.specs.Adding.{with_item, with_note}

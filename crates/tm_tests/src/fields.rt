@@ -2,9 +2,8 @@
 
 use crate::field_rows::AND_ONE_BIT;
 use std::alloc::{AllocError, Global};
-use tm_fields::{
-    Column, Definition, DefinitionFault, Lead, RowFault, Rows, number_at, push_escaped,
-};
+use tm_bits::push_escaped;
+use tm_fields::{Column, Definition, DefinitionFault, Lead, RowFault, Rows, number_at};
 
 pub(crate) const TEXT: &str =
     "name, data_type, bit_length\nVERSION, uint, 8\nLEVEL, int, 12\nPAD, fill, 4\nLABEL, str, 24\nRATE, float, 32\n";

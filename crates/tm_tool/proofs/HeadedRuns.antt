@@ -2,7 +2,7 @@
 use Rattle.std.proofs.Common.{◌<◌, ℕ, List, [], ◌++◌, subst, inl, inr, Option, None, Some, IfSome, rules, Bor, ◌≡◌, ◌≢◌, Bool, true, false, refl, sym}
 use Rattle.std.proofs.KnownBytes.{Appends-trans, Appends-kept, Appends-nil}
 use Rattle.tm_frame.specs.Layout.{record_length_of}
-use Rattle.tm_faults.specs.declared.fault.RunFault.{RunFault}
+use Rattle.tm_faults.specs.declared.run.RunFault.{RunFault}
 use Rattle.tm_output.specs.declared.command.Ending.{Ending}
 use Rattle.tm_output.specs.Outputs.{AppendsCut, CausedByOutput, Piece, Took, View, Buffering, outs, reports, Stopped, lines_buffering, view}
 use Rattle.tm_output.specs.Pieces.{Texts, buffering_of}
@@ -18,7 +18,7 @@ use Rattle.tm_fields.specs.Rows.{head_of}
 use Rattle.tm_fields.specs.declared.definition.Definition.{Definition}
 use Rattle.tm_output.specs.declared.command.Command.{Command}
 use Rattle.tm_output.specs.declared.command.Command.TheVariants.{Extract, Fields}
-use Rattle.tm_faults.specs.declared.fault.RunFault.TheVariants.{NoMemory, Write}
+use Rattle.tm_faults.specs.declared.run.RunFault.TheVariants.{NoMemory, Write}
 use Rattle.tm_tool.specs.HeadPieces.{head_pieces}
 use Rattle.tm_tool.specs.code.Heads.{HeadStopped, head_text}
 

@@ -2,8 +2,8 @@
 use Rattle.std.proofs.Common.{◌≡◌, ℕ, List, [], ◌++◌, length, ap, ◌∙◌, append-nil, inr, Option, Result, Ok, Err, subst, sym}
 use Rattle.tm_packet.specs.Merge as sequence
 use Rattle.tm_reassembly.specs.Items.{closing}
-use Rattle.tm_faults.specs.declared.fault.RunFault.{RunFault}
-use Rattle.tm_faults.specs.declared.fault.RunFault.TheVariants.{Write, Report, NoMemory}
+use Rattle.tm_faults.specs.declared.run.RunFault.{RunFault}
+use Rattle.tm_faults.specs.declared.run.RunFault.TheVariants.{Write, Report, NoMemory}
 use Rattle.tm_output.specs.declared.command.Ending.{Ending}
 use Rattle.tm_output.specs.Faults.{RunCaused}
 use Rattle.tm_output.specs.Outputs.{Piece, View, Took, Stopped, Buffering, Written}

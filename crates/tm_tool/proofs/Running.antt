@@ -17,8 +17,8 @@ use Rattle.tm_reassembly.specs.Valid.{IsValidState}
 use Rattle.tm_reassembly.proofs.OneStep.{after-nil}
 use Rattle.tm_reassembly.proofs.Raw.{items-join, states-join}
 use Rattle.tm_reassembly.proofs.States.{empty-valid, record-valid}
-use Rattle.tm_faults.specs.declared.fault.RunFault.{RunFault}
-use Rattle.tm_faults.specs.declared.fault.RunFault.TheVariants.{Read, Write, Report, ShortRecording, TooMany, NoMemory}
+use Rattle.tm_faults.specs.declared.run.RunFault.{RunFault}
+use Rattle.tm_faults.specs.declared.run.RunFault.TheVariants.{Read, Write, Report, ShortRecording, TooMany, NoMemory}
 use Rattle.tm_output.specs.declared.command.Ending.{Ending}
 use Rattle.tm_output.specs.declared.command.Ending.TheVariants.{StopAfter}
 use Rattle.tm_output.specs.Faults.{RunCaused}

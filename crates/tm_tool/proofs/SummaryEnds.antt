@@ -7,8 +7,8 @@ use Rattle.std.proofs.KnownBytes.{Appends-kept}
 use Rattle.tm_frame.specs.Layout.{record_length_of}
 use Rattle.tm_frame.specs.Rules.{Rules}
 use Rattle.tm_devices.specs.Devices.{raised}
-use Rattle.tm_faults.specs.declared.fault.RunFault.{RunFault}
-use Rattle.tm_faults.specs.declared.fault.RunFault.TheVariants.{Read, Write, Report, TooMany, NoMemory, ShortRecording}
+use Rattle.tm_faults.specs.declared.run.RunFault.{RunFault}
+use Rattle.tm_faults.specs.declared.run.RunFault.TheVariants.{Read, Write, Report, TooMany, NoMemory, ShortRecording}
 use Rattle.tm_output.specs.Outputs.{AppendsCut, Stopped, Took, View, WantsMemory, Piece, line_piece, line_pieces, octets_buffering, outs, view}
 use Rattle.tm_output.specs.Records.{AreRecords, record_count}
 use Rattle.tm_output.proofs.LinePieces.{lines_out, same_cut}

@@ -1,7 +1,7 @@
 -- A job that is stopped and resumed from its checkpoints, any number of times.
 use Rattle.std.specs.Prelude.{⊤, ◌≡◌, ℕ, ◌+◌, ◌-◌, min, Bool, List, [], ◌∷◌, ◌++◌, length, Result, Ok, Err}
 use Rattle.tm_frame.specs.Rules.{Rules}
-use Rattle.tm_faults.specs.declared.fault.CheckpointFault.{CheckpointFault}
+use Rattle.tm_faults.specs.declared.run.CheckpointFault.{CheckpointFault}
 use Rattle.tm_output.specs.declared.command.Ending.{Ending}
 use Rattle.tm_output.specs.declared.command.Ending.TheVariants.{Close, Keep, StopAfter}
 use Rattle.tm_checkpoint.specs.Checkpoints.{resumed, spelled_in}

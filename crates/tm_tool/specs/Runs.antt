@@ -3,8 +3,8 @@ use Rattle.std.specs.Prelude.{⊤, false, ◌≡◌, ◌≢◌, ◌⊎◌, ◌<�
 use Rattle.std.specs.Io.KnownBytes.{Consumes, IsAtEnd}
 use Rattle.tm_frame.specs.Layout.{most_records, record_length_of}
 use Rattle.tm_reassembly.specs.Valid.{IsValidState}
-use Rattle.tm_faults.specs.declared.fault.RunFault.{RunFault}
-use Rattle.tm_faults.specs.declared.fault.RunFault.TheVariants.{Read, Write, Report, ShortRecording, TooMany, NoMemory}
+use Rattle.tm_faults.specs.declared.run.RunFault.{RunFault}
+use Rattle.tm_faults.specs.declared.run.RunFault.TheVariants.{Read, Write, Report, ShortRecording, TooMany, NoMemory}
 use Rattle.tm_output.specs.declared.command.Ending.{Ending}
 use Rattle.tm_output.specs.declared.command.Ending.TheVariants.{Close, Keep, StopAfter}
 use Rattle.tm_output.specs.Outputs.{AppendsCut, Piece, RefusesPut, Stopped, Took, View, WantsMemory, Buffering}

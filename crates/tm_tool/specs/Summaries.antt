@@ -11,8 +11,8 @@ use Rattle.tm_packet.specs.Merge as sequence
 use Rattle.tm_frame.specs.Rules.{Rules}
 use Rattle.tm_items.specs.Item.{Item}
 use Rattle.tm_reassembly.specs.Items.{closing}
-use Rattle.tm_faults.specs.declared.fault.RunFault.{RunFault}
-use Rattle.tm_faults.specs.declared.fault.RunFault.TheVariants.{Read, Write, Report, ShortRecording, TooMany, NoMemory}
+use Rattle.tm_faults.specs.declared.run.RunFault.{RunFault}
+use Rattle.tm_faults.specs.declared.run.RunFault.TheVariants.{Read, Write, Report, ShortRecording, TooMany, NoMemory}
 use Rattle.tm_output.specs.Outputs.{AppendsCut, Stopped, View, line_pieces, octets_buffering}
 use Rattle.tm_output.specs.Pieces.{noted_all}
 use Rattle.tm_output.specs.Records.{record_count, records, rest_of}

@@ -18,7 +18,7 @@ ghost use Rattle.tm_tool.specs.HeadPieces.{head_pieces};
 ghost use Rattle.tm_tool.specs.NotesInAll.{pieces_with, sent_among};
 ghost use Rattle.tm_tool.specs.OlderVersions.{LacksGapLine};
 ghost use Rattle.tm_tool.specs.LostGaps.{AllTell, lost_gaps, older_count, run_pieces_without_gaps};
-ghost use Rattle.tm_faults.specs.declared.fault.RunFault.{RunFault};
+ghost use Rattle.tm_faults.specs.declared.run.RunFault.{RunFault};
 ghost use Rattle.tm_output.specs.Outputs.{View};
 ghost use Rattle.tm_output.specs.Pieces.{Texts, noted_all, text_of, buffering_of};
 ghost use Rattle.tm_tool.specs.RecordingPieces.{further, items_of, pieces, record_pieces, records_for, worked};

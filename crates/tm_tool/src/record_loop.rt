@@ -3,7 +3,7 @@
 ghost use Rattle.std.specs.Prelude.{◌≡◌, ◌<◌, ◌∷◌, [], ℕ, true, false, List, length, None, IfOk, IfErr, IfSome, OnOk};
 ghost use Rattle.tm_frame.specs.Layout.{record_length_of};
 ghost use Rattle.tm_reassembly.specs.Steps.{most_records};
-ghost use Rattle.tm_faults.specs.declared.fault.RunFault.{RunFault};
+ghost use Rattle.tm_faults.specs.declared.run.RunFault.{RunFault};
 ghost use Rattle.tm_packet.specs.Merge.{Entries};
 ghost use Rattle.tm_checkpoint.specs.Works.{IsGoing, Work, work_of};
 ghost use Rattle.tm_tool.specs.RecordingPieces.{worked};

@@ -4,8 +4,8 @@ use Rattle.csv.specs.declared.error.ErrorKind.{ErrorKind}
 use Rattle.csv.specs.declared.error.ErrorKind.TheVariants as kind
 use Rattle.tm_fields.specs.declared.columns.Standing.{Standing}
 use Rattle.tm_fields.specs.declared.columns.Standing.TheVariants.{Nowhere, At, Often}
-use Rattle.tm_fields.specs.declared.faults.DefinitionFault.{DefinitionFault}
-use Rattle.tm_fields.specs.declared.faults.DefinitionFault.TheVariants.{Csv, NoMemory}
+use Rattle.tm_faults.specs.declared.definition.DefinitionFault.{DefinitionFault}
+use Rattle.tm_faults.specs.declared.definition.DefinitionFault.TheVariants.{Csv, NoMemory}
 
 -- where a heading stands that stands at one more place
 abbrev pub met : Standing → ℕ → Standing

@@ -1,12 +1,12 @@
 -- The fault of the first of a plan's files that would be written over another file of the plan: by their names, and by what these stand for.
 use Rattle.std.specs.Prelude.{◌&&◌, ◌||◌, ℕ, List, Option, Some, None, if◌then◌else◌}
-use Rattle.tm_faults.specs.declared.fault.RunFault.TheVariants as run
+use Rattle.tm_faults.specs.declared.run.RunFault.TheVariants as run
 use Rattle.tm_file_identity.specs.FileIdentities.{temporary_clashes, checkpoint_clashes, output_clashes, report_clashes}
 use Rattle.tm_file_identity.specs.declared.identities.FileIdentities.{FileIdentities}
 use Rattle.tm_files.specs.code.Decisions.{writes_output}
 use Rattle.tm_files.specs.Names.{is_checkpoint, is_in_the_way, is_read}
-use Rattle.tm_files.specs.declared.fault.ToolFault.{ToolFault}
-use Rattle.tm_files.specs.declared.fault.ToolFault.TheVariants as tool
+use Rattle.tm_faults.specs.declared.program.ToolFault.{ToolFault}
+use Rattle.tm_faults.specs.declared.program.ToolFault.TheVariants as tool
 use Rattle.tm_arguments.specs.declared.request.Plan.{Plan}
 
 -- that of the checkpoint's file, and of the file beside it

@@ -1,6 +1,6 @@
 -- What a plan decides of files and streams.
 use Rattle.std.specs.Prelude.{◌≡◌, ℕ, Bool, true, false, List, Option, None, Some, is_some}
-use Rattle.tm_faults.specs.declared.fault.RunFault.TheVariants as run
+use Rattle.tm_faults.specs.declared.run.RunFault.TheVariants as run
 use Rattle.tm_files.specs.declared.decisions.Destination.{Destination}
 use Rattle.tm_files.specs.declared.decisions.Destination.TheVariants as destination
 use Rattle.tm_files.specs.declared.decisions.ReportTarget.{ReportTarget}
@@ -9,8 +9,8 @@ use Rattle.tm_files.specs.declared.decisions.Recording.{Recording}
 use Rattle.tm_files.specs.declared.decisions.Recording.TheVariants as recording
 use Rattle.tm_files.specs.declared.decisions.Stream.{Stream}
 use Rattle.tm_files.specs.declared.decisions.Stream.TheVariants as stream
-use Rattle.tm_files.specs.declared.fault.ToolFault.{ToolFault}
-use Rattle.tm_files.specs.declared.fault.ToolFault.TheVariants as tool
+use Rattle.tm_faults.specs.declared.program.ToolFault.{ToolFault}
+use Rattle.tm_faults.specs.declared.program.ToolFault.TheVariants as tool
 use Rattle.tm_arguments.specs.declared.request.Action.{Action}
 use Rattle.tm_arguments.specs.declared.request.Action.TheVariants.{Frames, Split, Summary}
 use Rattle.tm_arguments.specs.declared.request.Plan.{Plan}

@@ -1,8 +1,8 @@
 -- What a fault says of a file or of a run, and how long a file may be that is read whole.
 use Rattle.std.specs.Prelude.{◌≡◌, ⊤, ℕ, List, Option, None, Some}
-use Rattle.tm_faults.specs.declared.fault.RunFault.TheVariants.{NoMemory}
-use Rattle.tm_files.specs.declared.fault.ToolFault.{ToolFault}
-use Rattle.tm_files.specs.declared.fault.ToolFault.TheVariants.{File, TooLong, Run}
+use Rattle.tm_faults.specs.declared.run.RunFault.TheVariants.{NoMemory}
+use Rattle.tm_faults.specs.declared.program.ToolFault.{ToolFault}
+use Rattle.tm_faults.specs.declared.program.ToolFault.TheVariants.{File, TooLong, Run}
 
 -- the file of this name can't be opened, made, read or written, or memory ran out
 abbrev pub IsFileFault : List ℕ → ToolFault → Type 0

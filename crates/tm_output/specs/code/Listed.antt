@@ -3,8 +3,8 @@ use Rattle.std.specs.Prelude.{◌≡◌, ℕ, List, [], ◌∷◌, Option}
 use Rattle.std.specs.Io.KnownBytes.{Appends}
 use Rattle.tm_frame.specs.declared.layout.LayoutParts.{LayoutParts}
 use Rattle.tm_frame.specs.Layout.{most_records, record_length_of}
-use Rattle.tm_faults.specs.declared.fault.RunFault.{RunFault}
-use Rattle.tm_faults.specs.declared.fault.RunFault.TheVariants.{NoMemory, Read, Report, ShortRecording, TooMany, Write}
+use Rattle.tm_faults.specs.declared.run.RunFault.{RunFault}
+use Rattle.tm_faults.specs.declared.run.RunFault.TheVariants.{NoMemory, Read, Report, ShortRecording, TooMany, Write}
 use Rattle.tm_output.specs.Listing.{record_line}
 use Rattle.tm_output.specs.Outputs.{Stopped, View, line_piece, octets_buffering}
 use Rattle.tm_output.specs.code.Next.{FailsNext, ReadsNext}

@@ -5,7 +5,7 @@ use Rattle.std.specs.List.{flat_map}
 use Rattle.std.proofs.Common.{sym, ap, ◌∙◌, append_assoc}
 use Rattle.tm_fields.specs.declared.field.Field.{Field}
 use Rattle.tm_items.specs.Item.{Item, Bad, MasterGap, Gap, Vca, Dropped, Packet, Short}
-use Rattle.tm_items.specs.code.Spans.{packets_in, placed, span_items}
+use Rattle.tm_items.specs.Spans.{packets_in, placed, span_items}
 use Rattle.tm_items.proofs.Spans.{joined, joined-all}
 use Rattle.tm_devices.specs.Devices.{raised}
 use Rattle.tm_output.specs.declared.command.Command.{Command}
@@ -13,8 +13,8 @@ use Rattle.tm_output.specs.declared.command.Command.TheVariants.{Extract, Packet
 use Rattle.tm_output.specs.FieldRows.{tabled, too_short}
 use Rattle.tm_output.specs.Outputs.{PutsPart, Buffering}
 use Rattle.tm_output.specs.Pieces.{HasLine, Texts, listed, packet_octets, rows_text, text_of}
-use Rattle.tm_faults.specs.declared.fault.RunFault.{RunFault}
-use Rattle.tm_faults.specs.declared.fault.RunFault.TheVariants.{Read, Write, Report, ShortRecording, TooMany, NoMemory}
+use Rattle.tm_faults.specs.declared.run.RunFault.{RunFault}
+use Rattle.tm_faults.specs.declared.run.RunFault.TheVariants.{Read, Write, Report, ShortRecording, TooMany, NoMemory}
 
 -- writing stopped in what belongs there: a call of it failed after a part of that, or there was no memory to make it, where there is any
 abbrev pub PutStopped : {A K : Type 0} → (K → K → List A → Type 0) → Buffering → K → K → ℕ → ℕ → List A → RunFault → Type 0

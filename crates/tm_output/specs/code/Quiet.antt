@@ -5,9 +5,9 @@ use Rattle.tm_items.specs.declared.sink.Span.{Span}
 use Rattle.tm_items.specs.Item.{Item, Packet}
 use Rattle.tm_items.specs.OnePacket.{packet_length}
 use Rattle.tm_items.specs.Sinks.{TakesAll}
-use Rattle.tm_items.specs.code.Spans.{IsSpan, span_items}
+use Rattle.tm_items.specs.Spans.{IsSpan, span_items}
 use Rattle.tm_lines.specs.declared.packet.Packet as lent
-use Rattle.tm_output.specs.code.Packets.{HasHeader, item_with}
+use Rattle.tm_output.specs.Packets.{HasHeader, item_with}
 use Rattle.tm_packet.specs.Merge.{Entries}
 use Rattle.tm_output.specs.Pieces.{Texts, noted, noted_all, report_of}
 

@@ -2,7 +2,7 @@
 use Rattle.std.specs.Prelude.{◌≡◌, List, [], ◌∷◌, Result}
 use Rattle.tm_items.specs.Item.{Item}
 use Rattle.tm_devices.specs.declared.device.Drain as drain
-use Rattle.tm_faults.specs.declared.fault.RunFault.{RunFault}
+use Rattle.tm_faults.specs.declared.run.RunFault.{RunFault}
 use Rattle.tm_output.specs.declared.outlet.Outlet as outlet
 use Rattle.tm_output.specs.declared.output.Output.{Output}
 use Rattle.tm_output.specs.Outputs.{Buffering, Took, Stopped, Written}

@@ -2,9 +2,9 @@
 use Rattle.std.specs.Prelude.{◌≡◌, ◌≢◌, ◌⊎◌, ⊤, ℕ, true, List, Option, None, Some, Ok, IsSome}
 use Rattle.tm_files.specs.code.Decisions.{is_job}
 use Rattle.tm_files.specs.code.Files.{HasFault, IsFaultOf, IsRunFault}
-use Rattle.tm_files.specs.declared.fault.ToolFault.{ToolFault}
-use Rattle.tm_files.specs.declared.fault.ToolFault.TheVariants as tool
-use Rattle.tm_faults.specs.declared.fault.RunFault.TheVariants.{NoMemory, Report, Write}
+use Rattle.tm_faults.specs.declared.program.ToolFault.{ToolFault}
+use Rattle.tm_faults.specs.declared.program.ToolFault.TheVariants as tool
+use Rattle.tm_faults.specs.declared.run.RunFault.TheVariants.{NoMemory, Report, Write}
 use Rattle.tm_program.specs.Program.{IsInFolder}
 use Rattle.tm_settings.specs.Settings.{Rules}
 use Rattle.tm_checkpoint.specs.Checkpoints.{resumed}

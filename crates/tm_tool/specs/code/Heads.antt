@@ -2,8 +2,8 @@
 use Rattle.std.specs.Prelude.{◌≡◌, ◌⊎◌, ℕ, Bool, if◌then◌else◌, List, [], Option}
 use Rattle.std.specs.Io.KnownBytes.{Appends}
 use Rattle.tm_devices.specs.Devices.{raised}
-use Rattle.tm_faults.specs.declared.fault.RunFault.{RunFault}
-use Rattle.tm_faults.specs.declared.fault.RunFault.TheVariants.{Write}
+use Rattle.tm_faults.specs.declared.run.RunFault.{RunFault}
+use Rattle.tm_faults.specs.declared.run.RunFault.TheVariants.{Write}
 use Rattle.tm_output.specs.Outputs.{lines_buffering}
 use Rattle.tm_output.specs.code.Outlets.{PutStopped}
 use Rattle.tm_fields.specs.Rows.{head_of}

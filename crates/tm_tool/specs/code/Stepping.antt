@@ -1,7 +1,7 @@
 -- What a run does with a record, and with all that its ending reads: for private contracts.
 use Rattle.std.specs.Prelude.{◌≡◌, ◌≤◌, ◌-◌, ◌^◌, ℕ, List, [], ◌∷◌, length, Option}
-use Rattle.tm_faults.specs.declared.fault.RunFault.{RunFault}
-use Rattle.tm_faults.specs.declared.fault.RunFault.TheVariants.{Read, Write, Report, ShortRecording, TooMany, NoMemory}
+use Rattle.tm_faults.specs.declared.run.RunFault.{RunFault}
+use Rattle.tm_faults.specs.declared.run.RunFault.TheVariants.{Read, Write, Report, ShortRecording, TooMany, NoMemory}
 use Rattle.tm_output.specs.declared.command.Ending.{Ending}
 use Rattle.tm_output.specs.Outputs.{Piece, View, Buffering, Took, Stopped}
 use Rattle.tm_output.specs.Pieces.{Texts}

@@ -5,8 +5,8 @@ use Rattle.tm_packet.specs.Merge as sequence
 use Rattle.tm_reassembly.specs.Items.{closing}
 use Rattle.tm_reassembly.specs.Steps.{most_records}
 use Rattle.tm_devices.specs.Devices.{raised}
-use Rattle.tm_faults.specs.declared.fault.RunFault.{RunFault}
-use Rattle.tm_faults.specs.declared.fault.RunFault.TheVariants.{Read, Write, Report, ShortRecording, TooMany, NoMemory}
+use Rattle.tm_faults.specs.declared.run.RunFault.{RunFault}
+use Rattle.tm_faults.specs.declared.run.RunFault.TheVariants.{Read, Write, Report, ShortRecording, TooMany, NoMemory}
 use Rattle.tm_output.specs.Pieces.{noted_all}
 use Rattle.tm_summary.specs.SummaryNumbers.{SummaryNumbers, Tally, numbers_of}
 use Rattle.tm_summary.specs.Tallies.{and_items, and_notes, notes_among, open_notes}

@@ -1,5 +1,5 @@
 use Rattle.std.proofs.Common.{arith, refl}
-use Rattle.tm_settings.specs.declared.key.Key.TheVariants.{Spacecraft}
+use Rattle.tm_faults.specs.declared.settings.Key.TheVariants.{Spacecraft}
 use Rattle.tm_explanations.specs.Explanations.{edits_to}
 use Rattle.tm_explanations.proofs.Nearest.{all_over, closer, farther, none_nearer, none_near}
 use Rattle.tm_explanations.proofs.keys.nearest_of.Goals as goal

@@ -5,7 +5,7 @@ use Rattle.csv.specs.declared.parser.State.TheVariants as st
 use Rattle.csv.proofs.ReadFacts.{rows-end, rows-more}
 use Rattle.std.specs.Prelude.{Option}
 use Rattle.tm_fields.specs.code.Reading.{fault_of_kind, kept}
-use Rattle.tm_fields.specs.declared.faults.DefinitionFault.TheVariants.{Csv}
+use Rattle.tm_faults.specs.declared.definition.DefinitionFault.TheVariants.{Csv}
 use Rattle.tm_fields.proofs.Causes.{cause, took_next}
 use Rattle.tm_fields.proofs.Kept.{take_again}
 use Rattle.tm_fields.proofs.Lengths.{expects_more, expected_same, not_expected}

@@ -1,6 +1,6 @@
 use Rattle.std.proofs.Common.{◌∙◌, ap, refl}
 use Rattle.tm_checkpoint.specs.Works.{JobState}
-use Rattle.tm_faults.specs.declared.fault.RunFault.TheVariants.{Write}
+use Rattle.tm_faults.specs.declared.run.RunFault.TheVariants.{Write}
 use Rattle.tm_output.specs.Outputs.{octets_buffering}
 use Rattle.tm_output.proofs.LinePieces.{flush_stopped}
 use Rattle.tm_tool.proofs.SummaryEnds.{lines_stopped, summarized}

@@ -1,5 +1,5 @@
 use Rattle.std.proofs.Common.{length, ◌+◌, ◌-◌, ◌≤◌, drop}
-use Rattle.tm_items.specs.code.Spans.{IsSpan, items_of_span, span_items}
+use Rattle.tm_items.specs.Spans.{IsSpan, items_of_span, span_items}
 use Rattle.tm_items.proofs.Leads.{Leads}
 use Rattle.tm_items.proofs.sink.Sink.take_span.Given as goal
 

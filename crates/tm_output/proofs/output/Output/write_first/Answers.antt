@@ -1,6 +1,6 @@
 use Rattle.std.proofs.Common.{◌≡◌, arith, refl, rules, subst, sym, ◌∙◌}
 use Rattle.tm_output.specs.Seen.{OutputState, output_state}
-use Rattle.tm_output.specs.code.Packets.{item_with}
+use Rattle.tm_output.specs.Packets.{item_with}
 use Rattle.tm_output.specs.code.Sinking.{Takes}
 use Rattle.tm_output.proofs.SpanLemmas.{nothing_noted, one_taken, span_taken, span_stopped}
 use Rattle.tm_output.proofs.output.Output.write_first.Goals.{then-can_join+else-quiet-gt0, else-can_join}

@@ -1,23 +1,23 @@
 -- The lines of faults, and the statuses with which they end the program.
 use Rattle.std.specs.Prelude.{◌++◌, ℕ, List, [], codes}
 use Rattle.std.specs.Fmt.{decimal}
-use Rattle.tm_fields.specs.Columns.{column_word}
-use Rattle.tm_fields.specs.Escape.{escaped}
-use Rattle.tm_fields.specs.declared.faults.Column.{Column}
-use Rattle.tm_fields.specs.declared.faults.DefinitionFault.{DefinitionFault}
-use Rattle.tm_fields.specs.declared.faults.DefinitionFault.TheVariants as definition
-use Rattle.tm_settings.specs.Keys.{key_name}
-use Rattle.tm_settings.specs.declared.key.Key.{Key}
-use Rattle.tm_faults.specs.declared.fault.CheckpointFault.{CheckpointFault}
-use Rattle.tm_faults.specs.declared.fault.CheckpointFault.TheVariants as checkpoint
-use Rattle.tm_settings.specs.declared.fault.SettingsFault.{SettingsFault}
-use Rattle.tm_settings.specs.declared.fault.SettingsFault.TheVariants as settings
-use Rattle.tm_faults.specs.declared.fault.RunFault.{RunFault}
-use Rattle.tm_faults.specs.declared.fault.RunFault.TheVariants as run
-use Rattle.tm_arguments.specs.declared.request.UsageFault.{UsageFault}
-use Rattle.tm_arguments.specs.declared.request.UsageFault.TheVariants as usage
-use Rattle.tm_files.specs.declared.fault.ToolFault.{ToolFault}
-use Rattle.tm_files.specs.declared.fault.ToolFault.TheVariants as tool
+use Rattle.tm_faults.specs.Columns.{column_word}
+use Rattle.tm_bits.specs.Escape.{escaped}
+use Rattle.tm_faults.specs.declared.definition.Column.{Column}
+use Rattle.tm_faults.specs.declared.definition.DefinitionFault.{DefinitionFault}
+use Rattle.tm_faults.specs.declared.definition.DefinitionFault.TheVariants as definition
+use Rattle.tm_faults.specs.Keys.{key_name}
+use Rattle.tm_faults.specs.declared.settings.Key.{Key}
+use Rattle.tm_faults.specs.declared.run.CheckpointFault.{CheckpointFault}
+use Rattle.tm_faults.specs.declared.run.CheckpointFault.TheVariants as checkpoint
+use Rattle.tm_faults.specs.declared.settings.SettingsFault.{SettingsFault}
+use Rattle.tm_faults.specs.declared.settings.SettingsFault.TheVariants as settings
+use Rattle.tm_faults.specs.declared.run.RunFault.{RunFault}
+use Rattle.tm_faults.specs.declared.run.RunFault.TheVariants as run
+use Rattle.tm_faults.specs.declared.program.UsageFault.{UsageFault}
+use Rattle.tm_faults.specs.declared.program.UsageFault.TheVariants as usage
+use Rattle.tm_faults.specs.declared.program.ToolFault.{ToolFault}
+use Rattle.tm_faults.specs.declared.program.ToolFault.TheVariants as tool
 
 abbrev pub escaped_line : List ℕ → List ℕ → List ℕ → List ℕ
 escaped_line before octets after = before ++ escaped octets ++ after

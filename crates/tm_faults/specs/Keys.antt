@@ -1,10 +1,9 @@
 -- The keys of the settings.
-use Rattle.std.specs.Prelude.{ℕ, Bool, List, [], ◌∷◌, Option, Some, None, codes}
+use Rattle.std.specs.Prelude.{ℕ, Bool, List, [], ◌∷◌, codes}
 use Rattle.std.specs.List.{list_any}
 use Rattle.std.specs.Str.{bytes_eq}
-use Rattle.tm_settings.specs.declared.key.Key.{Key}
-use Rattle.tm_settings.specs.declared.key.Limits.{Limits}
-use Rattle.tm_settings.specs.declared.key.Key.TheVariants.{Spacecraft, FrameLength, SkipBefore, SkipAfter, Secondary, Ocf, ErrorControl, Channels, MaxPacket}
+use Rattle.tm_faults.specs.declared.settings.Key.{Key}
+use Rattle.tm_faults.specs.declared.settings.Key.TheVariants.{Spacecraft, FrameLength, SkipBefore, SkipAfter, Secondary, Ocf, ErrorControl, Channels, MaxPacket}
 
 -- a key as it is written
 abbrev pub key_name : Key → List ℕ
@@ -24,12 +23,3 @@ all_keys = Spacecraft ∷ FrameLength ∷ SkipBefore ∷ SkipAfter ∷ Secondary
 -- the text is the name of a key
 abbrev pub is_name : List ℕ → Bool
 is_name text = list_any (λ key. bytes_eq text (key_name key)) all_keys
-
--- the limits of a key whose value is a number
-abbrev pub limits_of : Key → Option Limits
-limits_of Spacecraft = Some (record { least = 0; most = 1023 })
-limits_of FrameLength = Some (record { least = 9; most = 2048 })
-limits_of SkipBefore = Some (record { least = 0; most = 1024 })
-limits_of SkipAfter = Some (record { least = 0; most = 1024 })
-limits_of MaxPacket = Some (record { least = 7; most = 65542 })
-limits_of _ = None

@@ -1,6 +1,8 @@
-//! The keys of the settings.
+//! Why a text is no settings.
 
 ghost use Rattle.std.specs.Prelude.{◌≡◌};
+
+use tm_bits::Octets;
 
 /// A key of the settings, in the order in which their faults are looked for.
 #[derive(Clone, Copy, Debug, PartialEq, Eq)]
@@ -16,35 +18,8 @@ pub enum Key {
     MaxPacket,
 }
 
-/// The least and the greatest that a number may be.
-#[derive(Clone, Copy, Debug, PartialEq, Eq)]
-pub struct Limits {
-    pub least: u32,
-    pub most: u32,
-}
-
-pub(crate) const SPACECRAFT: Limits = Limits {
-    least: 0,
-    most: 1023,
-};
-
-pub(crate) const FRAME_LENGTH: Limits = Limits {
-    least: 9,
-    most: 2048,
-};
-
-pub(crate) const SKIP: Limits = Limits {
-    least: 0,
-    most: 1024,
-};
-
-pub(crate) const MAX_PACKET: Limits = Limits {
-    least: 7,
-    most: 65542,
-};
-
 impl Key {
-    ghost use Rattle.tm_settings.specs.Keys.{key_name, limits_of};
+    ghost use Rattle.tm_faults.specs.Keys.{key_name};
 
     /// All keys.
     pub const ALL: [Key; 9] = [
@@ -75,17 +50,21 @@ impl Key {
             Key::MaxPacket => "max_packet",
         }
     }
+}
 
-    /// The limits of a key whose value is a number.
-    pub fn limits(self) -> Option<Limits>
-        ensures { result ≡ limits_of self }
-    {
-        match self {
-            Key::Spacecraft => Some(SPACECRAFT),
-            Key::FrameLength => Some(FRAME_LENGTH),
-            Key::SkipBefore | Key::SkipAfter => Some(SKIP),
-            Key::MaxPacket => Some(MAX_PACKET),
-            Key::Secondary | Key::Ocf | Key::ErrorControl | Key::Channels => None,
-        }
-    }
+/// Why a text is no settings.
+#[derive(Debug, Drop)]
+pub enum SettingsFault {
+    /// The text is not UTF-8, or is no TOML document.
+    Toml,
+    /// It has keys that name no setting. This is the least of them by its octets.
+    Unknown(Octets),
+    /// This key has to be there.
+    Missing(Key),
+    /// The value of this key is of another kind.
+    Kind(Key),
+    /// The value of this key isn't one that it may have.
+    Range(Key),
+    /// Memory ran out.
+    NoMemory,
 }

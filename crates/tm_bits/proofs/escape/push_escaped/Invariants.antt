@@ -1,7 +1,7 @@
 use Rattle.std.proofs.Common.{◌≡◌, ◌≤◌, ◌++◌, take, vec_capacity}
 use Rattle.std.specs.List.{flat_map}
-use Rattle.tm_fields.specs.Escape.{octet_text}
-use Rattle.tm_fields.proofs.escape.push_escaped.Given as goal
+use Rattle.tm_bits.specs.Escape.{octet_text}
+use Rattle.tm_bits.proofs.escape.push_escaped.Given as goal
 
 abbrev pub invariant-loop-octet : goal.invariant-loop-octet
 invariant-loop-octet l =

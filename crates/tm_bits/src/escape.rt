@@ -2,8 +2,7 @@
 
 ghost use Rattle.std.specs.Prelude.{◌≡◌, ◌+◌, ◌<◌, ◌≤◌, ◌++◌, ◌∷◌, [], length, take, OnOk, OnErr, vec_len, vec_capacity};
 ghost use Rattle.hex.specs.Hex.{encode_lower};
-ghost use Rattle.tm_fields.specs.Escape.{escaped, is_plain, octet_text};
-ghost use Rattle.tm_fields.specs.Rows.{raw};
+ghost use Rattle.tm_bits.specs.Escape.{escaped, is_plain, octet_text};
 
 use std::alloc::AllocError;
 
@@ -59,16 +58,4 @@ pub fn push_escaped(text: &mut Vec<u8>, octets: &[u8]) -> Result<(), AllocError>
         push_octet(text, *octet)?;
     }
     Ok(())
-}
-
-/// Writes at most eight octets at the end of a text as raw digits: `0x` and two lower-case hexadecimal digits for each.
-pub(crate) fn push_raw(text: &mut Vec<u8>, octets: &[u8]) -> Result<(), AllocError>
-    requires few { length octets.now ≤ 8 }
-    ensures { OnOk result (text.new.items ≡ text.old.items ++ raw octets.now) }
-{
-    let mut room = [0u8; 16];
-    let digits = &mut room[..2 * octets.len()];
-    let _ = hex::encode_to_slice(octets, digits);
-    text.extend_from_slice(b"0x")?;
-    text.extend_from_slice(digits)
 }

@@ -1,26 +1,19 @@
 //! Why the program ends before its end.
 
-use std::alloc::{AllocError, AllocFailed};
-use tm_arguments::UsageFault;
+use crate::{CheckpointFault, DefinitionFault, RunFault, SettingsFault};
 use tm_bits::Octets;
-use tm_faults::{CheckpointFault, RunFault};
-use tm_fields::DefinitionFault;
-use tm_settings::SettingsFault;
 
-/// Memory ran out.
-#[derive(Clone, Copy, Debug, PartialEq, Eq)]
-pub struct NoMemory;
-
-impl From<AllocError> for NoMemory {
-    fn from(_: AllocError) -> NoMemory {
-        NoMemory
-    }
-}
-
-impl<T: Drop> From<AllocFailed<T>> for NoMemory {
-    fn from(_: AllocFailed<T>) -> NoMemory {
-        NoMemory
-    }
+/// Why the arguments are no plan.
+#[derive(Debug, Drop)]
+pub enum UsageFault {
+    /// The arguments are none that the command takes; this text says what is wrong.
+    Usage(Octets),
+    /// The arguments stop a run after some records, and name no file for its checkpoint.
+    StopAfter,
+    /// The arguments ask for this text: help, or the version.
+    Help(Octets),
+    /// Memory ran out.
+    NoMemory,
 }
 
 /// Why the program ends before its end.

@@ -2,9 +2,9 @@ use Rattle.std.proofs.Common.{◌≡◌, ◌∙◌, ◌++◌, List, ℕ, length,
 use Rattle.std.specs.List.{flat_map}
 use Rattle.std.proofs.lemmas.List.{take-take}
 use Rattle.std.proofs.Math.Seq.{take-append_seam}
-use Rattle.tm_fields.specs.Escape.{octet_text}
-use Rattle.tm_fields.proofs.Escapes.{written_within}
-use Rattle.tm_fields.proofs.escape.push_escaped.Goals as goal
+use Rattle.tm_bits.specs.Escape.{octet_text}
+use Rattle.tm_bits.proofs.Escapes.{written_within}
+use Rattle.tm_bits.proofs.escape.push_escaped.Goals as goal
 
 pub returns-in_err-push_octet-clause-prefix : goal.returns-in_err-push_octet-clause-prefix
 returns-in_err-push_octet-clause-prefix c =

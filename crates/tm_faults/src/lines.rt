@@ -1,14 +1,14 @@
 //! The line and the status of a fault.
 
 ghost use Rattle.std.specs.Prelude.{◌≡◌, IfOk};
-ghost use Rattle.tm_files.specs.FaultLines.{checkpoint_text, column_line, definition_text, escaped_line, key_line, fault_line_of, row_line, run_text, settings_text, status_of, usage_text};
+ghost use Rattle.tm_faults.specs.FaultLines.{checkpoint_text, column_line, definition_text, escaped_line, key_line, fault_line_of, row_line, run_text, settings_text, status_of, usage_text};
 
-use crate::fault::{NoMemory, ToolFault};
+use crate::{
+    CheckpointFault, Column, DefinitionFault, Key, NoMemory, RunFault, SettingsFault, ToolFault,
+    UsageFault,
+};
 use std::alloc::Global;
-use tm_arguments::UsageFault;
-use tm_faults::{CheckpointFault, RunFault};
-use tm_fields::{Column, DefinitionFault, push_escaped};
-use tm_settings::{Key, SettingsFault};
+use tm_bits::push_escaped;
 
 // A copy of a text.
 fn copy_of(alloc: Global, text: &str) -> Result<Vec<u8>, NoMemory>

@@ -3,7 +3,7 @@ use Rattle.std.proofs.Common.{◌≡◌, ◌+◌, ◌<◌, ◌≤◌, ℕ, false
 use Rattle.std.proofs.lemmas.List.Folds.{length-flat_map-take}
 use Rattle.std.specs.List.{flat_map}
 use Rattle.hex.specs.Hex.{encode_lower, encode_with}
-use Rattle.tm_fields.specs.Escape.{is_plain, octet_text}
+use Rattle.tm_bits.specs.Escape.{is_plain, octet_text}
 
 -- an octet that is no plain one is printed as four
 pub four : (octet : ℕ) → is_plain octet ≡ false → length (octet_text octet) ≡ 4

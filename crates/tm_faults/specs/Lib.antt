@@ -1,0 +1,3 @@
+pub mod Keys
+pub mod Columns
+pub mod FaultLines

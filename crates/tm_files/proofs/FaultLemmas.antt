@@ -1,26 +1,15 @@
 -- Faults of files: that they name their file, which of two comes first, and that out of memory is one.
-use Rattle.std.proofs.Common.{ℕ, ◌≡◌, ◌⊎◌, List, Option, None, Some, ap, inl, inr, refl, subst, sym}
+use Rattle.std.proofs.Common.{ℕ, ◌≡◌, ◌⊎◌, List, Option, None, Some, inl, inr, refl, subst, sym}
 use Rattle.tm_files.specs.code.Clashes.{first_clash}
 use Rattle.tm_files.specs.code.Files.{HasFault, IsFileFault, IsNoMemory, IsRunFault}
 use Rattle.tm_faults.specs.declared.program.ToolFault.{ToolFault}
+use Rattle.tm_faults.specs.declared.run.RunFault.TheVariants.{NoMemory}
 use Rattle.tm_faults.specs.declared.program.ToolFault.TheVariants as tool
-use Rattle.tm_faults.specs.declared.run.RunFault.TheVariants.{NoMemory, Read, Report, ShortRecording, TooMany, Write}
 
 -- the fault of a file is that of its name, unless memory ran out
 pub fault_exactly : (name : List ℕ) (fault : ToolFault) → IsFileFault name fault → IsNoMemory fault ⊎ (Some (tool.File name) ≡ Some fault)
-fault_exactly name (tool.Usage f) h = absurd h
-fault_exactly name (tool.Settings f) h = absurd h
-fault_exactly name (tool.Definition f) h = absurd h
-fault_exactly name (tool.Checkpoint f) h = absurd h
-fault_exactly name (tool.File given) h = inr (ap (λ (n : List ℕ). Some (tool.File n)) (sym h))
-fault_exactly name (tool.TooLong given) h = absurd h
-fault_exactly name tool.Errors h = absurd h
-fault_exactly name (tool.Run Read) h = absurd h
-fault_exactly name (tool.Run Write) h = absurd h
-fault_exactly name (tool.Run Report) h = absurd h
-fault_exactly name (tool.Run ShortRecording) h = absurd h
-fault_exactly name (tool.Run TooMany) h = absurd h
-fault_exactly name (tool.Run NoMemory) h = inl tt
+fault_exactly name fault (inl h) = inr (rw h refl)
+fault_exactly name fault (inr h) = inl h
 
 -- the first of two faults
 pub first_none : (one next : Option ToolFault) → one ≡ None → next ≡ None → first_clash one next ≡ None
@@ -36,33 +25,11 @@ first_here one next fault (inr h) = inr (rw h refl)
 
 -- out of memory is a fault of a run, and may come of each file
 pub no_memory_run : (fault : ToolFault) → IsNoMemory fault → IsRunFault fault
-no_memory_run (tool.Usage f) h = absurd h
-no_memory_run (tool.Settings f) h = absurd h
-no_memory_run (tool.Definition f) h = absurd h
-no_memory_run (tool.Checkpoint f) h = absurd h
-no_memory_run (tool.File given) h = absurd h
-no_memory_run (tool.TooLong given) h = absurd h
-no_memory_run tool.Errors h = absurd h
-no_memory_run (tool.Run f) h = tt
-
-pub no_memory_file : (name : List ℕ) (fault : ToolFault) → IsNoMemory fault → IsFileFault name fault
-no_memory_file name (tool.Usage f) h = absurd h
-no_memory_file name (tool.Settings f) h = absurd h
-no_memory_file name (tool.Definition f) h = absurd h
-no_memory_file name (tool.Checkpoint f) h = absurd h
-no_memory_file name (tool.File given) h = absurd h
-no_memory_file name (tool.TooLong given) h = absurd h
-no_memory_file name tool.Errors h = absurd h
-no_memory_file name (tool.Run Read) h = absurd h
-no_memory_file name (tool.Run Write) h = absurd h
-no_memory_file name (tool.Run Report) h = absurd h
-no_memory_file name (tool.Run ShortRecording) h = absurd h
-no_memory_file name (tool.Run TooMany) h = absurd h
-no_memory_file name (tool.Run NoMemory) h = tt
+no_memory_run fault h = (NoMemory, h)
 
 -- a file that there is
 pub no_memory_there : (file : Option (List ℕ)) (name : List ℕ) (fault : ToolFault) → file ≡ Some name → IsNoMemory fault → HasFault file fault
-no_memory_there file name fault is h = subst (λ o. HasFault o fault) (sym is) (no_memory_file name fault h)
+no_memory_there file name fault is h = subst (λ o. HasFault o fault) (sym is) (inr h)
 
 pub fault_there : (file : Option (List ℕ)) (name : List ℕ) (fault : ToolFault) → file ≡ Some name → IsFileFault name fault → HasFault file fault
 fault_there file name fault is h = subst (λ o. HasFault o fault) (sym is) h

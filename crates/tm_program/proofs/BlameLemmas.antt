@@ -41,16 +41,4 @@ split_blames s t old new (Err run.NoMemory) written out_of_memory clashing h = t
 
 -- out of memory blames no device
 pub no_memory_blames : (s t r q : ℕ) (fault : ToolFault) → IsNoMemory fault → IsBlamedBeside s t r q fault
-no_memory_blames s t r q (tool.Usage f) h = absurd h
-no_memory_blames s t r q (tool.Settings f) h = absurd h
-no_memory_blames s t r q (tool.Definition f) h = absurd h
-no_memory_blames s t r q (tool.Checkpoint f) h = absurd h
-no_memory_blames s t r q (tool.File name) h = absurd h
-no_memory_blames s t r q (tool.TooLong name) h = absurd h
-no_memory_blames s t r q tool.Errors h = absurd h
-no_memory_blames s t r q (tool.Run run.Read) h = absurd h
-no_memory_blames s t r q (tool.Run run.Write) h = absurd h
-no_memory_blames s t r q (tool.Run run.Report) h = absurd h
-no_memory_blames s t r q (tool.Run run.ShortRecording) h = absurd h
-no_memory_blames s t r q (tool.Run run.TooMany) h = absurd h
-no_memory_blames s t r q (tool.Run run.NoMemory) h = tt
+no_memory_blames s t r q fault h = rw h tt

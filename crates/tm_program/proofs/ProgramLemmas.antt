@@ -1,36 +1,24 @@
 -- Faults of files and of runs, as faults that may come of a plan.
-use Rattle.std.proofs.Common.{ℕ, ◌≡◌, ◌⊎◌, ◌∙◌, List, Option, None, Some, inl, inr, option_map, refl, subst, sym}
+use Rattle.std.proofs.Common.{ℕ, ◌≡◌, ◌⊎◌, ◌∙◌, List, Option, None, Some, ap, inl, inr, option_map, refl, subst, sym}
 use Rattle.std.proofs.lemmas.Option.{same_Some}
 use Rattle.tm_split_files.specs.Names.{file_in}
 use Rattle.tm_files.specs.code.Files.{HasFault, IsFaultOf, IsFileFault, IsRunFault}
 use Rattle.tm_program.specs.Program.{IsAsked, IsInFolder, IsNamed, IsOfFolder, IsReadWhole, MayCome, MayEnd}
 use Rattle.tm_program.specs.code.Faults.{HasFolderFault, HasReadFault, IsFolderFault, IsOfDefinition, IsOfOutputs, IsOfPut, IsOfResumed, IsOfSettings, IsOfStreams}
-use Rattle.tm_faults.specs.declared.run.RunFault.TheVariants.{NoMemory, Read, Report, ShortRecording, TooMany, Write}
 use Rattle.tm_faults.specs.declared.program.ToolFault.{ToolFault}
 use Rattle.tm_faults.specs.declared.program.ToolFault.TheVariants as tool
 use Rattle.tm_arguments.specs.declared.request.Plan.{Plan}
 
 -- a file that the plan names can't be opened, made or written
 pub file_comes : (p : Plan) (name : List ℕ) (fault : ToolFault) → IsNamed p name → IsFileFault name fault → MayCome p fault
-file_comes p name (tool.Usage f) named h = absurd h
-file_comes p name (tool.Settings f) named h = absurd h
-file_comes p name (tool.Definition f) named h = absurd h
-file_comes p name (tool.Checkpoint f) named h = absurd h
-file_comes p name (tool.File given) named h = subst (λ n. IsNamed p n) (sym h) named
-file_comes p name (tool.TooLong given) named h = absurd h
-file_comes p name tool.Errors named h = absurd h
-file_comes p name (tool.Run f) named h = tt
+file_comes p name fault named (inl h) = rw h named
+file_comes p name fault named (inr h) = rw h tt
 
 -- a file that the plan has read whole can't be
 pub whole_comes : (p : Plan) (name : List ℕ) (fault : ToolFault) → IsReadWhole p name → IsFaultOf name fault → MayCome p fault
-whole_comes p name (tool.Usage f) named h = absurd h
-whole_comes p name (tool.Settings f) named h = absurd h
-whole_comes p name (tool.Definition f) named h = absurd h
-whole_comes p name (tool.Checkpoint f) named h = absurd h
-whole_comes p name (tool.File given) named h = inl (subst (λ n. IsReadWhole p n) (sym h) named)
-whole_comes p name (tool.TooLong given) named h = subst (λ n. IsReadWhole p n) (sym h) named
-whole_comes p name tool.Errors named h = absurd h
-whole_comes p name (tool.Run f) named h = tt
+whole_comes p name fault named (inl h) = rw h named
+whole_comes p name fault named (inr (inl h)) = rw h (inl named)
+whole_comes p name fault named (inr (inr h)) = rw h tt
 
 -- a file that the plan may have can't be opened, made or written
 file_of_comes : (p : Plan) (file : Option (List ℕ)) (fault : ToolFault) → ((name : List ℕ) → file ≡ Some name → IsNamed p name) → HasFault file fault → MayCome p fault
@@ -43,67 +31,32 @@ read_comes p None fault named h = absurd h
 read_comes p (Some name) fault named h = whole_comes p name fault (named name refl) h
 
 pub settings_come : (p : Plan) (fault : ToolFault) → IsOfSettings p fault → MayCome p fault
-settings_come p (tool.Settings f) h = tt
-settings_come p (tool.Usage f) h = read_comes p p.settings (tool.Usage f) (λ name is. inl is) h
-settings_come p (tool.Definition f) h = read_comes p p.settings (tool.Definition f) (λ name is. inl is) h
-settings_come p (tool.Checkpoint f) h = read_comes p p.settings (tool.Checkpoint f) (λ name is. inl is) h
-settings_come p (tool.File given) h = read_comes p p.settings (tool.File given) (λ name is. inl is) h
-settings_come p (tool.TooLong given) h = read_comes p p.settings (tool.TooLong given) (λ name is. inl is) h
-settings_come p tool.Errors h = read_comes p p.settings tool.Errors (λ name is. inl is) h
-settings_come p (tool.Run f) h = tt
+settings_come p fault (inl h) = rw h.1 tt
+settings_come p fault (inr h) = read_comes p p.settings fault (λ name is. inl is) h
 
 pub definition_comes : (p : Plan) (fault : ToolFault) → IsOfDefinition p fault → MayCome p fault
-definition_comes p (tool.Definition f) h = h
-definition_comes p (tool.Usage f) h = read_comes p p.definition (tool.Usage f) (λ name is. inr (inl is)) h
-definition_comes p (tool.Settings f) h = tt
-definition_comes p (tool.Checkpoint f) h = read_comes p p.definition (tool.Checkpoint f) (λ name is. inr (inl is)) h
-definition_comes p (tool.File given) h = read_comes p p.definition (tool.File given) (λ name is. inr (inl is)) h
-definition_comes p (tool.TooLong given) h = read_comes p p.definition (tool.TooLong given) (λ name is. inr (inl is)) h
-definition_comes p tool.Errors h = read_comes p p.definition tool.Errors (λ name is. inr (inl is)) h
-definition_comes p (tool.Run f) h = tt
+definition_comes p fault (inl h) = rw h.1.1 h.0
+definition_comes p fault (inr h) = read_comes p p.definition fault (λ name is. inr (inl is)) h
 
 pub resumed_comes : (p : Plan) (fault : ToolFault) → IsOfResumed p fault → MayCome p fault
-resumed_comes p (tool.Checkpoint f) h = h
-resumed_comes p (tool.Usage f) h = read_comes p p.resume (tool.Usage f) (λ name is. inr (inr is)) h
-resumed_comes p (tool.Settings f) h = tt
-resumed_comes p (tool.Definition f) h = read_comes p p.resume (tool.Definition f) (λ name is. inr (inr is)) h
-resumed_comes p (tool.File given) h = read_comes p p.resume (tool.File given) (λ name is. inr (inr is)) h
-resumed_comes p (tool.TooLong given) h = read_comes p p.resume (tool.TooLong given) (λ name is. inr (inr is)) h
-resumed_comes p tool.Errors h = read_comes p p.resume tool.Errors (λ name is. inr (inr is)) h
-resumed_comes p (tool.Run f) h = tt
+resumed_comes p fault (inl h) = rw h.1.1 h.0
+resumed_comes p fault (inr h) = read_comes p p.resume fault (λ name is. inr (inr is)) h
 
 -- a run ends in a fault
 pub run_comes : (p : Plan) (fault : ToolFault) → IsRunFault fault → MayCome p fault
-run_comes p (tool.Usage f) h = absurd h
-run_comes p (tool.Settings f) h = absurd h
-run_comes p (tool.Definition f) h = absurd h
-run_comes p (tool.Checkpoint f) h = absurd h
-run_comes p (tool.File given) h = absurd h
-run_comes p (tool.TooLong given) h = absurd h
-run_comes p tool.Errors h = absurd h
-run_comes p (tool.Run f) h = tt
+run_comes p fault h = rw h.1 tt
 
 -- a standard stream is closed
 pub streams_come : (p : Plan) (fault : ToolFault) → IsOfStreams p fault → MayCome p fault
-streams_come p (tool.Usage f) h = absurd h
-streams_come p (tool.Settings f) h = absurd h
-streams_come p (tool.Definition f) h = absurd h
-streams_come p (tool.Checkpoint f) h = absurd h
-streams_come p (tool.File given) h = absurd h
-streams_come p (tool.TooLong given) h = absurd h
-streams_come p tool.Errors h = absurd h
-streams_come p (tool.Run f) h = tt
+streams_come p fault (inl h) = rw h.0 tt
+streams_come p fault (inr h) = rw h.0 tt
 
 -- the folder of a plan can't be written, or an application's file in it is another file of the run
 folder_comes : (p : Plan) (dir : List ℕ) (fault : ToolFault) → p.dir ≡ Some dir → IsFolderFault dir fault → MayCome p fault
-folder_comes p dir (tool.Usage f) is h = absurd h
-folder_comes p dir (tool.Settings f) is h = absurd h
-folder_comes p dir (tool.Definition f) is h = absurd h
-folder_comes p dir (tool.Checkpoint f) is h = absurd h
-folder_comes p dir (tool.File given) is h = inr (inr (inr (inr (subst (λ (o : Option (List ℕ)). IsOfFolder o given) (sym is) h))))
-folder_comes p dir (tool.TooLong given) is h = absurd h
-folder_comes p dir tool.Errors is h = absurd h
-folder_comes p dir (tool.Run f) is h = tt
+folder_comes p dir fault is (inl h) = file_comes p dir fault (inr (inr (inr (inr (subst (λ (o : Option (List ℕ)). IsOfFolder o dir) (sym is) (inl refl)))))) h
+folder_comes p dir fault is (inr h) =
+    let own : IsOfFolder p.dir (file_in dir h.0) = subst (λ (o : Option (List ℕ)). IsOfFolder o (file_in dir h.0)) (sym is) (inr (h.0, refl)) in
+    rw h.1 (inr (inr (inr (inr own))))
 
 folder_of_comes : (p : Plan) (o : Option (List ℕ)) (fault : ToolFault) → p.dir ≡ o → HasFolderFault o fault → MayCome p fault
 folder_of_comes p None fault is h = absurd h
@@ -131,24 +84,9 @@ run_ends p fault (inl h) = inl h
 run_ends p fault (inr h) = inr (inr (inr h))
 
 -- the fault of a folder is one of what splitting writes
-folder_fault : (dir : List ℕ) (fault : ToolFault) → IsFileFault dir fault → IsFolderFault dir fault
-folder_fault dir (tool.Usage f) h = absurd h
-folder_fault dir (tool.Settings f) h = absurd h
-folder_fault dir (tool.Definition f) h = absurd h
-folder_fault dir (tool.Checkpoint f) h = absurd h
-folder_fault dir (tool.File given) h = inl h
-folder_fault dir (tool.TooLong given) h = absurd h
-folder_fault dir tool.Errors h = absurd h
-folder_fault dir (tool.Run Read) h = absurd h
-folder_fault dir (tool.Run Write) h = absurd h
-folder_fault dir (tool.Run Report) h = absurd h
-folder_fault dir (tool.Run ShortRecording) h = absurd h
-folder_fault dir (tool.Run TooMany) h = absurd h
-folder_fault dir (tool.Run NoMemory) h = tt
-
 pub folder_there : (o : Option (List ℕ)) (fault : ToolFault) → HasFault o fault → HasFolderFault o fault
 folder_there None fault h = absurd h
-folder_there (Some dir) fault h = folder_fault dir fault h
+folder_there (Some dir) fault h = inl h
 
 pub split_there : (o : Option (List ℕ)) (dir : List ℕ) (fault : ToolFault) → o ≡ Some dir → IsRunFault fault ⊎ IsFolderFault dir fault → IsRunFault fault ⊎ HasFolderFault o fault
 split_there o dir fault is (inl h) = inl h
@@ -160,14 +98,10 @@ in_folder dir None name is = cc
 in_folder dir (Some application) name is = (application, sym (same_Some _ _ is))
 
 pub put_there : (dir : List ℕ) (clashing : Option ℕ) (found : Option (List ℕ)) (fault : ToolFault) → found ≡ option_map (file_in dir) clashing → IsOfPut found fault → IsRunFault fault ⊎ IsFolderFault dir fault
-put_there dir clashing found (tool.Usage f) is h = absurd h
-put_there dir clashing found (tool.Settings f) is h = absurd h
-put_there dir clashing found (tool.Definition f) is h = absurd h
-put_there dir clashing found (tool.Checkpoint f) is h = absurd h
-put_there dir clashing found (tool.File given) is h = inr (inr (in_folder dir clashing given (sym is ∙ h)))
-put_there dir clashing found (tool.TooLong given) is h = absurd h
-put_there dir clashing found tool.Errors is h = absurd h
-put_there dir clashing found (tool.Run f) is h = inl tt
+put_there dir clashing found fault is (inl h) =
+    let own = in_folder dir clashing h.0 (sym is ∙ h.1) in
+    inr (inr (own.0, h.2 ∙ ap tool.File own.1))
+put_there dir clashing found fault is (inr h) = inl h
 
 -- what may come of the plan of arguments may be their end
 pub plan_ends : (arguments : List (List ℕ)) (p : Plan) (fault : ToolFault) → IsAsked arguments p → MayCome p fault → MayEnd arguments fault

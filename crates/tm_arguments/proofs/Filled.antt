@@ -23,6 +23,7 @@ use Rattle.clap.specs.declared.builder.value_parser.Reading.TheVariants.{Without
 use Rattle.clap.specs.declared.parser.matches.ValueSource.{ValueSource}
 use Rattle.clap.specs.declared.parser.matches.ValueSource.TheVariants.{DefaultValue, CommandLine}
 use Rattle.clap.specs.declared.error.kind.ErrorKind.{ErrorKind}
+use Rattle.tm_bits.proofs.Each.{Each-append}
 use Rattle.tm_arguments.specs.CommandLine.{IsBetween, numbers, number_spelled}
 use Rattle.tm_arguments.proofs.Getters.{IsAccepted, first_number}
 
@@ -78,16 +79,12 @@ by_test false e f rows x y here there fault = there fault
 
 -- ---- rows
 
-all-append : {X : Type 0} (P : X → Type 0) (xs ys : List X) → AllByRecursion P xs → AllByRecursion P ys → AllByRecursion P (xs ++ ys)
-all-append P [] ys hx hy = hy
-all-append P (x ∷ xs) ys hx hy = (hx.0, all-append P xs ys hx.1 hy)
-
 Filled-at_row : (id : Text) (change : Row → List Row) (missing : List Row) (rows : List Row)
     → ((r : Row) → bytes_eq r.id id ≡ true → IsFilled r → Filled (change r)) → Filled missing → Filled rows → Filled (at_row id change missing rows)
 Filled-at_row id change missing [] hc hm h = hm
 Filled-at_row id change missing (r ∷ rs) hc hm h =
     elim (cases_Bool (bytes_eq r.id id)) [
-      | inl same ↦ rw same (all-append IsFilled (change r) rs (hc r same h.0) h.1)
+      | inl same ↦ rw same (Each-append IsFilled (change r) rs (hc r same h.0) h.1)
       | inr other ↦ rw other (h.0, Filled-at_row id change missing rs hc hm h.1)
     ]
 
@@ -97,7 +94,7 @@ Filled-with_values id how s vs rows some fit h =
     let own : (r : Row) (p : Range) → bytes_eq r.id id ≡ true → range_of r.id ≡ Some p → Fits how vs p =
     λ r p same is. fit p (rw ((bytes_eq-Decides r.id id).0 same) at is) in
     let more : (r : Row) → bytes_eq r.id id ≡ true → IsFilled r → Filled (more_values s vs r) = λ r same here. let long : 0 < length (r.values ++ vs) = omega (arith, length-append r.values vs) in
-    ((long, λ p is. ((here.1 p is).0, all-append (IsAccepted p.0 p.1) r.values vs (here.1 p is).1 (own r p same is).1)), tt) in
+    ((long, λ p is. ((here.1 p is).0, Each-append (IsAccepted p.0 p.1) r.values vs (here.1 p is).1 (own r p same is).1)), tt) in
     Filled-at_row id (more_values s vs) _ rows more ((some, fit), tt) h
 
 -- ---- one use

@@ -1,3 +1,4 @@
 pub mod BitLemmas
 pub mod PartLemmas
+pub mod Each
 pub mod Escapes

@@ -5,6 +5,7 @@ use Rattle.std.proofs.lemmas.Bool.{cases_lt}
 use Rattle.std.proofs.Math.Seq.{drop-length, take-add}
 use Rattle.std.specs.List.{flat_map}
 use Rattle.tm_packet.specs.Header.{packet_version_of}
+use Rattle.tm_bits.proofs.Each.{Each-append}
 use Rattle.tm_items.specs.Item.{Item, Packet}
 use Rattle.tm_items.specs.OnePacket.{IsOnePacket, is_packet, packet_length}
 use Rattle.tm_items.specs.Spans.{packets_behind, packets_in, ArePackets, IsSpan, placed, span_items}
@@ -96,10 +97,6 @@ packets-one p one =
     packets-first p (omega (arith, one.whole))
     ∙ rw (← one.whole, take_all (length p) p (omega arith), drop-length p) refl
 
-are-joined : (ps qs : List (List ℕ)) → ArePackets ps → ArePackets qs → ArePackets (ps ++ qs)
-are-joined [] qs a b = b
-are-joined (p ∷ ps) qs a b = (a.0, are-joined ps qs a.1 b)
-
 -- the packets of two texts, where the first is whole packets
 packets-both : (ps : List (List ℕ)) (t u : List ℕ) → packets_in t ≡ ps → ArePackets ps → packets_in (t ++ u) ≡ ps ++ packets_in u
 packets-both [] t u is all = ap (λ (l : List ℕ). packets_in (l ++ u)) (sym (joined-all t) ∙ ap joined is)
@@ -156,7 +153,7 @@ span-longer seen channel place n r o inside span one =
     packets-both (packets_in t) t p refl span ∙ ap (λ (l : List (List ℕ)). packets_in t ++ l) (packets-one p one) in
     let len : length (joined (packets_in t)) ≡ n = ap length (joined-all t) ∙ length-take-le n o inside in
     record {
-      span = subst IsSpan (sym far) (subst ArePackets (sym both) (are-joined (packets_in t) (p ∷ []) span (one, tt)));
+      span = subst IsSpan (sym far) (subst ArePackets (sym both) (Each-append IsOnePacket (packets_in t) (p ∷ []) span (one, tt)));
       items =
           ap (λ (l : List ℕ). span_items seen channel place l) far
           ∙ ap (placed seen channel place) both

@@ -1,5 +1,6 @@
 -- Whole packets that lie end to end, so that a sink may take all of them in one step.
 use Rattle.std.specs.Prelude.{ℕ, suc, zero, pred, ◌+◌, List, [], ◌∷◌, length, take}
+use Rattle.std.specs.List.{AllByRecursion}
 use Rattle.tm_items.specs.declared.sink.Span.{Span}
 use Rattle.tm_items.specs.Item.{Item, Packet}
 use Rattle.tm_items.specs.OnePacket.{IsOnePacket, packet_length}
@@ -15,8 +16,7 @@ packets_in octets = packets_behind 0 octets
 
 -- each is one whole packet
 abbrev pub ArePackets : List (List ℕ) → Type 0
-ArePackets [] = Unit {0}
-ArePackets (p ∷ ps) = IsOnePacket p × ArePackets ps
+ArePackets ps = AllByRecursion IsOnePacket ps
 
 -- octets are whole packets that lie end to end
 abbrev pub IsSpan : List ℕ → Type 0

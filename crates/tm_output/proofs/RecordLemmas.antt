@@ -5,14 +5,14 @@ pub use Rattle.std.proofs.lemmas.List.Folds.{concat-append}
 use Rattle.std.proofs.Math.Nat.{div-eq-sub-div, div-eq_of_lt, div-mul-le_self, zero-mul}
 use Rattle.std.specs.List.{concat}
 use Rattle.std.specs.Io.KnownBytes.{Consumes, IsAtEnd}
+use Rattle.tm_bits.proofs.Each.{Each-append}
 use Rattle.tm_output.specs.Records.{AreRecords, HasRead, first_records, record_count, records, rest_of}
 
 pub concat-one : (xs : List (List ℕ)) (x : List ℕ) → concat (xs ++ x ∷ []) ≡ concat xs ++ x
 concat-one xs x = simp (concat-append, append-nil)
 
 pub AreRecords-append : (size : ℕ) (a b : List (List ℕ)) → AreRecords size a → AreRecords size b → AreRecords size (a ++ b)
-AreRecords-append size [] b h k = k
-AreRecords-append size (r ∷ a) b h k = (h.0, AreRecords-append size a b h.1 k)
+AreRecords-append size a b h k = Each-append (λ (r : List ℕ). length r ≡ size) a b h k
 
 module _ (size : ℕ) (some : 0 < size) where
   -- one record in front

@@ -1,7 +1,7 @@
 -- A recording is cut at the multiples of the record length. The whole pieces are its records, numbered from 0; what is
 -- left is its rest.
-use Rattle.std.specs.Prelude.{◌≡◌, ⊤, ◌<◌, ℕ, zero, suc, ◌*◌, ◌/◌, List, [], ◌∷◌, ◌++◌, length, take, drop, Option}
-use Rattle.std.specs.List.{concat}
+use Rattle.std.specs.Prelude.{◌≡◌, ◌<◌, ℕ, zero, suc, ◌*◌, ◌/◌, List, [], ◌∷◌, ◌++◌, length, take, drop, Option}
+use Rattle.std.specs.List.{AllByRecursion, concat}
 use Rattle.std.specs.Io.KnownBytes.{Consumes, IsAtEnd}
 
 -- the first so many pieces
@@ -20,8 +20,7 @@ rest_of size recording = drop (record_count size recording * size) recording
 
 -- each of these is one record long
 abbrev pub AreRecords : ℕ → List (List ℕ) → Type 0
-AreRecords size [] = ⊤
-AreRecords size (r ∷ rs) = (length r ≡ size) × AreRecords size rs
+AreRecords size rs = AllByRecursion (λ r. length r ≡ size) rs
 
 -- these records were read, and then these octets
 pub record HasRead (size : ℕ) (left_old left_new : Option (List ℕ)) (read : List (List ℕ)) (part : List ℕ) : Type 0 where

@@ -1,6 +1,7 @@
 -- What is read are valid entries.
 use Rattle.std.proofs.Common.{◌≡◌, ℕ, zero, suc, ◌+◌, ◌*◌, ◌%◌, Bool, true, false, ◌||◌, Ok, Option, Some, None, List, [], ◌∷◌, length, get_or, refl, ap, arith, ltb, eqb}
 use Rattle.std.proofs.lemmas.Bool.{cond_both, ltb-true, eqb-true, eqb-false}
+use Rattle.std.specs.List.{AllByRecursion}
 use Rattle.tm_packet.specs.declared.tracker.PairEntry.{PairEntry}
 use Rattle.tm_packet.specs.declared.tracker.RawEntry.{RawEntry}
 use Rattle.tm_packet.specs.Spelling.{DecodedEntries, fault_after, first_count_of, entry_at_key, entries_at_keys, state_of, entries_decoding_of}
@@ -8,8 +9,7 @@ use Rattle.tm_packet.specs.Valid.{AreValidEntries, EntryFits, FirstFits}
 use Rattle.tm_packet.proofs.DecodingLemmas.{read_faultless, AreValues, values_of, all_right, last_in}
 
 abbrev AllValues : List RawEntry → Type 0
-AllValues [] = Unit {0}
-AllValues (r ∷ rs) = AreValues r × AllValues rs
+AllValues rs = AllByRecursion AreValues rs
 
 all-values : (before : Option ℕ) (rs : List RawEntry) → fault_after before rs ≡ None → AllValues rs
 all-values before [] h = tt

@@ -7,7 +7,7 @@ use Rattle.tm_reassembly.specs.State.{State, Last, Tail}
 use Rattle.tm_reassembly.specs.Readings.{Reading}
 use Rattle.tm_reassembly.specs.Chain.{ChainMember, Run, Runs, stem_of, stem_with, chain, frames, member_of, has_frame_gap, runs, runs_after, with_member, cut_before}
 use Rattle.tm_reassembly.specs.code.Fits.{AllReadingsFit, PlaceFits, PlacesFit, IsPlaced}
-use Rattle.tm_reassembly.proofs.Each.{Each, Each-append, Each-split, Each-at, Each-weaken}
+use Rattle.tm_bits.proofs.Each.{Each, Each-append, Each-split, Each-at, Each-weaken}
 use Rattle.tm_reassembly.specs.Verdict.{Verdict, verdict, completed_at_once, Grow, GrowFrom, IsSettledIn, is_whole}
 use Rattle.tm_reassembly.specs.Parts.{text, reach_of, begins_packet}
 use Rattle.tm_items.specs.OnePacket.{packet_length}

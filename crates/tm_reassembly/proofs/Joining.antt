@@ -1,5 +1,5 @@
 -- The items of a channel, one record at a time.
-use Rattle.tm_reassembly.proofs.Each.{Each, Each-append, Each-weaken, Each-flat_map, Each-cond}
+use Rattle.tm_bits.proofs.Each.{Each, Each-append, Each-weaken, Each-flat_map, Each-cond}
 use Rattle.tm_items.specs.declared.items.Reason.{Reason}
 use Rattle.std.proofs.Common.{◌≡◌, ℕ, suc, ◌<◌, ◌≤◌, Option, Some, None, List, [], ◌∷◌, ◌++◌, length, refl, sym, ap, subst, ◌∙◌, arith, eqb}
 use Rattle.std.specs.List.{flat_map}

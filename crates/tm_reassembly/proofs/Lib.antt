@@ -1,5 +1,4 @@
 pub mod Long
-pub mod Each
 pub mod Sweep
 pub mod Split
 pub mod Fresh

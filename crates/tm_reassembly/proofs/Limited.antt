@@ -12,7 +12,7 @@ use Rattle.tm_frame.specs.Rules.{Rules, chooses}
 use Rattle.tm_reassembly.specs.State.{State, Tail}
 use Rattle.tm_reassembly.specs.Valid.{IsValidState}
 use Rattle.tm_reassembly.specs.code.Fits.{IsFit, AllReadingsFit}
-use Rattle.tm_reassembly.proofs.Each.{Each, Each-append, Each-cond}
+use Rattle.tm_bits.proofs.Each.{Each, Each-append, Each-cond}
 use Rattle.tm_reassembly.proofs.Fits.{readings-fit}
 use Rattle.tm_reassembly.proofs.Joining.{before_of, tail_of, member_items, gap-each, part_items-each}
 use Rattle.tm_reassembly.proofs.Merged.{among-each}

@@ -1,6 +1,6 @@
 -- The gaps of the master chain, one record at a time.
 use Rattle.std.proofs.lemmas.List.Elements.{filter-append}
-use Rattle.tm_reassembly.proofs.Each.{Each, Each-weaken}
+use Rattle.tm_bits.proofs.Each.{Each, Each-weaken}
 use Rattle.std.proofs.Common.{◌≡◌, Ok, Err, ℕ, ◌+◌, ◌≤◌, Option, Some, None, List, [], ◌∷◌, ◌++◌, refl, sym, ap, ◌∙◌, arith, eqb}
 use Rattle.std.proofs.lemmas.List.{append-nil}
 use Rattle.tm_frame.specs.Frame.{GoodFrame}

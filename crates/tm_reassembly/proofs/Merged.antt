@@ -3,7 +3,7 @@ use Rattle.tm_reassembly.proofs.Records.{HasOpenTails, good-items, items-cons, o
 use Rattle.tm_reassembly.proofs.Masters.{masters-is, master-moved}
 use Rattle.tm_reassembly.specs.Items as read
 use Rattle.std.proofs.lemmas.Option.{slice_get_within, none-some}
-use Rattle.tm_reassembly.proofs.Each.{Each, Each-every, Each-append, Each-weaken, Each-cond, Each-filter, filter-passes, filter-all, filter-none, none-filter}
+use Rattle.tm_bits.proofs.Each.{Each, Each-every, Each-append, Each-weaken, Each-cond, Each-filter, filter-passes, filter-all, filter-none, none-filter}
 use Rattle.std.proofs.Common.{◌≡◌, ℕ, suc, zero, ◌+◌, ◌<◌, ◌≤◌, ◌⊎◌, Bool, true, false, if◌then◌else◌, Ok, Err, Option, Some, None, List, [], ◌∷◌, ◌++◌, length, refl, sym, ap, subst, ◌∙◌, ⊎_elim, inl, inr, arith, eqb}
 use Rattle.std.specs.List.{flat_map, filter, slice_get}
 use Rattle.std.proofs.lemmas.Bool.{cases_Bool, cases_eq, cond_both, cond-true, eq-eqb, eqb-true, both_ways, true≢false, false_from_ne_true}

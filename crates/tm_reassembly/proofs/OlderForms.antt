@@ -16,7 +16,7 @@ use Rattle.tm_reassembly.specs.Recording as raw
 use Rattle.tm_frame.specs.Rules.{Rules, chooses}
 use Rattle.tm_reassembly.specs.Valid.{HasShape, IsValidState}
 use Rattle.tm_reassembly.specs.code.Fits.{IsFit, AllReadingsFit}
-use Rattle.tm_reassembly.proofs.Each.{Each-append, Each-weaken, filter-none}
+use Rattle.tm_bits.proofs.Each.{Each-append, Each-weaken, filter-none}
 use Rattle.tm_reassembly.proofs.WithoutGaps.{without-append, without-none, few, no-gap, not-there, one-at}
 use Rattle.tm_reassembly.proofs.Fits.{readings-fit, readings-append}
 use Rattle.tm_reassembly.proofs.Joining.{gap-each}

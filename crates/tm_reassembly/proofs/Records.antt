@@ -1,5 +1,5 @@
 -- Joining, over records: the items and the state after a record and more records are those of the record, and then of the others.
-use Rattle.tm_reassembly.proofs.Each.{Each-append, Each-weaken}
+use Rattle.tm_bits.proofs.Each.{Each-append, Each-weaken}
 use Rattle.std.proofs.lemmas.Option.{slice_get_within, none-some}
 use Rattle.std.proofs.Common.{◌≡◌, Ok, Err, ◌≢◌, ℕ, suc, zero, ◌+◌, ◌<◌, Bool, true, Option, Some, None, List, [], ◌∷◌, ◌++◌, map, length, refl, sym, ap, subst, ◌∙◌, ◌⊎◌, ⊎_elim, inl, inr, lit<, arith, append_assoc, eqb, if◌then◌else◌, ◌≤◌}
 use Rattle.std.specs.List.{flat_map, slice_get}

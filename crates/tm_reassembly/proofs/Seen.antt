@@ -1,7 +1,7 @@
 -- At which record items are seen: what a member gives is seen at it, and no step leaves a tail that is not open.
 use Rattle.std.proofs.lemmas.List.{length-take-le}
 use Rattle.tm_items.proofs.Reaching.{packet_length_least}
-use Rattle.tm_reassembly.proofs.Each.{Each, Each-append, Each-weaken, filter-all, filter-none}
+use Rattle.tm_bits.proofs.Each.{Each, Each-append, Each-weaken, filter-all, filter-none}
 use Rattle.std.proofs.Common.{◌≡◌, ℕ, suc, zero, pred, ◌<◌, Bool, true, false, Option, Some, None, List, [], ◌∷◌, ◌++◌, length, refl, ap, ◌∙◌, leb, eqb, take, ◌≤◌, ◌+◌, arith, length-append}
 use Rattle.std.specs.List.{flat_map}
 use Rattle.std.proofs.lemmas.Bool.{cond_both, leb-false, eq-eqb, ne_eqb, leb-true}

@@ -1,5 +1,5 @@
 -- The packets and dropped parts of a channel, in the order given, and then its held tail, lie one after the other in its fields.
-use Rattle.tm_reassembly.proofs.Each.{Each, Each-append, Each-cond, filter-none}
+use Rattle.tm_bits.proofs.Each.{Each, Each-append, Each-cond, filter-none}
 use Rattle.std.proofs.Common.{◌≡◌, Ok, Err, ℕ, ◌+◌, ◌<◌, Bool, true, false, if◌then◌else◌, Option, Some, None, List, [], ◌∷◌, ◌++◌, length, refl, sym, ap, subst, ◌∙◌, ⊎_elim, append_assoc, eqb}
 use Rattle.std.specs.List.{slice_get}
 use Rattle.std.proofs.lemmas.List.{append-nil, length-map}

@@ -14,7 +14,7 @@ use Rattle.tm_reassembly.specs.Chain.{ChainMember, has_frame_gap, master_frames,
 use Rattle.tm_reassembly.specs.Items.{gap_at, gaps, master_gap_item, seen_at}
 use Rattle.tm_reassembly.specs.OlderForms.{is_gap_at, without_gaps_at}
 use Rattle.tm_reassembly.specs.Readings.{Reading}
-use Rattle.tm_reassembly.proofs.Each.{Each, Each-every, Each-weaken, filter-all}
+use Rattle.tm_bits.proofs.Each.{Each, Each-every, Each-weaken, filter-all}
 use Rattle.tm_reassembly.proofs.Joining.{none_before}
 use Rattle.tm_reassembly.proofs.Masters.{master_after, masters-from, masters-here, masters-there}
 

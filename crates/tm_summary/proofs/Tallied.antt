@@ -1,5 +1,6 @@
 -- What is counted of items and notes one by one is counted of their lists.
 use Rattle.std.proofs.Common.{◌≡◌, ◌<◌, ◌≤◌, ◌+◌, ℕ, Option, None, Some, List, [], ◌∷◌, ◌++◌, length, refl, sym, ap, ◌∙◌, append_assoc, append-nil, arith}
+use Rattle.std.specs.List.{AllByRecursion}
 use Rattle.tm_frame.specs.Frame.{GoodFrame}
 use Rattle.tm_packet.specs.declared.notes.Note.{Note}
 use Rattle.tm_packet.specs.declared.tracker.Unclosed.{Unclosed}
@@ -29,8 +30,7 @@ notes_counted frames items before key (n ∷ ns) below =
 
 -- each of these groups is of a channel and application
 abbrev pub KeysFit : List Unclosed → Type 0
-KeysFit [] = Unit {0}
-KeysFit (u ∷ us) = (u.key < 16384) × KeysFit us
+KeysFit us = AllByRecursion (λ u. u.key < 16384) us
 
 keys_with : (key count : ℕ) (first : Option ℕ) (us : List Unclosed) → key < 16384 → KeysFit us → KeysFit (sequence.unclosed_with key count first ++ us)
 keys_with key count None us below fit = fit

@@ -1,5 +1,6 @@
 -- What a sink that counts does with an item, and what it has counted of a list of items.
 use Rattle.std.specs.Prelude.{◌≡◌, ℕ, ◌||◌, List, [], ◌∷◌, ◌++◌, map}
+use Rattle.std.specs.List.{AllByRecursion}
 use Rattle.tm_packet.specs.declared.notes.Note.{Note}
 use Rattle.tm_packet.specs.declared.tracker.Unclosed.{Unclosed}
 use Rattle.tm_packet.specs.Header.{packet_header_of}
@@ -42,8 +43,7 @@ and_notes t ns = record { frames = t.frames; items = t.items; notes = t.notes ++
 
 -- each item fits
 abbrev pub AllFit : List Item → Type 0
-AllFit [] = Unit {0}
-AllFit (x ∷ xs) = ItemFits x × AllFit xs
+AllFit xs = AllByRecursion ItemFits xs
 
 -- ---- the numbers with one more and one more; the law of a sink that counts says that they are those of lists
 

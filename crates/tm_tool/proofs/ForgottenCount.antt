@@ -7,7 +7,7 @@ use Rattle.tm_reassembly.specs.Items.{master_gap_item}
 use Rattle.tm_reassembly.specs.Chain.{master_member}
 use Rattle.tm_reassembly.specs.Readings.{Reading}
 use Rattle.tm_reassembly.specs.Recording.{readings}
-use Rattle.tm_reassembly.proofs.Each.{Each}
+use Rattle.tm_bits.proofs.Each.{Each}
 use Rattle.tm_reassembly.proofs.Joining.{gap-each}
 use Rattle.tm_reassembly.proofs.OlderForms.{items-lack, states-meet}
 use Rattle.tm_output.specs.declared.command.Ending.{Ending}

@@ -17,7 +17,7 @@ use Rattle.tm_reassembly.specs.Readings.{Reading}
 use Rattle.tm_reassembly.specs.Recording.{readings}
 use Rattle.tm_reassembly.specs.State.{State}
 use Rattle.tm_reassembly.specs.Valid.{AllOctets, HasShape, IsValidState}
-use Rattle.tm_reassembly.proofs.Each.{Each, Each-append, Each-weaken}
+use Rattle.tm_bits.proofs.Each.{Each, Each-append, Each-weaken}
 use Rattle.tm_reassembly.proofs.WithoutGaps.{and-false, without-append, without-but, without-no, without-none}
 use Rattle.tm_reassembly.proofs.OlderForms.{without-first, few-left-out, items-within}
 use Rattle.tm_reassembly.proofs.Raw.{items-join}

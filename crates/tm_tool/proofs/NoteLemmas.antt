@@ -11,7 +11,7 @@ use Rattle.tm_reassembly.specs.State.{Last, State, Tail}
 use Rattle.tm_items.specs.Item.{Item, Dropped, Packet, Short}
 use Rattle.tm_items.specs.declared.items.Reason.{Reason}
 use Rattle.tm_items.specs.declared.items.Reason.TheVariants.{Close}
-use Rattle.tm_reassembly.proofs.Each.{Each, Each-append, Each-cond}
+use Rattle.tm_bits.proofs.Each.{Each, Each-append, Each-cond}
 use Rattle.tm_output.specs.Outputs.{Piece}
 use Rattle.tm_output.specs.Pieces.{Texts, noted, noted_all, notes_of, piece_of, pieces_of, report_of, sent}
 use Rattle.tm_tool.specs.NotesInAll.{pieces_with, report_with, sent_among, sent_in}

@@ -12,7 +12,7 @@ use Rattle.tm_reassembly.specs.Parts.{Fate, Given, Held, Lost, Part}
 use Rattle.tm_reassembly.specs.Readings.{Reading}
 use Rattle.tm_reassembly.specs.Recording.{items, after, readings}
 use Rattle.tm_reassembly.specs.State.{State}
-use Rattle.tm_reassembly.proofs.Each.{Each, Each-append, Each-cond, Each-every, Each-filter, Each-flat_map}
+use Rattle.tm_bits.proofs.Each.{Each, Each-append, Each-cond, Each-every, Each-filter, Each-flat_map}
 use Rattle.tm_reassembly.proofs.Joining.{gaps-each, vcas-each}
 use Rattle.tm_summary.specs.Adding.{with_frame}
 use Rattle.tm_summary.specs.Kinds.{is_bad}

@@ -1,7 +1,7 @@
 -- What is lost at stops. A checkpoint of an older version loses the last master channel count, and so the gap of the first good
 -- frame behind it.
-use Rattle.std.specs.Prelude.{⊤, ◌≡◌, ℕ, Bool, true, not, if◌then◌else◌, List, [], ◌∷◌, ◌++◌, length, drop}
-use Rattle.std.specs.List.{count_by}
+use Rattle.std.specs.Prelude.{◌≡◌, ℕ, Bool, true, not, if◌then◌else◌, List, [], ◌∷◌, ◌++◌, length, drop}
+use Rattle.std.specs.List.{AllByRecursion, count_by}
 use Rattle.tm_frame.specs.Layout.{record_length_of}
 use Rattle.tm_packet.specs.Merge.{Entries}
 use Rattle.tm_items.specs.Item.{Item}
@@ -20,8 +20,7 @@ use Rattle.tm_tool.specs.Resuming.{Stop, done_after}
 
 -- the settings can be told in each stop's version
 abbrev pub AllTell : Rules → List Stop → Type 0
-AllTell settings [] = ⊤
-AllTell settings (stop ∷ stops) = (tells stop.version settings ≡ true) × AllTell settings stops
+AllTell settings stops = AllByRecursion (λ stop. tells stop.version settings ≡ true) stops
 
 -- Where so many records are done, and the job is written in this version: the record of the first good frame behind them, if its gap is lost.
 abbrev pub lost_gap_at : Rules → List ℕ → Version → ℕ → List ℕ

@@ -1,5 +1,6 @@
 -- A job that is stopped and resumed from its checkpoints, any number of times.
 use Rattle.std.specs.Prelude.{⊤, ◌≡◌, ℕ, ◌+◌, ◌-◌, min, Bool, List, [], ◌∷◌, ◌++◌, length, Result, Ok, Err}
+use Rattle.std.specs.List.{AllByRecursion}
 use Rattle.tm_frame.specs.Rules.{Rules}
 use Rattle.tm_faults.specs.declared.run.CheckpointFault.{CheckpointFault}
 use Rattle.tm_output.specs.declared.command.Ending.{Ending}
@@ -21,8 +22,7 @@ pub record Stop : Type 0 where
 
 -- each checkpoint is of the version that is written today
 abbrev pub AllOfToday : List Stop → Type 0
-AllOfToday [] = ⊤
-AllOfToday (stop ∷ stops) = (stop.version ≡ Three) × AllOfToday stops
+AllOfToday stops = AllByRecursion (λ stop. stop.version ≡ Three) stops
 
 -- a run that ends so keeps its job
 abbrev pub KeepsJob : Ending → Type 0

@@ -93,7 +93,7 @@ record PacketExamples : Type 0 where
 
 packet_examples : PacketExamples
 unfolding pieces records rest_of items after packet_octets listed report_of item_line drop_line note_line short_line digits noted notes_of no_entries unclosed_piece header layout job fifty_fives packet cut fault_of part number bits_of low_bits
-packet_examples = assumption
+packet_examples = record { two_packets = refl; pointer_drop_and_sequence_gap = refl; two_channels = refl }
 
 record GapExamples : Type 0 where
   frame_gap : reports (pieces (text_of Extract) Close (job 24) with_gap) ≡ master_gap_line 3 1 2 1 ++ behind_master
@@ -103,7 +103,7 @@ record GapExamples : Type 0 where
 
 gap_examples : GapExamples
 unfolding pieces records rest_of items after packet_octets listed report_of item_line master_gap_line gap_line drop_line note_line short_line digits noted notes_of no_entries unclosed_piece layout job fifty_fives packet cut before_gap with_gap behind_master fault_of part number bits_of low_bits
-gap_examples = assumption
+gap_examples = record { frame_gap = refl; gap_resumed = refl; gap_resumed_without = refl }
 
 record EndExamples : Type 0 where
   groups : reports (pieces (text_of Extract) Close (job 27)
@@ -120,7 +120,7 @@ record EndExamples : Type 0 where
 
 end_examples : EndExamples
 unfolding pieces records rest_of items after packet_octets listed report_of item_line drop_line note_line short_line digits noted notes_of no_entries unclosed_piece header layout job fifty_fives packet cut fault_of part number bits_of low_bits
-end_examples = assumption
+end_examples = record { groups = refl; short_rest = refl }
 
 -- stopped behind each of the three, and resumed through checkpoints of the versions 1, 3 and 2: for one run just that line is
 -- left out
@@ -145,7 +145,7 @@ record StopExamples : Type 0 where
 
 stop_examples : StopExamples
 unfolding run_pieces_without_gaps resumed version_in spelled_in mixed_stops pieces state_of block_read blocks_read master_read state_decoding_of old_decoding_of error_control_of long_division subtract records rest_of items after packet_octets listed report_of item_line master_gap_line gap_line drop_line note_line short_line digits noted notes_of no_entries unclosed_piece layout job fifty_fives packet cut before_gap with_gap behind_master fault_of part number bits_of low_bits
-stop_examples = assumption
+stop_examples = record { mixed_lost = refl; mixed_one_run = refl; mixed_runs = refl }
 
 -- ---- rows of fields
 
@@ -172,4 +172,4 @@ record RowExamples : Type 0 where
 
 row_examples : RowExamples
 unfolding pieces records rest_of items after tabled too_short report_of item_line short_packet_line noted notes_of no_entries unclosed_piece layout job five_fields one_packet fault_of part number bits_of low_bits digits
-row_examples = assumption
+row_examples = record { head_and_row = refl; other_application = refl; one_bit_short = refl }

@@ -171,7 +171,7 @@ fn handle_next<R: BufferedSource, K: RecordHandler>(
     if octets < size {
         return Ok(Some(octets));
     }
-    if let Err(fault) = handler.handle_record(reassembly, buffer) {
+    if let Err(fault) = handler.handle_record(reassembly, &buffer[..octets]) {
         return Err(fault);
     }
     if !may_wait_for(recording, size) {

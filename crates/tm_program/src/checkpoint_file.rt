@@ -10,9 +10,7 @@ use crate::opening::no_memory;
 use std::rt::Files;
 use tm_arguments::Plan;
 use tm_faults::ToolFault;
-use tm_files::{
-    Replaced, Replacement, abandon_replacement, begin_replacement, finish_replacement,
-};
+use tm_files::{Replaced, Replacement, abandon_replacement, begin_replacement, finish_replacement};
 use tm_tool::{Done, Ending, Job, RunFault, Settings};
 
 /// Where the run of the plan ends: after its number of records, or at the end of the recording. That is closed there unless the plan names a

@@ -1,5 +1,5 @@
 -- The columns of a definition, by the headings of its first record.
-use Rattle.std.specs.Prelude.{ℕ, ◌+◌, if◌then◌else◌, List, [], ◌∷◌, Option, Some, None, Result, Ok, Err, codes}
+use Rattle.std.specs.Prelude.{ℕ, ◌+◌, if◌then◌else◌, List, [], ◌∷◌, Option, Some, None, Result, Ok, Err}
 use Rattle.std.specs.Str.{bytes_eq}
 use Rattle.tm_faults.specs.Columns.{column_word}
 use Rattle.tm_fields.specs.Values.{trimmed}

@@ -1,5 +1,5 @@
 -- Which faults the steps of a plan may end in, each by what it does.
-use Rattle.std.specs.Prelude.{◌≡◌, ◌≢◌, ◌⊎◌, ⊤, ℕ, true, List, Option, None, Some, Ok, IsSome}
+use Rattle.std.specs.Prelude.{◌≡◌, ◌≢◌, ◌⊎◌, ℕ, true, List, Option, None, Some, Ok, IsSome}
 use Rattle.tm_files.specs.code.Decisions.{is_job}
 use Rattle.tm_faults.specs.declared.definition.DefinitionFault.{DefinitionFault}
 use Rattle.tm_faults.specs.declared.run.CheckpointFault.{CheckpointFault}

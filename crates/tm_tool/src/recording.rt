@@ -165,14 +165,11 @@ pub(crate) fn run_into<R: BufferedSource, O: Outlet, V: Drain>(
         outlet,
         report,
     };
-    match handle_recording(
+    handle_recording(
         reassembly,
         buffer.as_mut_slice(),
         recording,
         &mut output,
         ending,
-    ) {
-        Ok(()) => Ok(()),
-        Err(fault) => Err(fault),
-    }
+    )
 }

@@ -82,7 +82,7 @@ record PacketExamples : Type 0 where
 
 packet_examples : PacketExamples
 unfolding items after base layout channel_1 fifty_fives packet cut given under of_channel_1 left fault_of part number bits_of low_bits
-packet_examples = assumption
+packet_examples = record { two_packets = refl; packet_over_three_frames = refl; split_header_over_idle = refl; pointer_disagrees = refl; no_start_dropped = refl; pointer_drop = refl; other_version = refl; split_with_idle = refl }
 
 -- gaps, VCA frames, a bad frame, and no records
 record GapExamples : Type 0 where
@@ -107,7 +107,7 @@ record GapExamples : Type 0 where
 
 gap_examples : GapExamples
 unfolding items after base layout channel_1 fifty_fives packet cut given under of_channel_1 left fault_of part number bits_of low_bits
-gap_examples = assumption
+gap_examples = record { frame_gap = refl; frame_twice = refl; vca_frame = refl; vca_frame_with_gap = refl; bad_frame = refl; no_records = refl }
 
 -- a frame whose error control doesn't hold, behind one that is idle
 damaged : items (record { layout = record layout { frame_length = 9; error_control = true }; channels = all_channels; max_packet = 65542 }) empty
@@ -131,7 +131,7 @@ record LimitExamples : Type 0 where
 
 limit_examples : LimitExamples
 unfolding items after base layout channel_1 fifty_fives packet cut given under of_channel_1 left fault_of part number bits_of low_bits
-limit_examples = assumption
+limit_examples = record { long_at_once = refl; long_split_header = refl; long_and_misplaced = refl; long_under_12 = refl; not_long_under_14 = refl }
 
 -- gaps of the master channel
 record MasterExamples : Type 0 where
@@ -151,7 +151,7 @@ record MasterExamples : Type 0 where
 
 master_examples : MasterExamples
 unfolding items after base layout channel_1 fifty_fives packet cut given under of_channel_1 left fault_of part number bits_of low_bits
-master_examples = assumption
+master_examples = record { master_gap_unchosen = refl; loss_in_another_channel = refl; loss_of_256_frames = refl }
 
 -- ---- two channels, and the same in two parts, with the state between them
 
@@ -194,7 +194,7 @@ record ChannelExamples : Type 0 where
 
 channel_examples : ChannelExamples
 unfolding items after base layout channel_1 fifty_fives packet cut given under of_channel_1 left fault_of part number bits_of low_bits records_of_two_channels items_of_two_channels stopped_after
-channel_examples = assumption
+channel_examples = record { two_channels = refl; stopped_after_1 = refl; stopped_after_2 = refl; stopped_after_3 = refl; stopped_after_4 = refl; state_after_three = refl; channel_one = refl; short_rest = refl; held_after_first_record = refl }
 
 -- sets of channels
 record SetExamples : Type 0 where
@@ -204,7 +204,7 @@ record SetExamples : Type 0 where
   mask_of_all : mask_of all_channels ≡ 255
 
 set_examples : SetExamples
-set_examples = assumption
+set_examples = record { channels_of_0_and_3 = refl; mask_of_0_and_3 = refl; channels_of_0_twice = refl; mask_of_all = refl }
 
 -- ---- spelling
 
@@ -237,4 +237,4 @@ record FaultExamples : Type 0 where
 
 fault_examples : FaultExamples
 unfolding base layout decoded old_decoded state_decoding_of old_decoding_of blocks_read block_read master_read part number bits_of low_bits
-fault_examples = assumption
+fault_examples = record { too_short = refl; flag_3 = refl; version_7 = refl; begins_later = refl; old_flag_3 = refl; master_flag_2 = refl; no_master_count = refl }

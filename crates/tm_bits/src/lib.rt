@@ -1,8 +1,9 @@
-//! Octets, as lists, as bits and as numbers.
+//! Octets, as lists, as bits, as numbers and as printed text.
 //!
 //! Frames, packet headers and packet fields are all read as slices of the bits of octets, the most
 //! significant bit of each octet first. This crate holds the definitions (`specs/`) and the lemmas
-//! (`proofs/`) that they share. Its code reads and appends numbers in octets, as checkpoints have them.
+//! (`proofs/`) that they share. Its code reads and appends numbers in octets, as checkpoints have them,
+//! and prints octets that may be anything.
 #![tactic(auto)]
 
 mod escape;

@@ -14,6 +14,7 @@ ghost use Rattle.tm_checkpoint.specs.Checkpoints.{AsksMemory, checkpoint_of, che
 
 use crate::version::Version;
 use std::alloc::{AllocError, Global};
+use tm_bits::two_at;
 use tm_faults::{CheckpointFault, NoMemory};
 use tm_frame::{Layout, Presence, error_control};
 use tm_packet::{Tracker, TrackerFault};
@@ -230,7 +231,7 @@ fn check_holds(octets: &[u8]) -> bool
     ensures { result ≡ check_holds octets.now }
 {
     let end = octets.len() - 2;
-    u16::from_be_bytes([octets[end], octets[end + 1]]) == error_control(&octets[..end])
+    two_at(octets, end) == error_control(&octets[..end])
 }
 
 // The octets between the settings and the check.

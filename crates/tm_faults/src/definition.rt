@@ -1,4 +1,4 @@
-//! Why a text is no definition of fields.
+//! The columns of a definition of fields, and why a text is no definition.
 
 ghost use Rattle.std.specs.Prelude.{◌≡◌};
 

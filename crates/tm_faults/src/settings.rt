@@ -1,4 +1,4 @@
-//! Why a text is no settings.
+//! The keys of the settings, and why a text is no settings.
 
 ghost use Rattle.std.specs.Prelude.{◌≡◌};
 

@@ -1,12 +1,15 @@
-//! The files that a plan names: which clash, and how they are opened and read.
+//! The files that a plan names: which clash, what is checked before they are opened, and how they are opened and read.
 #![tactic(auto)]
 
+mod checks;
 mod decisions;
 mod files;
 mod identities;
 mod names;
+mod opening;
 mod report;
 
+pub use checks::{check_file_names, check_folder, check_standard_error, check_streams};
 pub use decisions::{
     Destination, Recording, ReportTarget, Stream, choose_destination, choose_recording,
     choose_report, is_job, stream_fault, writes_errors, writes_output,
@@ -17,4 +20,5 @@ pub use files::{
 };
 pub use identities::identify_files;
 pub use names::{Checked, check_errors, check_names};
+pub use opening::{make_drain, open_recording, open_report, source_of_input};
 pub use report::Report;

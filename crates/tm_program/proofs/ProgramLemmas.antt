@@ -1,10 +1,10 @@
 -- Faults of files and of runs, as faults that may come of a plan.
-use Rattle.std.proofs.Common.{ℕ, ◌≡◌, ◌⊎◌, ◌∙◌, List, Option, None, Some, ap, inl, inr, option_map, refl, subst, sym}
-use Rattle.std.proofs.lemmas.Option.{same_Some}
+use Rattle.std.proofs.Common.{ℕ, ◌≡◌, ◌⊎◌, List, Option, None, Some, inl, inr, refl, subst, sym}
 use Rattle.tm_split_files.specs.Names.{file_in}
-use Rattle.tm_files.specs.code.Files.{HasFault, IsFaultOf, IsFileFault, IsRunFault}
-use Rattle.tm_program.specs.Program.{IsAsked, IsInFolder, IsNamed, IsOfFolder, IsReadWhole, MayCome, MayEnd}
-use Rattle.tm_program.specs.code.Faults.{HasFolderFault, HasReadFault, IsFolderFault, IsOfDefinition, IsOfOutputs, IsOfPut, IsOfResumed, IsOfSettings, IsOfStreams}
+use Rattle.tm_files.specs.code.Decisions.{IsOfStreams}
+use Rattle.tm_files.specs.code.Files.{HasFault, IsFaultOf, IsFileFault, IsNoMemory, IsRunFault}
+use Rattle.tm_program.specs.Program.{IsAsked, IsNamed, IsOfFolder, IsReadWhole, MayCome, MayEnd}
+use Rattle.tm_program.specs.code.Faults.{HasFolderFault, HasReadFault, IsFolderFault, IsOfDefinition, IsOfOutputs, IsOfResumed, IsOfSettings}
 use Rattle.tm_faults.specs.declared.program.ToolFault.{ToolFault}
 use Rattle.tm_faults.specs.declared.program.ToolFault.TheVariants as tool
 use Rattle.tm_arguments.specs.declared.request.Plan.{Plan}
@@ -62,9 +62,10 @@ folder_of_comes : (p : Plan) (o : Option (List ℕ)) (fault : ToolFault) → p.d
 folder_of_comes p None fault is h = absurd h
 folder_of_comes p (Some dir) fault is h = folder_comes p dir fault is h
 
--- standard error is a file that is read
-pub errors_come : (p : Plan) (fault : ToolFault) → fault ≡ tool.Errors → MayCome p fault
-errors_come p fault is = rw is tt
+-- standard error is a file that is read, or memory ran out
+pub errors_come : (p : Plan) (fault : ToolFault) → IsNoMemory fault ⊎ (fault ≡ tool.Errors) → MayCome p fault
+errors_come p fault (inl h) = rw h tt
+errors_come p fault (inr h) = rw h tt
 
 pub outputs_come : (p : Plan) (fault : ToolFault) → IsOfOutputs p fault → MayCome p fault
 outputs_come p fault (inl h) = run_comes p fault h
@@ -91,17 +92,6 @@ folder_there (Some dir) fault h = inl h
 pub split_there : (o : Option (List ℕ)) (dir : List ℕ) (fault : ToolFault) → o ≡ Some dir → IsRunFault fault ⊎ IsFolderFault dir fault → IsRunFault fault ⊎ HasFolderFault o fault
 split_there o dir fault is (inl h) = inl h
 split_there o dir fault is (inr h) = inr (subst (λ (found : Option (List ℕ)). HasFolderFault found fault) (sym is) h)
-
--- the file of a put that was refused is one of the folder
-in_folder : (dir : List ℕ) (clashing : Option ℕ) (name : List ℕ) → option_map (file_in dir) clashing ≡ Some name → IsInFolder dir name
-in_folder dir None name is = cc
-in_folder dir (Some application) name is = (application, sym (same_Some _ _ is))
-
-pub put_there : (dir : List ℕ) (clashing : Option ℕ) (found : Option (List ℕ)) (fault : ToolFault) → found ≡ option_map (file_in dir) clashing → IsOfPut found fault → IsRunFault fault ⊎ IsFolderFault dir fault
-put_there dir clashing found fault is (inl h) =
-    let own = in_folder dir clashing h.0 (sym is ∙ h.1) in
-    inr (inr (own.0, h.2 ∙ ap tool.File own.1))
-put_there dir clashing found fault is (inr h) = inl h
 
 -- what may come of the plan of arguments may be their end
 pub plan_ends : (arguments : List (List ℕ)) (p : Plan) (fault : ToolFault) → IsAsked arguments p → MayCome p fault → MayEnd arguments fault

@@ -6,7 +6,7 @@ ghost use Rattle.tm_program.specs.code.Endings.{HasCheckpoint, ending_of, reques
 ghost use Rattle.tm_files.specs.code.Files.{HasFault, IsNoMemory};
 ghost use Rattle.tm_files.specs.code.Replacements.{replaced_name, replacement_name};
 
-use crate::opening::no_memory;
+use crate::outcome::{Finished, Outcome};
 use std::rt::Files;
 use tm_arguments::Plan;
 use tm_faults::ToolFault;
@@ -88,28 +88,36 @@ fn store_checkpoint<'p, R: Files + AllocGlobal>(
         Ok(octets) => Ok(Some(finish_replacement(rt, replacement, octets)?)),
         Err(_) => {
             abandon_replacement(rt, replacement);
-            Err(no_memory())
+            Err(ToolFault::Run(RunFault::NoMemory))
         }
     }
 }
 
-/// Ends what was begun for the checkpoint, once the job has run: its file takes the checkpoint, or is removed again.
-pub fn end_checkpoint<'p, R: Files + AllocGlobal>(
+/// Ends what was begun for the checkpoint, once the job has run: its file takes the checkpoint, or is removed again. Answers what the run did.
+pub(crate) fn end_checkpoint<'p, R: Files + AllocGlobal>(
     rt: &R,
     replacement: Option<Replacement<'p, R::File>>,
     done: Result<Done, ToolFault>,
-) -> Result<(Done, Option<Replaced<'p>>), ToolFault>
-    ensures done { IfOk result (λ ended. done ≡ Ok ended.0) }
-    ensures replaced { IfOk result (λ ended. option_map replaced_name ended.1
-        ≡ requested_checkpoint (option_map replacement_name replacement.entry) ended.0.kept) }
-    ensures octets { IfOk result (λ ended. IfSome ended.1 (HasCheckpoint ended.0)) }
+    outcome: Outcome,
+) -> Result<Finished<'p>, ToolFault>
+    ensures done { IfOk result (λ finished. MatchOption finished.done ⊥ (λ it. done ≡ Ok it)) }
+    ensures replaced { IfOk result (λ finished. IfSome finished.done (λ it. option_map replaced_name finished.replaced
+        ≡ requested_checkpoint (option_map replacement_name replacement.entry) it.kept)) }
+    ensures octets { IfOk result (λ finished. IfSome finished.done (λ it. IfSome finished.replaced (HasCheckpoint it))) }
     ensures refused { IfErr result (λ fault. HasFault (option_map replacement_name replacement.entry) fault ⊎ (done ≡ Err fault)) }
 {
     match done {
-        Ok(done) => {
-            let replaced = store_checkpoint(rt, replacement, &done)?;
-            Ok((done, replaced))
-        }
+        Ok(done) => match store_checkpoint(rt, replacement, &done) {
+            Ok(replaced) => Ok(Finished {
+                done: Some(done),
+                replaced,
+                outcome,
+            }),
+            Err(fault) => {
+                drop(done);
+                Err(fault)
+            }
+        },
         Err(fault) => {
             abandon_checkpoint(rt, replacement);
             Err(fault)

@@ -1,96 +1,139 @@
-//! Packets to a file for each application, and what that ends with.
+//! Packets to a file for each application: the folder's files, and what splitting ends with.
 
-ghost use Rattle.std.specs.Prelude.{◌≡◌, ◌⊎◌, Ok, IfErr, IfOk, OnOk, option_map};
+ghost use Rattle.std.specs.Prelude.{◌≡◌, ◌≢◌, ◌⊎◌, [], None, Ok, Some, IfErr, IfOk, MatchOption, OnOk, is_some, option_map};
+ghost use Rattle.tm_arguments.specs.declared.request.Action.TheVariants.{Split};
+ghost use Rattle.tm_files.specs.code.Files.{HasFault, IsFileFault, IsRunFault};
+ghost use Rattle.tm_program.specs.code.Blames.{IsBlamedBeside, IsPutFault, IsSplitEnd, held_fault_of};
+ghost use Rattle.tm_program.specs.code.Endings.{HasDone};
+ghost use Rattle.tm_program.specs.code.Faults.{IsFolderFault};
 ghost use Rattle.tm_split_files.specs.Names.{file_in};
 ghost use Rattle.tm_split_files.specs.Shelves.{HoldsNone};
-ghost use Rattle.tm_files.specs.code.Files.{IsNoMemory, IsRunFault};
-ghost use Rattle.tm_program.specs.code.Blames.{IsBlamedBeside, put_fault_of, split_end_of};
-ghost use Rattle.tm_program.specs.code.Endings.{IsDone};
-ghost use Rattle.tm_program.specs.code.Faults.{IsFolderFault, IsOfPut};
 
-use crate::opening::no_memory;
+use crate::checkpoint_file::{choose_ending, make_job};
+use crate::inputs::Inputs;
 use std::alloc::Global;
 use std::rt::Files;
+use tm_arguments::Plan;
 use tm_faults::ToolFault;
+use tm_file_identity::FileIdentities;
+use tm_files::{Destination, choose_destination, file_fault};
 use tm_split_files::{FileShelf, ShelfFault, name_in};
-use tm_tool::{BufferedSource, Done, Drain, Ending, Job, Octets, RunFault, split};
+use tm_tool::{BufferedSource, Done, Drain, Octets, RunFault, split};
 
-// The name of the file of this application, which is another file of the run, where there is one.
-fn clashing_file(
-    alloc: Global,
-    dir: &str,
-    clashing: Option<usize>,
-) -> Result<Option<Octets>, ToolFault>
-    ensures name { IfOk result (λ found. found ≡ option_map (file_in dir.now) clashing) }
-    ensures refused { IfErr result IsNoMemory }
+// The files for the applications in this folder, none of them one of the run's other files. An empty name is none: it would stand for the root.
+fn make_shelf_in<'a, R: Files + AllocGlobal>(
+    rt: &'a R,
+    dir: &'a Octets,
+    goes_on: bool,
+    identities: &'a FileIdentities,
+) -> Result<FileShelf<'a, R>, ToolFault>
+    ensures folder { IfOk result (λ s. (s.folder ≡ dir.now) × (s.goes_on ≡ goes_on) × (s.identities ≡ identities.now)
+        × (dir.now ≢ [])) }
+    ensures refused { IfErr result (IsFileFault dir.now) }
 {
-    let Some(application) = clashing else {
-        return Ok(None);
+    let path = match std::str::from_utf8(dir.as_slice()) {
+        Ok(path) if !path.is_empty() => path,
+        _ => return Err(file_fault(rt.alloc(), dir)),
     };
-    match name_in(alloc, dir, application) {
-        Ok(name) => Ok(Some(Octets::new(name.into_bytes()))),
-        Err(_) => Err(no_memory()),
+    match FileShelf::new(rt, path, goes_on, identities) {
+        Ok(shelf) => Ok(shelf),
+        Err(_) => Err(ToolFault::Run(RunFault::NoMemory)),
     }
 }
 
-// The fault of a put that the shelf refused.
-fn fault_of_put(out_of_memory: bool, clashing: Option<Octets>) -> ToolFault
-    ensures { result ≡ put_fault_of out_of_memory clashing }
+// The files for the applications, where the plan's packets go to a folder.
+#[tactic(auto, using(tm_files::proofs::FaultLemmas::fault_there))]
+pub(crate) fn make_shelf<'a, R: Files + AllocGlobal>(
+    rt: &'a R,
+    plan: &'a Plan,
+    identities: &'a FileIdentities,
+) -> Result<Option<FileShelf<'a, R>>, ToolFault>
+    ensures found { IfOk result (λ found. MatchOption found (plan.now.action ≡ Split → plan.now.dir ≡ None)
+        (λ s. (plan.now.action ≡ Split) × (plan.now.dir ≡ Some s.folder) × (s.goes_on ≡ is_some plan.now.resume)
+        × (s.identities ≡ identities.now))) }
+    ensures refused { IfErr result (HasFault plan.now.dir) }
 {
-    match clashing {
-        _ if out_of_memory => ToolFault::Run(RunFault::NoMemory),
-        Some(name) => ToolFault::File(name),
+    match choose_destination(plan) {
+        Destination::Folder { dir, goes_on } => {
+            Ok(Some(make_shelf_in(rt, dir, goes_on, identities)?))
+        }
+        Destination::Output => Ok(None),
+    }
+}
+
+// The fault of a put into the folder that the shelf refused.
+fn fault_of_put<R: Files + AllocGlobal>(
+    alloc: Global,
+    dir: &str,
+    shelf: &FileShelf<'_, R>,
+) -> ToolFault
+    ensures fault { IsPutFault shelf.now.out_of_memory (option_map (file_in dir.now) shelf.now.clashing) result }
+    ensures refused { IsRunFault result ⊎ IsFolderFault dir.now result }
+{
+    match shelf.clashing() {
+        _ if shelf.out_of_memory() => ToolFault::Run(RunFault::NoMemory),
+        Some(application) => match name_in(alloc, dir, application) {
+            Ok(name) => ToolFault::File(Octets::new(name.into_bytes())),
+            Err(_) => ToolFault::Run(RunFault::NoMemory),
+        },
         None => ToolFault::Run(RunFault::Write),
     }
 }
 
-// What splitting ends with, once what the shelf holds is written.
-fn split_end(
+// The fault of octets that were held and can't be written.
+fn fault_of_held(fault: ShelfFault) -> RunFault
+    ensures { result ≡ held_fault_of fault }
+{
+    match fault {
+        ShelfFault::NoMemory => RunFault::NoMemory,
+        ShelfFault::NotWritten | ShelfFault::Clashes => RunFault::Write,
+    }
+}
+
+// What splitting into the folder ends with, once what the shelf holds is written.
+fn split_end<R: Files + AllocGlobal>(
+    alloc: Global,
+    dir: &str,
+    shelf: &FileShelf<'_, R>,
     done: Result<Done, RunFault>,
     written: Result<(), ShelfFault>,
-    out_of_memory: bool,
-    clashing: Option<Octets>,
 ) -> Result<Done, ToolFault>
     ensures done { IfOk result (λ d. done ≡ Ok d) }
     ensures written { OnOk result (written ≡ Ok tt) }
-    ensures refused { IfErr result (IsOfPut clashing) }
-    ensures end { result ≡ split_end_of done written out_of_memory clashing }
+    ensures refused { IfErr result (λ fault. IsRunFault fault ⊎ IsFolderFault dir.now fault) }
+    ensures end { IsSplitEnd done written shelf.now.out_of_memory (option_map (file_in dir.now) shelf.now.clashing) result }
 {
     match (done, written) {
         (Ok(done), Ok(())) => Ok(done),
-        (Ok(done), Err(ShelfFault::NoMemory)) => {
+        (Ok(done), Err(fault)) => {
             drop(done);
-            Err(no_memory())
+            Err(ToolFault::Run(fault_of_held(fault)))
         }
-        (Ok(done), Err(_)) => {
-            drop(done);
-            Err(ToolFault::Run(RunFault::Write))
-        }
-        (Err(RunFault::Write), _) => Err(fault_of_put(out_of_memory, clashing)),
+        (Err(RunFault::Write), _) => Err(fault_of_put(alloc, dir, shelf)),
         (Err(fault), _) => Err(ToolFault::Run(fault)),
     }
 }
 
-// Gives the packets of a recording to a file for each application.
-#[tactic(auto, using(tm_files::proofs::FaultLemmas::no_memory_run, crate::proofs::BlameLemmas::split_blames, crate::proofs::BlameLemmas::no_memory_blames, crate::proofs::EndingLemmas::ran_done, crate::proofs::ProgramLemmas::put_there))]
+// Goes on with the job of the checkpoint, or else with a new one, and gives its packets to a file for each application.
+#[tactic(auto, using(tm_files::proofs::FaultLemmas::no_memory_run, crate::proofs::BlameLemmas::split_blames, crate::proofs::BlameLemmas::no_memory_blames, crate::proofs::EndingLemmas::ran_done))]
 pub(crate) fn split_packets<R: Files + AllocGlobal, S: BufferedSource, V: Drain>(
     rt: &R,
-    job: Job,
+    plan: &Plan,
+    inputs: &mut Inputs,
     shelf: &mut FileShelf<'_, R>,
     source: &mut S,
     report: &mut V,
-    ending: Ending,
 ) -> Result<Done, ToolFault>
-    ensures done { IfOk result (IsDone ending job.work) }
+    ensures done { IfOk result (HasDone plan.now inputs.old.settings inputs.old.resumed) }
     ensures written { OnOk result (HoldsNone shelf.new.held) }
     ensures blamed { IfErr result (IsBlamedBeside (S.failures source.old) (S.failures source.new) (V.failures report.old)
         (V.failures report.new)) }
     ensures refused { IfErr result (λ fault. IsRunFault fault ⊎ IsFolderFault shelf.old.folder fault) }
 {
+    let job = make_job(rt, inputs.resumed.take(), &inputs.settings)?;
     let alloc = rt.alloc();
     let dir = shelf.dir();
-    let done = split(alloc, job, source, shelf, report, ending);
+    let done = split(alloc, job, source, shelf, report, choose_ending(plan));
     let written = shelf.write_held();
-    let clashing = clashing_file(alloc, dir, shelf.clashing())?;
-    split_end(done, written, shelf.out_of_memory(), clashing)
+    split_end(alloc, dir, shelf, done, written)
 }

@@ -4,13 +4,12 @@ ghost use Rattle.std.specs.Prelude.{◌≡◌, ◌⊎◌, IfErr, IfOk, IfSome, I
 ghost use Rattle.tm_program.specs.Program.{MayCome};
 ghost use Rattle.tm_program.specs.code.Faults.{IsOfDefinition, IsOfResumed, IsOfSettings, IsResumed};
 
-use crate::checks::check_standard;
 use std::io::Write;
 use std::rt::Files;
 use tm_arguments::Plan;
 use tm_faults::ToolFault;
 use tm_fields::Definition;
-use tm_files::read_file;
+use tm_files::{check_standard_error, check_streams, read_file};
 use tm_tool::{Job, Settings};
 
 // The settings in the plan's file.
@@ -92,8 +91,8 @@ fn read_inputs<R: Files + AllocGlobal>(rt: &R, plan: &Plan) -> Result<Inputs, To
     })
 }
 
-/// Checks the standard streams, and then reads the files of the plan but for the recording.
-#[tactic(auto, using(crate::proofs::ProgramLemmas::definition_comes, crate::proofs::ProgramLemmas::resumed_comes, crate::proofs::ProgramLemmas::settings_come))]
+/// Checks the standard streams, standard error first, and then reads the files of the plan but for the recording.
+#[tactic(auto, using(crate::proofs::ProgramLemmas::errors_come, crate::proofs::ProgramLemmas::streams_come, crate::proofs::ProgramLemmas::definition_comes, crate::proofs::ProgramLemmas::resumed_comes, crate::proofs::ProgramLemmas::settings_come))]
 pub(crate) fn prepare_inputs<R: Files + Print + AllocGlobal, E: Write>(
     rt: &R,
     plan: &Plan,
@@ -105,6 +104,7 @@ pub(crate) fn prepare_inputs<R: Files + Print + AllocGlobal, E: Write>(
     ensures job { IfOk result (λ i. IfSome i.resumed (IsResumed i.settings)) }
     ensures refused { IfErr result (MayCome plan.now) }
 {
-    check_standard(rt, plan, errors)?;
+    check_standard_error(rt, plan)?;
+    check_streams(rt, plan, errors)?;
     read_inputs(rt, plan)
 }

@@ -2,10 +2,8 @@
 #![tactic(auto)]
 
 mod checkpoint_file;
-mod checks;
 mod folder;
 mod inputs;
-mod opening;
 mod outcome;
 mod steps;
 

@@ -1,8 +1,10 @@
-//! What a run that ended has seen.
+//! What a run that ended has done and seen.
 
 ghost use Rattle.std.specs.Prelude.{◌≡◌, ◌<◌, ◌≤◌, ◌↔◌, IsTrue};
 
 use tm_devices::{DeviceFailed, Drain};
+use tm_files::Replaced;
+use tm_tool::Done;
 
 /// What a run that ended has seen of its recording.
 #[derive(Clone, Copy, Debug, PartialEq, Eq)]
@@ -21,6 +23,23 @@ impl Outcome {
         ensures { IsTrue result ↔ ((0 < self.records) × (self.records ≤ self.bad)) }
     {
         0 < self.records && u64::from(self.records) <= self.bad
+    }
+}
+
+/// What the run of a plan did. A job says what it has done, and which file took its checkpoint, where the plan has one.
+#[derive(Drop)]
+pub(crate) struct Finished<'p> {
+    pub(crate) done: Option<Done>,
+    pub(crate) replaced: Option<Replaced<'p>>,
+    pub(crate) outcome: Outcome,
+}
+
+impl Finished<'_> {
+    /// What the run has seen.
+    pub(crate) fn into_outcome(self) -> Outcome
+        ensures { result ≡ self.entry.outcome }
+    {
+        self.outcome
     }
 }
 

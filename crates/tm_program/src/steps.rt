@@ -6,27 +6,26 @@ ghost use Rattle.tm_files.specs.code.Files.{IsRunFault};
 ghost use Rattle.tm_files.specs.code.Replacements.{replaced_name};
 ghost use Rattle.tm_files.specs.Names.{AreClear};
 ghost use Rattle.tm_program.specs.code.Blames.{IsBlamed, IsBlamedBeside};
-ghost use Rattle.tm_program.specs.code.Endings.{HasCheckpoint, HasDone, HasShown, IsDone};
+ghost use Rattle.tm_program.specs.code.Endings.{HasCheckpoint, HasDone, HasShown};
 ghost use Rattle.tm_program.specs.Program.{IsAsked, MayCome, MayEnd};
 ghost use Rattle.tm_program.specs.code.Faults.{HasFolderFault, IsOfOutputs};
 
 use crate::checkpoint_file::{begin_checkpoint, choose_ending, end_checkpoint, make_job};
-use crate::checks::{check_file_names, check_folder};
-use crate::folder::split_packets;
+use crate::folder::{make_shelf, split_packets};
 use crate::inputs::{Inputs, prepare_inputs};
-use crate::opening::{make_drain, make_shelf, open_recording, open_report, source_of_input};
-use crate::outcome::{Counted, Outcome};
+use crate::outcome::{Counted, Finished, Outcome};
 use std::alloc::Global;
-use std::io::{self, Write};
+use std::io::{self, BufWriter, Write};
 use std::rt::Files;
 use tm_arguments::{Action, Plan, plan};
 use tm_faults::ToolFault;
 use tm_fields::Definition;
 use tm_files::{
-    Checked, Recording, Replaced, choose_recording, identify_files, is_job, writes_errors,
+    Checked, Recording, Report, check_file_names, check_folder, choose_recording, identify_files,
+    is_job, make_drain, open_recording, open_report, source_of_input, writes_errors,
 };
 use tm_tool::{
-    BufferedSource, Command, Done, Drain, Ending, Job, Settings, list_frames, summarize,
+    BufferedSource, Command, Done, Drain, Job, Settings, Writing, list_frames, summarize,
 };
 
 // The plan of the arguments.
@@ -76,12 +75,16 @@ fn list<R: Print + AllocGlobal, S: BufferedSource>(
 {
     let alloc = rt.alloc();
     let mut out = Counted::new(make_drain(alloc, io::writer(rt))?);
-    let records = list_to(alloc, action, settings, source, &mut out)?;
-    Ok(Outcome {
-        records,
-        bad: out.bad(),
-        reports_to_errors: false,
-    })
+    let listed = list_to(alloc, action, settings, source, &mut out);
+    let bad = out.bad();
+    match listed {
+        Ok(records) => Ok(Outcome {
+            records,
+            bad,
+            reports_to_errors: false,
+        }),
+        Err(fault) => Err(fault),
+    }
 }
 
 // What the plan wants of the packets on standard output.
@@ -98,31 +101,32 @@ fn choose_command<'a>(plan: &Plan, definition: Option<&'a Definition>) -> Comman
     }
 }
 
-// Gives the packets of a recording on standard output.
+// Goes on with the job of the checkpoint, or else with a new one, and gives its packets on standard output.
 #[tactic(auto, using(tm_files::proofs::FaultLemmas::no_memory_run, crate::proofs::BlameLemmas::run_blames, crate::proofs::BlameLemmas::no_memory_blames, crate::proofs::EndingLemmas::ran_done))]
 fn give_packets<R: Print + AllocGlobal, S: BufferedSource, V: Drain>(
     rt: &R,
-    job: Job,
-    command: Command<'_>,
+    plan: &Plan,
+    inputs: &mut Inputs,
     source: &mut S,
     report: &mut V,
-    ending: Ending,
 ) -> Result<Done, ToolFault>
-    ensures done { IfOk result (IsDone ending job.work) }
+    ensures done { IfOk result (HasDone plan.now inputs.old.settings inputs.old.resumed) }
     ensures blamed { IfErr result (IsBlamedBeside (S.failures source.old) (S.failures source.new) (V.failures report.old)
         (V.failures report.new)) }
     ensures refused { IfErr result IsRunFault }
 {
     let alloc = rt.alloc();
     let mut out = make_drain(alloc, io::writer(rt))?;
+    let job = make_job(rt, inputs.resumed.take(), &inputs.settings)?;
+    let command = choose_command(plan, inputs.definition.as_ref());
+    let ending = choose_ending(plan);
     match tm_tool::run(alloc, job, command, source, &mut out, report, ending) {
         Ok(done) => Ok(done),
         Err(fault) => Err(ToolFault::Run(fault)),
     }
 }
 
-// Goes on with the job of the checkpoint, or else with a new one, to where the plan wants the packets. Names are looked up anew, now that the
-// report is made: before, it may have been none.
+// Does the job to where the plan wants the packets. Names are looked up anew, now that the report is made: before, it may have been none.
 #[tactic(auto, using(tm_files::proofs::FaultLemmas::no_memory_run, crate::proofs::ProgramLemmas::folder_there, crate::proofs::ProgramLemmas::split_there))]
 fn run_to_destination<R: Files + Print + AllocGlobal, S: BufferedSource, V: Drain>(
     rt: &R,
@@ -134,34 +138,14 @@ fn run_to_destination<R: Files + Print + AllocGlobal, S: BufferedSource, V: Drai
     ensures done { IfOk result (HasDone plan.now inputs.old.settings inputs.old.resumed) }
     ensures refused { IfErr result (λ fault. IsRunFault fault ⊎ HasFolderFault plan.now.dir fault) }
 {
-    let job = make_job(rt, inputs.resumed.take(), &inputs.settings)?;
-    let ending = choose_ending(plan);
     let identities = identify_files(rt, plan)?;
     let done = match make_shelf(rt, plan, &identities) {
-        Ok(Some(mut shelf)) => split_packets(rt, job, &mut shelf, source, report, ending),
-        Ok(None) => {
-            let command = choose_command(plan, inputs.definition.as_ref());
-            give_packets(rt, job, command, source, report, ending)
-        }
+        Ok(Some(mut shelf)) => split_packets(rt, plan, inputs, &mut shelf, source, report),
+        Ok(None) => give_packets(rt, plan, inputs, source, report),
         Err(fault) => Err(fault),
     };
     drop(identities);
     done
-}
-
-// What the run of a job did, the file that took its checkpoint, where the plan has one, and what the run has seen.
-#[derive(Drop)]
-struct Finished<'p> {
-    done: Done,
-    replaced: Option<Replaced<'p>>,
-    outcome: Outcome,
-}
-
-// What the run of a plan did: that of its job, if it has one.
-#[derive(Drop)]
-struct Ended<'p> {
-    job: Option<Finished<'p>>,
-    outcome: Outcome,
 }
 
 // The number of records that are done before the run.
@@ -170,6 +154,28 @@ fn records_before(resumed: &Option<Job>) -> u32 {
         Some(job) => job.records(),
         None => 0,
     }
+}
+
+// The number of records that the run took, where so many were done before it.
+fn records_taken(done: &Result<Done, ToolFault>, before: u32) -> u32 {
+    match done {
+        Ok(done) => done.records.saturating_sub(before),
+        Err(_) => 0,
+    }
+}
+
+// The report of the plan, once its names were checked, with the lines of bad frames counted.
+#[tactic(auto, using(tm_files::proofs::FaultLemmas::no_memory_run))]
+fn make_report<R: Files + AllocGlobal, E: Write + Drop>(
+    rt: &R,
+    plan: &Plan,
+    checked: Checked,
+    errors: E,
+) -> Result<Counted<Writing<BufWriter<Report<R::File, E>>>>, ToolFault>
+    ensures { IfErr result (IsOfOutputs plan.now) }
+{
+    let report = open_report(rt, plan, checked, errors)?;
+    Ok(Counted::new(make_drain(rt.alloc(), report)?))
 }
 
 // Does what the plan wants of the job over the recording, once the names of its files were checked, and answers what is done. The file of the
@@ -183,64 +189,57 @@ fn run_job<'p, R: Files + Print + AllocGlobal, S: BufferedSource, E: Write + Dro
     errors: &mut E,
     checked: Checked,
 ) -> Result<Finished<'p>, ToolFault>
-    ensures done { IfOk result (λ finished. HasDone plan.now inputs.old.settings inputs.old.resumed finished.done) }
+    ensures done { IfOk result (λ finished. MatchOption finished.done ⊥ (HasDone plan.now inputs.old.settings inputs.old.resumed)) }
     ensures checkpoint { IfOk result (λ finished. option_map replaced_name finished.replaced ≡ plan.now.checkpoint) }
-    ensures octets { IfOk result (λ finished. IfSome finished.replaced (HasCheckpoint finished.done)) }
+    ensures octets { IfOk result (λ finished. IfSome finished.done (λ done. IfSome finished.replaced (HasCheckpoint done))) }
     ensures refused { IfErr result (IsOfOutputs plan.now) }
 {
     check_folder(rt, plan)?;
     let before = records_before(&inputs.resumed);
-    let mut report = Counted::new(make_drain(rt.alloc(), open_report(rt, plan, checked, errors)?)?);
-    let ended = match begin_checkpoint(rt, plan) {
+    let mut report = make_report(rt, plan, checked, errors)?;
+    match begin_checkpoint(rt, plan) {
         Ok(replacement) => {
             let done = run_to_destination(rt, plan, inputs, source, &mut report);
-            end_checkpoint(rt, replacement, done)
+            let outcome = Outcome {
+                records: records_taken(&done, before),
+                bad: report.bad(),
+                reports_to_errors: writes_errors(plan),
+            };
+            end_checkpoint(rt, replacement, done, outcome)
         }
         Err(fault) => Err(fault),
-    };
-    let bad = report.bad();
-    drop(report);
-    let (done, replaced) = ended?;
-    let outcome = Outcome {
-        records: done.records.saturating_sub(before),
-        bad,
-        reports_to_errors: writes_errors(plan),
-    };
-    Ok(Finished {
-        done,
-        replaced,
-        outcome,
-    })
+    }
 }
 
 // Checks the names of the plan's files, does what the plan asks for with the recording, and answers what its job has done, if it has one.
+#[tactic(auto, using(crate::proofs::ProgramLemmas::names_come))]
 fn run_on_recording<'p, R: Files + Print + AllocGlobal, S: BufferedSource, E: Write + Drop>(
     rt: &R,
     plan: &'p Plan,
     inputs: &mut Inputs,
     source: &mut S,
     errors: &mut E,
-) -> Result<Ended<'p>, ToolFault>
+) -> Result<Finished<'p>, ToolFault>
     ensures ok { OnOk result (AreClear plan.now) }
-    ensures done { IfOk result (λ ended. MatchOption ended.job (is_job plan.now.action ≡ false)
-        (λ finished. HasDone plan.now inputs.old.settings inputs.old.resumed finished.done)) }
-    ensures checkpoint { IfOk result (λ ended. IfSome ended.job
-        (λ finished. option_map replaced_name finished.replaced ≡ plan.now.checkpoint)) }
-    ensures octets { IfOk result (λ ended. IfSome ended.job
-        (λ finished. IfSome finished.replaced (HasCheckpoint finished.done))) }
+    ensures done { IfOk result (λ finished. MatchOption finished.done (is_job plan.now.action ≡ false)
+        (HasDone plan.now inputs.old.settings inputs.old.resumed)) }
+    ensures checkpoint { IfOk result (λ finished. IfSome finished.done
+        (λ done. option_map replaced_name finished.replaced ≡ plan.now.checkpoint)) }
+    ensures octets { IfOk result (λ finished. IfSome finished.done (λ done. IfSome finished.replaced (HasCheckpoint done))) }
     ensures refused { IfErr result (IsOfOutputs plan.now) }
 {
     let checked = check_file_names(rt, plan)?;
     if is_job(plan.action) {
-        let finished = run_job(rt, plan, inputs, source, errors, checked)?;
-        let outcome = finished.outcome;
-        return Ok(Ended {
-            job: Some(finished),
-            outcome,
-        });
+        return run_job(rt, plan, inputs, source, errors, checked);
     }
-    let outcome = list(rt, plan.action, &inputs.settings, source)?;
-    Ok(Ended { job: None, outcome })
+    match list(rt, plan.action, &inputs.settings, source) {
+        Ok(outcome) => Ok(Finished {
+            done: None,
+            replaced: None,
+            outcome,
+        }),
+        Err(fault) => Err(fault),
+    }
 }
 
 // Reads the files of the plan, does what it asks for, and answers what the run has seen.
@@ -255,7 +254,7 @@ fn run_plan<R: Files + Input + Print + AllocGlobal, E: Write + Drop>(
     ensures refused { IfErr result (MayCome plan.now) }
 {
     let mut inputs = prepare_inputs(rt, plan, errors)?;
-    let ended = match choose_recording(plan) {
+    let finished = match choose_recording(plan) {
         Recording::File(name) => match open_recording(rt, name) {
             Ok(mut source) => run_on_recording(rt, plan, &mut inputs, &mut source, errors),
             Err(fault) => Err(fault),
@@ -266,7 +265,10 @@ fn run_plan<R: Files + Input + Print + AllocGlobal, E: Write + Drop>(
         },
     };
     drop(inputs);
-    Ok(ended?.outcome)
+    match finished {
+        Ok(finished) => Ok(finished.into_outcome()),
+        Err(fault) => Err(fault),
+    }
 }
 
 /// Does what these arguments of the command line ask for, and answers what the run has seen. A report that has no file goes to `errors`, all of it
@@ -285,5 +287,7 @@ pub fn run<R: Files + Input + Print + AllocGlobal, E: Write + Drop>(
     ensures refused { IfErr result (MayEnd (map string_bytes arguments.items)) }
 {
     let plan = read_arguments(rt.alloc(), arguments)?;
-    run_plan(rt, &plan, &mut errors)
+    let outcome = run_plan(rt, &plan, &mut errors);
+    drop(plan);
+    outcome
 }

@@ -1,5 +1,5 @@
 -- What a plan decides of files and streams.
-use Rattle.std.specs.Prelude.{◌≡◌, ℕ, Bool, true, false, List, Option, None, Some, is_some}
+use Rattle.std.specs.Prelude.{◌≡◌, ◌≢◌, ◌⊎◌, ℕ, Bool, true, false, List, Option, None, Some, is_some}
 use Rattle.tm_faults.specs.declared.run.RunFault.TheVariants as run
 use Rattle.tm_files.specs.declared.decisions.Destination.{Destination}
 use Rattle.tm_files.specs.declared.decisions.Destination.TheVariants as destination
@@ -52,3 +52,7 @@ writes_errors action (Some name) = false
 abbrev pub stream_fault_of : Stream → ToolFault
 stream_fault_of stream.Output = tool.Run run.Write
 stream_fault_of stream.Errors = tool.Run run.Report
+
+-- a standard stream is closed to which the plan writes: standard output, or standard error where that takes the report
+abbrev pub IsOfStreams : Plan → ToolFault → Type 0
+IsOfStreams p fault = ((fault ≡ tool.Run run.Write) × (p.action ≢ Split)) ⊎ ((fault ≡ tool.Run run.Report) × (is_job p.action ≡ true) × (p.report ≡ None))

@@ -1,5 +1,5 @@
 -- Which device a run's fault blames, and how splitting ends.
-use Rattle.std.specs.Prelude.{◌≡◌, ⊤, ℕ, Bool, true, false, List, Option, None, Some, Result, Ok, Err}
+use Rattle.std.specs.Prelude.{◌≡◌, ◌⊎◌, ⊤, ℕ, Bool, true, false, List, Option, None, Some, Result, Ok, Err, MatchResult}
 use Rattle.tm_devices.specs.Devices.{raised}
 use Rattle.tm_output.specs.Faults.{CausedByDevice}
 use Rattle.tm_faults.specs.declared.run.RunFault.{RunFault}
@@ -28,15 +28,20 @@ put_fault_of true clashing = tool.Run run.NoMemory
 put_fault_of false (Some name) = tool.File name
 put_fault_of false None = tool.Run run.Write
 
--- what splitting ends with, of what its run says, of what writing says of that which was held, and of why the shelf last refused a put
-abbrev pub split_end_of : {D : Type 0} → Result D RunFault → Result ⊤ ShelfFault → Bool → Option (List ℕ) → Result D ToolFault
-split_end_of (Ok done) (Ok nothing) out_of_memory clashing = Ok done
-split_end_of (Ok done) (Err shelf.NoMemory) out_of_memory clashing = Err (tool.Run run.NoMemory)
-split_end_of (Ok done) (Err shelf.NotWritten) out_of_memory clashing = Err (tool.Run run.Write)
-split_end_of (Ok done) (Err shelf.Clashes) out_of_memory clashing = Err (tool.Run run.Write)
-split_end_of (Err run.Write) written out_of_memory clashing = Err (put_fault_of out_of_memory clashing)
-split_end_of (Err run.Read) written out_of_memory clashing = Err (tool.Run run.Read)
-split_end_of (Err run.Report) written out_of_memory clashing = Err (tool.Run run.Report)
-split_end_of (Err run.ShortRecording) written out_of_memory clashing = Err (tool.Run run.ShortRecording)
-split_end_of (Err run.TooMany) written out_of_memory clashing = Err (tool.Run run.TooMany)
-split_end_of (Err run.NoMemory) written out_of_memory clashing = Err (tool.Run run.NoMemory)
+-- that fault, or memory ran out for its name
+abbrev pub IsPutFault : Bool → Option (List ℕ) → ToolFault → Type 0
+IsPutFault out_of_memory clashing fault = (fault ≡ put_fault_of out_of_memory clashing) ⊎ (fault ≡ tool.Run run.NoMemory)
+
+-- the fault of held octets that can't be written
+abbrev pub held_fault_of : ShelfFault → RunFault
+held_fault_of shelf.NoMemory = run.NoMemory
+held_fault_of shelf.NotWritten = run.Write
+held_fault_of shelf.Clashes = run.Write
+
+-- What splitting ends with, of what its run says, of what writing says of that which was held, and of why the shelf last refused a
+-- put.
+abbrev pub IsSplitEnd : {D : Type 0} → Result D RunFault → Result ⊤ ShelfFault → Bool → Option (List ℕ) → Result D ToolFault → Type 0
+IsSplitEnd (Ok done) (Ok nothing) out_of_memory clashing end = end ≡ Ok done
+IsSplitEnd (Ok done) (Err fault) out_of_memory clashing end = end ≡ Err (tool.Run (held_fault_of fault))
+IsSplitEnd (Err run.Write) written out_of_memory clashing end = MatchResult end (λ done. ⊥) (IsPutFault out_of_memory clashing)
+IsSplitEnd (Err fault) written out_of_memory clashing end = end ≡ Err (tool.Run fault)

@@ -1,18 +1,15 @@
 -- Which faults the steps of a plan may end in, each by what it does.
-use Rattle.std.specs.Prelude.{◌≡◌, ◌≢◌, ◌⊎◌, ℕ, true, List, Option, None, Some, Ok, IsSome}
-use Rattle.tm_files.specs.code.Decisions.{is_job}
+use Rattle.std.specs.Prelude.{◌≡◌, ◌⊎◌, ℕ, List, Option, None, Some, Ok, IsSome}
 use Rattle.tm_faults.specs.declared.definition.DefinitionFault.{DefinitionFault}
 use Rattle.tm_faults.specs.declared.run.CheckpointFault.{CheckpointFault}
 use Rattle.tm_faults.specs.declared.settings.SettingsFault.{SettingsFault}
 use Rattle.tm_files.specs.code.Files.{HasFault, IsFaultOf, IsFileFault, IsRunFault}
 use Rattle.tm_faults.specs.declared.program.ToolFault.{ToolFault}
 use Rattle.tm_faults.specs.declared.program.ToolFault.TheVariants as tool
-use Rattle.tm_faults.specs.declared.run.RunFault.TheVariants.{Report, Write}
 use Rattle.tm_split_files.specs.Names.{file_in}
 use Rattle.tm_settings.specs.Settings.{Rules}
 use Rattle.tm_checkpoint.specs.Checkpoints.{resumed}
 use Rattle.tm_checkpoint.specs.Works.{JobState}
-use Rattle.tm_arguments.specs.declared.request.Action.TheVariants.{Split}
 use Rattle.tm_arguments.specs.declared.request.Plan.{Plan}
 
 -- the folder of this name can't be written, an application's file in it is another file of the run, or memory ran out
@@ -40,14 +37,6 @@ IsOfDefinition p fault = (IsSome p.definition × ((reason : DefinitionFault) × 
 -- likewise that of the checkpoint to go on from
 abbrev pub IsOfResumed : Plan → ToolFault → Type 0
 IsOfResumed p fault = (IsSome p.resume × ((reason : CheckpointFault) × (fault ≡ tool.Checkpoint reason))) ⊎ HasReadFault p.resume fault
-
--- a fault of a run, out of memory, or the file of this name, which is another file of the run
-abbrev pub IsOfPut : Option (List ℕ) → ToolFault → Type 0
-IsOfPut clashing fault = ((name : List ℕ) × (clashing ≡ Some name) × (fault ≡ tool.File name)) ⊎ IsRunFault fault
-
--- a standard stream is closed to which the plan writes: standard output, or standard error where that takes the report
-abbrev pub IsOfStreams : Plan → ToolFault → Type 0
-IsOfStreams p fault = ((fault ≡ tool.Run Write) × (p.action ≢ Split)) ⊎ ((fault ≡ tool.Run Report) × (is_job p.action ≡ true) × (p.report ≡ None))
 
 -- The run ended early. Or a file or folder that it writes can't be opened, made or written, or one of these or a stream is
 -- another file of the run.

@@ -41,18 +41,20 @@ fn resumed_text<R: Files + AllocGlobal>(
     plan: &Plan,
     fault: &ToolFault,
 ) -> Result<Option<Vec<u8>>, AllocError> {
-    let Some(settings) = settings_in(rt, plan) else {
-        return Ok(None);
-    };
     let Some(octets) = octets_in(rt, &plan.resume) else {
         return Ok(None);
     };
-    match fault {
+    let Some(settings) = settings_in(rt, plan) else {
+        return Ok(None);
+    };
+    let text = match fault {
         ToolFault::Checkpoint(fault) => {
             checkpoint_text(rt.alloc(), plan, *fault, octets.as_slice(), &settings)
         }
         _ => shorter_text(rt, plan, octets.as_slice(), &settings),
-    }
+    };
+    drop(settings);
+    text
 }
 
 // Why a fault of this plan came, and what to do. The number is that of the system's first error.
@@ -102,7 +104,11 @@ fn fault_text<R: Files + AllocGlobal>(
     number: Option<i32>,
 ) -> Result<Option<Vec<u8>>, AllocError> {
     match plan(rt.alloc(), words) {
-        Ok(plan) => plan_text(rt, &plan, fault, number),
+        Ok(plan) => {
+            let text = plan_text(rt, &plan, fault, number);
+            drop(plan);
+            text
+        }
         Err(usage) => usage_text(rt.alloc(), &usage, number),
     }
 }
@@ -122,7 +128,10 @@ pub fn explain<R: Files + AllocGlobal>(
     ensures { IfOk result (λ found. IfSome found (λ line. IsLine line.items)) }
 {
     let text = match fault {
-        ToolFault::Usage(UsageFault::StopAfter) => some_text(rt.alloc(), NO_CHECKPOINT, &[]),
+        ToolFault::Usage(UsageFault::StopAfter) => {
+            drop(words);
+            some_text(rt.alloc(), NO_CHECKPOINT, &[])
+        }
         _ => fault_text(rt, words, fault, number),
     };
     match text? {

@@ -162,7 +162,11 @@ fn clash_text<R: Files + AllocGlobal>(
     name: &Octets,
 ) -> Result<Option<Vec<u8>>, AllocError> {
     match identify_files(rt, plan) {
-        Ok(identities) => name_clash_text(rt, plan, role, name, &identities),
+        Ok(identities) => {
+            let text = name_clash_text(rt, plan, role, name, &identities);
+            drop(identities);
+            text
+        }
         Err(_) => Err(AllocError),
     }
 }
@@ -200,7 +204,11 @@ pub(crate) fn output_clash_text<R: Files + AllocGlobal>(
     plan: &Plan,
 ) -> Result<Option<Vec<u8>>, AllocError> {
     let over = match identify_files(rt, plan) {
-        Ok(identities) => input_of_output(&identities),
+        Ok(identities) => {
+            let over = input_of_output(&identities);
+            drop(identities);
+            over
+        }
         Err(_) => return Err(AllocError),
     };
     match over {

@@ -62,7 +62,7 @@ pub fn check_standard_error<R: Files + AllocGlobal>(rt: &R, plan: &Plan) -> Resu
     checked
 }
 
-/// The names of the plan's files, as the folders are now, [don't clash](check_names).
+/// The names of the plan's files, with what they stand for now, pass `check_names`.
 pub fn check_file_names<R: Files + AllocGlobal>(rt: &R, plan: &Plan) -> Result<Checked, ToolFault>
     ensures ok { OnOk result (AreClear plan.now) }
     ensures refused { IfErr result (λ fault. HasFault plan.now.report fault ⊎ HasFault plan.now.checkpoint fault

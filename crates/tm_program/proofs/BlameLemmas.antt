@@ -24,10 +24,10 @@ run_blames s t old new run.NoMemory h = tt
 
 -- what splitting ends with
 put_blames : (s t r q : ℕ) (out_of_memory : Bool) (clashing : Option (List ℕ)) (fault : ToolFault) → IsPutFault out_of_memory clashing fault → IsBlamedBeside s t r q fault
-put_blames s t r q true clashing fault (inl h) = rw h tt
+put_blames s t r q true clashing fault h = rw h tt
 put_blames s t r q false (Some name) fault (inl h) = rw h tt
-put_blames s t r q false None fault (inl h) = rw h tt
-put_blames s t r q out_of_memory clashing fault (inr h) = rw h tt
+put_blames s t r q false (Some name) fault (inr h) = rw h tt
+put_blames s t r q false None fault h = rw h tt
 
 held_blames : (s t r q : ℕ) (fault : ShelfFault) → IsBlamedBeside s t r q (tool.Run (held_fault_of fault))
 held_blames s t r q shelf.NoMemory = tt

@@ -189,7 +189,8 @@ fn run_job<'p, R: Files + Print + AllocGlobal, S: BufferedSource, E: Write + Dro
     errors: &mut E,
     checked: Checked,
 ) -> Result<Finished<'p>, ToolFault>
-    ensures done { IfOk result (λ finished. MatchOption finished.done ⊥ (HasDone plan.now inputs.old.settings inputs.old.resumed)) }
+    ensures done { IfOk result (λ finished. MatchOption finished.done ⊥
+        (HasDone plan.now inputs.old.settings inputs.old.resumed)) }
     ensures checkpoint { IfOk result (λ finished. option_map replaced_name finished.replaced ≡ plan.now.checkpoint) }
     ensures octets { IfOk result (λ finished. IfSome finished.done (λ done. IfSome finished.replaced (HasCheckpoint done))) }
     ensures refused { IfErr result (IsOfOutputs plan.now) }

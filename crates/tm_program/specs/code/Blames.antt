@@ -21,16 +21,12 @@ IsBlamedBeside source_old source_new report_old report_new (tool.Run run.Read) =
 IsBlamedBeside source_old source_new report_old report_new (tool.Run run.Report) = report_new ≡ raised report_old
 IsBlamedBeside source_old source_new report_old report_new _ = ⊤
 
--- the fault of a put that was refused: whether memory ran out, and else the name of its file where that is another file of the
--- run
-abbrev pub put_fault_of : Bool → Option (List ℕ) → ToolFault
-put_fault_of true clashing = tool.Run run.NoMemory
-put_fault_of false (Some name) = tool.File name
-put_fault_of false None = tool.Run run.Write
-
--- that fault, or memory ran out for its name
+-- The fault of a put that was refused: memory ran out, or else its file is another file of the run or can't be written. Memory may
+-- also run out for the file's name.
 abbrev pub IsPutFault : Bool → Option (List ℕ) → ToolFault → Type 0
-IsPutFault out_of_memory clashing fault = (fault ≡ put_fault_of out_of_memory clashing) ⊎ (fault ≡ tool.Run run.NoMemory)
+IsPutFault true clashing fault = fault ≡ tool.Run run.NoMemory
+IsPutFault false (Some name) fault = (fault ≡ tool.File name) ⊎ (fault ≡ tool.Run run.NoMemory)
+IsPutFault false None fault = fault ≡ tool.Run run.Write
 
 -- the fault of held octets that can't be written
 abbrev pub held_fault_of : ShelfFault → RunFault

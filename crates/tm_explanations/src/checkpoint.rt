@@ -1,7 +1,7 @@
 //! Why octets are no checkpoint of a job with the settings.
 
 use crate::line::{Value, some_text};
-use crate::roles::{Role, phrase_in};
+use crate::roles::{Phrase, Role, phrase_in};
 use crate::texts::{CHECK, MAGIC, OTHER_SETTINGS, SHORT, STATE, TRAILING, VERSION};
 use std::alloc::{AllocError, Global};
 use tm_arguments::Plan;
@@ -105,20 +105,19 @@ fn value_text(alloc: Global, key: Key, number: u32) -> Result<Vec<u8>, AllocErro
 fn other_value_text(
     alloc: Global,
     plan: &Plan,
-    file: &[u8],
+    file: Phrase<'_>,
     key: Key,
     there: u32,
     here: u32,
 ) -> Result<Option<Vec<u8>>, AllocError> {
     let there = value_text(alloc, key, there)?;
     let here = value_text(alloc, key, here)?;
-    let settings = phrase_in(alloc, plan, Role::Settings)?;
     let values = [
-        Value::Octets(file),
+        Value::Phrase(file),
         Value::Word(key.word()),
         Value::Octets(there.as_slice()),
         Value::Octets(here.as_slice()),
-        Value::Octets(settings.as_slice()),
+        Value::Phrase(phrase_in(plan, Role::Settings)),
     ];
     some_text(alloc, OTHER_SETTINGS, &values)
 }
@@ -127,7 +126,7 @@ fn other_value_text(
 fn difference_text(
     alloc: Global,
     plan: &Plan,
-    file: &[u8],
+    file: Phrase<'_>,
     octets: &[u8],
     settings: &Settings,
 ) -> Result<Option<Vec<u8>>, AllocError> {
@@ -153,7 +152,7 @@ pub(crate) fn records_in(octets: &[u8]) -> u64 {
 // Why a file, by what a line calls it, is no checkpoint.
 fn fault_text(
     alloc: Global,
-    file: &[u8],
+    file: Phrase<'_>,
     fault: CheckpointFault,
     octets: &[u8],
 ) -> Result<Option<Vec<u8>>, AllocError> {
@@ -166,7 +165,7 @@ fn fault_text(
         CheckpointFault::Trailing => (TRAILING, 0),
         CheckpointFault::Settings | CheckpointFault::NoMemory => return Ok(None),
     };
-    some_text(alloc, text, &[Value::Octets(file), Value::Number(number)])
+    some_text(alloc, text, &[Value::Phrase(file), Value::Number(number)])
 }
 
 /// Why the file of the checkpoint, which has these octets, is refused.
@@ -177,8 +176,7 @@ pub(crate) fn checkpoint_text(
     octets: &[u8],
     settings: &Settings,
 ) -> Result<Option<Vec<u8>>, AllocError> {
-    let file = phrase_in(alloc, plan, Role::Resumed)?;
-    let file = file.as_slice();
+    let file = phrase_in(plan, Role::Resumed);
     match fault {
         CheckpointFault::Settings => difference_text(alloc, plan, file, octets, settings),
         _ => fault_text(alloc, file, fault, octets),

@@ -1,7 +1,7 @@
 //! Why a text is no definition of fields.
 
 use crate::line::{Value, some_text};
-use crate::roles::{Role, phrase_in};
+use crate::roles::{Phrase, Role, phrase_in};
 use crate::texts::{
     ARRAY, COLUMN_TWICE, FIELDS, LENGTH, LENGTHS, NAME_TWICE, NO_COLUMN, NO_NAME, OFFSET, TYPE,
 };
@@ -37,7 +37,7 @@ fn value_in(record: &ByteRecord, at: usize) -> &[u8] {
 // The records of a definition. The first is its heading, and the others are its rows.
 #[derive(Clone, Copy)]
 struct Table<'t> {
-    file: &'t [u8],
+    file: Phrase<'t>,
     records: &'t [ByteRecord],
 }
 
@@ -88,7 +88,7 @@ impl<'t> Table<'t> {
         for (at, record) in self.records.iter().enumerate() {
             if record.len() != heading.len() {
                 let values = [
-                    Value::Octets(self.file),
+                    Value::Phrase(self.file),
                     Value::Number(at as u64),
                     Value::Number(record.len() as u64),
                     Value::Number(heading.len() as u64),
@@ -107,7 +107,7 @@ impl<'t> Table<'t> {
             _ => COLUMN_TWICE,
         };
         let values = [
-            Value::Octets(self.file),
+            Value::Phrase(self.file),
             Value::Octets(headings.as_slice()),
             Value::Word(column.word()),
         ];
@@ -125,7 +125,7 @@ impl<'t> Table<'t> {
         let row = row as usize;
         let data_type = self.value(row, Column::DataType);
         let values = [
-            Value::Octets(self.file),
+            Value::Phrase(self.file),
             Value::Octets(self.value(row, Column::Name)),
             Value::Octets(self.value(row, column)),
             Value::Octets(data_type),
@@ -138,7 +138,7 @@ impl<'t> Table<'t> {
     fn offset_text(&self, alloc: Global, row: u32) -> Result<Option<Vec<u8>>, AllocError> {
         let row = row as usize;
         let values = [
-            Value::Octets(self.file),
+            Value::Phrase(self.file),
             Value::Octets(self.value(row, Column::Name)),
             Value::Octets(self.value(row, Column::BitOffset)),
             Value::Octets(self.value(row, Column::BitLength)),
@@ -155,20 +155,20 @@ impl<'t> Table<'t> {
                 && self.value(at, Column::DataType) != b"fill".as_slice()
             {
                 let values = [
-                    Value::Octets(self.file),
+                    Value::Phrase(self.file),
                     Value::Octets(name),
                     Value::Number(u64::from(earlier)),
                 ];
                 return some_text(alloc, NAME_TWICE, &values);
             }
         }
-        some_text(alloc, NO_NAME, &[Value::Octets(self.file)])
+        some_text(alloc, NO_NAME, &[Value::Phrase(self.file)])
     }
 
     // How many fields there are.
     fn fields_text(&self, alloc: Global) -> Result<Option<Vec<u8>>, AllocError> {
         let fields = self.records.len().saturating_sub(1);
-        let values = [Value::Octets(self.file), Value::Number(fields as u64)];
+        let values = [Value::Phrase(self.file), Value::Number(fields as u64)];
         some_text(alloc, FIELDS, &values)
     }
 
@@ -205,10 +205,9 @@ pub(crate) fn definition_text(
     fault: DefinitionFault,
     octets: &[u8],
 ) -> Result<Option<Vec<u8>>, AllocError> {
-    let file = phrase_in(alloc, plan, Role::Definition)?;
     let records = records_in(alloc, octets)?;
     let table = Table {
-        file: file.as_slice(),
+        file: phrase_in(plan, Role::Definition),
         records: records.as_slice(),
     };
     table.text(alloc, fault)

@@ -1,7 +1,7 @@
 //! Why a file can't be opened, made, read or written.
 
 use crate::line::{Value, some_text};
-use crate::roles::{Role, has_name, phrase_in, phrase_of, role_of};
+use crate::roles::{Phrase, Role, has_name, phrase_in, phrase_of};
 use crate::texts::{
     FOLDER, NO_FILE, NO_FOLDER, NO_NAME_GIVEN, NO_PERMISSION, OVER, SYSTEM, TOO_LONG,
     TOO_LONG_DEVICE,
@@ -25,29 +25,24 @@ pub(crate) fn system_words(alloc: Global, number: i32) -> Result<Vec<u8>, AllocE
 pub(crate) fn with_system_words(
     alloc: Global,
     text: &str,
-    file: &[u8],
+    file: Phrase<'_>,
     number: i32,
 ) -> Result<Option<Vec<u8>>, AllocError> {
     let words = system_words(alloc, number)?;
-    let values = [Value::Octets(file), Value::Octets(words.as_slice())];
+    let values = [Value::Phrase(file), Value::Octets(words.as_slice())];
     some_text(alloc, text, &values)
 }
 
 // The text of an error of the system.
-fn error_text(
-    alloc: Global,
-    role: Role,
-    file: &[u8],
-    number: i32,
-) -> Result<Option<Vec<u8>>, AllocError> {
+fn error_text(alloc: Global, file: Phrase<'_>, number: i32) -> Result<Option<Vec<u8>>, AllocError> {
     let text = match io::Error::from_raw_os_error(number).kind() {
-        ErrorKind::NotFound if role.is_written() || role == Role::Folder => NO_FOLDER,
+        ErrorKind::NotFound if file.role.is_written() || file.role == Role::Folder => NO_FOLDER,
         ErrorKind::NotFound => NO_FILE,
         ErrorKind::PermissionDenied => NO_PERMISSION,
         ErrorKind::IsADirectory => FOLDER,
         _ => return with_system_words(alloc, SYSTEM, file, number),
     };
-    some_text(alloc, text, &[Value::Octets(file)])
+    some_text(alloc, text, &[Value::Phrase(file)])
 }
 
 // A name that is written, and what it stands for.
@@ -59,6 +54,14 @@ struct Written<'w> {
 }
 
 impl<'w> Written<'w> {
+    // What a line calls the file.
+    fn phrase(&self) -> Phrase<'w> {
+        Phrase {
+            role: self.role,
+            name: self.name.as_slice(),
+        }
+    }
+
     // The file would be written over the one of this role, which has this identity.
     fn clashes_with(&self, plan: &Plan, role: Role, identity: &FileIdentity) -> bool {
         self.role != role && (has_name(plan, role, self.name) || self.identity.is_same(identity))
@@ -90,13 +93,10 @@ impl<'w> Written<'w> {
 // What a file and one over which it would be written are called.
 fn over_text(
     alloc: Global,
-    plan: &Plan,
-    file: &[u8],
-    over: Role,
+    file: Phrase<'_>,
+    over: Phrase<'_>,
 ) -> Result<Option<Vec<u8>>, AllocError> {
-    let other = phrase_in(alloc, plan, over)?;
-    let values = [Value::Octets(file), Value::Octets(other.as_slice())];
-    some_text(alloc, OVER, &values)
+    some_text(alloc, OVER, &[Value::Phrase(file), Value::Phrase(over)])
 }
 
 // Over which file a file would be written; none if over no other.
@@ -107,10 +107,7 @@ fn written_text(
     identities: &FileIdentities,
 ) -> Result<Option<Vec<u8>>, AllocError> {
     match written.clash(plan, identities) {
-        Some(over) => {
-            let file = phrase_of(alloc, written.role, written.name.as_slice())?;
-            over_text(alloc, plan, file.as_slice(), over)
-        }
+        Some(over) => over_text(alloc, written.phrase(), phrase_in(plan, over)),
         None => Ok(None),
     }
 }
@@ -212,7 +209,10 @@ pub(crate) fn output_clash_text<R: Files + AllocGlobal>(
         Err(_) => return Err(AllocError),
     };
     match over {
-        Some(over) => over_text(rt.alloc(), plan, Role::Output.word().as_bytes(), over),
+        Some(over) => {
+            let output = phrase_in(plan, Role::Output);
+            over_text(rt.alloc(), output, phrase_in(plan, over))
+        }
         None => Ok(None),
     }
 }
@@ -230,7 +230,7 @@ fn place_text<R: Files + AllocGlobal>(
     rt: &R,
     plan: &Plan,
     name: &Octets,
-    file: &[u8],
+    file: Phrase<'_>,
 ) -> Result<Option<Vec<u8>>, AllocError> {
     for role in written_roles(plan, name) {
         let found = match role {
@@ -242,7 +242,7 @@ fn place_text<R: Files + AllocGlobal>(
         }
     }
     if is_folder(rt, name) {
-        return some_text(rt.alloc(), FOLDER, &[Value::Octets(file)]);
+        return some_text(rt.alloc(), FOLDER, &[Value::Phrase(file)]);
     }
     Ok(None)
 }
@@ -254,14 +254,10 @@ pub(crate) fn file_text<R: Files + AllocGlobal>(
     name: &Octets,
     number: Option<i32>,
 ) -> Result<Option<Vec<u8>>, AllocError> {
-    let role = role_of(plan, name);
-    let file = phrase_of(rt.alloc(), role, name.as_slice())?;
-    let file = file.as_slice();
+    let file = phrase_of(plan, name);
     match number {
-        _ if name.as_slice().is_empty() => {
-            some_text(rt.alloc(), NO_NAME_GIVEN, &[Value::Octets(file)])
-        }
-        Some(number) => error_text(rt.alloc(), role, file, number),
+        _ if file.name.is_empty() => some_text(rt.alloc(), NO_NAME_GIVEN, &[Value::Phrase(file)]),
+        Some(number) => error_text(rt.alloc(), file, number),
         None => place_text(rt, plan, name, file),
     }
 }
@@ -273,14 +269,13 @@ pub(crate) fn length_text<R: Files + AllocGlobal>(
     name: &Octets,
 ) -> Result<Option<Vec<u8>>, AllocError> {
     let alloc = rt.alloc();
-    let file = phrase_of(alloc, role_of(plan, name), name.as_slice())?;
-    let file = file.as_slice();
+    let file = phrase_of(plan, name);
     match length_of(rt, name) {
         Some(length) => {
-            let values = [Value::Octets(file), Value::Number(length)];
+            let values = [Value::Phrase(file), Value::Number(length)];
             some_text(alloc, TOO_LONG, &values)
         }
-        None => some_text(alloc, TOO_LONG_DEVICE, &[Value::Octets(file)]),
+        None => some_text(alloc, TOO_LONG_DEVICE, &[Value::Phrase(file)]),
     }
 }
 

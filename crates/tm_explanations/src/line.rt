@@ -3,6 +3,7 @@
 ghost use Rattle.std.specs.Prelude.{◌≡◌, IfOk};
 ghost use Rattle.tm_explanations.specs.Explanations.{line_of};
 
+use crate::roles::Phrase;
 use std::alloc::{AllocError, Global};
 use tm_bits::push_escaped;
 
@@ -19,14 +20,26 @@ impl From<AllocError> for NoMemory {
 /// What stands in a text for `{}`.
 #[derive(Clone, Copy)]
 pub(crate) enum Value<'v> {
+    Phrase(Phrase<'v>),
     Octets(&'v [u8]),
     Word(&'v str),
     Number(u64),
 }
 
+// Appends what a line calls a file or a stream.
+fn push_phrase(text: &mut Vec<u8>, phrase: Phrase<'_>) -> Result<(), AllocError> {
+    text.extend_from_slice(phrase.role.word().as_bytes())?;
+    if phrase.name.is_empty() {
+        return Ok(());
+    }
+    text.push(b' ')?;
+    text.extend_from_slice(phrase.name)
+}
+
 // Appends a value.
 fn push_value(alloc: Global, text: &mut Vec<u8>, value: Value<'_>) -> Result<(), AllocError> {
     match value {
+        Value::Phrase(phrase) => push_phrase(text, phrase),
         Value::Octets(octets) => text.extend_from_slice(octets),
         Value::Word(word) => text.extend_from_slice(word.as_bytes()),
         Value::Number(number) => {
@@ -42,15 +55,16 @@ pub(crate) fn fill_text(
     values: &[Value<'_>],
 ) -> Result<Vec<u8>, AllocError> {
     let mut found = Vec::new(alloc);
-    let mut rest = values.iter();
-    for (at, part) in text.split("{}").enumerate() {
-        if at > 0
-            && let Some(value) = rest.next()
-        {
-            push_value(alloc, &mut found, *value)?;
-        }
-        found.extend_from_slice(part.as_bytes())?;
+    let mut rest = text;
+    for value in values {
+        let Some((before, behind)) = rest.split_once("{}") else {
+            break;
+        };
+        found.extend_from_slice(before.as_bytes())?;
+        push_value(alloc, &mut found, *value)?;
+        rest = behind;
     }
+    found.extend_from_slice(rest.as_bytes())?;
     Ok(found)
 }
 

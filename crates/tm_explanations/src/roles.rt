@@ -1,6 +1,5 @@
 //! What the files of a plan are for.
 
-use std::alloc::{AllocError, Global};
 use tm_arguments::Plan;
 use tm_bits::Octets;
 
@@ -16,6 +15,7 @@ pub(crate) enum Role {
     TemporaryCheckpoint,
     Folder,
     Packets,
+    Input,
     Output,
     Errors,
 }
@@ -44,6 +44,7 @@ impl Role {
             Role::TemporaryCheckpoint => "the file beside the checkpoint",
             Role::Folder => "the folder",
             Role::Packets => "a file of packets",
+            Role::Input => "standard input",
             Role::Output => "standard output",
             Role::Errors => "standard error",
         }
@@ -68,7 +69,8 @@ pub(crate) fn name_in(plan: &Plan, role: Role) -> Option<&Octets> {
         Role::Folder => plan.dir.as_ref(),
         Role::Report => plan.report.as_ref(),
         Role::Checkpoint => plan.checkpoint.as_ref(),
-        Role::TemporaryCheckpoint | Role::Packets | Role::Output | Role::Errors => None,
+        Role::TemporaryCheckpoint | Role::Packets | Role::Input | Role::Output | Role::Errors =>
+            None,
     }
 }
 
@@ -80,36 +82,42 @@ pub(crate) fn has_name(plan: &Plan, role: Role, name: &Octets) -> bool {
     }
 }
 
-/// What the file of this name is for: the first that a run opens.
-pub(crate) fn role_of(plan: &Plan, name: &Octets) -> Role {
+// What the file of this name is for: the first that a run opens.
+fn role_of(plan: &Plan, name: &Octets) -> Role {
     match Role::NAMED.iter().find(|role| has_name(plan, **role, name)) {
         Some(role) => *role,
         None => Role::Packets,
     }
 }
 
-/// What a line calls the file of this name, which may be empty.
-pub(crate) fn phrase_of(alloc: Global, role: Role, name: &[u8]) -> Result<Vec<u8>, AllocError> {
-    let mut text = Vec::from_slice(alloc, role.word().as_bytes())?;
-    if !name.is_empty() {
-        text.push(b' ')?;
-        text.extend_from_slice(name)?;
-    }
-    Ok(text)
+/// What a line calls a file or a stream: what it is for, and its name, which may be empty.
+#[derive(Clone, Copy)]
+pub(crate) struct Phrase<'p> {
+    pub(crate) role: Role,
+    pub(crate) name: &'p [u8],
 }
 
-/// What a line calls a file or a stream, and its name.
-pub(crate) fn phrase_in(alloc: Global, plan: &Plan, role: Role) -> Result<Vec<u8>, AllocError> {
-    match name_in(plan, role) {
-        Some(name) => phrase_of(alloc, role, name.as_slice()),
-        None => phrase_of(alloc, role, &[]),
+/// What a line calls the file of this name.
+pub(crate) fn phrase_of<'p>(plan: &Plan, name: &'p Octets) -> Phrase<'p> {
+    Phrase {
+        role: role_of(plan, name),
+        name: name.as_slice(),
     }
+}
+
+/// What a line calls the file or the stream of a plan.
+pub(crate) fn phrase_in(plan: &Plan, role: Role) -> Phrase<'_> {
+    let name = match name_in(plan, role) {
+        Some(name) => name.as_slice(),
+        None => &[],
+    };
+    Phrase { role, name }
 }
 
 /// What a line calls the recording: its file, or standard input.
-pub(crate) fn recording_phrase(alloc: Global, plan: &Plan) -> Result<Vec<u8>, AllocError> {
+pub(crate) fn recording_phrase(plan: &Plan) -> Phrase<'_> {
     match plan.recording {
-        Some(_) => phrase_in(alloc, plan, Role::Recording),
-        None => Vec::from_slice(alloc, b"standard input"),
+        Some(_) => phrase_in(plan, Role::Recording),
+        None => phrase_in(plan, Role::Input),
     }
 }

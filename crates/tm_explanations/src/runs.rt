@@ -3,7 +3,7 @@
 use crate::checkpoint::records_in;
 use crate::files::{length_at, length_of, output_clash_text, with_system_words};
 use crate::line::{Value, some_text};
-use crate::roles::{Role, name_in, phrase_in, recording_phrase};
+use crate::roles::{Phrase, Role, name_in, phrase_in, recording_phrase};
 use crate::texts::{
     CLOSED, FOLDER, NO_FOLDER, NO_MEMORY, NOT_A_FOLDER, PIPE, READ, SHORTER, SHORTER_STREAM,
     TOO_MANY, WRITE,
@@ -27,7 +27,7 @@ const PIPE_NUMBER: i32 = 32;
 fn stream_text(
     alloc: Global,
     text: &str,
-    stream: &[u8],
+    stream: Phrase<'_>,
     number: i32,
 ) -> Result<Option<Vec<u8>>, AllocError> {
     let text = match number {
@@ -36,30 +36,25 @@ fn stream_text(
         PIPE_NUMBER => PIPE,
         _ => return with_system_words(alloc, text, stream, number),
     };
-    some_text(alloc, text, &[Value::Octets(stream)])
+    some_text(alloc, text, &[Value::Phrase(stream)])
 }
 
 // Why a read of the recording failed.
-fn read_text<R: Files + AllocGlobal>(
-    rt: &R,
+fn read_text(
+    alloc: Global,
     plan: &Plan,
     number: Option<i32>,
 ) -> Result<Option<Vec<u8>>, AllocError> {
-    let alloc = rt.alloc();
-    let source = recording_phrase(alloc, plan)?;
     match number {
-        Some(number) => stream_text(alloc, READ, source.as_slice(), number),
+        Some(number) => stream_text(alloc, READ, recording_phrase(plan), number),
         None => Ok(None),
     }
 }
 
 // Why the folder of `split` can't be used; none if it can.
 fn folder_text<R: Files + AllocGlobal>(rt: &R, plan: &Plan) -> Result<Option<Vec<u8>>, AllocError> {
-    let alloc = rt.alloc();
-    let Some(name) = name_in(plan, Role::Folder) else {
-        return Ok(None);
-    };
-    let Ok(path) = std::str::from_utf8(name.as_slice()) else {
+    let folder = phrase_in(plan, Role::Folder);
+    let Ok(path) = std::str::from_utf8(folder.name) else {
         return Ok(None);
     };
     let text = match fs::metadata(rt, path) {
@@ -67,13 +62,16 @@ fn folder_text<R: Files + AllocGlobal>(rt: &R, plan: &Plan) -> Result<Option<Vec
         Ok(_) => NOT_A_FOLDER,
         Err(_) => NO_FOLDER,
     };
-    let folder = phrase_in(alloc, plan, Role::Folder)?;
-    some_text(alloc, text, &[Value::Octets(folder.as_slice())])
+    some_text(rt.alloc(), text, &[Value::Phrase(folder)])
 }
 
 /// Why standard output can't be written.
 pub(crate) fn output_text(alloc: Global, number: i32) -> Result<Option<Vec<u8>>, AllocError> {
-    stream_text(alloc, WRITE, Role::Output.word().as_bytes(), number)
+    let output = Phrase {
+        role: Role::Output,
+        name: &[],
+    };
+    stream_text(alloc, WRITE, output, number)
 }
 
 // Why the output can't be written. Without an error of the system, standard output is another file of the run, or it is closed.
@@ -82,27 +80,25 @@ fn write_text<R: Files + AllocGlobal>(
     plan: &Plan,
     number: Option<i32>,
 ) -> Result<Option<Vec<u8>>, AllocError> {
-    let alloc = rt.alloc();
     let role = match plan.action {
         Action::Split => Role::Folder,
         _ => Role::Output,
     };
     if let Some(number) = number {
-        let output = phrase_in(alloc, plan, role)?;
-        return stream_text(alloc, WRITE, output.as_slice(), number);
+        return stream_text(rt.alloc(), WRITE, phrase_in(plan, role), number);
     }
     if role == Role::Folder {
         return folder_text(rt, plan);
     }
     match output_clash_text(rt, plan)? {
-        None => output_text(alloc, CLOSED_NUMBER),
+        None => output_text(rt.alloc(), CLOSED_NUMBER),
         found => Ok(found),
     }
 }
 
 // Why the report can't be written.
-fn report_text<R: Files + AllocGlobal>(
-    rt: &R,
+fn report_text(
+    alloc: Global,
     plan: &Plan,
     number: Option<i32>,
 ) -> Result<Option<Vec<u8>>, AllocError> {
@@ -110,9 +106,8 @@ fn report_text<R: Files + AllocGlobal>(
         Some(_) => Role::Report,
         None => Role::Errors,
     };
-    let report = phrase_in(rt.alloc(), plan, role)?;
     match number {
-        Some(number) => stream_text(rt.alloc(), WRITE, report.as_slice(), number),
+        Some(number) => stream_text(alloc, WRITE, phrase_in(plan, role), number),
         None => Ok(None),
     }
 }
@@ -134,27 +129,15 @@ pub(crate) fn shorter_text<R: Files + AllocGlobal>(
     settings: &Settings,
 ) -> Result<Option<Vec<u8>>, AllocError> {
     let alloc = rt.alloc();
-    let done = records_in(checkpoint);
-    let source = recording_phrase(alloc, plan)?;
-    let resumed = phrase_in(alloc, plan, Role::Resumed)?;
+    let done = Value::Number(records_in(checkpoint));
+    let source = Value::Phrase(recording_phrase(plan));
+    let resumed = Value::Phrase(phrase_in(plan, Role::Resumed));
     match record_count(rt, plan, settings) {
         Some(records) => {
-            let values = [
-                Value::Octets(source.as_slice()),
-                Value::Number(records),
-                Value::Number(done),
-                Value::Octets(resumed.as_slice()),
-            ];
+            let values = [source, Value::Number(records), done, resumed];
             some_text(alloc, SHORTER, &values)
         }
-        None => {
-            let values = [
-                Value::Octets(source.as_slice()),
-                Value::Number(done),
-                Value::Octets(resumed.as_slice()),
-            ];
-            some_text(alloc, SHORTER_STREAM, &values)
-        }
+        None => some_text(alloc, SHORTER_STREAM, &[source, done, resumed]),
     }
 }
 
@@ -167,12 +150,11 @@ pub(crate) fn run_text<R: Files + AllocGlobal>(
 ) -> Result<Option<Vec<u8>>, AllocError> {
     let alloc = rt.alloc();
     match fault {
-        RunFault::Read => read_text(rt, plan, number),
+        RunFault::Read => read_text(alloc, plan, number),
         RunFault::Write => write_text(rt, plan, number),
-        RunFault::Report => report_text(rt, plan, number),
+        RunFault::Report => report_text(alloc, plan, number),
         RunFault::TooMany => {
-            let source = recording_phrase(alloc, plan)?;
-            some_text(alloc, TOO_MANY, &[Value::Octets(source.as_slice())])
+            some_text(alloc, TOO_MANY, &[Value::Phrase(recording_phrase(plan))])
         }
         RunFault::NoMemory => some_text(alloc, NO_MEMORY, &[]),
         RunFault::ShortRecording => Ok(None),

@@ -2,7 +2,7 @@
 
 use crate::keys::{nearest_key, wanted_value};
 use crate::line::{Value, some_text};
-use crate::roles::{Role, phrase_in};
+use crate::roles::{Phrase, Role, phrase_in};
 use crate::texts::{MISSING_KEY, NEAR_KEY, NOT_TEXT, TOML, UNKNOWN_KEY, VALUE};
 use std::alloc::{AllocError, Global};
 use tm_arguments::Plan;
@@ -49,12 +49,12 @@ fn all_keys(alloc: Global) -> Result<Vec<u8>, AllocError> {
 // Where a text is no TOML document, and why.
 fn document_text<'v>(
     alloc: Global,
-    file: &'v [u8],
+    file: Phrase<'v>,
     place: Position,
     why: &'v str,
 ) -> Result<Option<Vec<u8>>, AllocError> {
     let values = [
-        Value::Octets(file),
+        Value::Phrase(file),
         Value::Number(place.line),
         Value::Number(place.column),
         Value::Word(why),
@@ -63,13 +63,17 @@ fn document_text<'v>(
 }
 
 // Why a text is no TOML document; none if it is one.
-fn toml_text(alloc: Global, file: &[u8], octets: &[u8]) -> Result<Option<Vec<u8>>, AllocError> {
+fn toml_text(
+    alloc: Global,
+    file: Phrase<'_>,
+    octets: &[u8],
+) -> Result<Option<Vec<u8>>, AllocError> {
     let text = match std::str::from_utf8(octets) {
         Ok(text) => text,
         Err(error) => {
             let place = position_behind(&octets[..error.valid_up_to()]);
             let values = [
-                Value::Octets(file),
+                Value::Phrase(file),
                 Value::Number(place.line),
                 Value::Number(place.column),
             ];
@@ -89,19 +93,23 @@ fn toml_text(alloc: Global, file: &[u8], octets: &[u8]) -> Result<Option<Vec<u8>
 }
 
 // What an unknown key may be meant for.
-fn unknown_text(alloc: Global, file: &[u8], key: &[u8]) -> Result<Option<Vec<u8>>, AllocError> {
+fn unknown_text(
+    alloc: Global,
+    file: Phrase<'_>,
+    key: &[u8],
+) -> Result<Option<Vec<u8>>, AllocError> {
     let nearest = match std::str::from_utf8(key) {
         Ok(text) => nearest_key(alloc, text)?,
         Err(_) => None,
     };
     match nearest {
         Some(key) => {
-            let values = [Value::Octets(file), Value::Word(key.word())];
+            let values = [Value::Phrase(file), Value::Word(key.word())];
             some_text(alloc, NEAR_KEY, &values)
         }
         None => {
             let keys = all_keys(alloc)?;
-            let values = [Value::Octets(file), Value::Octets(keys.as_slice())];
+            let values = [Value::Phrase(file), Value::Octets(keys.as_slice())];
             some_text(alloc, UNKNOWN_KEY, &values)
         }
     }
@@ -111,12 +119,12 @@ fn unknown_text(alloc: Global, file: &[u8], key: &[u8]) -> Result<Option<Vec<u8>
 fn key_text(
     alloc: Global,
     text: &str,
-    file: &[u8],
+    file: Phrase<'_>,
     key: Key,
 ) -> Result<Option<Vec<u8>>, AllocError> {
     let wanted = wanted_value(alloc, key)?;
     let values = [
-        Value::Octets(file),
+        Value::Phrase(file),
         Value::Word(key.word()),
         Value::Octets(wanted.as_slice()),
     ];
@@ -130,8 +138,7 @@ pub(crate) fn settings_text(
     fault: &SettingsFault,
     octets: &[u8],
 ) -> Result<Option<Vec<u8>>, AllocError> {
-    let file = phrase_in(alloc, plan, Role::Settings)?;
-    let file = file.as_slice();
+    let file = phrase_in(plan, Role::Settings);
     match fault {
         SettingsFault::Toml => toml_text(alloc, file, octets),
         SettingsFault::Unknown(key) => unknown_text(alloc, file, key.as_slice()),

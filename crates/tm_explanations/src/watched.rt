@@ -5,8 +5,13 @@ ghost use Rattle.std.specs.Prelude.{◌+◌, ◌≡◌, IfOk, string_len};
 use std::alloc::{Alloc, Allocator};
 use std::cell::Cell;
 use std::fmt::Display;
-use std::fs::{Metadata, OpenFile, OpenOptions};
-use std::io::{self, BufRead, ErrorKind, Input, Lines, Print, Read, Seek, SeekFrom, Write};
+use std::fs::{Metadata, OpenFile, OpenOptions, Permissions};
+use std::io::{
+    self, BufRead, ErrorKind, Input, Lines, PipeReader, PipeWriter, Print, Read, Seek, SeekFrom,
+    Write,
+};
+use std::os::fd::BorrowedFd;
+use std::os::unix::net::SocketAddr;
 use std::path::PathBuf;
 use std::rt::Files;
 
@@ -27,7 +32,7 @@ fn watch<T>(first: &FirstError, done: io::Result<T>) -> io::Result<T>
 }
 
 /// A system whose calls are passed on as they are. The first error of one that opens, reads, writes or renames is kept.
-#[derive(Clone, Copy)]
+#[derive(Drop)]
 pub struct Watched<'s, R> {
     system: &'s R,
     first: &'s FirstError,
@@ -111,8 +116,44 @@ impl<'s, R: Files> Files for Watched<'s, R> {
         self.system.remove_dir_all(alloc, path)
     }
 
+    fn canonicalize<B: Allocator>(&self, alloc: B, path: &str) -> io::Result<PathBuf<B>> {
+        self.system.canonicalize(alloc, path)
+    }
+
     fn read_link<B: Allocator>(&self, alloc: B, path: &str) -> io::Result<PathBuf<B>> {
         self.system.read_link(alloc, path)
+    }
+
+    fn hard_link(&self, original: &str, link: &str) -> io::Result<()> {
+        self.system.hard_link(original, link)
+    }
+
+    fn set_permissions(&self, path: &str, permissions: Permissions) -> io::Result<()> {
+        self.system.set_permissions(path, permissions)
+    }
+
+    fn symlink(&self, original: &str, link: &str) -> io::Result<()> {
+        self.system.symlink(original, link)
+    }
+
+    fn pipe(&self) -> io::Result<(PipeReader, PipeWriter)> {
+        self.system.pipe()
+    }
+
+    fn chown(&self, path: &str, user: Option<u32>, group: Option<u32>) -> io::Result<()> {
+        self.system.chown(path, user, group)
+    }
+
+    fn lchown(&self, path: &str, user: Option<u32>, group: Option<u32>) -> io::Result<()> {
+        self.system.lchown(path, user, group)
+    }
+
+    fn create_dir_with_mode(&self, path: &str, mode: u32) -> io::Result<()> {
+        self.system.create_dir_with_mode(path, mode)
+    }
+
+    fn bind_unix(&self, socket: BorrowedFd<'_>, address: &SocketAddr) -> io::Result<()> {
+        self.system.bind_unix(socket, address)
     }
 }
 

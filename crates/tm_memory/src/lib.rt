@@ -2,8 +2,6 @@
 #![tactic(auto)]
 
 mod held;
-#[cfg(test)]
-mod tests;
 mod turns;
 
 pub use held::Held;

@@ -1,4 +1,4 @@
-//! The tests of the arguments and of the program, with memory refused to them too.
+//! The tests of the arguments and of the program, with memory refused to them too, and of what refuses it.
 #![tactic(auto)]
 
 #[cfg(test)]
@@ -11,3 +11,5 @@ mod lines;
 mod refused_arguments;
 #[cfg(test)]
 mod refused_lines;
+#[cfg(test)]
+mod turns;

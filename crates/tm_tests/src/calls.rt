@@ -197,10 +197,24 @@ impl Calls<'_> {
         }
         Ok(())
     }
+
+    // Follows a run over a row's recording. The head of its rows is flushed where the source may wait, and at the end all outputs are.
+    fn follow_run(&mut self, row: &Row, by: By<'_>) -> Result<(), AllocError> {
+        if self.has_rows {
+            self.give(0)?;
+            if self.waits {
+                self.push(Device::Out, 0)?;
+            }
+        }
+        match by {
+            By::Frames => self.follow_frames(row.records)?,
+            By::Run(_) | By::Split => self.follow(row.order)?,
+        }
+        self.flush()
+    }
 }
 
-/// All calls of a run over a row's recording, which gives this output. Rows have a head before the first record, which is flushed where the
-/// source may wait.
+/// All calls of a run over a row's recording, which gives this output.
 pub(crate) fn calls_of(
     alloc: Global,
     bench: &Bench,
@@ -239,16 +253,6 @@ pub(crate) fn calls_of(
         },
         lines: row.report.as_bytes(),
     };
-    if calls.has_rows {
-        calls.give(0)?;
-        if calls.waits {
-            calls.push(Device::Out, 0)?;
-        }
-    }
-    match by {
-        By::Frames => calls.follow_frames(row.records)?,
-        By::Run(_) | By::Split => calls.follow(row.order)?,
-    }
-    calls.flush()?;
+    calls.follow_run(row, by)?;
     Ok(calls.list)
 }

@@ -10,7 +10,6 @@ use crate::runs::{
     BASE, FIELDS, FRAME_GAP, LONG_AT_ONCE, LONG_SPLIT_HEADER, POINTER_DROP_AND_SEQUENCE_GAP, Row,
     TWELVE, TWO_CHANNELS, octets_of, settings_of,
 };
-use crate::summaries::SUMMARY;
 use std::alloc::Global;
 use tm_fields::Definition;
 use tm_memory::{Answer, Held, try_twice};
@@ -157,11 +156,17 @@ const LINES: &[u8] =
 fn out_of(alloc: Global, row: &Row, task: Task) -> Option<Vec<u8>> {
     match task {
         Task::Frames => LINES.to_vec(alloc).ok(),
-        Task::Summary => SUMMARY.as_bytes().to_vec(alloc).ok(),
+        Task::Summary => row.summary.as_bytes().to_vec(alloc).ok(),
         Task::Extract | Task::Split => octets_of(alloc, row.octets),
         Task::Packets => row.lines.as_bytes().to_vec(alloc).ok(),
         Task::Fields => HEAD_AND_ROW.as_bytes().to_vec(alloc).ok(),
     }
+}
+
+// There is room for all that is written.
+fn has_room(bench: &mut Bench) -> bool {
+    bench.out.octets.try_reserve_exact(4096).is_ok()
+        && bench.report.octets.try_reserve_exact(4096).is_ok()
 }
 
 // The devices of a run, with room for all that is written, and the job with which the next run begins.
@@ -175,11 +180,12 @@ struct Devices {
 
 impl Devices {
     fn new(alloc: Global, row: &Row) -> Option<Devices> {
-        let mut bench = Bench::new(alloc, row.settings, row.recording, 65_536)?;
-        bench.out.octets.try_reserve_exact(4096).ok()?;
-        bench.report.octets.try_reserve_exact(4096).ok()?;
         let octets = Vec::with_capacity(alloc, 4096).ok()?;
         let definition = Definition::read(alloc, TEXT.as_bytes()).ok()?;
+        let mut bench = Bench::new(alloc, row.settings, row.recording, 65_536)?;
+        if !has_room(&mut bench) {
+            return None;
+        }
         let job = Job::new(alloc, &bench.settings).ok();
         Some(Devices {
             definition,

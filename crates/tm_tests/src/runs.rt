@@ -29,6 +29,8 @@ pub(crate) struct Row {
     pub(crate) rows: &'static str,
     // What all three write to the report.
     pub(crate) report: &'static str,
+    // What `summary` writes.
+    pub(crate) summary: &'static str,
     // What is done, in this order: `/` reads a record, and `.` finds the end. A digit is a packet with so many lines in the
     // report, `i` is an idle packet, and `-` is a line of the report alone. Between `(` and `)` are packets that lie end to end
     // in one data field, and add nothing to the report.
@@ -48,6 +50,10 @@ pub(crate) const TWO_PACKETS: Row = Row {
     rows: "0,0,100,0,85\n\
         0,0,100,1,85\n",
     report: "",
+    summary: "recording records=1 good=1 bad=0 rest=0\n\
+        master gaps=0 missing=0\n\
+        channel channel=0 frames=1 idle=0 vca=0 gaps=0 missing=0 packets=2 octets=18 dropped=0 lost=0 data=18\n\
+        application channel=0 apid=100 packets=2 octets=18 first=0 last=0 gaps=0 missing=0 groups=0 broken=0 strays=0\n",
     order: "/(00).",
 };
 
@@ -61,6 +67,8 @@ const EMPTY_RECORDING: Row = Row {
     lines: "",
     rows: "",
     report: "",
+    summary: "recording records=0 good=0 bad=0 rest=0\n\
+        master gaps=0 missing=0\n",
     order: ".",
 };
 
@@ -77,6 +85,10 @@ const SKIPPED_OCTETS: Row = Row {
     rows: "0,0,100,0,85\n\
         0,0,100,1,85\n",
     report: "",
+    summary: "recording records=1 good=1 bad=0 rest=0\n\
+        master gaps=0 missing=0\n\
+        channel channel=0 frames=1 idle=0 vca=0 gaps=0 missing=0 packets=2 octets=18 dropped=0 lost=0 data=18\n\
+        application channel=0 apid=100 packets=2 octets=18 first=0 last=0 gaps=0 missing=0 groups=0 broken=0 strays=0\n",
     order: "/(00).",
 };
 
@@ -105,6 +117,12 @@ pub(crate) const TWO_CHANNELS: Row = Row {
         3,0,100,0,85\n\
         3,0,100,1,85\n",
     report: "",
+    summary: "recording records=4 good=4 bad=0 rest=0\n\
+        master gaps=0 missing=0\n\
+        channel channel=0 frames=2 idle=0 vca=0 gaps=0 missing=0 packets=2 octets=36 dropped=0 lost=0 data=36\n\
+        channel channel=1 frames=2 idle=0 vca=0 gaps=0 missing=0 packets=2 octets=36 dropped=0 lost=0 data=36\n\
+        application channel=0 apid=100 packets=2 octets=36 first=3 last=3 gaps=0 missing=0 groups=0 broken=0 strays=0\n\
+        application channel=1 apid=100 packets=2 octets=36 first=2 last=2 gaps=0 missing=0 groups=0 broken=0 strays=0\n",
     order: "///00/00.",
 };
 
@@ -124,6 +142,10 @@ const PACKET_OVER_THREE_FRAMES: Row = Row {
     rows: "2,0,100,0,85\n\
         2,0,100,1,85\n",
     report: "",
+    summary: "recording records=3 good=3 bad=0 rest=0\n\
+        master gaps=0 missing=0\n\
+        channel channel=0 frames=3 idle=0 vca=0 gaps=0 missing=0 packets=2 octets=54 dropped=0 lost=0 data=54\n\
+        application channel=0 apid=100 packets=2 octets=54 first=2 last=2 gaps=0 missing=0 groups=0 broken=0 strays=0\n",
     order: "///00.",
 };
 
@@ -147,6 +169,10 @@ const SPLIT_HEADER_OVER_IDLE: Row = Row {
         2,0,100,1,85\n\
         2,0,100,2,85\n",
     report: "",
+    summary: "recording records=3 good=3 bad=0 rest=0\n\
+        master gaps=0 missing=0\n\
+        channel channel=0 frames=3 idle=1 vca=0 gaps=0 missing=0 packets=3 octets=36 dropped=0 lost=0 data=36\n\
+        application channel=0 apid=100 packets=3 octets=36 first=0 last=2 gaps=0 missing=0 groups=0 broken=0 strays=0\n",
     order: "/0//00.",
 };
 
@@ -167,6 +193,11 @@ const POINTER_DISAGREES: Row = Row {
         1,0,100,1,85\n",
     report: "drop record=1 channel=0 from=0 at=15 octets=3 reason=pointer\n\
         drop record=1 channel=0 from=1 at=0 octets=1 reason=pointer\n",
+    summary: "recording records=2 good=2 bad=0 rest=0\n\
+        master gaps=0 missing=0\n\
+        channel channel=0 frames=2 idle=0 vca=0 gaps=0 missing=0 packets=2 octets=32 dropped=2 lost=4 data=36\n\
+        loss channel=0 reason=pointer parts=2 octets=4\n\
+        application channel=0 apid=100 packets=2 octets=32 first=0 last=1 gaps=0 missing=0 groups=0 broken=0 strays=0\n",
     order: "/0/--0.",
 };
 
@@ -182,6 +213,11 @@ const NO_START_DROPPED: Row = Row {
     lines: "packet record=0 channel=0 from=0 at=0 type=tm secondary=no apid=100 flags=unsegmented count=0 octets=18\n",
     rows: "0,0,100,0,85\n",
     report: "drop record=1 channel=0 from=1 at=0 octets=18 reason=no-start\n",
+    summary: "recording records=2 good=2 bad=0 rest=0\n\
+        master gaps=0 missing=0\n\
+        channel channel=0 frames=2 idle=0 vca=0 gaps=0 missing=0 packets=1 octets=18 dropped=1 lost=18 data=36\n\
+        loss channel=0 reason=no-start parts=1 octets=18\n\
+        application channel=0 apid=100 packets=1 octets=18 first=0 last=0 gaps=0 missing=0 groups=0 broken=0 strays=0\n",
     order: "/0/-.",
 };
 
@@ -203,6 +239,11 @@ pub(crate) const POINTER_DROP_AND_SEQUENCE_GAP: Row = Row {
     report: "drop record=1 channel=0 from=0 at=10 octets=8 reason=pointer\n\
         drop record=1 channel=0 from=1 at=0 octets=8 reason=pointer\n\
         seqgap record=1 channel=0 apid=100 expected=1 found=2 missing=1\n",
+    summary: "recording records=2 good=2 bad=0 rest=0\n\
+        master gaps=0 missing=0\n\
+        channel channel=0 frames=2 idle=0 vca=0 gaps=0 missing=0 packets=2 octets=20 dropped=2 lost=16 data=36\n\
+        loss channel=0 reason=pointer parts=2 octets=16\n\
+        application channel=0 apid=100 packets=2 octets=20 first=0 last=1 gaps=1 missing=1 groups=0 broken=0 strays=0\n",
     order: "/0/--1.",
 };
 
@@ -239,6 +280,12 @@ pub(crate) const FRAME_GAP: Row = Row {
         drop record=3 channel=0 from=2 at=10 octets=8 reason=gap\n\
         drop record=3 channel=0 from=3 at=0 octets=6 reason=no-start\n\
         seqgap record=3 channel=0 apid=100 expected=3 found=4 missing=1\n",
+    summary: "recording records=4 good=4 bad=0 rest=0\n\
+        master gaps=1 missing=1\n\
+        channel channel=0 frames=4 idle=0 vca=0 gaps=1 missing=1 packets=4 octets=58 dropped=2 lost=14 data=72\n\
+        loss channel=0 reason=gap parts=1 octets=8\n\
+        loss channel=0 reason=no-start parts=1 octets=6\n\
+        application channel=0 apid=100 packets=4 octets=58 first=0 last=3 gaps=1 missing=1 groups=0 broken=0 strays=0\n",
     order: "/0/0/0/----1.",
 };
 
@@ -261,6 +308,10 @@ const FRAME_TWICE: Row = Row {
     report: "mastergap record=1 expected=1 found=0 missing=255\n\
         gap record=1 channel=0 expected=1 found=0 missing=255\n\
         seqgap record=1 channel=0 apid=100 expected=1 found=0 missing=16383\n",
+    summary: "recording records=2 good=2 bad=0 rest=0\n\
+        master gaps=1 missing=255\n\
+        channel channel=0 frames=2 idle=0 vca=0 gaps=1 missing=255 packets=2 octets=36 dropped=0 lost=0 data=36\n\
+        application channel=0 apid=100 packets=2 octets=36 first=0 last=1 gaps=1 missing=16383 groups=0 broken=0 strays=0\n",
     order: "/0/--1.",
 };
 
@@ -281,6 +332,12 @@ const OTHER_VERSION: Row = Row {
         1,0,100,1,85\n",
     report: "drop record=0 channel=0 from=0 at=10 octets=8 reason=version\n\
         drop record=1 channel=0 from=1 at=0 octets=4 reason=no-start\n",
+    summary: "recording records=2 good=2 bad=0 rest=0\n\
+        master gaps=0 missing=0\n\
+        channel channel=0 frames=2 idle=0 vca=0 gaps=0 missing=0 packets=2 octets=24 dropped=2 lost=12 data=36\n\
+        loss channel=0 reason=no-start parts=1 octets=4\n\
+        loss channel=0 reason=version parts=1 octets=8\n\
+        application channel=0 apid=100 packets=2 octets=24 first=0 last=1 gaps=0 missing=0 groups=0 broken=0 strays=0\n",
     order: "/0-/-0.",
 };
 
@@ -311,6 +368,10 @@ pub(crate) const GREATEST_PACKET: Row = Row {
         33,0,100,1,85\n\
         33,0,100,2,85\n",
     report: "",
+    summary: "recording records=34 good=34 bad=0 rest=0\n\
+        master gaps=0 missing=0\n\
+        channel channel=0 frames=34 idle=0 vca=0 gaps=0 missing=0 packets=3 octets=69428 dropped=0 lost=0 data=69428\n\
+        application channel=0 apid=100 packets=3 octets=69428 first=0 last=33 gaps=0 missing=0 groups=0 broken=0 strays=0\n",
     order: "/0/////////////////////////////////00.",
 };
 
@@ -332,6 +393,10 @@ const GROUP_BROKEN_BY_GAP: Row = Row {
     report: "seqgap record=0 channel=0 apid=100 expected=1 found=2 missing=1\n\
         broken record=0 channel=0 apid=100 first=16383 last=0 reason=gap\n\
         stray record=0 channel=0 apid=100 count=2 flag=last\n",
+    summary: "recording records=1 good=1 bad=0 rest=0\n\
+        master gaps=0 missing=0\n\
+        channel channel=0 frames=1 idle=0 vca=0 gaps=0 missing=0 packets=3 octets=21 dropped=0 lost=0 data=21\n\
+        application channel=0 apid=100 packets=3 octets=21 first=0 last=0 gaps=1 missing=1 groups=0 broken=1 strays=1\n",
     order: "/(00)3.",
 };
 
@@ -368,6 +433,11 @@ const GROUPS: Row = Row {
     report: "group record=0 channel=0 apid=100 first=5 last=7\n\
         broken record=1 channel=0 apid=100 first=8 last=8 reason=unsegmented\n\
         broken record=3 channel=0 apid=100 first=10 last=10 reason=end\n",
+    summary: "recording records=3 good=3 bad=0 rest=0\n\
+        master gaps=0 missing=0\n\
+        channel channel=0 frames=3 idle=0 vca=0 gaps=0 missing=0 packets=7 octets=63 dropped=0 lost=0 data=63\n\
+        application channel=0 apid=100 packets=6 octets=49 first=0 last=2 gaps=0 missing=0 groups=1 broken=2 strays=0\n\
+        application channel=0 apid=2047 packets=1 octets=14 first=2 last=2 gaps=0 missing=0 groups=0 broken=0 strays=0\n",
     order: "/(00)1/01/(0i).-",
 };
 
@@ -381,6 +451,10 @@ pub(crate) const FIELDS: Row = Row {
     lines: "packet record=0 channel=0 from=0 at=0 type=tm secondary=no apid=100 flags=unsegmented count=0 octets=16\n",
     rows: "0,0,100,0,7\n",
     report: "",
+    summary: "recording records=1 good=1 bad=0 rest=0\n\
+        master gaps=0 missing=0\n\
+        channel channel=0 frames=1 idle=0 vca=0 gaps=0 missing=0 packets=1 octets=16 dropped=0 lost=0 data=16\n\
+        application channel=0 apid=100 packets=1 octets=16 first=0 last=0 gaps=0 missing=0 groups=0 broken=0 strays=0\n",
     order: "/0.",
 };
 
@@ -405,6 +479,12 @@ const VCA_FRAME: Row = Row {
         drop record=1 channel=0 from=0 at=10 octets=8 reason=vca\n\
         drop record=2 channel=0 from=2 at=0 octets=6 reason=no-start\n\
         seqgap record=2 channel=0 apid=100 expected=1 found=2 missing=1\n",
+    summary: "recording records=3 good=3 bad=0 rest=0\n\
+        master gaps=0 missing=0\n\
+        channel channel=0 frames=3 idle=0 vca=1 gaps=0 missing=0 packets=2 octets=22 dropped=2 lost=14 data=36\n\
+        loss channel=0 reason=vca parts=1 octets=8\n\
+        loss channel=0 reason=no-start parts=1 octets=6\n\
+        application channel=0 apid=100 packets=2 octets=22 first=0 last=2 gaps=1 missing=1 groups=0 broken=0 strays=0\n",
     order: "/0/--/-1.",
 };
 
@@ -424,6 +504,12 @@ pub(crate) const SHORT_REST: Row = Row {
     report: "short record=2 octets=10\n\
         drop record=2 channel=0 from=0 at=0 octets=18 reason=end\n\
         drop record=2 channel=1 from=1 at=0 octets=18 reason=end\n",
+    summary: "recording records=2 good=2 bad=0 rest=10\n\
+        master gaps=0 missing=0\n\
+        channel channel=0 frames=1 idle=0 vca=0 gaps=0 missing=0 packets=0 octets=0 dropped=1 lost=18 data=18\n\
+        loss channel=0 reason=end parts=1 octets=18\n\
+        channel channel=1 frames=1 idle=0 vca=0 gaps=0 missing=0 packets=0 octets=0 dropped=1 lost=18 data=18\n\
+        loss channel=1 reason=end parts=1 octets=18\n",
     order: "//.---",
 };
 
@@ -439,6 +525,11 @@ pub(crate) const SPLIT_WITH_IDLE: Row = Row {
         packet record=0 channel=0 from=0 at=7 type=tm secondary=no apid=2047 flags=unsegmented count=0 octets=11\n",
     rows: "0,0,100,0,85\n",
     report: "",
+    summary: "recording records=1 good=1 bad=0 rest=0\n\
+        master gaps=0 missing=0\n\
+        channel channel=0 frames=1 idle=0 vca=0 gaps=0 missing=0 packets=2 octets=18 dropped=0 lost=0 data=18\n\
+        application channel=0 apid=100 packets=1 octets=7 first=0 last=0 gaps=0 missing=0 groups=0 broken=0 strays=0\n\
+        application channel=0 apid=2047 packets=1 octets=11 first=0 last=0 gaps=0 missing=0 groups=0 broken=0 strays=0\n",
     order: "/(0i).",
 };
 
@@ -455,6 +546,10 @@ pub(crate) const HELD_AFTER_FIRST_RECORD: Row = Row {
     rows: "",
     report: "short record=1 octets=10\n\
         drop record=1 channel=0 from=0 at=0 octets=18 reason=end\n",
+    summary: "recording records=1 good=1 bad=0 rest=10\n\
+        master gaps=0 missing=0\n\
+        channel channel=0 frames=1 idle=0 vca=0 gaps=0 missing=0 packets=0 octets=0 dropped=1 lost=18 data=18\n\
+        loss channel=0 reason=end parts=1 octets=18\n",
     order: "/.--",
 };
 
@@ -468,6 +563,10 @@ const ERROR_CONTROL: Row = Row {
     lines: "",
     rows: "",
     report: "bad record=1 fault=crc\n",
+    summary: "recording records=2 good=1 bad=1 rest=0\n\
+        fault word=crc records=1\n\
+        master gaps=0 missing=0\n\
+        channel channel=0 frames=1 idle=1 vca=0 gaps=0 missing=0 packets=0 octets=0 dropped=0 lost=0 data=0\n",
     order: "//-.",
 };
 
@@ -489,6 +588,12 @@ pub(crate) const LONG_AT_ONCE: Row = Row {
     report: "drop record=0 channel=0 from=0 at=10 octets=8 reason=length\n\
         drop record=1 channel=0 from=1 at=0 octets=6 reason=no-start\n\
         seqgap record=1 channel=0 apid=100 expected=1 found=2 missing=1\n",
+    summary: "recording records=2 good=2 bad=0 rest=0\n\
+        master gaps=0 missing=0\n\
+        channel channel=0 frames=2 idle=0 vca=0 gaps=0 missing=0 packets=2 octets=22 dropped=2 lost=14 data=36\n\
+        loss channel=0 reason=no-start parts=1 octets=6\n\
+        loss channel=0 reason=length parts=1 octets=8\n\
+        application channel=0 apid=100 packets=2 octets=22 first=0 last=1 gaps=1 missing=1 groups=0 broken=0 strays=0\n",
     order: "/0-/-1.",
 };
 
@@ -513,6 +618,11 @@ pub(crate) const LONG_SPLIT_HEADER: Row = Row {
     report: "drop record=1 channel=0 from=0 at=15 octets=3 reason=length\n\
         drop record=1 channel=0 from=1 at=0 octets=11 reason=length\n\
         seqgap record=1 channel=0 apid=100 expected=2 found=3 missing=1\n",
+    summary: "recording records=2 good=2 bad=0 rest=0\n\
+        master gaps=0 missing=0\n\
+        channel channel=0 frames=2 idle=0 vca=0 gaps=0 missing=0 packets=3 octets=22 dropped=2 lost=14 data=36\n\
+        loss channel=0 reason=length parts=2 octets=14\n\
+        application channel=0 apid=100 packets=3 octets=22 first=0 last=1 gaps=1 missing=1 groups=0 broken=0 strays=0\n",
     order: "/(00)/--1.",
 };
 
@@ -537,6 +647,11 @@ const LONG_SPLIT_HEADER_AND_POINTER: Row = Row {
     report: "drop record=1 channel=0 from=0 at=15 octets=3 reason=pointer\n\
         drop record=1 channel=0 from=1 at=0 octets=10 reason=pointer\n\
         seqgap record=1 channel=0 apid=100 expected=2 found=3 missing=1\n",
+    summary: "recording records=2 good=2 bad=0 rest=0\n\
+        master gaps=0 missing=0\n\
+        channel channel=0 frames=2 idle=0 vca=0 gaps=0 missing=0 packets=3 octets=23 dropped=2 lost=13 data=36\n\
+        loss channel=0 reason=pointer parts=2 octets=13\n\
+        application channel=0 apid=100 packets=3 octets=23 first=0 last=1 gaps=1 missing=1 groups=0 broken=0 strays=0\n",
     order: "/(00)/--1.",
 };
 
@@ -550,6 +665,10 @@ const LONG: Row = Row {
     lines: "",
     rows: "",
     report: "drop record=0 channel=0 from=0 at=0 octets=18 reason=length\n",
+    summary: "recording records=1 good=1 bad=0 rest=0\n\
+        master gaps=0 missing=0\n\
+        channel channel=0 frames=1 idle=0 vca=0 gaps=0 missing=0 packets=0 octets=0 dropped=1 lost=18 data=18\n\
+        loss channel=0 reason=length parts=1 octets=18\n",
     order: "/-.",
 };
 
@@ -564,6 +683,11 @@ const NOT_LONG: Row = Row {
     lines: "packet record=0 channel=0 from=0 at=0 type=tm secondary=no apid=100 flags=unsegmented count=0 octets=14\n",
     rows: "0,0,100,0,85\n",
     report: "drop record=0 channel=0 from=0 at=14 octets=4 reason=version\n",
+    summary: "recording records=1 good=1 bad=0 rest=0\n\
+        master gaps=0 missing=0\n\
+        channel channel=0 frames=1 idle=0 vca=0 gaps=0 missing=0 packets=1 octets=14 dropped=1 lost=4 data=18\n\
+        loss channel=0 reason=version parts=1 octets=4\n\
+        application channel=0 apid=100 packets=1 octets=14 first=0 last=0 gaps=0 missing=0 groups=0 broken=0 strays=0\n",
     order: "/0-.",
 };
 
@@ -579,6 +703,10 @@ const MASTER_GAP_UNCHOSEN: Row = Row {
     lines: "packet record=1 channel=1 from=1 at=0 type=tm secondary=no apid=100 flags=unsegmented count=0 octets=18\n",
     rows: "1,1,100,0,85\n",
     report: "mastergap record=1 expected=1 found=2 missing=1\n",
+    summary: "recording records=2 good=2 bad=0 rest=0\n\
+        master gaps=1 missing=1\n\
+        channel channel=1 frames=1 idle=0 vca=0 gaps=0 missing=0 packets=1 octets=18 dropped=0 lost=0 data=18\n\
+        application channel=1 apid=100 packets=1 octets=18 first=1 last=1 gaps=0 missing=0 groups=0 broken=0 strays=0\n",
     order: "//-0.",
 };
 

@@ -1,6 +1,6 @@
 //! Calls that are made in turn.
 
-use crate::{Answer, Turns, try_twice};
+use tm_memory::{Answer, Turns, try_twice};
 
 // How often a call is made that gives these octets, until all is right.
 #[test]

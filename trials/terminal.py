@@ -8,7 +8,8 @@ standard error a pipe, which has to get the line of the fault alone, and with st
 status is the same, and so is what the files hold afterwards.
 
 Each explanation has to be a row of the table in docs/FORMATS.md, and each row has to come in some case. The rows are compared
-with the texts in crates/tm_explanations/src/texts.rt, which stand in the same order.
+with the texts in crates/tm_explanations/src/texts.rt, which stand in the same order. The last one is in
+crates/tm_faults/src/explanation.rt.
 
 Prints a line `ok ..` or `FAILED: ..` for each.
 """
@@ -26,7 +27,7 @@ from pathlib import Path
 
 HERE = Path(__file__).resolve().parent.parent
 FORMATS = (HERE / "docs" / "FORMATS.md").read_text(encoding="utf-8")
-SOURCES = HERE / "crates" / "tm_explanations" / "src"
+CRATES = HERE / "crates"
 HEADING = "\n### At a terminal\n"
 VALUE = re.compile(r"\{\w*\}|\b(?!UTF\b|TMXC\b)[A-Z]+\b")  # what stands in a text for a value
 NOBODY = 65534
@@ -514,8 +515,8 @@ def pattern(text):
 
 def texts():
     """The texts of the code, in their order: those of texts.rt, and the one that is formatted."""
-    table = (SOURCES / "texts.rt").read_text(encoding="utf-8")
-    formatted = (SOURCES / "explanation.rt").read_text(encoding="utf-8")
+    table = (CRATES / "tm_explanations" / "src" / "texts.rt").read_text(encoding="utf-8")
+    formatted = (CRATES / "tm_faults" / "src" / "explanation.rt").read_text(encoding="utf-8")
     found = re.findall(r'const \w+: &str =\s*"((?:[^"\\]|\\.)*)";', table) + re.findall(r'format!\(in alloc; "(.*)"\)', formatted)
     return [VALUE.sub("{}", text) for text in found]
 

@@ -1,8 +1,8 @@
 //! Why octets are no checkpoint of a job with the settings.
 
-use crate::line::{Value, some_text};
 use crate::roles::{Phrase, Role, phrase_in};
 use crate::texts::{CHECK, MAGIC, OTHER_SETTINGS, SHORT, STATE, TRAILING, VERSION};
+use crate::values::{Value, some_text};
 use std::alloc::{AllocError, Global};
 use tm_arguments::Plan;
 use tm_faults::CheckpointFault;

@@ -1,10 +1,10 @@
 //! Why a text is no definition of fields.
 
-use crate::line::{Value, some_text};
 use crate::roles::{Phrase, Role, phrase_in};
 use crate::texts::{
     ARRAY, COLUMN_TWICE, FIELDS, LENGTH, LENGTHS, NAME_TWICE, NO_COLUMN, NO_NAME, OFFSET, TYPE,
 };
+use crate::values::{Value, some_text};
 use csv::{ByteRecord, ReaderBuilder};
 use std::alloc::{AllocError, Global};
 use tm_arguments::Plan;

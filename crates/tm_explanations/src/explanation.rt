@@ -1,20 +1,17 @@
 //! The explanation of a fault.
 
-ghost use Rattle.std.specs.Prelude.{◌≡◌, IfOk, IfSome};
-ghost use Rattle.tm_explanations.specs.Explanations.{IsLine, bad_frames_text, line_of};
-
 use crate::checkpoint::checkpoint_text;
 use crate::definition::definition_text;
 use crate::files::{file_text, length_text};
-use crate::line::{NoMemory, line_of, some_text};
 use crate::runs::{output_text, run_text, shorter_text};
 use crate::settings::settings_text;
 use crate::texts::NO_CHECKPOINT;
+use crate::values::some_text;
 use std::alloc::{AllocError, Global};
 use std::rt::Files;
 use tm_arguments::{Plan, plan};
 use tm_bits::Octets;
-use tm_faults::{RunFault, ToolFault, UsageFault};
+use tm_faults::{Explanation, NoMemory, RunFault, ToolFault, UsageFault};
 use tm_files::read_file;
 use tm_settings::Settings;
 
@@ -124,9 +121,7 @@ pub fn explain<R: Files + AllocGlobal>(
     words: Vec<String>,
     fault: &ToolFault,
     number: Option<i32>,
-) -> Result<Option<Vec<u8>>, NoMemory>
-    ensures { IfOk result (λ found. IfSome found (λ line. IsLine line.items)) }
-{
+) -> Result<Option<Explanation>, NoMemory> {
     let text = match fault {
         ToolFault::Usage(UsageFault::StopAfter) => {
             drop(words);
@@ -135,15 +130,7 @@ pub fn explain<R: Files + AllocGlobal>(
         _ => fault_text(rt, words, fault, number),
     };
     match text? {
-        Some(text) => Ok(Some(line_of(rt.alloc(), text.as_slice())?)),
+        Some(text) => Ok(Some(Explanation::new(rt.alloc(), text.as_slice())?)),
         None => Ok(None),
     }
-}
-
-/// Says that a run of this many records had no good frame, and what to do.
-pub fn explain_bad_frames(alloc: Global, records: u32) -> Result<Vec<u8>, NoMemory>
-    ensures { IfOk result (λ line. line.items ≡ line_of (bad_frames_text records)) }
-{
-    let text = format!(in alloc; "no good frame in {records} records: see tmx summary")?;
-    line_of(alloc, text.as_bytes())
 }

@@ -1,11 +1,11 @@
 //! Why a file can't be opened, made, read or written.
 
-use crate::line::{Value, some_text};
 use crate::roles::{Phrase, Role, has_name, phrase_in, phrase_of};
 use crate::texts::{
     FOLDER, NO_FILE, NO_FOLDER, NO_NAME_GIVEN, NO_PERMISSION, OVER, SYSTEM, TOO_LONG,
     TOO_LONG_DEVICE,
 };
+use crate::values::{Value, some_text};
 use std::alloc::{AllocError, Global};
 use std::fs;
 use std::io::{self, ErrorKind};

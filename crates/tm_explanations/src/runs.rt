@@ -2,12 +2,12 @@
 
 use crate::checkpoint::records_in;
 use crate::files::{length_at, length_of, output_clash_text, with_system_words};
-use crate::line::{Value, some_text};
 use crate::roles::{Phrase, Role, name_in, phrase_in, recording_phrase};
 use crate::texts::{
     CLOSED, FOLDER, NO_FOLDER, NO_MEMORY, NOT_A_FOLDER, PIPE, READ, SHORTER, SHORTER_STREAM,
     TOO_MANY, WRITE,
 };
+use crate::values::{Value, some_text};
 use std::alloc::{AllocError, Global};
 use std::fs;
 use std::rt::Files;

@@ -1,12 +1,11 @@
 //! Why a text is no settings.
 
-use crate::keys::{nearest_key, wanted_value};
-use crate::line::{Value, some_text};
 use crate::roles::{Phrase, Role, phrase_in};
 use crate::texts::{MISSING_KEY, NEAR_KEY, NOT_TEXT, TOML, UNKNOWN_KEY, VALUE};
+use crate::values::{Value, some_text};
 use std::alloc::{AllocError, Global};
 use tm_arguments::Plan;
-use tm_settings::{Key, SettingsFault};
+use tm_settings::{Key, SettingsFault, nearest_key, wanted_value};
 
 /// A place in a text, as an editor counts: lines from 1, and in a line characters from 1.
 #[derive(Clone, Copy)]

@@ -1,13 +1,11 @@
 //! A word of the command line that is not UTF-8.
 
-ghost use Rattle.std.specs.Prelude.{IfOk, IfSome};
-ghost use Rattle.tm_explanations.specs.Explanations.{IsLine};
-
-use crate::line::{NoMemory, Value, fill_text, line_of};
 use crate::texts::WORD;
+use crate::values::{Value, fill_text};
 use std::alloc::Global;
 use std::env::FillError;
 use std::rt::Env;
+use tm_faults::{Explanation, NoMemory};
 
 // The octets of the longest word that is looked at: a longer one is no path.
 const LONGEST: usize = 4096;
@@ -15,13 +13,11 @@ const LONGEST: usize = 4096;
 // So many words are looked at.
 const MOST: usize = 65536;
 
-// The line of a word that is not UTF-8, by its number.
-fn word_line(alloc: Global, at: usize, word: &[u8]) -> Result<Vec<u8>, NoMemory>
-    ensures { IfOk result (λ line. IsLine line.items) }
-{
+// The explanation of a word that is not UTF-8, by its number.
+fn explain_word(alloc: Global, at: usize, word: &[u8]) -> Result<Explanation, NoMemory> {
     let values = [Value::Number(at as u64), Value::Octets(word)];
     let text = fill_text(alloc, WORD, &values)?;
-    line_of(alloc, text.as_slice())
+    Explanation::new(alloc, text.as_slice())
 }
 
 // The number and the length of the first word that is not UTF-8, whose octets are put here; none if it can't be told.
@@ -40,16 +36,14 @@ fn find_word<R: Env>(rt: &R, octets: &mut [u8]) -> Option<(usize, usize)> {
 }
 
 /// Which word of the command line is not UTF-8, and what to do; none if it can't be told. Words are counted after the program's name, from 1.
-pub fn explain_words<R: Env + AllocGlobal>(rt: &R) -> Result<Option<Vec<u8>>, NoMemory>
-    ensures { IfOk result (λ found. IfSome found (λ line. IsLine line.items)) }
-{
+pub fn explain_words<R: Env + AllocGlobal>(rt: &R) -> Result<Option<Explanation>, NoMemory> {
     let alloc = rt.alloc();
     let mut octets = vec![in alloc; 0u8; LONGEST]?;
     let Some((at, length)) = find_word(rt, octets.as_mut_slice()) else {
         return Ok(None);
     };
     match octets.get(..length) {
-        Some(word) => Ok(Some(word_line(alloc, at, word)?)),
+        Some(word) => Ok(Some(explain_word(alloc, at, word)?)),
         None => Ok(None),
     }
 }

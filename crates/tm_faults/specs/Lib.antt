@@ -1,3 +1,4 @@
 pub mod Keys
 pub mod Columns
 pub mod FaultLines
+pub mod Explanations

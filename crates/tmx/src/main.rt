@@ -5,7 +5,8 @@ use std::cell::Cell;
 use std::env;
 use std::io::{ErrorKind, IsTerminal, Write};
 use std::process::ExitCode;
-use tm_explanations::{Watched, explain, explain_bad_frames, explain_words};
+use tm_devices::Watched;
+use tm_explanations::{Explanation, explain, explain_bad_frames, explain_words};
 use tm_program::{Octets, Outcome, RunFault, ToolFault, UsageFault, fault_line, run, status};
 
 const NOT_TEXT: &str =
@@ -30,7 +31,7 @@ fn all_arguments(rt: &HostRuntime) -> Result<Vec<String>, ToolFault> {
 }
 
 // What is said behind the line of a fault at a terminal: why it came, and what to do. The number is that of the system's first error.
-fn explanation(rt: &HostRuntime, fault: &ToolFault, number: Option<i32>) -> Option<Vec<u8>> {
+fn explanation(rt: &HostRuntime, fault: &ToolFault, number: Option<i32>) -> Option<Explanation> {
     let found = match env::args(rt) {
         Ok(args) => match args.skip(1).collect(rt.alloc()) {
             Ok(arguments) => explain(rt, arguments, fault, number),

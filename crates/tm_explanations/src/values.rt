@@ -1,21 +1,7 @@
-//! Texts with values in them, and their lines.
-
-ghost use Rattle.std.specs.Prelude.{◌≡◌, IfOk};
-ghost use Rattle.tm_explanations.specs.Explanations.{line_of};
+//! Texts with values in them.
 
 use crate::roles::Phrase;
 use std::alloc::{AllocError, Global};
-use tm_bits::push_escaped;
-
-/// Memory ran out.
-#[derive(Clone, Copy, Debug, PartialEq, Eq)]
-pub struct NoMemory;
-
-impl From<AllocError> for NoMemory {
-    fn from(_: AllocError) -> NoMemory {
-        NoMemory
-    }
-}
 
 /// What stands in a text for `{}`.
 #[derive(Clone, Copy)]
@@ -75,14 +61,4 @@ pub(crate) fn some_text(
     values: &[Value<'_>],
 ) -> Result<Option<Vec<u8>>, AllocError> {
     Ok(Some(fill_text(alloc, text, values)?))
-}
-
-/// The line of a text: two spaces before it, and each octet as it is printed.
-pub(crate) fn line_of(alloc: Global, text: &[u8]) -> Result<Vec<u8>, NoMemory>
-    ensures { IfOk result (λ line. line.items ≡ line_of text.now) }
-{
-    let mut line = Vec::from_slice(alloc, b"  ")?;
-    push_escaped(&mut line, text)?;
-    line.extend_from_slice(b"\n")?;
-    Ok(line)
 }

@@ -1,9 +1,9 @@
 use Rattle.std.proofs.Common.{arith, refl}
 use Rattle.tm_faults.specs.declared.settings.Key.TheVariants.{Spacecraft}
-use Rattle.tm_explanations.specs.Explanations.{edits_to}
-use Rattle.tm_explanations.proofs.Nearest.{all_over, closer, farther, none_nearer, none_near}
-use Rattle.tm_explanations.proofs.keys.nearest_of.Goals as goal
-use Rattle.tm_explanations.proofs.keys.nearest_of.Goals.{then-edits-least, else-edits-least}
+use Rattle.tm_settings.specs.Advice.{edits_to}
+use Rattle.tm_settings.proofs.Nearest.{all_over, closer, farther, none_nearer, none_near}
+use Rattle.tm_settings.proofs.advice.nearest_of.Goals as goal
+use Rattle.tm_settings.proofs.advice.nearest_of.Goals.{then-edits-least, else-edits-least}
 
 pub loop-key-preserved : goal.loop-key-preserved
 loop-key-preserved c = elim c.if-edits-least.branch [

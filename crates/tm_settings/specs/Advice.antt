@@ -1,22 +1,13 @@
--- The line that says to a person why a run ended, and what to do.
-use Rattle.std.specs.Prelude.{◌≡◌, ◌++◌, ℕ, List, Option, Some, None, codes, length, nat_eq}
+-- What to write for a key of the settings.
+use Rattle.std.specs.Prelude.{◌++◌, ℕ, List, Option, Some, None, codes, length, nat_eq}
 use Rattle.std.specs.Fmt.{decimal}
 use Rattle.std.specs.Str.{chars}
 use Rattle.strsim.specs.Edits.{levenshtein_row}
-use Rattle.tm_bits.specs.Escape.{escaped}
 use Rattle.tm_faults.specs.Keys.{key_name}
 use Rattle.tm_settings.specs.Limits.{limits_of}
 use Rattle.tm_faults.specs.declared.settings.Key.{Key}
 use Rattle.tm_faults.specs.declared.settings.Key.TheVariants.{Channels, ErrorControl}
 use Rattle.tm_settings.specs.declared.limits.Limits.{Limits}
-
--- the line of a text: two spaces, the text as octets that may be anything are printed, and the end of the line
-abbrev pub line_of : List ℕ → List ℕ
-line_of text = codes "  " ++ (escaped text ++ codes "\n")
-
--- the octets are the line of some text: so they are one line of visible characters and spaces, whatever files and words hold
-abbrev pub IsLine : List ℕ → Type 0
-IsLine octets = (text : List ℕ) × (octets ≡ line_of text)
 
 -- how many edits of a character lead from a text to the name of a key
 abbrev pub edits_to : List ℕ → Key → ℕ
@@ -32,7 +23,3 @@ wanted_in _ None = codes "\"flag\", \"always\" or \"never\""
 -- what the value of a key has to be
 abbrev pub wanted_of : Key → List ℕ
 wanted_of key = wanted_in key (limits_of key)
-
--- what is said of a run of so many records, none of them a good frame
-abbrev pub bad_frames_text : ℕ → List ℕ
-bad_frames_text records = codes "no good frame in " ++ (decimal records ++ codes " records: see tmx summary")

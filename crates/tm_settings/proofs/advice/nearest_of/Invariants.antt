@@ -1,7 +1,7 @@
 use Rattle.std.proofs.Common.{take}
-use Rattle.tm_explanations.specs.Explanations.{edits_to}
-use Rattle.tm_explanations.proofs.Nearest.{IsNearest}
-use Rattle.tm_explanations.proofs.keys.nearest_of.Given as goal
+use Rattle.tm_settings.specs.Advice.{edits_to}
+use Rattle.tm_settings.proofs.Nearest.{IsNearest}
+use Rattle.tm_settings.proofs.advice.nearest_of.Given as goal
 
 -- the nearest of the keys so far
 abbrev pub invariant-loop-key : goal.invariant-loop-key

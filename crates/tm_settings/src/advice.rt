@@ -1,14 +1,14 @@
-//! Keys of the settings: which one is near to a text, and what its value has to be.
+//! What to write for a key: the key that is nearest to a text, and what the value of a key has to be.
 
 ghost use Rattle.std.specs.Prelude.{◌≡◌, ◌<◌, ◌≤◌, None, IfOk, IfSome};
 ghost use Rattle.std.specs.List.{All};
 ghost use Rattle.tm_faults.specs.Keys.{all_keys};
-ghost use Rattle.tm_explanations.specs.Explanations.{edits_to, wanted_of};
+ghost use Rattle.tm_settings.specs.Advice.{edits_to, wanted_of};
 
+use crate::limits::{Limits, number_limits};
 use std::alloc::{AllocError, Global};
 use strsim::levenshtein;
 use tm_faults::Key;
-use tm_settings::{Limits, number_limits};
 
 // How many edits lead from a text to the name of a key.
 fn edits_to(alloc: Global, text: &str, key: Key) -> Result<usize, AllocError>
@@ -37,7 +37,11 @@ fn nearest_of(alloc: Global, text: &str, keys: &[Key]) -> Result<Option<Key>, Al
 }
 
 /// The key of the settings that is nearest to a text, if fewer than four edits of a character lead to one.
-pub(crate) fn nearest_key(alloc: Global, text: &str) -> Result<Option<Key>, AllocError>
+///
+/// # Errors
+///
+/// `AllocError` where there is no room to count the edits.
+pub fn nearest_key(alloc: Global, text: &str) -> Result<Option<Key>, AllocError>
     ensures near { IfOk result (λ found. IfSome found (λ key. edits_to text.now key < 4)) }
     ensures nearest { IfOk result (λ found. IfSome found
         (λ key. All (λ other. edits_to text.now key ≤ edits_to text.now other) all_keys)) }
@@ -47,7 +51,11 @@ pub(crate) fn nearest_key(alloc: Global, text: &str) -> Result<Option<Key>, Allo
 }
 
 /// What the value of a key has to be: for a number its limits, by which it is read.
-pub(crate) fn wanted_value(alloc: Global, key: Key) -> Result<Vec<u8>, AllocError>
+///
+/// # Errors
+///
+/// `AllocError` where there is no room for the text.
+pub fn wanted_value(alloc: Global, key: Key) -> Result<Vec<u8>, AllocError>
     ensures { IfOk result (λ text. text.items ≡ wanted_of key) }
 {
     let text = match (key, number_limits(key)) {

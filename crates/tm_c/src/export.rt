@@ -1,9 +1,9 @@
 //! The call, and what crosses the border with it.
 
-ghost use Rattle.std.specs.Prelude.{◌≡◌, ◌<◌};
+ghost use Rattle.std.specs.Prelude.{◌≡◌, ◌≢◌, ◌⊎◌, ◌<◌, ◌==◌, Some, None, [], true, false, nat_le, not};
 ghost use Rattle.tm_output.specs.declared.command.Command.TheVariants as command;
 ghost use Rattle.tm_library.specs.declared.request.Wanted.TheVariants.{Frames, Packets};
-ghost use Rattle.tm_c.specs.Answers.{IsFieldsAnswer, IsGiven, IsSummaryAnswer, done_with, refused_with};
+ghost use Rattle.tm_c.specs.Answers.{IsFieldsAnswer, IsGiven, IsSummaryAnswer, done_with, fit, refused_with};
 ghost use Rattle.tm_c.specs.Numbers.{with_status};
 
 use crate::numbers::{definition_numbers, refusal_numbers, with_status};
@@ -49,6 +49,52 @@ fn done_with(answer: Answer, fits: bool) -> TmxAnswer
     }
 }
 
+// No octets follow those of the chunk.
+fn is_last(request: &TmxRequest<'_>) -> bool
+    ensures { result ≡ not (request.now.last == 0) }
+{
+    request.last != 0
+}
+
+// The call has a whole recording: it goes on from no checkpoint, and no octets follow.
+fn is_whole(request: &TmxRequest<'_>) -> bool
+    ensures whole { result ≡ true → (request.now.last ≢ 0) × (request.now.checkpoint.now ≡ []) }
+    ensures part { result ≡ false → (request.now.last ≡ 0) ⊎ (request.now.checkpoint.now ≢ []) }
+{
+    is_last(request) && request.checkpoint.is_empty()
+}
+
+// What is wanted by a command's number, where it takes no definition and the recording may come in chunks.
+fn wanted_of(number: u32) -> Option<Wanted<'static>>
+    ensures extract { number ≡ 0 → result ≡ Some (Packets command.Extract) }
+    ensures packets { number ≡ 1 → result ≡ Some (Packets command.Packets) }
+    ensures frames { number ≡ 3 → result ≡ Some Frames }
+    ensures others { number ≢ 0 → number ≢ 1 → number ≢ 3 → result ≡ None }
+{
+    match number {
+        0 => Some(Wanted::Packets(Command::Extract)),
+        1 => Some(Wanted::Packets(Command::Packets)),
+        3 => Some(Wanted::Frames),
+        _ => None,
+    }
+}
+
+// There may be an application of this number.
+fn is_application(number: u32) -> bool
+    ensures { result ≡ nat_le number 2047 }
+{
+    number <= 2047
+}
+
+// Each room is large enough.
+fn fits(answer: Answer, out: &[u8], report: &[u8], checkpoint: &[u8]) -> bool
+    ensures { result ≡ fit answer out.now report.now checkpoint.now }
+{
+    answer.out <= out.len()
+        && answer.report <= report.len()
+        && answer.checkpoint <= checkpoint.len()
+}
+
 // Gives what is wanted of the chunk.
 fn answer_chunk(
     alloc: Global,
@@ -65,24 +111,19 @@ fn answer_chunk(
         checkpoint: request.checkpoint,
         octets: request.octets,
         wanted,
-        last: request.last != 0,
+        last: is_last(request),
     };
     match run_chunk(alloc, chunk, out, report, checkpoint) {
-        Ok(answer) => {
-            let fits = answer.out <= out.len()
-                && answer.report <= report.len()
-                && answer.checkpoint <= checkpoint.len();
-            done_with(answer, fits)
-        }
+        Ok(answer) => done_with(answer, fits(answer, out, report, checkpoint)),
         Err(refusal) => refused_with(refusal_numbers(refusal)),
     }
 }
 
-// Gives the summary of a whole recording: it goes on from no checkpoint, and leaves none.
+// Gives the summary of a whole recording, and leaves no checkpoint.
 fn answer_summary(alloc: Global, request: &TmxRequest<'_>, out: &mut [u8]) -> TmxAnswer
     ensures { IsSummaryAnswer request.now out.new result }
 {
-    if request.last == 0 || !request.checkpoint.is_empty() {
+    if !is_whole(request) {
         return refused_with(with_status(9, 0));
     }
     match summarize_recording(alloc, request.settings, request.octets, out) {
@@ -91,7 +132,7 @@ fn answer_summary(alloc: Global, request: &TmxRequest<'_>, out: &mut [u8]) -> Tm
     }
 }
 
-// The whole call. Applications have numbers up to 2047.
+// The whole call.
 fn answer_request(
     alloc: Global,
     request: &TmxRequest<'_>,
@@ -108,16 +149,11 @@ fn answer_request(
     ensures summary { request.now.command ≡ 4 → IsSummaryAnswer request.now out.new result }
     ensures others { 4 < request.now.command → result ≡ refused_with (with_status 2 0) }
 {
+    if let Some(wanted) = wanted_of(request.command) {
+        return answer_chunk(alloc, wanted, request, out, report, checkpoint);
+    }
     match request.command {
-        0 => {
-            let wanted = Wanted::Packets(Command::Extract);
-            answer_chunk(alloc, wanted, request, out, report, checkpoint)
-        }
-        1 => {
-            let wanted = Wanted::Packets(Command::Packets);
-            answer_chunk(alloc, wanted, request, out, report, checkpoint)
-        }
-        2 if request.application > 2047 => refused_with(with_status(8, 0)),
+        2 if !is_application(request.application) => refused_with(with_status(8, 0)),
         2 => match Definition::read(alloc, request.definition) {
             Ok(definition) => {
                 let rows = Command::Fields(&definition, request.application as u16);
@@ -126,7 +162,6 @@ fn answer_request(
             }
             Err(fault) => refused_with(definition_numbers(fault)),
         },
-        3 => answer_chunk(alloc, Wanted::Frames, request, out, report, checkpoint),
         4 => answer_summary(alloc, request, out),
         _ => refused_with(with_status(2, 0)),
     }

@@ -9,16 +9,12 @@ import unittest
 from pathlib import Path
 
 from support import PACKAGE, RECORDING, TestCase, reference, tmx
+from tmx.probing import processor_seconds
 
 OCTETS = RECORDING.read_bytes()
 FRAMES = [OCTETS[at : at + 256] for at in range(0, len(OCTETS), 256)]
 MARKER = bytes.fromhex("1ACFFC1D")
 HERE = {"spacecraft": 42, "frame_length": 256, "error_control": True}
-
-
-def processor_seconds() -> float:
-    """What this process and the programs that it ran have used, whatever else the machine does."""
-    return sum(os.times()[:4])
 
 
 def channel(frame: bytes) -> int:

@@ -8,7 +8,6 @@ is what counts.
 """
 
 import os
-import time
 from binascii import crc_hqx
 from collections import Counter
 from collections.abc import Iterator, Sequence
@@ -22,7 +21,7 @@ from .settings import Settings
 from .source import Source
 
 SAMPLE = 4_000_000  # octets that are looked at
-SECONDS = 8.0  # in which candidates are looked for and tried
+SECONDS = 8.0  # of processor time, in which candidates are looked for and tried
 LONGEST_RECORD, LONGEST_SKIP, LEAST_FRAME, LONGEST_FRAME = 4096, 1024, 9, 2048
 HEADER = 6
 GROUPS, STEPS = 8, 3  # groups of records that follow each other, and how many times one follows in a group
@@ -106,20 +105,26 @@ def probe(recording: str | os.PathLike[str] | IO[bytes]) -> Probe:
 
     recording  the name of a file, `-` for standard input, or a binary stream
 
-    The first 4 MB are looked at, for ten seconds at most.  A frame has to begin in each record at the same place, in the first
-    1,025 octets; a stream with slips is cut by `cut` first.  Frames that are still randomized are not found.
+    The first 4 MB are looked at, for ten seconds of processor time at most.  A frame has to begin in each record at the
+    same place, in the first 1,025 octets; a stream with slips is cut by `cut` first.  Frames that are still randomized
+    are not found.
     """
-    end = time.monotonic() + SECONDS
+    end = processor_seconds() + SECONDS
     sample = first_octets(Source(recording))
     fits: list[Fit] = []
     headers: list[tuple[int, int]] = []
     for length, place in candidates(sample, end):
         headers.append((length, place))
         fits += fits_at(sample, length, place)
-        if time.monotonic() > end or fits and fits[-1].share > 0.5:
+        if processor_seconds() > end or fits and fits[-1].share > 0.5:
             break
     fits.sort(key=lambda it: (round(it.share, 2), it.whole), reverse=True)
     return Probe(fits, "" if fits else reason_for_nothing(sample, headers))
+
+
+def processor_seconds() -> float:
+    """What this process and the programs that it ran have used, whatever else the machine does."""
+    return sum(os.times()[:4])
 
 
 def first_octets(source: Source) -> bytes:
@@ -144,14 +149,14 @@ def candidates(sample: bytes, end: float) -> Iterator[tuple[int, int]]:
     tried: list[tuple[float, int, int]] = []
     others: list[tuple[int, int]] = []
     for length in lengths:
-        if time.monotonic() > end:
+        if processor_seconds() > end:
             break
         counting, constant = places(sample, length)
         tried += ((headers_share(sample, length, it), length, it) for it in counting)
         others += ((length, it) for it in constant if it not in counting)
     yield from ((length, place) for share, length, place in sorted(tried, key=by_share) if share > LEAST_GOOD)
     for length, place in others:
-        if time.monotonic() > end:
+        if processor_seconds() > end:
             return
         if headers_share(sample, length, place) > 0.5:
             yield length, place

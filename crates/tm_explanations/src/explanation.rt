@@ -1,5 +1,8 @@
 //! The explanation of a fault.
 
+ghost use Rattle.std.specs.Prelude.{IfOk, IfSome};
+ghost use Rattle.tm_faults.specs.Explanations.{IsLine};
+
 use crate::checkpoint::checkpoint_text;
 use crate::definition::definition_text;
 use crate::files::{file_text, length_text};
@@ -121,7 +124,9 @@ pub fn explain<R: Files + AllocGlobal>(
     words: Vec<String>,
     fault: &ToolFault,
     number: Option<i32>,
-) -> Result<Option<Explanation>, NoMemory> {
+) -> Result<Option<Explanation>, NoMemory>
+    ensures { IfOk result (λ found. IfSome found IsLine) }
+{
     let text = match fault {
         ToolFault::Usage(UsageFault::StopAfter) => {
             drop(words);

@@ -1,5 +1,8 @@
 //! A word of the command line that is not UTF-8.
 
+ghost use Rattle.std.specs.Prelude.{IfOk, IfSome};
+ghost use Rattle.tm_faults.specs.Explanations.{IsLine};
+
 use crate::texts::WORD;
 use crate::values::{Value, fill_text};
 use std::alloc::Global;
@@ -14,7 +17,9 @@ const LONGEST: usize = 4096;
 const MOST: usize = 65536;
 
 // The explanation of a word that is not UTF-8, by its number.
-fn explain_word(alloc: Global, at: usize, word: &[u8]) -> Result<Explanation, NoMemory> {
+fn explain_word(alloc: Global, at: usize, word: &[u8]) -> Result<Explanation, NoMemory>
+    ensures { IfOk result IsLine }
+{
     let values = [Value::Number(at as u64), Value::Octets(word)];
     let text = fill_text(alloc, WORD, &values)?;
     Explanation::new(alloc, text.as_slice())
@@ -36,7 +41,9 @@ fn find_word<R: Env>(rt: &R, octets: &mut [u8]) -> Option<(usize, usize)> {
 }
 
 /// Which word of the command line is not UTF-8, and what to do; none if it can't be told. Words are counted after the program's name, from 1.
-pub fn explain_words<R: Env + AllocGlobal>(rt: &R) -> Result<Option<Explanation>, NoMemory> {
+pub fn explain_words<R: Env + AllocGlobal>(rt: &R) -> Result<Option<Explanation>, NoMemory>
+    ensures { IfOk result (λ found. IfSome found IsLine) }
+{
     let alloc = rt.alloc();
     let mut octets = vec![in alloc; 0u8; LONGEST]?;
     let Some((at, length)) = find_word(rt, octets.as_mut_slice()) else {

@@ -13,6 +13,22 @@ use std::alloc::Global;
 use tm_devices::Room;
 use tm_tool::{RunFault, Settings, summarize};
 
+// What a summary answers: there is no report and no checkpoint, and all octets are used.
+fn whole_answer(records: u32, out: usize, octets: &[u8]) -> Answer
+    ensures records { result.records ≡ records }
+    ensures out { result.out ≡ out }
+    ensures others { (result.report ≡ 0) × (result.checkpoint ≡ 0) }
+    ensures used { result.used ≡ length octets.now }
+{
+    Answer {
+        records,
+        out,
+        report: 0,
+        checkpoint: 0,
+        used: octets.len(),
+    }
+}
+
 /// Writes the lines of the summary of a whole recording into a room. What a summary counts stands in no checkpoint, so it takes one call.
 ///
 /// # Errors
@@ -45,13 +61,7 @@ pub fn summarize_recording(
     let mut more = Vec::new(alloc);
     let mut room = Room::new(out, &mut more);
     match summarize(alloc, &settings, &mut recording, &mut room) {
-        Ok(records) => Ok(Answer {
-            records,
-            out: room.length(),
-            report: 0,
-            checkpoint: 0,
-            used: octets.len(),
-        }),
+        Ok(records) => Ok(whole_answer(records, room.length(), octets)),
         Err(RunFault::TooMany) => Err(Refusal::TooMany),
         Err(RunFault::Write | RunFault::NoMemory) => Err(Refusal::NoMemory),
         Err(RunFault::Read) => unreachable!(),

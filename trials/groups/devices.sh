@@ -139,8 +139,8 @@ no_folder() {
 }
 
 devices() {
-    # A pipe that is open for writing alone: 3 reads it only until 4 is open.
-    local command room unread="rm -f unread; mkfifo unread; exec 3<>unread 4>unread 3<&-"
+    # Opens a pipe that nobody reads as 4: 3 reads it only until 4 is open.
+    local command room unheard="mkfifo pipe; exec 3<>pipe 4>pipe 3<&-; rm pipe"
     names
     for command in "$packets --report r" "$extract --report r" "$fields --report r" "$tmx frames --settings $s" "$tmx summary --settings $s"; do
         set -- $command
@@ -149,9 +149,9 @@ devices() {
         gives "$2 to a full device" 1 "tmx: write failed" "$command $rec >/dev/full"
         gives "$2 to a closed standard output" 1 "tmx: write failed" "$command $rec >&-"
         gives "$2 to a closed standard output, the recording in a pipe" 1 "tmx: write failed" "cat $rec | $command >&-"
-        gives "$2 to a pipe that nobody reads" 1 "tmx: write failed" "$unread; $command $rec >&4"
+        gives "$2 to a pipe that nobody reads" 1 "tmx: write failed" "$unheard; $command $rec >&4"
         gives "$2 to a pipe that nobody reads, its signal ignored" 1 "tmx: write failed" \
-            "trap '' PIPE; $unread; $command $rec >&4"
+            "trap '' PIPE; $unheard; $command $rec >&4"
         gives "$2 to a file with room for $room KiB" 1 "tmx: write failed" "trap '' XFSZ; ulimit -f $room; $command $rec"
         tell "$2 to a file with room for $room KiB: it has a front of the output" \
             "$(is_front out "expected/$2" || [ "$2" = fields ] || echo no)"

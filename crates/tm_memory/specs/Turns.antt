@@ -3,7 +3,7 @@ use Rattle.std.specs.Prelude.{ℕ, ◌-◌, ◌||◌, ◌&&◌, Bool, true, fals
 use Rattle.tm_memory.specs.declared.turns.Answer.{Answer}
 use Rattle.tm_memory.specs.declared.turns.Answer.TheVariants.{Right, Refused, NotMade}
 
--- what is known after some turns: the last answer, whether a call was refused, or none could be, and how many blocks are held
+-- what is known after some turns: the last answer, whether a call was refused, and how many blocks are held
 pub record Course : Type 0 where
   pub last : Option Answer
   pub refused : Bool
@@ -27,6 +27,6 @@ abbrev pub is_right : Option Answer → Bool
 is_right (Some Right) = true
 is_right _ = false
 
--- the last turn was right, and one before it was refused, if it could be
+-- the last turn was right, and one before it was refused
 abbrev pub has_passed : Course → Bool
 has_passed c = c.refused && is_right c.last

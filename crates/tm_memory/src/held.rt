@@ -1,12 +1,15 @@
 //! Memory that is held.
 
-ghost use Rattle.std.specs.Prelude.{◌≡◌, ◌-◌, ◌≤◌, nat_lt};
+ghost use Rattle.std.specs.Prelude.{◌≡◌, ◌-◌, ◌<◌, ◌≤◌, nat_lt, IfSome};
 
 use std::alloc::Global;
 use std::fs::File;
 use std::io::Read;
 use std::marker::Model;
 use std::rt::Files;
+
+/// What a test says that would refuse memory, where nothing can be held.
+pub const NOTHING_HELD: &str = "no memory can be held here";
 
 // How many blocks are held at the most, beside the steps.
 const MOST_BLOCKS: usize = 262_144;
@@ -40,11 +43,12 @@ impl Model for Held {
 }
 
 impl Held {
-    /// Holds all memory that there is, in at most 262,592 blocks. They are reserved, and none is written. Nothing is held where
-    /// memory isn't given back at once, or where that can't be told. One such process has its address space reserved in large
-    /// parts, as under the address sanitizer.
-    pub fn new<R: Files + AllocGlobal>(rt: &R) -> Held
-        ensures { result ≤ 262592 }
+    /// Holds all memory that there is, in at most 262,592 blocks. They are reserved, and none is written. `None` where nothing
+    /// can be held: memory isn't given back at once, or that can't be told. One such process has its address space reserved in
+    /// large parts, as under the address sanitizer.
+    pub fn new<R: Files + AllocGlobal>(rt: &R) -> Option<Held>
+        ensures some { IfSome result (λ held. 0 < held) }
+        ensures most { IfSome result (λ held. held ≤ 262592) }
     {
         let alloc = rt.alloc();
         let mut held = Held {
@@ -56,7 +60,10 @@ impl Held {
             held.hold_all(alloc);
         }
         prove!(held.blocks() <= 262_592);
-        held
+        if held.blocks() == 0 {
+            return None;
+        }
+        Some(held)
     }
 
     /// How many blocks are held.
@@ -145,12 +152,13 @@ fn number_in_front(text: &[u8]) -> u64 {
     number
 }
 
-// The process has reserved less than 2^30 pages. A sanitizer reserves more from the beginning, and keeps blocks that are given back.
+// The process has reserved less than 2^30 pages. A sanitizer reserves more from the beginning, and keeps blocks that are given back. The
+// array is as large as what a test may need of the stack: once all memory is held, the stack can't grow.
 fn is_plain<R: Files>(rt: &R) -> bool {
     let Ok(mut file) = File::open(rt, "/proc/self/statm") else {
         return false;
     };
-    let mut text = [0u8; 32];
+    let mut text = [0u8; 262_144];
     match file.read(&mut text) {
         Ok(read) => {
             let pages = number_in_front(&text[..read]);

@@ -4,5 +4,5 @@
 mod held;
 mod turns;
 
-pub use held::Held;
+pub use held::{Held, NOTHING_HELD};
 pub use turns::{Answer, Turns, try_twice};

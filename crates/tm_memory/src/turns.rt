@@ -1,6 +1,6 @@
 //! A call that is made again and again, with more memory each time.
 
-ghost use Rattle.std.specs.Prelude.{◌≡◌, ◌+◌, if◌then◌else◌, nat_lt, not, None, Some, MatchOption};
+ghost use Rattle.std.specs.Prelude.{◌≡◌, ◌+◌, ◌<◌, if◌then◌else◌, false, None, Some, IfSome, MatchOption};
 ghost use Rattle.tm_memory.specs.Turns.{has_passed, is_again, turned};
 ghost use Rattle.tm_memory.specs.declared.turns.Answer.TheVariants.{Right, Refused, Wrong};
 
@@ -52,9 +52,8 @@ pub fn try_twice<T, F: Fn() -> Option<T>>(make: F) -> Option<T>
     }
 }
 
-/// The turns of a call: with all memory held, and again with a block less as long as it is refused. Where nothing can be held, the
-/// call is made once, and once more if it was refused. Seen as the last answer, whether a call was refused, or none could be, and the
-/// number of blocks that are held.
+/// The turns of a call: with all memory held, and again with a block less as long as it is refused. Seen as the last answer, whether a
+/// call was refused, and the number of blocks that are held.
 #[derive(Drop)]
 pub struct Turns {
     held: Held,
@@ -71,17 +70,19 @@ impl Model for Turns {
 }
 
 impl Turns {
-    /// Holds all memory, before the first turn.
-    pub fn new<R: Files + AllocGlobal>(rt: &R) -> Turns
-        ensures none { result.last ≡ None }
-        ensures refused { result.refused ≡ not (nat_lt 0 result.blocks) }
+    /// Holds all memory, before the first turn. `None` where nothing can be held.
+    pub fn new<R: Files + AllocGlobal>(rt: &R) -> Option<Turns>
+        ensures none { IfSome result (λ turns. turns.last ≡ None) }
+        ensures refused { IfSome result (λ turns. turns.refused ≡ false) }
+        ensures blocks { IfSome result (λ turns. 0 < turns.blocks) }
     {
-        let held = Held::new(rt);
-        let refused = held.blocks() == 0;
-        Turns {
-            held,
-            refused,
-            last: None,
+        match Held::new(rt) {
+            Some(held) => Some(Turns {
+                held,
+                refused: false,
+                last: None,
+            }),
+            None => None,
         }
     }
 
@@ -103,7 +104,7 @@ impl Turns {
         matches!(answer, Answer::Refused | Answer::NotMade)
     }
 
-    /// The last turn was right, and one before it was refused, if memory could be held at all.
+    /// The last turn was right, and one before it was refused.
     pub fn has_passed(&self) -> bool
         ensures { result ≡ has_passed self.now }
     {

@@ -192,14 +192,8 @@ const HELP_OF_SUMMARY: &str =
 
 // Words that ask for a text, and the text.
 const HELPS: [(&[&str], &str); 9] = [
-    (
-        &["--version"],
-        "tmx 0.1.0\nrattle-kit-13f logic dac8208d650f15bf\n",
-    ),
-    (
-        &["-V"],
-        "tmx 0.1.0\nrattle-kit-13f logic dac8208d650f15bf\n",
-    ),
+    (&["--version"], "tmx 0.1.0\nlogic dac8208d650f15bf\n"),
+    (&["-V"], "tmx 0.1.0\nlogic dac8208d650f15bf\n"),
     (&["--help"], HELP),
     (&["frames", "--help"], HELP_OF_FRAMES),
     (&["packets", "--help"], HELP_OF_PACKETS),

@@ -3,7 +3,7 @@
 use crate::arguments::{USAGE, is_named, owned_strings};
 use std::alloc::Global;
 use tm_arguments::{Action, Plan, plan};
-use tm_memory::{Answer, Turns, try_twice};
+use tm_memory::{Answer, NOTHING_HELD, Turns, try_twice};
 use tm_program::UsageFault;
 
 const WORDS: [&str; 7] = [
@@ -42,7 +42,7 @@ fn plan_once(alloc: Global, kept: &mut Option<Vec<String>>) -> Answer {
 fn refused_plan(rt: HostRuntime) {
     let alloc = rt.alloc();
     let mut kept = try_twice(|| owned_strings(alloc, &WORDS));
-    let mut turns = Turns::new(&rt);
+    let mut turns = Turns::new(&rt).expect(&rt, NOTHING_HELD);
     for _ in 0..turns.most() {
         let answer = plan_once(alloc, &mut kept);
         if !turns.take(answer) {
@@ -70,7 +70,7 @@ fn refuse_once(alloc: Global, kept: &mut Option<Vec<String>>) -> Answer {
 fn refused_usage(rt: HostRuntime) {
     let alloc = rt.alloc();
     let mut kept = try_twice(|| owned_strings(alloc, &WRONG_WORDS));
-    let mut turns = Turns::new(&rt);
+    let mut turns = Turns::new(&rt).expect(&rt, NOTHING_HELD);
     for _ in 0..turns.most() {
         let answer = refuse_once(alloc, &mut kept);
         if !turns.take(answer) {

@@ -1,8 +1,10 @@
 //! Lines of faults that are refused memory, one request after the other.
 
 use std::alloc::Global;
+use std::process::Abort;
+use std::rt::Files;
 use std::test::Fail;
-use tm_memory::{Answer, Turns, try_twice};
+use tm_memory::{Answer, NOTHING_HELD, Turns, try_twice};
 use tm_program::{Octets, RunFault, ToolFault, fault_line};
 use tm_settings::{Key, SettingsFault};
 
@@ -15,8 +17,8 @@ fn foreign(alloc: Global) -> Option<Octets> {
 }
 
 // Asks for the line of a fault in turn.
-fn lines_in_turn(rt: &HostRuntime, fault: &ToolFault, wanted: &str) -> bool {
-    let mut turns = Turns::new(rt);
+fn lines_in_turn<R: Files + AllocGlobal + Abort>(rt: &R, fault: &ToolFault, wanted: &str) -> bool {
+    let mut turns = Turns::new(rt).expect(rt, NOTHING_HELD);
     for _ in 0..turns.most() {
         let answer = match fault_line(rt.alloc(), fault) {
             Ok(line) => Answer::right_if(line.as_slice() == wanted.as_bytes()),

@@ -1,12 +1,12 @@
 //! Calls that are made in turn.
 
-use tm_memory::{Answer, Turns, try_twice};
+use tm_memory::{Answer, NOTHING_HELD, Turns, try_twice};
 
 // How often a call is made that gives these octets, until all is right.
 #[test]
 fn one_request(rt: HostRuntime) {
     let alloc = rt.alloc();
-    let mut turns = Turns::new(&rt);
+    let mut turns = Turns::new(&rt).expect(&rt, NOTHING_HELD);
     for _ in 0..turns.most() {
         let answer = match vec![in alloc; 7u8; 5000] {
             Ok(octets) => Answer::right_if(octets.len() == 5000 && octets.last() == Some(&7)),
@@ -22,7 +22,7 @@ fn one_request(rt: HostRuntime) {
 #[test]
 fn calls_that_are_never_right(rt: HostRuntime) {
     for answer in [Answer::Refused, Answer::Wrong, Answer::NotMade] {
-        let mut turns = Turns::new(&rt);
+        let mut turns = Turns::new(&rt).expect(&rt, NOTHING_HELD);
         for _ in 0..turns.most() {
             if !turns.take(answer) {
                 break;

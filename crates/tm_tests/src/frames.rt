@@ -200,38 +200,72 @@ fn passed_over_by_a_seek(rt: HostRuntime) {
     assert!(rt; octets.get(24..48) == Some(next.as_slice()));
 }
 
-// A reader that finds its end, and can't be moved back.
+// A reader and writer that fails at one call alone, by an error of this kind: at the call of this number, counted from 1. Its other
+// reads find the end, and its other writes take all.
 #[derive(Drop)]
-struct Stuck;
+struct FailsOnce {
+    call: u32,
+    kind: ErrorKind,
+    calls: u32,
+}
 
-impl Read for Stuck {
+impl FailsOnce {
+    fn new(call: u32, kind: ErrorKind) -> Self {
+        FailsOnce {
+            call,
+            kind,
+            calls: 0,
+        }
+    }
+
+    // Counts a call, which may be the one that fails.
+    fn count_call(&mut self) -> io::Result<()> {
+        self.calls = self.calls.saturating_add(1);
+        if self.calls == self.call {
+            return Err(io::Error::from(self.kind));
+        }
+        Ok(())
+    }
+}
+
+impl Read for FailsOnce {
     fn read(&mut self, _buffer: &mut [u8]) -> io::Result<usize> {
+        self.count_call()?;
         Ok(0)
     }
 }
 
-impl Seek for Stuck {
-    fn seek(&mut self, to: SeekFrom) -> io::Result<u64> {
-        match to {
-            SeekFrom::Start(_) => Err(io::Error::from(ErrorKind::Other)),
-            SeekFrom::Current(_) | SeekFrom::End(_) => Ok(48),
-        }
+impl Seek for FailsOnce {
+    fn seek(&mut self, _to: SeekFrom) -> io::Result<u64> {
+        self.count_call()?;
+        Ok(48)
     }
 }
 
-#[test]
-fn failing_seek(rt: HostRuntime) {
-    let reader = BufReader::new(rt.alloc(), Stuck).expect(&rt, "buffer");
-    assert!(rt; Seeking::new(reader, false).pass_over(0) == Err(DeviceFailed));
+impl Write for FailsOnce {
+    fn write(&mut self, octets: &[u8]) -> io::Result<usize> {
+        self.count_call()?;
+        Ok(octets.len())
+    }
+
+    fn flush(&mut self) -> io::Result<()> {
+        self.count_call()
+    }
 }
 
-// A reader that fails.
-#[derive(Drop)]
-struct Broken;
+// An interrupted call is an error as any other.
+const KINDS: [ErrorKind; 2] = [ErrorKind::Other, ErrorKind::Interrupted];
 
-impl Read for Broken {
-    fn read(&mut self, _buffer: &mut [u8]) -> io::Result<usize> {
-        Err(io::Error::from(ErrorKind::Other))
+// The reader tells its place and its end, and can't be moved back. Where it can't tell one of these, nothing is passed over.
+#[test]
+fn failing_seek(rt: HostRuntime) {
+    let answers = [(1, Ok(false)), (2, Ok(false)), (3, Err(DeviceFailed))];
+    for kind in KINDS {
+        for (call, answer) in answers {
+            let reader = BufReader::new(rt.alloc(), FailsOnce::new(call, kind));
+            let mut source = Seeking::new(reader.expect(&rt, "buffer"), false);
+            assert!(rt; source.pass_over(0) == answer);
+        }
     }
 }
 
@@ -249,35 +283,45 @@ impl Write for Full {
     }
 }
 
-// A writer that takes all and can't pass it on.
-#[derive(Drop)]
-struct Unflushed;
+// What a listing answers through this source, into a writer whose call of this number fails.
+fn list_between<R: BufferedSource>(
+    alloc: Global,
+    source: &mut R,
+    call: u32,
+    kind: ErrorKind,
+) -> Option<Result<u32, RunFault>> {
+    let mut out = Writing::new(FailsOnce::new(call, kind));
+    list_through(alloc, BASE, source, &mut out)
+}
 
-impl Write for Unflushed {
-    fn write(&mut self, octets: &[u8]) -> io::Result<usize> {
-        Ok(octets.len())
-    }
-
-    fn flush(&mut self) -> io::Result<()> {
-        Err(io::Error::from(ErrorKind::Other))
+// A read that fails once is a failure of the recording. The next read would find its end.
+#[test]
+fn failing_readers(rt: HostRuntime) {
+    let alloc = rt.alloc();
+    let refused = Some(Err(RunFault::Read));
+    for kind in KINDS {
+        let mut source = Reading::new(FailsOnce::new(1, kind));
+        assert!(rt; list_between(alloc, &mut source, 0, kind) == refused);
+        let reader = BufReader::new(alloc, FailsOnce::new(1, kind)).expect(&rt, "buffer");
+        assert!(rt; list_between(alloc, &mut Buffered::new(reader), 0, kind) == refused);
+        let reader = BufReader::new(alloc, FailsOnce::new(1, kind)).expect(&rt, "buffer");
+        assert!(rt; list_between(alloc, &mut Seeking::new(reader, true), 0, kind) == refused);
     }
 }
 
-// An error of a reader or a writer is a failure of the device, and so are a write of nothing and a flush that fails.
+// The first call writes the line, and the second one flushes it. Each is a failure of the output if it fails once. So is a write of nothing.
 #[test]
-fn failing_readers_and_writers(rt: HostRuntime) {
+fn failing_writers(rt: HostRuntime) {
     let alloc = rt.alloc();
     let octets = octets_of(alloc, TWO_PACKETS).expect(&rt, "octets");
-    let mut out = Writing::new(Unflushed);
-    let answer = list_through(alloc, BASE, &mut Reading::new(Broken), &mut out);
-    assert!(rt; answer == Some(Err(RunFault::Read)));
-    let answer = list_through(
-        alloc,
-        BASE,
-        &mut Reading::new(octets.as_slice()),
-        &mut Writing::new(Full),
-    );
-    assert!(rt; answer == Some(Err(RunFault::Write)));
-    let answer = list_through(alloc, BASE, &mut Reading::new(octets.as_slice()), &mut out);
-    assert!(rt; answer == Some(Err(RunFault::Write)));
+    let refused = Some(Err(RunFault::Write));
+    for kind in KINDS {
+        for (call, answer) in [(0, Some(Ok(1))), (1, refused), (2, refused)] {
+            let mut source = Reading::new(octets.as_slice());
+            assert!(rt; list_between(alloc, &mut source, call, kind) == answer);
+        }
+    }
+    let mut source = Reading::new(octets.as_slice());
+    let mut full = Writing::new(Full);
+    assert!(rt; list_through(alloc, BASE, &mut source, &mut full) == refused);
 }

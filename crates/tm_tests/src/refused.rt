@@ -5,9 +5,11 @@ use crate::fields::{HEAD, LEAD, PACKET, ROW, TEXT};
 use crate::reassembly::{GREATEST, layout};
 use crate::runs::settings_of;
 use std::alloc::Global;
+use std::process::Abort;
+use std::rt::Files;
 use tm_fields::{Definition, DefinitionFault, RowFault, Rows};
 use tm_frame::Layout;
-use tm_memory::{Answer, Turns, try_twice};
+use tm_memory::{Answer, NOTHING_HELD, Turns, try_twice};
 use tm_packet::{Tracker, TrackerFault};
 use tm_reassembly::{Channels, Reassembly, StateFault};
 use tm_tool::{Job, Settings, SettingsFault};
@@ -19,8 +21,12 @@ pub(crate) trait Tried {
 }
 
 /// All turns of a call pass.
-pub(crate) fn passes<T: Tried>(rt: &HostRuntime, tried: &mut T) -> bool {
-    let mut turns = Turns::new(rt);
+pub(crate) fn passes<R, T>(rt: &R, tried: &mut T) -> bool
+where
+    R: Files + AllocGlobal + Abort,
+    T: Tried,
+{
+    let mut turns = Turns::new(rt).expect(rt, NOTHING_HELD);
     for _ in 0..turns.most() {
         if !turns.take(tried.once(rt.alloc())) {
             break;
@@ -125,7 +131,7 @@ impl Tried for Needs {
 }
 
 // All turns of a call pass, with what it needs made beforehand.
-fn passes_call(rt: &HostRuntime, call: Call) -> bool {
+fn passes_call<R: Files + AllocGlobal + Abort>(rt: &R, call: Call) -> bool {
     match try_twice(|| Needs::new(rt.alloc(), call)) {
         Some(mut needs) => passes(rt, &mut needs),
         None => false,

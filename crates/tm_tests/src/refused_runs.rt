@@ -11,8 +11,10 @@ use crate::runs::{
     TWELVE, TWO_CHANNELS, octets_of, settings_of,
 };
 use std::alloc::Global;
+use std::process::Abort;
+use std::rt::Files;
 use tm_fields::Definition;
-use tm_memory::{Answer, Held, try_twice};
+use tm_memory::{Answer, Held, NOTHING_HELD, try_twice};
 use tm_tool::{CheckpointFault, Command, Ending, Job, RunFault, Settings, Shelf, split};
 
 // A checkpoint, and the job that was resumed from it. It is written again.
@@ -317,7 +319,7 @@ impl Tried for Running {
 }
 
 // All turns of a row's run pass.
-fn passes_row(rt: &HostRuntime, row: &Row, task: Task) -> bool {
+fn passes_row<R: Files + AllocGlobal + Abort>(rt: &R, row: &Row, task: Task) -> bool {
     match try_twice(|| Running::new(rt.alloc(), row, task)) {
         Some(mut running) => passes(rt, &mut running),
         None => false,
@@ -381,11 +383,11 @@ fn two_channels(alloc: Global, task: Task) -> Option<Running> {
     }
 }
 
-// What a run answers while all memory is held: there is none even for one octet. Where nothing can be held there is ample memory.
-fn in_held_memory(rt: &HostRuntime, running: &mut Running) -> Answer {
-    let held = Held::new(rt);
+// What a run answers while all memory is held: there is none even for one octet.
+fn in_held_memory<R: Files + AllocGlobal + Abort>(rt: &R, running: &mut Running) -> Answer {
+    let _held = Held::new(rt).expect(rt, NOTHING_HELD);
     let alloc = rt.alloc();
-    if held.blocks() > 0 && octets_of(alloc, "55").is_some() {
+    if octets_of(alloc, "55").is_some() {
         return Answer::NotMade;
     }
     running.once(alloc)

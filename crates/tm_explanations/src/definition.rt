@@ -2,13 +2,14 @@
 
 use crate::roles::{Phrase, Role, phrase_in};
 use crate::texts::{
-    ARRAY, COLUMN_TWICE, FIELDS, LENGTH, LENGTHS, NAME_TWICE, NO_COLUMN, NO_NAME, OFFSET, TYPE,
+    ARRAY, COLUMN_TWICE, FIELDS, LENGTH, LENGTHS, NAME_TWICE, NO_COLUMN, NO_HEADING, NO_NAME,
+    OFFSET, SEMICOLONS, TYPE,
 };
 use crate::values::{Value, some_text};
 use csv::{ByteRecord, ReaderBuilder};
 use std::alloc::{AllocError, Global};
 use tm_arguments::Plan;
-use tm_fields::{Column, DefinitionFault};
+use tm_fields::{Column, DefinitionFault, value_at};
 
 // The records of a text, the heading first, also where they have different numbers of values. Those behind one that can't be read are left out.
 fn records_in(alloc: Global, text: &[u8]) -> Result<Vec<ByteRecord>, AllocError> {
@@ -26,14 +27,6 @@ fn records_in(alloc: Global, text: &[u8]) -> Result<Vec<ByteRecord>, AllocError>
     Ok(records)
 }
 
-// A record's value in a place, without the blanks at its ends.
-fn value_in(record: &ByteRecord, at: usize) -> &[u8] {
-    match record.get(at) {
-        Some(value) => value.trim_ascii(),
-        None => &[],
-    }
-}
-
 // The records of a definition. The first is its heading, and the others are its rows.
 #[derive(Clone, Copy)]
 struct Table<'t> {
@@ -45,9 +38,8 @@ impl<'t> Table<'t> {
     // How many columns have a heading.
     fn count(&self, column: Column) -> usize {
         match self.records.first() {
-            Some(heading) => heading
-                .iter()
-                .filter(|value| value.trim_ascii() == column.word().as_bytes())
+            Some(heading) => (0..heading.len())
+                .filter(|at| value_at(heading, *at) == column.word().as_bytes())
                 .count(),
             None => 0,
         }
@@ -59,8 +51,8 @@ impl<'t> Table<'t> {
             return &[];
         };
         for at in 0..heading.len() {
-            if value_in(heading, at) == column.word().as_bytes() {
-                return value_in(record, at);
+            if value_at(heading, at) == column.word().as_bytes() {
+                return value_at(record, at);
             }
         }
         &[]
@@ -74,7 +66,7 @@ impl<'t> Table<'t> {
                 if at > 0 {
                     text.extend_from_slice(b", ")?;
                 }
-                text.extend_from_slice(value_in(heading, at))?;
+                text.extend_from_slice(value_at(heading, at))?;
             }
         }
         Ok(text)
@@ -103,6 +95,8 @@ impl<'t> Table<'t> {
     fn column_text(&self, alloc: Global, column: Column) -> Result<Option<Vec<u8>>, AllocError> {
         let headings = self.headings(alloc)?;
         let text = match self.count(column) {
+            0 if headings.is_empty() => NO_HEADING,
+            0 if headings.contains(&b';') && !headings.contains(&b',') => SEMICOLONS,
             0 => NO_COLUMN,
             _ => COLUMN_TWICE,
         };

@@ -5,26 +5,17 @@ ghost use Rattle.tm_faults.specs.Explanations.{IsLine};
 
 use crate::checkpoint::checkpoint_text;
 use crate::definition::definition_text;
-use crate::files::{file_text, length_text};
+use crate::files::{file_text, length_text, octets_in};
+use crate::recording::packed_text;
 use crate::runs::{output_text, run_text, shorter_text};
-use crate::settings::settings_text;
+use crate::settings::{settings_text, toml_text};
 use crate::texts::NO_CHECKPOINT;
 use crate::values::some_text;
 use std::alloc::{AllocError, Global};
 use std::rt::Files;
 use tm_arguments::{Plan, plan};
-use tm_bits::Octets;
-use tm_faults::{Explanation, NoMemory, RunFault, ToolFault, UsageFault};
-use tm_files::read_file;
-use tm_settings::Settings;
-
-// The octets of a file that the plan names, as they are now; none if it can't be read.
-fn octets_in<R: Files + AllocGlobal>(rt: &R, name: &Option<Octets>) -> Option<Vec<u8>> {
-    match read_file(rt, name.as_ref()?) {
-        Ok(octets) => Some(octets),
-        Err(_) => None,
-    }
-}
+use tm_faults::{Explanation, NoMemory, RunFault, ToolFault, UsageFault, explain_bad_frames};
+use tm_settings::{Settings, SettingsFault};
 
 // The settings of the plan, as its file says them now.
 fn settings_in<R: Files + AllocGlobal>(rt: &R, plan: &Plan) -> Option<Settings> {
@@ -66,10 +57,11 @@ fn plan_text<R: Files + AllocGlobal>(
 ) -> Result<Option<Vec<u8>>, AllocError> {
     let alloc = rt.alloc();
     match fault {
-        ToolFault::Settings(fault) => match octets_in(rt, &plan.settings) {
-            Some(octets) => settings_text(alloc, plan, fault, octets.as_slice()),
+        ToolFault::Settings(SettingsFault::Toml) => match octets_in(rt, &plan.settings) {
+            Some(octets) => toml_text(alloc, plan, octets.as_slice()),
             None => Ok(None),
         },
+        ToolFault::Settings(fault) => settings_text(alloc, plan, fault),
         ToolFault::Definition(fault) => match octets_in(rt, &plan.definition) {
             Some(octets) => definition_text(alloc, plan, *fault, octets.as_slice()),
             None => Ok(None),
@@ -114,7 +106,7 @@ fn fault_text<R: Files + AllocGlobal>(
 }
 
 /// Why a run by these words ended in a fault, and what to do: one line, if that can be told. The number is that of the system's first error.
-/// Files that the words name are looked at again, and none is changed.
+/// Regular files that the words name are looked at again, and none is changed. A pipe or a device is not: it may wait for ever.
 ///
 /// # Errors
 ///
@@ -137,5 +129,35 @@ pub fn explain<R: Files + AllocGlobal>(
     match text? {
         Some(text) => Ok(Some(Explanation::new(rt.alloc(), text.as_slice())?)),
         None => Ok(None),
+    }
+}
+
+/// What to say of a run by these words that had no good frame in this many records, one at least: one line. If its report says that frames
+/// are bad, it is told only that a recording is packed.
+///
+/// # Errors
+///
+/// `NoMemory` where there is no room for the line, or for the plan of the words.
+pub fn explain_no_good_frame<R: Files + AllocGlobal>(
+    rt: &R,
+    words: Vec<String>,
+    records: u32,
+    is_told: bool,
+) -> Result<Option<Explanation>, NoMemory>
+    ensures { IfOk result (λ found. IfSome found IsLine) }
+{
+    let alloc = rt.alloc();
+    let text = match plan(alloc, words) {
+        Ok(plan) => {
+            let text = packed_text(rt, &plan);
+            drop(plan);
+            text
+        }
+        Err(_) => Ok(None),
+    };
+    match text? {
+        Some(text) => Ok(Some(Explanation::new(alloc, text.as_slice())?)),
+        None if is_told => Ok(None),
+        None => Ok(Some(explain_bad_frames(alloc, records)?)),
     }
 }

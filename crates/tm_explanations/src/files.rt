@@ -7,13 +7,13 @@ use crate::texts::{
 };
 use crate::values::{Value, some_text};
 use std::alloc::{AllocError, Global};
-use std::fs;
+use std::fs::{self, OpenOptions};
 use std::io::{self, ErrorKind};
 use std::rt::Files;
 use tm_arguments::{Action, Plan};
 use tm_bits::Octets;
 use tm_file_identity::{FileIdentities, FileIdentity, identity_of};
-use tm_files::identify_files;
+use tm_files::{identify_files, read_file};
 
 /// The system's words for an error, by its number.
 pub(crate) fn system_words(alloc: Global, number: i32) -> Result<Vec<u8>, AllocError> {
@@ -112,6 +112,13 @@ fn written_text(
     }
 }
 
+// The name of the file beside the checkpoint of this name.
+fn temporary_name(alloc: Global, name: &Octets) -> Result<Octets, AllocError> {
+    let mut octets = Vec::from_slice(alloc, name.as_slice())?;
+    octets.extend_from_slice(b".new")?;
+    Ok(Octets::new(octets))
+}
+
 // Likewise of the file beside the checkpoint.
 fn temporary_text(
     alloc: Global,
@@ -119,11 +126,9 @@ fn temporary_text(
     name: &Octets,
     identities: &FileIdentities,
 ) -> Result<Option<Vec<u8>>, AllocError> {
-    let mut octets = Vec::from_slice(alloc, name.as_slice())?;
-    octets.extend_from_slice(b".new")?;
     let written = Written {
         role: Role::TemporaryCheckpoint,
-        name: &Octets::new(octets),
+        name: &temporary_name(alloc, name)?,
         identity: &identities.temporary_checkpoint,
     };
     written_text(alloc, plan, written, identities)
@@ -247,6 +252,31 @@ fn place_text<R: Files + AllocGlobal>(
     Ok(None)
 }
 
+// The file of this name failed as the checkpoint that is written. If it is the one to go on from, too, it can be read.
+fn is_checkpoint<R: Files + AllocGlobal>(rt: &R, plan: &Plan, name: &Octets, role: Role) -> bool {
+    match role {
+        Role::Checkpoint => true,
+        Role::Resumed => {
+            has_name(plan, Role::Checkpoint, name) && octets_in(rt, &plan.resume).is_some()
+        }
+        _ => false,
+    }
+}
+
+// Why the file beside the checkpoint of this name can't be made or written, or can't take its name.
+fn checkpoint_text(
+    alloc: Global,
+    name: &Octets,
+    number: i32,
+) -> Result<Option<Vec<u8>>, AllocError> {
+    let name = temporary_name(alloc, name)?;
+    let file = Phrase {
+        role: Role::TemporaryCheckpoint,
+        name: name.as_slice(),
+    };
+    error_text(alloc, file, number)
+}
+
 /// Why the file of this name failed. The number is that of the system's first error.
 pub(crate) fn file_text<R: Files + AllocGlobal>(
     rt: &R,
@@ -257,6 +287,9 @@ pub(crate) fn file_text<R: Files + AllocGlobal>(
     let file = phrase_of(plan, name);
     match number {
         _ if file.name.is_empty() => some_text(rt.alloc(), NO_NAME_GIVEN, &[Value::Phrase(file)]),
+        Some(number) if is_checkpoint(rt, plan, name, file.role) => {
+            checkpoint_text(rt.alloc(), name, number)
+        }
         Some(number) => error_text(rt.alloc(), file, number),
         None => place_text(rt, plan, name, file),
     }
@@ -292,5 +325,28 @@ pub(crate) fn length_at<R: Files>(rt: &R, path: &str) -> Option<u64> {
     match fs::metadata(rt, path) {
         Ok(metadata) if metadata.is_file() => Some(metadata.len()),
         Ok(_) | Err(_) => None,
+    }
+}
+
+/// The octets of a file that the plan names, as they are now; none if it is no regular file, is too long, or can't be read.
+pub(crate) fn octets_in<R: Files + AllocGlobal>(rt: &R, name: &Option<Octets>) -> Option<Vec<u8>> {
+    let name = name.as_ref()?;
+    length_of(rt, name)?;
+    match read_file(rt, name) {
+        Ok(octets) => Some(octets),
+        Err(_) => None,
+    }
+}
+
+/// The system refuses by this error to write to the file of this path. A pipe or a device isn't asked.
+pub(crate) fn is_refused<R: Files>(rt: &R, path: &str, number: i32) -> bool {
+    match fs::metadata(rt, path) {
+        Ok(metadata) if metadata.is_file() || metadata.is_dir() => {
+            match OpenOptions::new().append(true).open(rt, path) {
+                Ok(_) => false,
+                Err(error) => error.raw_os_error() == Some(number),
+            }
+        }
+        Ok(_) | Err(_) => false,
     }
 }

@@ -8,6 +8,7 @@ mod checkpoint;
 mod definition;
 mod explanation;
 mod files;
+mod recording;
 mod roles;
 mod runs;
 mod settings;
@@ -15,6 +16,6 @@ mod texts;
 mod values;
 mod words;
 
-pub use explanation::explain;
-pub use tm_faults::{Explanation, NoMemory, explain_bad_frames};
+pub use explanation::{explain, explain_no_good_frame};
+pub use tm_faults::{Explanation, NoMemory};
 pub use words::explain_words;

@@ -27,9 +27,9 @@ impl Role {
         Role::Definition,
         Role::Resumed,
         Role::Recording,
-        Role::Folder,
         Role::Report,
         Role::Checkpoint,
+        Role::Folder,
     ];
 
     /// What a line calls it.

@@ -1,11 +1,12 @@
 //! Why a run ended before its end.
 
 use crate::checkpoint::records_in;
-use crate::files::{length_at, length_of, output_clash_text, with_system_words};
+use crate::files::{is_refused, length_at, output_clash_text, with_system_words};
+use crate::recording::recording_path;
 use crate::roles::{Phrase, Role, name_in, phrase_in, recording_phrase};
 use crate::texts::{
-    CLOSED, FOLDER, NO_FOLDER, NO_MEMORY, NOT_A_FOLDER, PIPE, READ, SHORTER, SHORTER_STREAM,
-    TOO_MANY, WRITE,
+    BLOCKED, CLOSED, FOLDER, NO_FOLDER, NO_MEMORY, NO_PERMISSION, NOT_A_FOLDER, PIPE, READ,
+    SHORTER, SHORTER_STREAM, TOO_MANY, WRITE,
 };
 use crate::values::{Value, some_text};
 use std::alloc::{AllocError, Global};
@@ -13,11 +14,12 @@ use std::fs;
 use std::rt::Files;
 use tm_arguments::{Action, Plan};
 use tm_faults::RunFault;
-use tm_files::{Recording, choose_recording};
 use tm_settings::Settings;
 
-// The system's numbers of three errors: a file isn't open, it is a folder, and nobody reads a pipe.
+// The system's numbers of four errors: a file isn't open, it may not be used, it is a folder, and nobody reads a pipe.
 const CLOSED_NUMBER: i32 = 9;
+
+const PERMISSION_NUMBER: i32 = 13;
 
 const FOLDER_NUMBER: i32 = 21;
 
@@ -65,6 +67,48 @@ fn folder_text<R: Files + AllocGlobal>(rt: &R, plan: &Plan) -> Result<Option<Vec
     some_text(rt.alloc(), text, &[Value::Phrase(folder)])
 }
 
+// The number of applications.
+const APPLICATIONS: usize = 2048;
+
+// The first file of a folder to which the system refuses to write by this error.
+fn refused_file<R: Files + AllocGlobal>(
+    rt: &R,
+    folder: &str,
+    number: i32,
+) -> Result<Option<String>, AllocError> {
+    for application in 0..APPLICATIONS {
+        let name = tm_split_files::name_in(rt.alloc(), folder, application)?;
+        if is_refused(rt, name.as_str(), number) {
+            return Ok(Some(name));
+        }
+    }
+    Ok(None)
+}
+
+// Why the files of `split` can't be written: one that is there can't, or the folder.
+fn packets_text<R: Files + AllocGlobal>(
+    rt: &R,
+    plan: &Plan,
+    number: i32,
+) -> Result<Option<Vec<u8>>, AllocError> {
+    let alloc = rt.alloc();
+    let folder = phrase_in(plan, Role::Folder);
+    let Ok(path) = std::str::from_utf8(folder.name) else {
+        return Ok(None);
+    };
+    if let Some(name) = refused_file(rt, path, number)? {
+        let file = Phrase {
+            role: Role::Packets,
+            name: name.as_bytes(),
+        };
+        return with_system_words(alloc, BLOCKED, file, number);
+    }
+    match number {
+        PERMISSION_NUMBER => some_text(alloc, NO_PERMISSION, &[Value::Phrase(folder)]),
+        _ => with_system_words(alloc, WRITE, folder, number),
+    }
+}
+
 /// Why standard output can't be written.
 pub(crate) fn output_text(alloc: Global, number: i32) -> Result<Option<Vec<u8>>, AllocError> {
     let output = Phrase {
@@ -80,19 +124,14 @@ fn write_text<R: Files + AllocGlobal>(
     plan: &Plan,
     number: Option<i32>,
 ) -> Result<Option<Vec<u8>>, AllocError> {
-    let role = match plan.action {
-        Action::Split => Role::Folder,
-        _ => Role::Output,
-    };
-    if let Some(number) = number {
-        return stream_text(rt.alloc(), WRITE, phrase_in(plan, role), number);
-    }
-    if role == Role::Folder {
-        return folder_text(rt, plan);
-    }
-    match output_clash_text(rt, plan)? {
-        None => output_text(rt.alloc(), CLOSED_NUMBER),
-        found => Ok(found),
+    match (plan.action, number) {
+        (Action::Split, Some(number)) => packets_text(rt, plan, number),
+        (Action::Split, None) => folder_text(rt, plan),
+        (_, Some(number)) => output_text(rt.alloc(), number),
+        (_, None) => match output_clash_text(rt, plan)? {
+            None => output_text(rt.alloc(), CLOSED_NUMBER),
+            found => Ok(found),
+        },
     }
 }
 
@@ -114,11 +153,7 @@ fn report_text(
 
 // How many whole records the recording has, if that can be told.
 fn record_count<R: Files>(rt: &R, plan: &Plan, settings: &Settings) -> Option<u64> {
-    let length = match choose_recording(plan) {
-        Recording::File(name) => length_of(rt, name)?,
-        Recording::Input => length_at(rt, "/proc/self/fd/0")?,
-    };
-    length.checked_div(settings.layout().record_length() as u64)
+    length_at(rt, recording_path(plan)?)?.checked_div(settings.layout().record_length() as u64)
 }
 
 /// How many records the recording has, and how many are done in the checkpoint.

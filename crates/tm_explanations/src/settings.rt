@@ -61,12 +61,13 @@ fn document_text<'v>(
     some_text(alloc, TOML, &values)
 }
 
-// Why a text is no TOML document; none if it is one.
-fn toml_text(
+/// Why the file of the settings, which has these octets, is no TOML document; none if it is one.
+pub(crate) fn toml_text(
     alloc: Global,
-    file: Phrase<'_>,
+    plan: &Plan,
     octets: &[u8],
 ) -> Result<Option<Vec<u8>>, AllocError> {
+    let file = phrase_in(plan, Role::Settings);
     let text = match std::str::from_utf8(octets) {
         Ok(text) => text,
         Err(error) => {
@@ -91,17 +92,29 @@ fn toml_text(
     }
 }
 
+// The key that a word of the field stands for. By its letters such a word is near none, or near another.
+fn key_of_word(word: &[u8]) -> Option<Key> {
+    match word {
+        b"scid" => Some(Key::Spacecraft),
+        b"vcid" => Some(Key::Channels),
+        b"fecf" | b"crc" => Some(Key::ErrorControl),
+        b"asm" => Some(Key::SkipBefore),
+        b"rs" => Some(Key::SkipAfter),
+        _ => None,
+    }
+}
+
 // What an unknown key may be meant for.
 fn unknown_text(
     alloc: Global,
     file: Phrase<'_>,
     key: &[u8],
 ) -> Result<Option<Vec<u8>>, AllocError> {
-    let nearest = match std::str::from_utf8(key) {
-        Ok(text) => nearest_key(alloc, text)?,
-        Err(_) => None,
+    let meant = match (key_of_word(key), std::str::from_utf8(key)) {
+        (None, Ok(text)) => nearest_key(alloc, text)?,
+        (found, _) => found,
     };
-    match nearest {
+    match meant {
         Some(key) => {
             let values = [Value::Phrase(file), Value::Word(key.word())];
             some_text(alloc, NEAR_KEY, &values)
@@ -130,19 +143,17 @@ fn key_text(
     some_text(alloc, text, &values)
 }
 
-/// Why the file of the settings, which has these octets, is refused.
+/// Why the file of the settings is refused. `toml_text` tells of one that is no TOML document.
 pub(crate) fn settings_text(
     alloc: Global,
     plan: &Plan,
     fault: &SettingsFault,
-    octets: &[u8],
 ) -> Result<Option<Vec<u8>>, AllocError> {
     let file = phrase_in(plan, Role::Settings);
     match fault {
-        SettingsFault::Toml => toml_text(alloc, file, octets),
         SettingsFault::Unknown(key) => unknown_text(alloc, file, key.as_slice()),
         SettingsFault::Missing(key) => key_text(alloc, MISSING_KEY, file, *key),
         SettingsFault::Kind(key) | SettingsFault::Range(key) => key_text(alloc, VALUE, file, *key),
-        SettingsFault::NoMemory => Ok(None),
+        SettingsFault::Toml | SettingsFault::NoMemory => Ok(None),
     }
 }

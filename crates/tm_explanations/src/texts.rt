@@ -46,6 +46,11 @@ pub(crate) const LENGTHS: &str =
 
 pub(crate) const NO_COLUMN: &str = "{}: the heading has the columns {}; name {} there";
 
+pub(crate) const NO_HEADING: &str =
+    "{}: the heading is empty; write name,data_type,bit_length there";
+
+pub(crate) const SEMICOLONS: &str = "{}: semicolons part the heading; part all values by commas";
+
 pub(crate) const COLUMN_TWICE: &str = "{}: the heading has the columns {}; name {} there once";
 
 pub(crate) const TYPE: &str =
@@ -53,10 +58,11 @@ pub(crate) const TYPE: &str =
 
 pub(crate) const ARRAY: &str = "{}, field {}: {} is an array; write a row for each element";
 
-pub(crate) const LENGTH: &str = "{}, field {}: bit_length is {}; of type {} it is {}";
+pub(crate) const LENGTH: &str =
+    "{}, field {}: bit_length is {}; of type {} it is {}, in one to nine digits";
 
 pub(crate) const OFFSET: &str =
-    "{}, field {}: bit_offset {} is no number, or the {} bits end behind bit 524336; write a number, or leave it out";
+    "{}, field {}: bit_offset {} is not one to nine digits, or the {} bits end behind bit 524336; correct it, or leave it out";
 
 pub(crate) const NO_NAME: &str = "{}: the row has no name; give the field one";
 
@@ -101,6 +107,8 @@ pub(crate) const CLOSED: &str = "{} is closed; open it, or name a file";
 
 pub(crate) const PIPE: &str = "{}: the program that reads it has ended; see why";
 
+pub(crate) const BLOCKED: &str = "{}: {}; take it away, or name another folder";
+
 pub(crate) const READ: &str = "{}: {}; see that it can be read to its end";
 
 pub(crate) const WRITE: &str = "{}: {}; make room, or write to another file";
@@ -115,3 +123,5 @@ pub(crate) const NO_CHECKPOINT: &str =
 
 pub(crate) const WORD: &str =
     "word {}, {}, is not UTF-8; rename the file, or give the recording to standard input: < FILE";
+
+pub(crate) const PACKED: &str = "{}: packed by {}; unpack it first";

@@ -1,7 +1,7 @@
 //! The arguments that each subcommand takes, and what help says of them.
 
-/// The version of the program, and on a second line the kit that proved it, as `rt version` prints it: what `--version` prints.
-pub(crate) const VERSION: &str = "0.1.0\nrattle-kit-13f logic dac8208d650f15bf";
+/// The version of the program, and on a second line the sum of the logic that proved it: what `--version` prints.
+pub(crate) const VERSION: &str = "0.1.0\nlogic dac8208d650f15bf";
 
 /// What help says after all commands.
 pub(crate) const PAGES: &str =

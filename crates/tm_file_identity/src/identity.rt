@@ -88,10 +88,45 @@ pub fn is_any(identity: &FileIdentity, others: &[FileIdentity]) -> bool
     false
 }
 
-fn node_of(metadata: &Metadata) -> Node {
+// Tells the device of a file and the number that it has there: the system's, and for proofs any whatever.
+trait Numbered {
+    // The file is on this device.
+    ghost device: { Self → ℕ → Type 0 };
+
+    // It has this number there.
+    ghost number: { Self → ℕ → Type 0 };
+
+    // The device's own number.
+    fn device(&self) -> u64
+        ensures { device self.now result };
+
+    fn number(&self) -> u64
+        ensures { number self.now result };
+}
+
+// What the system says of a file has no place in a contract: so it may be on any device, under any number.
+impl Numbered for Metadata {
+    ghost device = { λ _ _. Unit {0} };
+
+    ghost number = { λ _ _. Unit {0} };
+
+    fn device(&self) -> u64 {
+        self.dev()
+    }
+
+    fn number(&self) -> u64 {
+        self.ino()
+    }
+}
+
+// The device of a file, and its number there.
+fn node_of<F: Numbered>(file: &F) -> Node
+    ensures device { F.device file.now result.device }
+    ensures number { F.number file.now result.number }
+{
     Node {
-        device: metadata.dev(),
-        number: metadata.ino(),
+        device: file.device(),
+        number: file.number(),
     }
 }
 

@@ -1,11 +1,12 @@
 //! Where the links at the end of a path lead to.
 
+ghost use Rattle.std.specs.IoError.{error_kind};
 ghost use Rattle.std.specs.Path.{path_buf_bytes, path_bytes};
-ghost use Rattle.std.specs.Prelude.{◌≡◌, ℕ, List, option_map, IfOk, MatchOption};
+ghost use Rattle.std.specs.Prelude.{◌≡◌, ◌≢◌, ℕ, List, Ok, Some, None, option_map, IfErr, IfOk, IsErr, MatchOption};
 ghost use Rattle.tm_file_identity.specs.Links.{IsEnd, folder_of, folder_named, path_behind};
 
 use std::alloc::{AllocError, Global};
-use std::io::ErrorKind;
+use std::io::{self, ErrorKind};
 use std::path::{Path, PathBuf};
 use std::rt::Files;
 
@@ -26,6 +27,19 @@ pub(crate) trait Links {
             (λ target. leads self.now (path_buf_bytes path.now) (path_buf_bytes target))) };
 }
 
+// The target that the system answered for a path. Its error says that no link is there, unless memory ran out.
+fn target_of(answer: io::Result<PathBuf>) -> Result<Option<PathBuf>, AllocError>
+    ensures link { IfOk answer (λ target. result ≡ Ok (Some target)) }
+    ensures none { IfErr answer (λ error. error_kind error ≢ ErrorKind.OutOfMemory → result ≡ Ok None) }
+    ensures refused { IfErr answer (λ error. error_kind error ≡ ErrorKind.OutOfMemory → IsErr result) }
+{
+    match answer {
+        Ok(target) => Ok(Some(target)),
+        Err(error) if error.kind() == ErrorKind::OutOfMemory => Err(AllocError),
+        Err(_) => Ok(None),
+    }
+}
+
 // What the system says of a link has no place in a contract: so its links may lead anywhere.
 impl<R: Files + AllocGlobal> Links for R {
     ghost leads = { λ _ _ _. Unit {0} };
@@ -33,11 +47,7 @@ impl<R: Files + AllocGlobal> Links for R {
     ghost ends = { λ _ _. Unit {0} };
 
     fn target(&self, alloc: Global, path: &PathBuf) -> Result<Option<PathBuf>, AllocError> {
-        match self.read_link(alloc, path.as_str()) {
-            Ok(target) => Ok(Some(target)),
-            Err(error) if error.kind() == ErrorKind::OutOfMemory => Err(AllocError),
-            Err(_) => Ok(None),
-        }
+        target_of(self.read_link(alloc, path.as_str()))
     }
 }
 

@@ -1,6 +1,6 @@
 //! Files that are opened by their names, and files that are read whole.
 
-ghost use Rattle.std.specs.Prelude.{◌≡◌, ◌<◌, ◌≤◌, length, vec_len, IfOk, IfErr, IfSome, MatchOption};
+ghost use Rattle.std.specs.Prelude.{◌≡◌, ◌<◌, ◌≤◌, [], length, vec_len, IfOk, IfErr, IfSome, IsErr, MatchOption};
 ghost use Rattle.tm_files.specs.code.Files.{IsFaultOf, IsFileFault, most_octets};
 ghost use Rattle.tm_files.specs.code.Replacements.{replaced_name, replaced_octets, replacement_name};
 
@@ -117,12 +117,14 @@ fn is_folder<R: Files>(rt: &R, path: &str) -> bool {
     }
 }
 
-/// Makes the file `NAME.new` beside a file, or empties it. A folder in place of the file is refused. A fault names the file as it was given.
+/// Makes the file `NAME.new` beside a file, or empties it. An empty name is refused, and a folder in place of the file. A fault names the file
+/// as it was given.
 pub fn begin_replacement<'n, R: Files + AllocGlobal>(
     rt: &R,
     name: &'n Octets,
 ) -> Result<Replacement<'n, R::File>, ToolFault>
     ensures name { IfOk result (λ replacement. replacement_name replacement ≡ name.now) }
+    ensures unnamed { name.now ≡ [] → IsErr result }
     ensures refused { IfErr result (IsFileFault name.now) }
 {
     let alloc = rt.alloc();
@@ -130,7 +132,7 @@ pub fn begin_replacement<'n, R: Files + AllocGlobal>(
     let Ok(temporary) = format!(in alloc; "{path}.new") else {
         return Err(ToolFault::Run(RunFault::NoMemory));
     };
-    if is_folder(rt, path) {
+    if path.is_empty() || is_folder(rt, path) {
         return Err(file_fault(alloc, name));
     }
     match File::create(rt, temporary.as_str()) {

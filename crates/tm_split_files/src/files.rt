@@ -1,5 +1,6 @@
 //! The files of a folder, and what is held of each before it is written.
 
+ghost use Rattle.std.specs.Io.KnownBytes.{Appends};
 ghost use Rattle.std.specs.Prelude.{◌≡◌, ◌≢◌, ◌<◌, ◌+◌, ◌++◌, ◌∷◌, ◌⊎◌, ℕ, [], None, Some, true, false, length, vec_len, slice_get, string_bytes, replicate, Err, IfErr, IfOk, IfSome, OnErr, OnOk};
 ghost use Rattle.tm_split_files.specs.code.Buffers.{AreEmpty, AreKept, AreKeptOrEmpty, AreLeft, IsDrained, IsExtended, IsKeptOrEmpty};
 ghost use Rattle.tm_split_files.specs.ShelfFaults.{is_out_of_memory};
@@ -49,6 +50,27 @@ fn remember(made: &mut Vec<FileIdentity>, identity: FileIdentity) -> Result<(), 
     match made.push(identity) {
         Ok(()) => Ok(()),
         Err(_) => Err(ShelfFault::NoMemory),
+    }
+}
+
+// Writes what is held to a file, and then these octets. None is held any more.
+fn write_behind_held<W: Write>(
+    file: &mut W,
+    held: &mut Vec<u8>,
+    octets: &[u8],
+) -> Result<(), ShelfFault>
+    ensures whole { OnOk result (Appends (W.contents file.old) (W.contents file.new) (held.old.items ++ octets.now)) }
+    ensures none { held.new.items ≡ [] }
+    ensures refused { IfErr result (λ fault. fault ≡ ShelfFault.NotWritten) }
+{
+    let written = match file.write_all(held.as_slice()) {
+        Ok(()) => file.write_all(octets),
+        Err(error) => Err(error),
+    };
+    held.clear();
+    match written {
+        Ok(()) => Ok(()),
+        Err(_) => Err(ShelfFault::NotWritten),
     }
 }
 
@@ -162,12 +184,7 @@ impl<R: Files + AllocGlobal> Folder<'_, R> {
         ensures left { IsKeptOrEmpty held.old.items held.new.items }
     {
         let mut file = self.open(application)?;
-        let written = file.write_all(held.as_slice());
-        held.clear();
-        if written.is_err() || file.write_all(octets).is_err() {
-            return Err(ShelfFault::NotWritten);
-        }
-        Ok(())
+        write_behind_held(&mut file, held, octets)
     }
 
     // Writes what is held of an application, if anything is.

@@ -6,7 +6,7 @@ use std::env;
 use std::io::{ErrorKind, IsTerminal, Write};
 use std::process::ExitCode;
 use tm_devices::Watched;
-use tm_explanations::{Explanation, explain, explain_bad_frames, explain_words};
+use tm_explanations::{Explanation, explain, explain_no_good_frame, explain_words};
 use tm_program::{Octets, Outcome, RunFault, ToolFault, UsageFault, fault_line, run, status};
 
 const NOT_TEXT: &str =
@@ -66,13 +66,18 @@ fn refuse(rt: &HostRuntime, fault: &ToolFault, number: Option<i32>) -> ExitCode 
     code
 }
 
-// Says at a terminal that a run had no good frame, unless its report, which says so, went there.
+// Says at a terminal that a run had no good frame. Where its report, which says so, went there, it is only said that a recording is packed.
 fn remark(rt: &HostRuntime, outcome: Outcome) {
     let mut errors = rt.stderr();
     if outcome.has_no_good_frame()
-        && !outcome.reports_to_errors
         && errors.is_terminal()
-        && let Ok(line) = explain_bad_frames(rt.alloc(), outcome.records)
+        && let Ok(words) = all_arguments(rt)
+        && let Ok(Some(line)) = explain_no_good_frame(
+            rt,
+            words,
+            outcome.records,
+            outcome.reports_to_errors,
+        )
     {
         let _ = errors.write_all(line.as_slice());
     }

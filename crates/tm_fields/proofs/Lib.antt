@@ -5,6 +5,7 @@ pub mod Fields
 pub mod Kept
 pub mod Lengths
 pub mod LineLemmas
+pub mod Names
 pub mod NumberLemmas
 pub mod Places
 pub mod Records

@@ -36,7 +36,7 @@ pub struct Columns {
 }
 
 /// A record's value in a column, trimmed; empty where there is none.
-pub(crate) fn value_at(row: &ByteRecord, at: usize) -> &[u8]
+pub fn value_at(row: &ByteRecord, at: usize) -> &[u8]
     ensures { result.now ≡ value (fields_of row.now) at }
 {
     match row.get(at) {

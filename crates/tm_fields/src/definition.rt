@@ -19,6 +19,7 @@ use crate::table::read_table;
 use crate::values::{write_field_name, write_field_value};
 use csv::{ByteRecord, Writer};
 use std::alloc::{AllocError, Global};
+use std::collections::BTreeSet;
 use std::marker::Model;
 use tm_faults::{Column, DefinitionFault, NoMemory};
 
@@ -50,11 +51,19 @@ fn read_fields(
         → fields_from columns.now [] (map fields_of records.now) ≡ Err f) }
 {
     let mut fields = Vec::new(alloc);
+    let mut names = BTreeSet::new(alloc);
     // The bit behind the last field: the first begins behind the packet's header.
     let mut before = 48u32;
     let mut needed = 0u32;
     for values in records {
-        let field = read_field(alloc, columns, values, fields.as_slice(), before)?;
+        let field = read_field(
+            alloc,
+            columns,
+            values,
+            fields.as_slice(),
+            &mut names,
+            before,
+        )?;
         before = field.begin + field.length;
         needed = needed.max(before);
         if fields.push(field).is_err() {

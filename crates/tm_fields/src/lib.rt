@@ -19,7 +19,7 @@ mod table;
 mod values;
 mod words;
 
-pub use columns::{Columns, Standing};
+pub use columns::{Columns, Standing, value_at};
 pub use definition::Definition;
 pub use faults::RowFault;
 pub use field::{DataType, Field};

@@ -1,14 +1,17 @@
 //! One record of a definition.
 
-ghost use Rattle.std.specs.Prelude.{◌≡◌, ◌≢◌, ◌+◌, ◌<◌, ◌≤◌, Ok, Err, true, length, IfOk, IfErr};
+ghost use Rattle.std.specs.Prelude.{◌≡◌, ◌≢◌, ◌+◌, ◌<◌, ◌≤◌, ◌&&◌, ◌++◌, ◌∷◌, [], Ok, Err, List, true, not, length, IfOk, IfErr, OnOk};
 ghost use Rattle.csv.specs.Records.{fields_of};
-ghost use Rattle.tm_fields.specs.Reading.{begin_named, begin_of, defined_field_of, greatest_end, has_length, is_refused_name, is_sound, is_earlier_name, last_end, length_of, field_name_of, offset_text, type_of};
+ghost use Rattle.tm_fields.specs.Reading.{begin_named, begin_of, defined_field_of, greatest_end, has_length, is_shown, is_sound, is_earlier_name, last_end, length_of, field_name_of, offset_text, type_of};
+ghost use Rattle.tm_fields.specs.code.Reading.{AreNames};
+ghost use Rattle.tm_fields.specs.declared.field.Field.{Field};
 
 use crate::columns::{Columns, value_at};
 use crate::field::{DataType, Field, GREATEST_END};
-use crate::words::{data_type_named, is_array_text, is_text, number_in};
+use crate::words::{data_type_named, is_array_text, number_in};
 use csv::ByteRecord;
-use std::alloc::{AllocError, Global};
+use std::alloc::{AllocFailed, Global};
+use std::collections::BTreeSet;
 use tm_bits::Octets;
 use tm_faults::DefinitionFault;
 
@@ -66,33 +69,46 @@ fn read_begin(row: u32, before: u32, length: u32, text: &[u8]) -> Result<u32, De
     }
 }
 
-// The name is that of a field of these that has a column.
-fn is_name_used(name: &[u8], fields: &[Field]) -> bool
-    ensures { result ≡ is_earlier_name name.now fields.now }
+// Adds the name of one more field, if it has a column, to those of earlier fields. `false` if an earlier field has it.
+fn add_name<'a>(
+    names: &mut BTreeSet<&'a [u8]>,
+    data_type: DataType,
+    name: &'a [u8],
+) -> Result<bool, AllocFailed<&'a [u8]>>
+    ensures new { (fields : List Field) → AreNames fields names.old
+        → IfOk result (λ new. new ≡ not (is_shown data_type && is_earlier_name name.now fields)) }
+    ensures names { (fields : List Field) (f : Field) → AreNames fields names.old → f.data_type ≡ data_type
+        → f.name ≡ name.now → OnOk result (AreNames (fields ++ (f ∷ [])) names.new) }
 {
-    fields.iter().any(|field| field.data_type.has_column() && is_text(field.name.as_slice(), name))
-}
-
-// The name can't be that of a field of this type after these.
-fn refuses_name(data_type: DataType, name: &[u8], fields: &[Field]) -> bool
-    ensures { result ≡ is_refused_name data_type name.now fields.now }
-{
-    name.is_empty() || data_type.has_column() && is_name_used(name, fields)
+    if data_type.has_column() {
+        names.insert(name)
+    } else {
+        Ok(true)
+    }
 }
 
 // The name in a row.
-fn read_name(
+fn read_name<'a>(
     alloc: Global,
     row: u32,
     data_type: DataType,
-    name: &[u8],
-    fields: &[Field],
+    name: &'a [u8],
+    names: &mut BTreeSet<&'a [u8]>,
 ) -> Result<Octets, DefinitionFault>
-    ensures ok { IfOk result (λ octets. field_name_of row data_type name.now fields.now ≡ Ok octets) }
-    ensures refused { IfErr result (λ f. f ≢ DefinitionFault.NoMemory → field_name_of row data_type name.now fields.now ≡ Err f) }
+    ensures ok { (fields : List Field) → AreNames fields names.old
+        → IfOk result (λ octets. field_name_of row data_type name.now fields ≡ Ok octets) }
+    ensures refused { (fields : List Field) → AreNames fields names.old
+        → IfErr result (λ f. f ≢ DefinitionFault.NoMemory → field_name_of row data_type name.now fields ≡ Err f) }
+    ensures names { (fields : List Field) (f : Field) → AreNames fields names.old → f.data_type ≡ data_type
+        → IfOk result (λ octets. f.name ≡ octets → AreNames (fields ++ (f ∷ [])) names.new) }
 {
-    if refuses_name(data_type, name, fields) {
+    if name.is_empty() {
         return Err(DefinitionFault::Name { row });
+    }
+    match add_name(names, data_type, name) {
+        Ok(true) => {}
+        Ok(false) => return Err(DefinitionFault::Name { row }),
+        Err(_) => return Err(DefinitionFault::NoMemory),
     }
     match Vec::from_slice(alloc, name) {
         Ok(octets) => Ok(Octets::new(octets)),
@@ -100,32 +116,29 @@ fn read_name(
     }
 }
 
-/// The field of a record that comes after these fields. The last of them ends at `before`.
-pub(crate) fn read_field(
+/// The field of a record that comes after these fields, which have these names. The last of them ends at `before`.
+pub(crate) fn read_field<'a>(
     alloc: Global,
     columns: &Columns,
-    values: &ByteRecord,
+    values: &'a ByteRecord,
     fields: &[Field],
+    names: &mut BTreeSet<&'a [u8]>,
     before: u32,
 ) -> Result<Field, DefinitionFault>
     requires few { length fields.now < 1000 }
+    requires names { AreNames fields.now names.old }
     requires before { before ≡ last_end 48 fields.now }
     ensures ok { IfOk result (λ f. defined_field_of columns.now fields.now (fields_of values.now) ≡ Ok f) }
     ensures refused { IfErr result (λ f. f ≢ DefinitionFault.NoMemory
         → defined_field_of columns.now fields.now (fields_of values.now) ≡ Err f) }
     ensures sound { IfOk result (λ f. is_sound f ≡ true) }
+    ensures names { IfOk result (λ f. AreNames (fields.now ++ (f ∷ [])) names.new) }
 {
     let row = fields.len() as u32 + 1;
     let data_type = read_type(row, value_at(values, columns.data_type))?;
     let length = read_length(row, data_type, value_at(values, columns.bit_length))?;
     let begin = read_begin(row, before, length, offset_at(values, columns))?;
-    let name = read_name(
-        alloc,
-        row,
-        data_type,
-        value_at(values, columns.name),
-        fields,
-    )?;
+    let name = read_name(alloc, row, data_type, value_at(values, columns.name), names)?;
     Ok(Field {
         name,
         data_type,

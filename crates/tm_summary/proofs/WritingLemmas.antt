@@ -1,5 +1,6 @@
 -- Lines that are written one after the other, and where writing stops.
-use Rattle.std.proofs.Common.{◌≡◌, ◌<◌, ◌≤◌, ◌+◌, ℕ, zero, suc, List, [], ◌∷◌, ◌++◌, length, append-nil, add-one, refl, arith, ⊎_elim, Option, Bool, true, get_or, ltb, lt-ltb}
+use Rattle.std.proofs.Common.{◌≡◌, ◌<◌, ◌≤◌, ◌+◌, ℕ, zero, suc, List, [], ◌∷◌, ◌++◌, length, append-nil, add-one, refl, arith, ⊎_elim, Option, Bool, true, false, get_or, ltb, lt-ltb, map, sym, ap, ◌∙◌}
+use Rattle.std.specs.Prelude.{filter, if◌then◌else◌}
 use Rattle.std.specs.List.{flat_map}
 use Rattle.std.specs.Io.KnownBytes.{Appends}
 use Rattle.std.proofs.KnownBytes.{Appends-nil, Appends-trans}
@@ -12,9 +13,11 @@ use Rattle.tm_output.specs.Outputs.{Piece, Stopped, Took, View, line_piece, line
 use Rattle.tm_output.specs.Seen.{out_alone}
 use Rattle.tm_output.proofs.PieceLemmas.{stopped_more, took_stopped, took_took}
 use Rattle.tm_frame.specs.Channels.{is_chosen}
+use Rattle.tm_summary.specs.declared.application.ApplicationCounts.{ApplicationCounts}
 use Rattle.tm_summary.specs.declared.channel.ChannelCounts.{ChannelCounts}
 use Rattle.tm_summary.specs.declared.channel.Loss.{Loss}
-use Rattle.tm_summary.specs.Lines.{application_lines, channel_line, channel_lines, channel_lines_of, fault_at, fault_line, fault_lines, line_if, loss_line, loss_lines, loss_reason_at, master_line, recording_line, summary_lines}
+use Rattle.tm_summary.specs.Adding.{no_application, no_loss}
+use Rattle.tm_summary.specs.Lines.{application_lines, channel_line, channel_lines, channel_lines_of, fault_at, fault_line, fault_lines, line_if, line_of_key, loss_line, loss_lines, loss_reason_at, master_line, places_counted, recording_line, summary_lines}
 use Rattle.tm_summary.specs.SummaryNumbers.{SummaryNumbers, below}
 
 abbrev pub TookLines : View (Option (List ℕ)) → View (Option (List ℕ)) → List (List ℕ) → Type 0
@@ -46,7 +49,7 @@ pieces_more : (f : ℕ → List (List ℕ)) (n : ℕ) → line_pieces (flat_map 
 pieces_more f n = simp (flat_map-append, append-nil, map-append)
 
 module _ {A : Type 0} (F : ℕ → A → List (List ℕ)) (xs : List A) (d : A) where
-  abbrev lines_at : ℕ → List (List ℕ)
+  abbrev pub lines_at : ℕ → List (List ℕ)
   lines_at n = F n (get_or xs n d)
 
   module _ {old now new : View (Option (List ℕ))} (n : ℕ) (inside : n < length xs) (e : A)
@@ -66,12 +69,49 @@ module _ {A : Type 0} (F : ℕ → A → List (List ℕ)) (xs : List A) (d : A) 
         rw same (then_stopped done.1 (rw (get_or_default xs n e d inside) at stopped)))
         (cases_lt n m))
 
--- of a fault and of a reason
+-- of a fault, of a reason, and of an application
 abbrev pub fault_lines_of : ℕ → ℕ → List (List ℕ)
-fault_lines_of n records = line_if (ltb 0 records) (fault_line (fault_at n) records)
+fault_lines_of place records = line_if (ltb 0 records) (fault_line (fault_at place) records)
 
 abbrev pub loss_lines_of : ℕ → ℕ → Loss → List (List ℕ)
-loss_lines_of channel n l = line_if (ltb 0 l.parts) (loss_line channel (loss_reason_at n) l)
+loss_lines_of channel place l = line_if (ltb 0 l.parts) (loss_line channel (loss_reason_at place) l)
+
+abbrev pub application_lines_of : ℕ → ApplicationCounts → List (List ℕ)
+application_lines_of key a = line_if (ltb 0 a.packets) (line_of_key key a)
+
+-- ---- a line for each place for which something is counted
+
+shown_first : (b : Bool) (line : ℕ → List ℕ) (place : ℕ) (places : List ℕ)
+    → line_if b (line place) ++ map line places ≡ map line (if b then place ∷ places else places)
+shown_first true line place places = refl
+shown_first false line place places = refl
+
+shown : (test : ℕ → Bool) (line : ℕ → List ℕ) (places : List ℕ)
+    → flat_map (λ place. line_if (test place) (line place)) places ≡ map line (filter test places)
+shown test line [] = refl
+shown test line (place ∷ places) =
+    ap (λ (lines : List (List ℕ)). line_if (test place) (line place) ++ lines) (shown test line places)
+    ∙ shown_first (test place) line place (filter test places)
+
+lines_shown : (n : ℕ) (counted : ℕ → ℕ) (line : ℕ → List ℕ)
+    → map line (places_counted n counted) ≡ flat_map (λ place. line_if (ltb 0 (counted place)) (line place)) (below n)
+unfolding places_counted
+lines_shown n counted line = sym (shown (λ place. ltb 0 (counted place)) line (below n))
+
+pub faults_shown : (faults : List ℕ) → fault_lines faults ≡ flat_map (lines_at fault_lines_of faults 0) (below 8)
+unfolding fault_lines
+faults_shown faults = lines_shown 8 (λ place. get_or faults place 0) (λ place. fault_line (fault_at place) (get_or faults place 0))
+
+pub losses_shown : (channel : ℕ) (losses : List Loss) → loss_lines channel losses ≡ flat_map (lines_at (loss_lines_of channel) losses no_loss) (below 7)
+unfolding loss_lines
+losses_shown channel losses =
+    lines_shown 7 (λ place. (get_or losses place no_loss).parts) (λ place. loss_line channel (loss_reason_at place) (get_or losses place no_loss))
+
+pub applications_shown : (applications : List ApplicationCounts)
+    → application_lines applications ≡ flat_map (lines_at application_lines_of applications no_application) (below 16384)
+unfolding application_lines
+applications_shown applications =
+    lines_shown 16384 (λ key. (get_or applications key no_application).packets) (λ key. line_of_key key (get_or applications key no_application))
 
 -- a channel that is chosen and had a good frame
 pub channel_has : (chosen : List Bool) (channel : ℕ) (c : ChannelCounts) → is_chosen chosen channel ≡ true → 0 < c.frames

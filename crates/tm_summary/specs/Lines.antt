@@ -1,5 +1,5 @@
 -- The lines of a summary. Each ends with one line feed; numbers are decimal, without leading zeros.
-use Rattle.std.specs.Prelude.{ℕ, ◌/◌, ◌%◌, ◌&&◌, nat_lt, Bool, List, [], ◌∷◌, ◌++◌, codes, slice_index_or, if◌then◌else◌}
+use Rattle.std.specs.Prelude.{ℕ, ◌/◌, ◌%◌, ◌&&◌, nat_lt, Bool, List, [], ◌∷◌, ◌++◌, codes, filter, map, slice_index_or, if◌then◌else◌}
 use Rattle.std.specs.Fmt.{decimal}
 use Rattle.std.specs.List.{concat, flat_map}
 use Rattle.tm_frame.specs.declared.fault.FrameFault.{FrameFault}
@@ -90,17 +90,29 @@ loss_reason_at place = slice_index_or all_reasons place why.Pointer
 abbrev pub line_if : Bool → List ℕ → List (List ℕ)
 line_if b line = if b then line ∷ [] else []
 
--- the line of a fault that came
-abbrev pub fault_lines_at : List ℕ → ℕ → List (List ℕ)
-fault_lines_at faults n = line_if (nat_lt 0 (slice_index_or faults n 0)) (fault_line (fault_at n) (slice_index_or faults n 0))
+-- ---- the places of what came: each has a line
 
--- that of a reason that came
-abbrev pub loss_lines_at : ℕ → List Loss → ℕ → List (List ℕ)
-loss_lines_at channel losses n =
-    line_if (nat_lt 0 (slice_index_or losses n no_loss).parts) (loss_line channel (loss_reason_at n) (slice_index_or losses n no_loss))
+-- the numbers below n for which something is counted
+unfoldable pub places_counted : ℕ → (ℕ → ℕ) → List ℕ
+places_counted n counted = filter (λ place. nat_lt 0 (counted place)) (below n)
+
+abbrev pub fault_places : List ℕ → List ℕ
+fault_places faults = places_counted 8 (λ place. slice_index_or faults place 0)
+
+abbrev pub loss_places : List Loss → List ℕ
+loss_places losses = places_counted 7 (λ place. (slice_index_or losses place no_loss).parts)
+
+-- each channel and application that had a whole packet
+abbrev pub application_keys : List ApplicationCounts → List ℕ
+application_keys applications = places_counted 16384 (λ key. (slice_index_or applications key no_application).packets)
+
+-- ---- a line for each
+
+unfoldable pub fault_lines : List ℕ → List (List ℕ)
+fault_lines faults = map (λ place. fault_line (fault_at place) (slice_index_or faults place 0)) (fault_places faults)
 
 unfoldable pub loss_lines : ℕ → List Loss → List (List ℕ)
-loss_lines channel losses = flat_map (loss_lines_at channel losses) (below 7)
+loss_lines channel losses = map (λ place. loss_line channel (loss_reason_at place) (slice_index_or losses place no_loss)) (loss_places losses)
 
 -- those of a channel that is chosen and had a good frame
 abbrev pub channel_lines_of : List Bool → ℕ → ChannelCounts → List (List ℕ)
@@ -110,22 +122,14 @@ channel_lines_of chosen channel c =
 abbrev pub channel_lines_at : List Bool → List ChannelCounts → ℕ → List (List ℕ)
 channel_lines_at chosen channels channel = channel_lines_of chosen channel (slice_index_or channels channel no_channel)
 
--- that of a channel and application that had a whole packet
-abbrev pub application_lines_of : ℕ → ApplicationCounts → List (List ℕ)
-application_lines_of key a = line_if (nat_lt 0 a.packets) (application_line (key / 2048) (key % 2048) a)
-
-abbrev pub application_lines_at : List ApplicationCounts → ℕ → List (List ℕ)
-application_lines_at applications key = application_lines_of key (slice_index_or applications key no_application)
-
--- all of faults, of channels and of applications
-unfoldable pub fault_lines : List ℕ → List (List ℕ)
-fault_lines faults = flat_map (fault_lines_at faults) (below 8)
-
 unfoldable pub channel_lines : List Bool → List ChannelCounts → List (List ℕ)
 channel_lines chosen channels = flat_map (channel_lines_at chosen channels) (below 8)
 
+abbrev pub line_of_key : ℕ → ApplicationCounts → List ℕ
+line_of_key key a = application_line (key / 2048) (key % 2048) a
+
 unfoldable pub application_lines : List ApplicationCounts → List (List ℕ)
-application_lines applications = flat_map (application_lines_at applications) (below 16384)
+application_lines applications = map (λ key. line_of_key key (slice_index_or applications key no_application)) (application_keys applications)
 
 -- all lines, where these channels are chosen and there are so many records
 abbrev pub summary_lines : List Bool → ℕ → SummaryNumbers → List (List ℕ)

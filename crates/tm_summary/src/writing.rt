@@ -4,7 +4,7 @@ ghost use Rattle.std.specs.Prelude.{◌≡◌, ◌<◌, ◌∷◌, ◌++◌, [],
 ghost use Rattle.std.specs.Io.KnownBytes.{Appends};
 ghost use Rattle.tm_output.specs.Outputs.{Written, line_piece, line_pieces, octets_buffering};
 ghost use Rattle.tm_output.specs.Seen.{out_alone};
-ghost use Rattle.tm_summary.specs.Lines.{application_lines, application_lines_of, channel_line, channel_lines, channel_lines_of, fault_line, fault_lines, line_if, loss_line, loss_lines, master_line, recording_line, summary_lines};
+ghost use Rattle.tm_summary.specs.Lines.{application_lines, channel_line, channel_lines, channel_lines_of, fault_line, fault_lines, line_if, line_of_key, loss_line, loss_lines, master_line, recording_line, summary_lines};
 
 use crate::application::ApplicationCounts;
 use crate::channel::{ChannelCounts, Loss};
@@ -175,7 +175,7 @@ fn write_application<W: Drain>(
     requires { key < 16384 }
     ensures same { W.fixed out.new ≡ W.fixed out.old }
     ensures written { Written Appends octets_buffering (out_alone W.Drain out.old) (out_alone W.Drain out.new)
-        (line_pieces (application_lines_of key counts.now)) result }
+        (line_pieces (line_if (nat_lt 0 counts.now.packets) (line_of_key key counts.now))) result }
 {
     if counts.packets == 0 {
         return Ok(());

@@ -26,5 +26,6 @@ loop-values-preserved c =
       before = sym (last_end_more 48 fields x);
       sound = list_all-append is_sound fields (x ∷ []) ∙ rw (c.loop-values.invariant.sound, c.in_ok-field.ensures.sound) refl;
       needed = c.max-needed.ensures ∙ sym (needed_more fields c.loop-values.needed x c.loop-values.invariant.needed);
+      names = rw c.as_slice.ensures.value at c.in_ok-field.ensures.names;
       count = omega (arith, length-append fields (x ∷ []), c.loop-values.invariant.count);
     })

@@ -1,6 +1,5 @@
 use Rattle.std.proofs.Common.{◌≡◌, ◌∙◌, arith}
-use Rattle.tm_summary.specs.Lines.{fault_lines}
-use Rattle.tm_summary.proofs.WritingLemmas.{fault_lines_of, place_more, place_stopped}
+use Rattle.tm_summary.proofs.WritingLemmas.{fault_lines_of, faults_shown, place_more, place_stopped}
 use Rattle.tm_summary.proofs.writing.write_faults.Goals as goal
 
 pub loop-place-preserved : goal.loop-place-preserved
@@ -9,13 +8,11 @@ loop-place-preserved g c =
     c.loop-place.invariant (c.in_default.ensures.same ∙ c.loop-place.invariant.0) c.in_default.ensures.written
 
 pub returns-in-Err-clause-written : goal.returns-in-Err-clause-written
-unfolding fault_lines
 returns-in-Err-clause-written g c =
-    place_stopped fault_lines_of c.args.faults.now 0 c.loop-place.place (omega arith) _
-    c.loop-place.invariant 8 (omega arith) c.in-Err.ensures.written
+    rw (faults_shown c.args.faults.now) (place_stopped fault_lines_of c.args.faults.now 0 c.loop-place.place (omega arith) _
+    c.loop-place.invariant 8 (omega arith) c.in-Err.ensures.written)
 
 pub returns-clause-written : goal.returns-clause-written
-unfolding fault_lines
 returns-clause-written g c =
     let all : c.loop-place.place ≡ 8 = omega arith in
-    rw all at c.loop-place.invariant.1
+    rw (faults_shown c.args.faults.now) (rw all at c.loop-place.invariant.1)

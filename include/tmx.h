@@ -4,7 +4,10 @@
    and functions of <string.h>, no file and no thread.
 
    It keeps nothing between two calls: what the next call has to know stands in a checkpoint, octets that the caller keeps. So calls may be
-   made from several threads at once, each with rooms of its own, and a call that failed can be made again as if it had not been made. */
+   made from several threads at once, each with rooms of its own, and a call that failed can be made again: it changed only rooms and answer.
+
+   A thread that calls needs 3 MiB of stack. Ordinary settings take less than a tenth of that, those that are nested as deep as TOML is read
+   most of it. */
 #ifndef TMX_H
 #define TMX_H
 
@@ -35,8 +38,19 @@ enum tmx_status {
     TMX_MEMORY = 6,      /* memory ran out */
     TMX_DEFINITION = 7,  /* the definition of fields is refused: fault is an enum tmx_definition_fault, column or row what it is about */
     TMX_APPLICATION = 8, /* the application is none: they have numbers up to 2047 */
-    TMX_WHOLE = 9        /* the summary was asked of a part: it takes the whole recording in one call */
+    TMX_WHOLE = 9,       /* the summary was asked of a part: it takes the whole recording in one call */
+    TMX_LONG = 10        /* the settings, the definition or the checkpoint has over TMX_INPUT_MOST octets: fault is an enum tmx_input */
 };
+
+/* What is read beside the recording, in the order of reading. */
+enum tmx_input {
+    TMX_INPUT_SETTINGS = 1,
+    TMX_INPUT_DEFINITION = 2,
+    TMX_INPUT_CHECKPOINT = 3
+};
+
+/* The most octets that each of these may have. */
+enum { TMX_INPUT_MOST = 1048576 };
 
 /* What is wrong with the settings. */
 enum tmx_settings_fault {
@@ -115,7 +129,7 @@ struct tmx_request {
    TMX_DONE nor TMX_ROOM, all but the first five numbers is 0. */
 struct tmx_answer {
     uint32_t status;          /* an enum tmx_status */
-    uint32_t fault;           /* what is wrong with the settings, the checkpoint or the definition, else 0 */
+    uint32_t fault;           /* what is wrong with the settings, the checkpoint or the definition, or which of them is too long, else 0 */
     uint32_t key;             /* an enum tmx_key, or 0 where no key is meant */
     uint32_t column;          /* an enum tmx_column, or 0 where no column is meant */
     uint32_t row;             /* a row of the definition, or 0 where no row is meant */

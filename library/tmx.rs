@@ -1,4 +1,4 @@
-//! A safe wrapper of `libtmx`: a job over a recording that comes in chunks.
+//! A safe wrapper of `libtmx`: a job over a recording that comes in chunks. A thread that calls it needs 3 MiB of stack.
 
 /// What is wanted.
 #[derive(Clone)]

@@ -10,8 +10,10 @@ use Rattle.tm_faults.specs.declared.settings.SettingsFault.{SettingsFault}
 use Rattle.tm_faults.specs.declared.settings.SettingsFault.TheVariants as setting
 use Rattle.tm_faults.specs.declared.run.CheckpointFault.{CheckpointFault}
 use Rattle.tm_faults.specs.declared.run.CheckpointFault.TheVariants as checkpoint
+use Rattle.tm_library.specs.declared.refusal.Input.{Input}
+use Rattle.tm_library.specs.declared.refusal.Input.TheVariants as input
 use Rattle.tm_library.specs.declared.refusal.Refusal.{Refusal}
-use Rattle.tm_library.specs.declared.refusal.Refusal.TheVariants.{Settings, Checkpoint, TooMany, NoMemory}
+use Rattle.tm_library.specs.declared.refusal.Refusal.TheVariants.{TooLong, Settings, Definition, Checkpoint, TooMany, NoMemory}
 use Rattle.tm_c.specs.declared.structs.Numbers.{Numbers}
 
 -- a status and a fault, which is about nothing more
@@ -75,9 +77,17 @@ definition_numbers (definition.Name row) = about_row 7 row
 definition_numbers definition.TooMany = with_status 7 8
 definition_numbers definition.NoMemory = with_status 6 0
 
+-- the number of what a call reads beside the recording
+abbrev pub input_number : Input → ℕ
+input_number input.Settings = 1
+input_number input.Definition = 2
+input_number input.Checkpoint = 3
+
 -- the numbers of a refusal
 abbrev pub refusal_numbers : Refusal → Numbers
+refusal_numbers (TooLong told) = with_status 10 (input_number told)
 refusal_numbers (Settings fault) = settings_numbers fault
+refusal_numbers (Definition fault) = definition_numbers fault
 refusal_numbers (Checkpoint fault) = with_status 4 (checkpoint_number fault)
 refusal_numbers TooMany = with_status 5 0
 refusal_numbers NoMemory = with_status 6 0

@@ -1,17 +1,18 @@
 //! The call, and what crosses the border with it.
 
-ghost use Rattle.std.specs.Prelude.{◌≡◌, ◌≢◌, ◌⊎◌, ◌<◌, ◌==◌, Some, None, [], true, false, nat_le, not};
+ghost use Rattle.std.specs.Prelude.{◌≡◌, ◌≢◌, ◌⊎◌, ◌<◌, ◌≤◌, ◌==◌, Some, None, [], true, false, nat_le, not};
 ghost use Rattle.tm_output.specs.declared.command.Command.TheVariants as command;
 ghost use Rattle.tm_library.specs.declared.request.Wanted.TheVariants.{Frames, Packets};
-ghost use Rattle.tm_c.specs.Answers.{IsFieldsAnswer, IsGiven, IsSummaryAnswer, done_with, fit, refused_with};
+ghost use Rattle.tm_c.specs.Answers.{AreRowsGiven, IsFieldsAnswer, IsGiven, IsGivenBy, IsSummarizedBy, IsSummaryAnswer, done_with, fit, refused_with};
 ghost use Rattle.tm_c.specs.Numbers.{with_status};
 
-use crate::numbers::{definition_numbers, refusal_numbers, with_status};
+use crate::numbers::{refusal_numbers, with_status};
 use crate::structs::{Numbers, TmxAnswer, TmxRequest};
 use std::alloc::Global;
-use tm_fields::Definition;
-use tm_library::{Answer, Request, Wanted, run_chunk, summarize_recording};
-use tm_tool::Command;
+use tm_library::{
+    Answer, Request, Wanted, read_definition, read_settings, run_chunk, summarize_recording,
+};
+use tm_tool::{Command, Settings};
 
 // A call that was refused has nothing but the reason.
 fn refused_with(numbers: Numbers) -> TmxAnswer
@@ -95,8 +96,25 @@ fn fits(answer: Answer, out: &[u8], report: &[u8], checkpoint: &[u8]) -> bool
         && answer.checkpoint <= checkpoint.len()
 }
 
-// Gives what is wanted of the chunk.
+// Gives what is wanted of a chunk by these settings.
 fn answer_chunk(
+    alloc: Global,
+    settings: &Settings,
+    chunk: Request<'_, '_>,
+    out: &mut [u8],
+    report: &mut [u8],
+    checkpoint: &mut [u8],
+) -> TmxAnswer
+    ensures { IsGivenBy settings.now chunk.entry out.new report.new checkpoint.new result }
+{
+    match run_chunk(alloc, settings, chunk, out, report, checkpoint) {
+        Ok(answer) => done_with(answer, fits(answer, out, report, checkpoint)),
+        Err(refusal) => refused_with(refusal_numbers(refusal)),
+    }
+}
+
+// Gives what is wanted.
+fn answer_wanted(
     alloc: Global,
     wanted: Wanted<'_>,
     request: &TmxRequest<'_>,
@@ -106,15 +124,78 @@ fn answer_chunk(
 ) -> TmxAnswer
     ensures { IsGiven wanted.entry request.now out.new report.new checkpoint.new result }
 {
-    let chunk = Request {
-        settings: request.settings,
-        checkpoint: request.checkpoint,
-        octets: request.octets,
-        wanted,
-        last: is_last(request),
-    };
-    match run_chunk(alloc, chunk, out, report, checkpoint) {
-        Ok(answer) => done_with(answer, fits(answer, out, report, checkpoint)),
+    match read_settings(alloc, request.settings) {
+        Ok(settings) => {
+            let chunk = Request {
+                checkpoint: request.checkpoint,
+                octets: request.octets,
+                wanted,
+                last: is_last(request),
+            };
+            answer_chunk(alloc, &settings, chunk, out, report, checkpoint)
+        }
+        Err(refusal) => refused_with(refusal_numbers(refusal)),
+    }
+}
+
+// Gives the rows of the application by these settings.
+fn answer_rows(
+    alloc: Global,
+    settings: &Settings,
+    request: &TmxRequest<'_>,
+    out: &mut [u8],
+    report: &mut [u8],
+    checkpoint: &mut [u8],
+) -> TmxAnswer
+    requires { request.now.application ≤ 2047 }
+    ensures { AreRowsGiven settings.now request.now out.new report.new checkpoint.new result }
+{
+    match read_definition(alloc, request.definition) {
+        Ok(definition) => {
+            let rows = Command::Fields(&definition, request.application as u16);
+            let wanted = Wanted::Packets(rows);
+            let chunk = Request {
+                checkpoint: request.checkpoint,
+                octets: request.octets,
+                wanted,
+                last: is_last(request),
+            };
+            answer_chunk(alloc, settings, chunk, out, report, checkpoint)
+        }
+        Err(refusal) => refused_with(refusal_numbers(refusal)),
+    }
+}
+
+// Gives the rows of the application, if there may be one of its number.
+fn answer_fields(
+    alloc: Global,
+    request: &TmxRequest<'_>,
+    out: &mut [u8],
+    report: &mut [u8],
+    checkpoint: &mut [u8],
+) -> TmxAnswer
+    ensures { IsFieldsAnswer request.now out.new report.new checkpoint.new result }
+{
+    if !is_application(request.application) {
+        return refused_with(with_status(8, 0));
+    }
+    match read_settings(alloc, request.settings) {
+        Ok(settings) => answer_rows(alloc, &settings, request, out, report, checkpoint),
+        Err(refusal) => refused_with(refusal_numbers(refusal)),
+    }
+}
+
+// Gives the summary by these settings.
+fn answer_whole(
+    alloc: Global,
+    settings: &Settings,
+    request: &TmxRequest<'_>,
+    out: &mut [u8],
+) -> TmxAnswer
+    ensures { IsSummarizedBy settings.now request.now out.new result }
+{
+    match summarize_recording(alloc, settings, request.octets, out) {
+        Ok(answer) => done_with(answer, answer.out <= out.len()),
         Err(refusal) => refused_with(refusal_numbers(refusal)),
     }
 }
@@ -126,8 +207,8 @@ fn answer_summary(alloc: Global, request: &TmxRequest<'_>, out: &mut [u8]) -> Tm
     if !is_whole(request) {
         return refused_with(with_status(9, 0));
     }
-    match summarize_recording(alloc, request.settings, request.octets, out) {
-        Ok(answer) => done_with(answer, answer.out <= out.len()),
+    match read_settings(alloc, request.settings) {
+        Ok(settings) => answer_whole(alloc, &settings, request, out),
         Err(refusal) => refused_with(refusal_numbers(refusal)),
     }
 }
@@ -150,18 +231,10 @@ fn answer_request(
     ensures others { 4 < request.now.command → result ≡ refused_with (with_status 2 0) }
 {
     if let Some(wanted) = wanted_of(request.command) {
-        return answer_chunk(alloc, wanted, request, out, report, checkpoint);
+        return answer_wanted(alloc, wanted, request, out, report, checkpoint);
     }
     match request.command {
-        2 if !is_application(request.application) => refused_with(with_status(8, 0)),
-        2 => match Definition::read(alloc, request.definition) {
-            Ok(definition) => {
-                let rows = Command::Fields(&definition, request.application as u16);
-                let wanted = Wanted::Packets(rows);
-                answer_chunk(alloc, wanted, request, out, report, checkpoint)
-            }
-            Err(fault) => refused_with(definition_numbers(fault)),
-        },
+        2 => answer_fields(alloc, request, out, report, checkpoint),
         4 => answer_summary(alloc, request, out),
         _ => refused_with(with_status(2, 0)),
     }

@@ -7,6 +7,7 @@ ghost use Rattle.tm_c.specs.Numbers.{
   checkpoint_number,
   column_number,
   definition_numbers,
+  input_number,
   key_number,
   refusal_numbers,
   settings_numbers,
@@ -15,7 +16,7 @@ ghost use Rattle.tm_c.specs.Numbers.{
 
 use crate::structs::Numbers;
 use tm_fields::{Column, DefinitionFault};
-use tm_library::Refusal;
+use tm_library::{Input, Refusal};
 use tm_tool::{CheckpointFault, Key, SettingsFault};
 
 /// A status and a fault, which is about nothing more.
@@ -106,8 +107,7 @@ fn about_row(fault: u32, row: u32) -> Numbers
     numbers
 }
 
-/// The numbers of a fault of a definition.
-pub fn definition_numbers(fault: DefinitionFault) -> Numbers
+fn definition_numbers(fault: DefinitionFault) -> Numbers
     ensures { result ≡ definition_numbers fault }
 {
     match fault {
@@ -127,12 +127,25 @@ pub fn definition_numbers(fault: DefinitionFault) -> Numbers
     }
 }
 
+// What a call reads beside the recording is numbered in the order of reading.
+fn input_number(input: Input) -> u32
+    ensures { result ≡ input_number input }
+{
+    match input {
+        Input::Settings => 1,
+        Input::Definition => 2,
+        Input::Checkpoint => 3,
+    }
+}
+
 /// The numbers of a refusal.
 pub fn refusal_numbers(refusal: Refusal) -> Numbers
     ensures { result ≡ refusal_numbers refusal }
 {
     match refusal {
+        Refusal::TooLong(input) => with_status(10, input_number(input)),
         Refusal::Settings(fault) => settings_numbers(fault),
+        Refusal::Definition(fault) => definition_numbers(fault),
         Refusal::Checkpoint(fault) => with_status(4, checkpoint_number(fault)),
         Refusal::TooMany => with_status(5, 0),
         Refusal::NoMemory => with_status(6, 0),

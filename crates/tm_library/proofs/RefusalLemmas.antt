@@ -5,10 +5,10 @@ use Rattle.tm_checkpoint.specs.Works.{JobState}
 use Rattle.tm_library.specs.declared.refusal.Refusal.{Refusal}
 use Rattle.tm_library.specs.declared.refusal.Refusal.TheVariants.{TooMany, NoMemory}
 use Rattle.tm_library.specs.Chunks.{Begins}
-use Rattle.tm_library.specs.Refusals.{IsRequestRefused, IsRunRefused}
+use Rattle.tm_library.specs.Refusals.{IsChunkRefused, IsRunRefused}
 
-pub run_told : (settings octets chunk : List ℕ) (rules : Rules) (job : JobState) (refusal : Refusal) → Begins settings octets rules job
-    → IsRunRefused job chunk refusal → IsRequestRefused settings octets chunk refusal
-run_told settings octets chunk rules job TooMany begins h = (rules, job, begins, h)
-run_told settings octets chunk rules job NoMemory begins h = tt
-run_told settings octets chunk rules job _ begins h = absurd h
+pub run_told : (rules : Rules) (checkpoint chunk : List ℕ) (job : JobState) (refusal : Refusal) → Begins rules checkpoint job
+    → IsRunRefused job chunk refusal → IsChunkRefused rules checkpoint chunk refusal
+run_told rules checkpoint chunk job TooMany begins h = (job, begins, h)
+run_told rules checkpoint chunk job NoMemory begins h = begins.0
+run_told rules checkpoint chunk job _ begins h = absurd h

@@ -5,6 +5,8 @@ use Rattle.std.specs.List.{concat}
 use Rattle.tm_frame.specs.declared.layout.LayoutParts.{LayoutParts}
 use Rattle.tm_frame.specs.Layout.{record_length_of}
 use Rattle.tm_frame.specs.Rules.{Rules}
+use Rattle.tm_fields.specs.Reading.{definition_of}
+use Rattle.tm_fields.specs.declared.field.Field.{Field}
 use Rattle.tm_settings.specs.Settings.{settings_from}
 use Rattle.tm_faults.specs.declared.run.CheckpointFault.{CheckpointFault}
 use Rattle.tm_checkpoint.specs.Checkpoints.{checkpoint_of, resumed}
@@ -31,10 +33,21 @@ abbrev pub job_in : Rules → List ℕ → Result JobState CheckpointFault
 job_in rules [] = Ok (new_job rules)
 job_in rules (octet ∷ octets) = resumed rules (octet ∷ octets)
 
--- these settings and this job are those that the octets say
-abbrev pub Begins : List ℕ → List ℕ → Rules → JobState → Type 0
-Begins settings checkpoint rules job =
-    IsUtf8 settings × (settings_from (parse_document settings) ≡ Ok rules) × (job_in rules checkpoint ≡ Ok job)
+-- the most octets that settings, a definition or a checkpoint may have
+abbrev pub input_limit : ℕ
+input_limit = 1048576
+
+-- the octets say these settings
+abbrev pub AreSettings : List ℕ → Rules → Type 0
+AreSettings settings rules = (length settings ≤ input_limit) × IsUtf8 settings × (settings_from (parse_document settings) ≡ Ok rules)
+
+-- the octets say these fields
+abbrev pub AreFields : List ℕ → List Field → Type 0
+AreFields definition fields = (length definition ≤ input_limit) × (definition_of definition ≡ Ok fields)
+
+-- the octets of a checkpoint say this job
+abbrev pub Begins : Rules → List ℕ → JobState → Type 0
+Begins rules checkpoint job = (length checkpoint ≤ input_limit) × (job_in rules checkpoint ≡ Ok job)
 
 -- ---- what it gives
 

@@ -1,6 +1,7 @@
 //! The octets that follow the records that are done, as a recording.
 
-ghost use Rattle.std.specs.Prelude.{◌==◌, false, Some, [], ◌++◌, replicate, if◌then◌else◌};
+ghost use Rattle.std.specs.Prelude.{◌≡◌, ◌==◌, ◌≤◌, true, false, Some, [], ◌++◌, replicate, if◌then◌else◌, IfOk};
+ghost use Rattle.tm_devices.specs.Devices.{Counts, PassesOver};
 
 use tm_tool::{BufferedSource, DeviceFailed};
 
@@ -54,7 +55,13 @@ impl BufferedSource for Chunk<'_> {
         }
     }
 
-    fn pass_over(&mut self, octets: u64) -> Result<bool, DeviceFailed> {
+    // All that is done is passed over by this call.
+    fn pass_over(&mut self, octets: u64) -> Result<bool, DeviceFailed>
+        ensures octets { PassesOver (Some (replicate self.old.done 0 ++ self.old.octets.now))
+            (Some (replicate self.new.done 0 ++ self.new.octets.now)) octets result }
+        ensures counts { Counts 0 0 result }
+        ensures passed { IfOk result (λ did. octets ≤ self.old.done → did ≡ true) }
+    {
         if self.done < octets {
             return Ok(false);
         }

@@ -2,6 +2,7 @@
 #![tactic(auto)]
 
 mod chunk;
+mod inputs;
 pub mod laws;
 mod listing;
 mod nowhere;
@@ -10,6 +11,7 @@ mod request;
 mod running;
 mod summary;
 
-pub use refusal::Refusal;
+pub use inputs::{read_definition, read_settings};
+pub use refusal::{Input, Refusal};
 pub use request::{Answer, Request, Wanted, run_chunk};
 pub use summary::summarize_recording;

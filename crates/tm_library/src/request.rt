@@ -1,19 +1,19 @@
 //! A whole call: what is read, and what is answered.
 
-ghost use Rattle.std.specs.Prelude.{◌≡◌, ◌≤◌, ◌<◌, ◌+◌, Ok, length, option_map, IfOk, IfErr};
+ghost use Rattle.std.specs.Prelude.{◌≡◌, ◌≤◌, ◌<◌, ◌+◌, length, option_map, IfOk, IfErr};
 ghost use Rattle.tm_checkpoint.specs.Works.{JobState};
-ghost use Rattle.tm_frame.specs.Rules.{Rules};
 ghost use Rattle.tm_output.specs.Outputs.{outs, reports};
 ghost use Rattle.tm_output.specs.Records.{records};
 ghost use Rattle.tm_tool.specs.RecordingPieces.{worked};
 ghost use Rattle.tm_tool.specs.Runs.{kept_of};
 ghost use Rattle.tm_library.specs.Chunks.{Begins, Holds, IsAnswer, chunk_ending, given_pieces, kept_octets, size_of, used_octets};
-ghost use Rattle.tm_library.specs.Refusals.{IsRequestRefused, IsRunRefused};
+ghost use Rattle.tm_library.specs.Refusals.{IsChunkRefused, IsRunRefused};
 
 use crate::Refusal;
 use crate::chunk::Chunk;
+use crate::inputs::read_job;
 use crate::listing::list_into_room;
-use crate::running::{Given, job_from, run_into_rooms};
+use crate::running::{Given, run_into_rooms};
 use std::alloc::Global;
 use tm_frame::Layout;
 use tm_tool::{Command, Job, Settings};
@@ -27,17 +27,15 @@ pub enum Wanted<'a> {
     Frames,
 }
 
-/// What a call reads.
+/// What a call reads beside the settings.
 #[derive(Clone, Copy)]
-pub struct Request<'a> {
-    /// The text of the settings.
-    pub settings: &'a [u8],
+pub struct Request<'a, 'w> {
     /// The checkpoint that the call before wrote; none for a new job.
     pub checkpoint: &'a [u8],
     /// The octets of the recording that follow the records that are done.
     pub octets: &'a [u8],
     /// What to give of them.
-    pub wanted: Wanted<'a>,
+    pub wanted: Wanted<'w>,
     /// The recording ends after these octets.
     pub last: bool,
 }
@@ -90,7 +88,7 @@ fn give(
     alloc: Global,
     layout: &Layout,
     job: Job,
-    request: Request<'_>,
+    request: Request<'_, '_>,
     out: &mut [u8],
     report: &mut [u8],
 ) -> Result<Given, Refusal>
@@ -122,32 +120,30 @@ fn give(
 ///
 /// # Errors
 ///
-/// What is wrong first with the settings, and then with the checkpoint; `TooMany` where there are more than 2^32 - 1 records; `NoMemory`. A room
-/// that is too small is no error: its length tells it, and the call can be made again.
+/// What is wrong first with the checkpoint; `TooMany` where there are more than 2^32 - 1 records; `NoMemory`. A room that is too small is no
+/// error: its length tells it, and the call can be made again.
 pub fn run_chunk(
     alloc: Global,
-    request: Request<'_>,
+    settings: &Settings,
+    request: Request<'_, '_>,
     out: &mut [u8],
     report: &mut [u8],
     checkpoint: &mut [u8],
 ) -> Result<Answer, Refusal>
-    // With Ok the settings and the job are those that their octets say, and the rooms hold just what the chunk's octets give from that job on.
-    ensures answer { IfOk result (λ answer. (rules : Rules) × (job : JobState)
-        × Begins request.entry.settings.now request.entry.checkpoint.now rules job
+    // With Ok the job is the one that its octets say, and the rooms hold just what the chunk's octets give from that job on.
+    ensures answer { IfOk result (λ answer. (job : JobState) × Begins settings.now request.entry.checkpoint.now job
         × IsAnswer request.entry.wanted request.entry.last job request.entry.octets.now answer
         out.new report.new checkpoint.new) }
     ensures used { IfOk result (λ answer. answer.used ≤ length request.entry.octets.now) }
 
     // Else this is why.
-    ensures refused { IfErr result (IsRequestRefused request.entry.settings.now request.entry.checkpoint.now
-        request.entry.octets.now) }
+    ensures refused { IfErr result (IsChunkRefused settings.now request.entry.checkpoint.now request.entry.octets.now) }
 
     // The rooms stay where they are.
     ensures rooms { (length out.new ≡ length out.old) × (length report.new ≡ length report.old)
         × (length checkpoint.new ≡ length checkpoint.old) }
 {
-    let settings = Settings::read(alloc, request.settings)?;
-    let job = job_from(alloc, &settings, request.checkpoint)?;
+    let job = read_job(alloc, settings, request.checkpoint)?;
     let layout = settings.layout();
     let size = layout.record_length();
     let given = match give(alloc, &layout, job, request, out, report) {

@@ -1,36 +1,18 @@
 //! A run over a chunk, into two rooms.
 
-ghost use Rattle.std.specs.Prelude.{◌≡◌, ◌≢◌, ◌*◌, ◌+◌, Ok, Err, length, option_map, IfOk, IfErr};
+ghost use Rattle.std.specs.Prelude.{◌≡◌, ◌*◌, ◌+◌, length, option_map, IfOk, IfErr};
 ghost use Rattle.tm_output.specs.Outputs.{outs, reports};
 ghost use Rattle.tm_output.specs.Records.{records};
 ghost use Rattle.tm_tool.specs.RecordingPieces.{worked};
 ghost use Rattle.tm_tool.specs.Runs.{kept_of};
-ghost use Rattle.tm_library.specs.Chunks.{Holds, chunk_pieces, chunk_ending, job_in, size_of};
+ghost use Rattle.tm_library.specs.Chunks.{Holds, chunk_pieces, chunk_ending, size_of};
 ghost use Rattle.tm_library.specs.Refusals.{IsRunRefused};
 
 use crate::Refusal;
 use crate::chunk::Chunk;
 use std::alloc::Global;
 use tm_devices::Room;
-use tm_tool::{CheckpointFault, Command, Ending, Job, RunFault, Settings, run};
-
-/// The job that a checkpoint says, or a new one where the checkpoint has no octets.
-pub fn job_from(
-    alloc: Global,
-    settings: &Settings,
-    checkpoint: &[u8],
-) -> Result<Job, CheckpointFault>
-    ensures ok { IfOk result (λ job. job_in settings.now checkpoint.now ≡ Ok job) }
-    ensures refused { IfErr result (λ found. found ≢ CheckpointFault.NoMemory → job_in settings.now checkpoint.now ≡ Err found) }
-{
-    if !checkpoint.is_empty() {
-        return Job::resume(alloc, settings, checkpoint);
-    }
-    match Job::new(alloc, settings) {
-        Ok(job) => Ok(job),
-        Err(_) => Err(CheckpointFault::NoMemory),
-    }
-}
+use tm_tool::{Command, Ending, Job, RunFault, run};
 
 /// The last chunk closes the recording.
 pub fn chunk_ending(last: bool) -> Ending

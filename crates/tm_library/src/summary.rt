@@ -1,11 +1,8 @@
 //! The summary of a whole recording, into a room.
 
-ghost use Rattle.std.specs.Prelude.{◌≡◌, [], length, Ok, IfOk, IfErr, IsUtf8};
-ghost use Rattle.toml.specs.Parse.{parse_document};
-ghost use Rattle.tm_frame.specs.Rules.{Rules};
-ghost use Rattle.tm_settings.specs.Settings.{settings_from};
+ghost use Rattle.std.specs.Prelude.{◌≡◌, [], length, IfOk, IfErr};
 ghost use Rattle.tm_library.specs.Chunks.{IsSummary};
-ghost use Rattle.tm_library.specs.Refusals.{IsRequestRefused};
+ghost use Rattle.tm_library.specs.Refusals.{IsChunkRefused};
 
 use crate::chunk::Chunk;
 use crate::{Answer, Refusal};
@@ -33,25 +30,23 @@ fn whole_answer(records: u32, out: usize, octets: &[u8]) -> Answer
 ///
 /// # Errors
 ///
-/// What is wrong first with the settings; `TooMany` where there are more than 2^32 - 1 records; `NoMemory`. A room that is too small is no
+/// `TooMany` where there are more than 2^32 - 1 records; `NoMemory`. A room that is too small is no
 /// error: its length tells it, and the call can be made again.
 pub fn summarize_recording(
     alloc: Global,
-    settings: &[u8],
+    settings: &Settings,
     octets: &[u8],
     out: &mut [u8],
 ) -> Result<Answer, Refusal>
-    // With Ok the room holds just the summary of the recording by the settings that their octets say.
-    ensures answer { IfOk result (λ answer. (rules : Rules) × IsUtf8 settings.now
-        × (settings_from (parse_document settings.now) ≡ Ok rules) × IsSummary rules octets.now answer out.new) }
+    // With Ok the room holds just the summary of the recording.
+    ensures answer { IfOk result (λ answer. IsSummary settings.now octets.now answer out.new) }
 
     // Else this is why.
-    ensures refused { IfErr result (IsRequestRefused settings.now [] octets.now) }
+    ensures refused { IfErr result (IsChunkRefused settings.now [] octets.now) }
 
     // The room stays where it is.
     ensures room { length out.new ≡ length out.old }
 {
-    let settings = Settings::read(alloc, settings)?;
     prove!(0 < settings.layout().record_length());
     let mut recording = Chunk {
         done: 0,
@@ -60,7 +55,7 @@ pub fn summarize_recording(
     };
     let mut more = Vec::new(alloc);
     let mut room = Room::new(out, &mut more);
-    match summarize(alloc, &settings, &mut recording, &mut room) {
+    match summarize(alloc, settings, &mut recording, &mut room) {
         Ok(records) => Ok(whole_answer(records, room.length(), octets)),
         Err(RunFault::TooMany) => Err(Refusal::TooMany),
         Err(RunFault::Write | RunFault::NoMemory) => Err(Refusal::NoMemory),

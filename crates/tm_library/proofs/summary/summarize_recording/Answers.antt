@@ -8,10 +8,9 @@ use Rattle.tm_library.proofs.summary.summarize_recording.Goals as goal
 
 pub returns-in-Err-TooMany-clause-refused : goal.returns-in-Err-TooMany-clause-refused
 returns-in-Err-TooMany-clause-refused c =
-    let rules : Rules = c.in_ok-settings.settings in
+    let rules : Rules = c.args.settings.now in
     let some : 0 < record_length_of rules.layout =
     rw (← c.layout.ensures, ← c.record_length.ensures.value) (omega (arith, c.record_length.ensures.some)) in
     let told = stop_told rules some (Some c.args.octets.now) _ _ _ c.in-Err-TooMany.field-0 c.in-Err-TooMany.ensures.stopped in
     let counted = records_counted (record_length_of rules.layout) some c.args.octets.now in
-    let text = c.in_ok-settings.ensures.ok in
-    (rules, new_job rules, (text.0, text.1, refl), omega (arith, told.too_many c.in-Err-TooMany.field-0-is, counted))
+    (new_job rules, (omega arith, refl), omega (arith, told.too_many c.in-Err-TooMany.field-0-is, counted))

@@ -1,8 +1,10 @@
-"""Runs all tests of the package, or those of the modules that are named, and prints a line `ok ..` or `FAILED: ..` for each.
+"""Runs all tests of the package, or those of the modules that are named.  Prints `plan N`, which is how many there are, and then
+a line `ok ..`, `FAILED: ..` or `SKIPPED: ..` for each.  With the variable GIVE_UP it ends behind the first that fails.
 
     run.py [MODULE..]
 """
 
+import os
 import sys
 import unittest
 
@@ -18,7 +20,7 @@ class Result(unittest.TestResult):
 
     def addSkip(self, test, reason) -> None:
         super().addSkip(test, reason)
-        print(f"ok {test.id()}: left out: {reason}", flush=True)
+        print(f"SKIPPED: {test.id()}: {reason}", flush=True)
 
     def addFailure(self, test, error) -> None:
         super().addFailure(test, error)
@@ -40,7 +42,9 @@ class Result(unittest.TestResult):
 
 def main(modules: list[str]) -> int:
     loader, result = unittest.defaultTestLoader, Result()
+    result.failfast = "GIVE_UP" in os.environ
     tests = loader.loadTestsFromNames(modules) if modules else loader.discover(str(support.TESTS))
+    print(f"plan {tests.countTestCases()}", flush=True)
     tests.run(result)
     return 0 if result.wasSuccessful() else 1
 

@@ -3,8 +3,10 @@
 TMX is the program; without it the one that `./build` made.
 """
 
+import importlib.util
 import os
 import random
+import subprocess
 import sys
 import tempfile
 import unittest
@@ -55,6 +57,20 @@ class TestCase(unittest.TestCase):
         if word is not None:
             self.assertEqual(found.exception.word, word)
         return found.exception
+
+
+def command(*words: object, out: str = os.devnull) -> tuple[int, str]:
+    """The status of one of the package's commands, and what it says on standard error."""
+    line = [sys.executable, "-m", "tmx", *map(str, words)]
+    with open(out, "wb") as file:
+        ran = subprocess.run(line, stdout=file, stderr=subprocess.PIPE, text=True, env=os.environ | {"PYTHONPATH": str(PACKAGE)})
+    return ran.returncode, ran.stderr
+
+
+def needs(*modules: str):
+    """Leaves a test out, or a class of them, where modules are not there."""
+    missing = [it for it in modules if importlib.util.find_spec(it) is None]
+    return unittest.skipIf(missing, ", ".join(f"{it} is not there" for it in missing))
 
 
 def example() -> tmx.Recording:

@@ -29,6 +29,7 @@ class Cut(TestCase):
         records = list(cut)
         self.assertEqual(cut.records, len(records))
         self.assertEqual(len(stream), cut.records * (length + len(MARKER)) + cut.left_out)
+        self.assertLess(len(cut.window.octets), 2 << 20)
         return records, [(it.at, it.octets, it.shift) for it in cut.slips], cut.left_out
 
     def test_no_slip(self) -> None:
@@ -41,6 +42,7 @@ class Cut(TestCase):
         stream = b"noise" + stream_of(records)
         self.assertEqual(self.found(stream + b"ab", 100), (records, [(0, 5, 0)], 7))
         self.assertEqual(self.found(stream[:-1], 100), (records[:-1], [(0, 5, 0)], 5 + 103))
+        self.assertEqual(self.found(stream + b"abcd", 100)[0], records[:-1])  # no marker, where one has room
 
     def test_one_slip(self) -> None:
         records, step = records_of(9, 100, 3), 104
@@ -76,11 +78,20 @@ class Cut(TestCase):
         records, step = records_of(30, 100, 5), 104
         stream = bytearray(stream_of(records))
         stream[5 * step] ^= 0x80  # one flip: the record is placed by the markers around it
-        stream[9 * step : 9 * step + 4] = stream[10 * step : 10 * step + 4] = bytes(4)
+        for number in (9, 10, 11, 29):
+            stream[number * step : number * step + 4] = bytes(4)
         self.assertEqual(self.found(bytes(stream), 100), (records, [], 0))
         stream[0] ^= 1
         self.assertEqual(self.found(bytes(stream), 100), (records[1:], [(0, step, 0)], step))
         self.assertEqual(self.found(bytes(stream), 100, flips=1), (records, [], 0))
+        stream[12 * step : 12 * step + 4] = bytes(4)  # the fourth in a row
+        found = records[:8] + records[13:], [(8 * step, 5 * step, 0)], 5 * step
+        self.assertEqual(self.found(bytes(stream), 100, flips=1), found)
+
+    def test_a_long_stream(self) -> None:
+        records = [number.to_bytes(4, "big") * 250 for number in range(3000)]
+        for before in (65533, 65534, 65535):  # octets, so that the first marker is in two parts that are searched
+            self.assertEqual(self.found(bytes(before) + stream_of(records), 1000), (records, [(0, before, 0)], before))
 
     def test_markers_within_records(self) -> None:
         records = records_of(10, 100, 6)
@@ -100,6 +111,9 @@ class Cut(TestCase):
         stream = stream_of([octets[at : at + 256] for at in range(0, len(octets), 256)])
         recording = tmx.Recording(tmx.cut(io.BytesIO(b"slip" + stream), length=256), SETTINGS)
         self.assertEqual(list(recording.packets()), list(example().packets()))
+        tmx.cut(io.BytesIO(stream), length=256).write("cut.rec")
+        cut = tmx.cut(io.BytesIO(stream), length=256)
+        self.assertEqual([Path("cut.rec").read_bytes(), cut.read(1000) + cut.read()], [octets] * 2)
 
     def test_the_command(self) -> None:
         records = records_of(9, 100, 8)
@@ -109,6 +123,7 @@ class Cut(TestCase):
         self.assertEqual(ran.stdout, b"".join(records))
         self.assertEqual(ran.stderr.decode().splitlines(), ["slip at=0 octets=5 shift=0", "cut records=9 slips=1 left=5"])
         self.raises(ValueError, None, tmx.cut, "raw", "", 100)
+        self.raises(ValueError, None, tmx.cut, "raw", MARKER, 0)
 
     def test_the_command_in_a_slow_pipe(self) -> None:
         records = records_of(5, 100, 9)

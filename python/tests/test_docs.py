@@ -1,37 +1,43 @@
 """The blocks of docs/PYTHON.md, run in order: what a block prints is what the block behind it says."""
 
 import contextlib
-import importlib.util
 import io
 import re
 import unittest
 
-from support import CLONE, EXAMPLE, TestCase
+from support import CLONE, EXAMPLE, TestCase, needs
 
 BLOCK = re.compile(r"^```(\w*)\n(.*?)^```$", re.MULTILINE | re.DOTALL)
-
-
-def lacks(section: str) -> list[str]:
-    """The modules that a section needs and that are not there."""
-    needed = re.search(r"^Needs (.*)\.$", section, re.MULTILINE)
-    return [it for it in re.findall("`(.*?)`", needed[1]) if importlib.util.find_spec(it) is None] if needed else []
+PAGE = (CLONE / "docs" / "PYTHON.md").read_text()
+SECTIONS = {it.partition("\n")[0]: it for it in re.split("^## ", PAGE, flags=re.MULTILINE)}
+OTHERS = ["With pandas", "A plot"]  # sections that need other packages, which a line `Needs ..` names
 
 
 class Page(TestCase):
-    def test_blocks(self) -> None:
+    def run_sections(self, *heads: str) -> None:
         self.folder.joinpath("example").symlink_to(EXAMPLE)
         names: dict = {}
-        for section in re.split("^## ", (CLONE / "docs" / "PYTHON.md").read_text(), flags=re.MULTILINE):
-            if lacks(section):
-                continue
-            blocks = BLOCK.findall(section)
+        for head in heads:
+            blocks = BLOCK.findall(SECTIONS[head])
             for (kind, text), (kind_behind, wanted) in zip(blocks, [*blocks[1:], ("python", "")]):
                 if kind == "python":
-                    with self.subTest(section=section.splitlines()[0], block=text[:60]):
+                    with self.subTest(section=head, block=text[:60]):
                         found = io.StringIO()
                         with contextlib.redirect_stdout(found):
                             exec(compile(text, "PYTHON.md", "exec"), names)
                         self.assertEqual(found.getvalue(), "" if kind_behind else wanted)
+
+    def test_sections(self) -> None:
+        self.assertEqual([head for head, text in SECTIONS.items() if "\nNeeds `" in text], OTHERS)
+        self.run_sections(*(it for it in SECTIONS if it not in OTHERS))
+
+    @needs("numpy", "pandas")
+    def test_pandas(self) -> None:
+        self.run_sections("A recording", "Fields as columns", *OTHERS[:1])
+
+    @needs("numpy", "pandas", "matplotlib")
+    def test_a_plot(self) -> None:
+        self.run_sections("A recording", "Fields as columns", *OTHERS)
 
 
 if __name__ == "__main__":

@@ -1,13 +1,19 @@
 """Each error, by what brings it: wrong files, failing devices, and programs that are missing, too old or killed."""
 
+import contextlib
 import io
 import os
 import pickle
+import threading
 import unittest
-from itertools import accumulate
+from itertools import accumulate, product
+from pathlib import Path
 from unittest import mock
 
-from support import ATTITUDE, RECORDING, SETTINGS, TestCase, example, tmx
+from support import ATTITUDE, RECORDING, SETTINGS, TestCase, command, example, tmx
+
+from tmx import __main__ as commands
+from tmx.following import Wanted, next_step
 
 SETTINGS_42 = tmx.Settings(spacecraft=42, frame_length=256, error_control=True)
 
@@ -66,19 +72,31 @@ class Refused(TestCase):
         self.raises(tmx.FileError, "failed", example().fields, "none", 101)
         self.raises(tmx.FileError, "failed", lambda: list(example().packets(report=self.folder)))
         self.raises(tmx.UsageError, "usage", example().fields, ATTITUDE, 2048)
-        with open("long", "wb") as file:
-            file.truncate(1048577)
-        self.raises(tmx.FileError, "too long", tmx.Recording(RECORDING, "long").summary)
+        for name in ("long", "settings"):
+            with open(name, "wb") as file:
+                file.truncate(1048577)
+            self.raises(tmx.FileError, "too long", tmx.Recording(RECORDING, name).summary)
         self.raises(FileNotFoundError, None, example().extract, "none/packets")
 
     def test_nothing_is_written_over(self) -> None:
         self.folder.joinpath("a.rec").write_bytes(RECORDING.read_bytes())
         self.folder.joinpath("a.toml").write_bytes(SETTINGS.read_bytes())
+        list(example().packets(checkpoint="day.chk", stop_after=100))
         os.link("a.rec", "b.rec")
-        for name in ("a.rec", "b.rec", "a.toml"):
-            self.raises(tmx.FileError, "failed", tmx.Recording("a.rec", "a.toml").extract, name)
-        self.assertEqual(self.folder.joinpath("a.rec").read_bytes(), RECORDING.read_bytes())
-        self.assertEqual(self.folder.joinpath("a.toml").read_bytes(), SETTINGS.read_bytes())
+        files = {it.name: it.read_bytes() for it in self.folder.iterdir()}
+        file = self.enterContext(open("a.rec", "rb"))
+        for given, name in product(("a.rec", file), ("a.rec", "b.rec", "a.toml")):
+            recording = tmx.Recording(given, "a.toml")
+            self.raises(tmx.FileError, "failed", recording.extract, name)
+            self.raises(tmx.FileError, "failed", lambda: list(recording.packets(checkpoint=name)))
+        recording = tmx.Recording("a.rec", "a.toml")
+        self.raises(tmx.FileError, "failed", lambda: list(recording.follow(checkpoint="b.rec", timeout=0)))
+        for how in ("resume", "checkpoint", "report"):
+            self.raises(tmx.FileError, "failed", recording.extract, "day.chk", **{how: "day.chk"})
+        for name in ("day.chk", "new.chk"):
+            self.raises(tmx.FileError, "failed", lambda: list(recording.packets(checkpoint=name, report=name)))
+        self.raises(tmx.FileError, "failed", tmx.cut("a.rec", length=256).write, "b.rec")
+        self.assertEqual({it.name: it.read_bytes() for it in self.folder.iterdir()}, files)
 
     def test_devices(self) -> None:
         self.raises(tmx.RunError, "read failed", tmx.Recording(self.folder, SETTINGS).summary)
@@ -93,7 +111,36 @@ class Refused(TestCase):
         self.assertEqual(pickle.loads(pickle.dumps(example())).summary(), example().summary())
 
 
+class Commands(TestCase):
+    def test_what_is_said(self) -> None:
+        Path("folder").mkdir()
+        for words, says in (
+            (["cut", "--length", "5", "none"], "tmx cut: none: No such file or directory"),
+            (["probe", "folder"], "tmx probe: folder: Is a directory"),
+            (["map", "--settings", "none", str(RECORDING)], "tmx: none: failed"),
+            (["cut-back", str(RECORDING)], f"tmx cut-back: {RECORDING}: no checkpoint"),
+        ):
+            with contextlib.redirect_stderr(io.StringIO()) as said:
+                self.assertEqual(commands.main(words), 1)
+            self.assertEqual(said.getvalue(), f"{says}\n")
+        found = command("map", "--settings", SETTINGS, RECORDING, out="/dev/full")
+        self.assertEqual(found, (1, "tmx map: standard output: No space left on device\n"))
+
+
 class Streams(TestCase):
+    def test_a_stream_is_read_from_where_it_stands(self) -> None:
+        file = io.BytesIO(b"noise" + RECORDING.read_bytes())
+        file.seek(5)
+        recording = tmx.Recording(file, SETTINGS)
+        self.assertEqual([recording.summary(), recording.summary()], [example().summary()] * 2)
+
+    def test_a_named_pipe(self) -> None:
+        os.mkfifo("pipe")
+        writer = threading.Thread(target=Path("pipe").write_bytes, args=[RECORDING.read_bytes()], daemon=True)
+        writer.start()
+        self.assertEqual(list(tmx.Recording("pipe", SETTINGS).packets()), list(example().packets()))
+        writer.join()
+
     def test_a_pipe_is_read_once(self) -> None:
         read, written = os.pipe()
         with open(read, "rb") as file, open(written, "wb") as to:
@@ -115,6 +162,8 @@ class Streams(TestCase):
         failing = mock.Mock(spec=["read"], read=mock.Mock(side_effect=[RECORDING.read_bytes()[:2560], OSError("torn off")]))
         packets = tmx.Recording(failing, SETTINGS).packets()
         self.raises(OSError, None, lambda: list(packets))
+        failing.read.side_effect = [RECORDING.read_bytes() * 20, OSError("torn off"), b""]  # much, so that rows come before
+        self.raises(OSError, None, tmx.Recording(failing, SETTINGS).fields, ATTITUDE, 101)
 
 
 class Programs(TestCase):
@@ -127,19 +176,23 @@ class Programs(TestCase):
 
     def test_on_the_path(self) -> None:
         self.folder.joinpath("tmx").symlink_to(os.environ["TMX"])
-        with mock.patch.dict(os.environ, {"PATH": str(self.folder)}):
+        with mock.patch.dict(os.environ, {"PATH": str(self.folder), "TMX": ""}):
+            self.assertEqual(example().summary().recording.records, 300)
             del os.environ["TMX"]
             self.assertEqual(example().summary().recording.records, 300)
 
     def test_too_old(self) -> None:
-        self.program("echo \"error: unrecognized subcommand 'summary'\" >&2; exit 2")
-        self.raises(tmx.VersionError, None, example().summary)
+        for what in ("unrecognized subcommand 'summary'", "unexpected argument '--settings' found"):
+            self.program(f'echo "error: {what}" >&2; exit 2')
+            self.raises(tmx.VersionError, None, example().summary)
 
     def test_other_lines(self) -> None:
         self.program('echo "packet record=0 channel=0"; exit 0')
         self.raises(tmx.VersionError, None, lambda: list(example().packets()))
         self.program('echo "frame record=0 channel=9"; exit 0')
         self.raises(tmx.VersionError, None, lambda: list(example().frames()))
+        self.program('"$real" "$@" && "$real" "$@"')
+        self.raises(tmx.VersionError, None, example().summary)
         self.program("exit 0")
         self.raises(tmx.VersionError, None, example().summary)
         self.raises(tmx.DisagreementError, None, example().fields, ATTITUDE, 101)
@@ -175,6 +228,25 @@ class Programs(TestCase):
         self.assertEqual(self.killed("packets", ""), [])
         self.assertEqual(self.killed("packets", '"$real" "$@"'), whole)
 
+    def test_killed_at_the_end(self) -> None:
+        self.program('"$real" "$@"\ncase $* in *" -- "*) kill -KILL $$; esac')  # not where only settings are looked at
+        recording = example()
+        for call in (
+            lambda: list(recording.frames()),
+            lambda: list(recording.packets(checkpoint="chk")),
+            lambda: list(recording.follow(timeout=0)),
+            recording.report,
+            recording.summary,
+            lambda: recording.fields(ATTITUDE, 101),
+            recording.loss_map,
+            lambda: recording.extract("extracted"),
+            lambda: recording.split("split"),
+            lambda: next_step(RECORDING, SETTINGS, "steps", Wanted()),
+        ):
+            self.raises(tmx.KilledError, "SIGKILL", call)
+        self.program("kill -40 $$")
+        self.assertEqual(self.raises(tmx.KilledError, "signal 40", example().summary).status, -40)
+
     def test_killed_while_a_stream_is_fed(self) -> None:
         self.program('[ "$1" = packets ] || exec "$real" "$@"\nhead -c 1000 > /dev/null\nkill -KILL $$')
         recording = tmx.Recording(io.BytesIO(RECORDING.read_bytes() * 50), SETTINGS)
@@ -183,10 +255,19 @@ class Programs(TestCase):
     def test_disagreement(self) -> None:
         self.program('[ "$1" = extract ] || exec "$real" "$@"\n"$real" "$@" | head -c 30000')
         self.raises(tmx.DisagreementError, None, lambda: list(example().packets()))
-        self.program('[ "$1" = extract ] || exec "$real" "$@"\n"$real" "$@"; echo more')
-        self.raises(tmx.DisagreementError, None, lambda: list(example().packets()))
+        for more in ('"$real" "$@"; echo more', '"$real" "$@" >all; echo more >>all; cat all'):
+            self.program(f'[ "$1" = extract ] || exec "$real" "$@"\n{more}')
+            self.raises(tmx.DisagreementError, None, lambda: list(example().packets()))
         self.program('[ "$1" = frames ] || exec "$real" "$@"\n"$real" "$@" | head -c 30000')
         self.raises(tmx.DisagreementError, None, lambda: list(example().frames()))
+        self.program('[ "$1" = fields ] || exec "$real" "$@"\n"$real" "$@" | sed 1s/STARS/OTHERS/')
+        self.raises(tmx.DisagreementError, None, example().fields, ATTITUDE, 101)
+
+    def test_runs_that_leave_different_jobs(self) -> None:
+        checkpoint = 'for it; do [ "$before" != --checkpoint ] || echo more >>"$it"; before=$it; done'
+        self.program(f'"$real" "$@" || exit\n[ "$1" != extract ] || {checkpoint}')
+        self.raises(tmx.DisagreementError, None, lambda: list(example().packets(checkpoint="chk")))
+        self.assertFalse(os.path.exists("chk"))
 
 
 if __name__ == "__main__":

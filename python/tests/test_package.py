@@ -11,8 +11,9 @@ import unittest
 import zipfile
 from pathlib import Path
 
-from support import CLONE, PACKAGE, RECORDING, SETTINGS, TESTS, TestCase, example, tmx
+from support import CLONE, PACKAGE, RECORDING, SETTINGS, TESTS, TestCase, command, example, needs, tmx
 
+OCTETS = RECORDING.read_bytes()
 MEMORY = 64 << 20  # octets, of the process that reads
 GIBIBYTE = 1 << 30
 
@@ -48,9 +49,8 @@ class Installed(TestCase):
             wheel.extractall("there")
         self.used_from(self.folder / "there")
 
+    @needs("pip")
     def test_pip(self) -> None:
-        if importlib.util.find_spec("pip") is None:
-            self.skipTest("pip is not there")
         line = [sys.executable, "-m", "pip", "install", "--quiet", "--no-index", "--target", "there", str(PACKAGE)]
         subprocess.run(line, check=True, capture_output=True)
         self.used_from(self.folder / "there")
@@ -70,6 +70,18 @@ class Memory(TestCase):
             self.assertLess(found["resident"], MEMORY, kind)
 
 
+class Descriptors(TestCase):
+    def test_none_is_left(self) -> None:
+        example().summary()
+        before = len(os.listdir("/proc/self/fd"))
+        for recording in (example(), tmx.Recording(io.BytesIO(OCTETS), SETTINGS)):
+            packets = recording.packets()
+            next(packets)
+            packets.close()
+            recording.report()
+            self.assertEqual(len(os.listdir("/proc/self/fd")), before)
+
+
 class TheSettings(TestCase):
     def test_toml(self) -> None:
         settings = tmx.Settings(42, 256, True, 4, 32, "never", "always", (0, 3), 880)
@@ -80,6 +92,8 @@ class TheSettings(TestCase):
         )
         settings.write("s.toml")
         self.assertEqual(tmx.Settings.read("s.toml").toml(), settings.toml())
+        least = tmx.Settings(0, 256, False, channels=(0,)).toml()
+        self.assertEqual(least, "spacecraft = 0\nframe_length = 256\nerror_control = false\nchannels = [0]\n")
         self.assertEqual(settings.record_length, 292)
         self.assertEqual(tmx.Recording(RECORDING, tmx.Settings.read(SETTINGS)).report(), example().report())
 
@@ -105,6 +119,11 @@ class TheSummary(TestCase):
         self.assertIn("\nchannel  apid  packets  octets  first  last", table)
         self.assertIn("<td>26672</td>", example().summary()._repr_html_())
 
+    def test_no_good_frame(self) -> None:
+        summary = tmx.Recording(io.BytesIO(bytes(300)), SETTINGS).summary()
+        says = "1 records: 0 good, 1 bad (1 by crc), 44 octets left over. Master channel: 0 gaps, 0 frames missing."
+        self.assertEqual((str(summary), summary._repr_html_()), (says, f"<p>{says}</p>"))
+
 
 class TheLossMap(TestCase):
     def test_the_picture_in_the_docs(self) -> None:
@@ -114,6 +133,17 @@ class TheLossMap(TestCase):
             self.assertEqual((drawn.svg, drawn._repr_svg_()), (wanted, wanted))
             drawn.write("map.svg")
             self.assertEqual(Path("map.svg").read_text(), wanted)
+        words = ("map", "--title", "The example recording", "--settings", SETTINGS, RECORDING)
+        self.assertEqual((command(*words, out="map.svg"), Path("map.svg").read_text()), ((0, ""), wanted))
+
+    def test_what_is_lost_at_the_end(self) -> None:
+        drawn = tmx.Recording(io.BytesIO(OCTETS[: 100 * 256]), SETTINGS).loss_map().svg
+        self.assertIn("record 99: 1 part dropped: 52 octets by end", drawn)
+        self.assertNotIn('width="0"', drawn)
+
+    def test_a_frame_that_may_be_recorded_twice(self) -> None:
+        twice = OCTETS[: 20 * 256] + OCTETS[19 * 256 :]
+        self.assertIn("of 255: perhaps a frame recorded twice", tmx.Recording(io.BytesIO(twice), SETTINGS).loss_map().svg)
 
     def test_a_program_that_is_killed(self) -> None:
         self.program('[ "$1" = frames ] || exec "$real" "$@"\n"$real" "$@" | head -c 20000\nkill -KILL $$')
@@ -121,9 +151,8 @@ class TheLossMap(TestCase):
 
 
 class TheTypes(TestCase):
+    @needs("mypy")
     def test_mypy(self) -> None:
-        if importlib.util.find_spec("mypy") is None:
-            self.skipTest("mypy is not there")
         line = [sys.executable, "-m", "mypy", "--strict", "--cache-dir", "cache", str(PACKAGE / "tmx")]
         ran = subprocess.run(line, capture_output=True, text=True, check=False)
         self.assertEqual(ran.returncode, 0, ran.stdout)

@@ -31,7 +31,7 @@ class Probes(TestCase):
     def finds(self, octets: bytes, **wanted) -> tmx.Fit:
         found = self.probe(octets)
         self.assertTrue(found, found.note)
-        self.assertEqual(found[0].settings, tmx.Settings(**HERE | wanted))
+        self.assertEqual((found[0].settings, found.note), (tmx.Settings(**HERE | wanted), ""))
         return found[0]
 
     def finds_nothing(self, octets: bytes, words: str) -> None:
@@ -43,12 +43,14 @@ class Probes(TestCase):
         fit = self.finds(OCTETS)
         self.assertEqual((fit.records, fit.good, fit.secondary, fit.ocf), (300, 299, 0, 58))
         self.assertEqual((fit.channels, fit.longest, fit.marker), ((0, 1, 3), 880, b""))
+        said = "# 299 of 300 records are good frames (99.7%); 98.9% of their data is in whole packets"
+        self.assertEqual(fit.toml().splitlines()[0], said)
         Path("s.toml").write_text(fit.toml())
         self.assertEqual(tmx.Recording(RECORDING, "s.toml").summary().recording.good, 299)
 
     def test_markers_and_check_symbols(self) -> None:
         for symbols in (b"", bytes(range(1, 33)), bytes(32)):
-            octets = b"".join(MARKER + it + symbols for it in FRAMES)
+            octets = bytes(4) + b"".join(MARKER + it + symbols for it in FRAMES)[4:]  # one marker is damaged
             self.assertEqual(self.finds(octets, skip_before=4, skip_after=len(symbols)).marker, MARKER)
 
     def test_no_error_control(self) -> None:

@@ -3,13 +3,18 @@
 import io
 import os
 import subprocess
-import sys
 import threading
 import time
 import unittest
 from pathlib import Path
+from unittest import mock
 
-from support import ATTITUDE, PACKAGE, RECORDING, SETTINGS, TestCase, damaged, example, tmx
+from support import ATTITUDE, RECORDING, SETTINGS, TestCase, command, damaged, example, reference, tmx
+
+from tmx import __main__ as commands
+from tmx import following
+
+OCTETS = RECORDING.read_bytes()
 
 
 class Steps(TestCase):
@@ -47,9 +52,36 @@ class Steps(TestCase):
 
     def test_a_job_of_no_records(self) -> None:
         Path("empty").touch()
-        self.assertEqual(list(tmx.Recording("empty", SETTINGS).packets(checkpoint="chk")), [])
-        self.assertEqual(tmx.records_done("chk"), 0)
+        self.assertEqual(list(tmx.Recording("empty", SETTINGS).packets(checkpoint="chk", report="report")), [])
+        self.assertEqual((tmx.records_done("chk"), Path("report").read_bytes()), (0, b""))
         self.assertEqual(list(example().packets(resume="chk")), list(example().packets()))
+
+    def test_jobs_of_each_version(self) -> None:
+        tmx.Settings(42, 256, True).write("settings")
+        recording = tmx.Recording(RECORDING, "settings")
+        whole = list(recording.packets())
+        for version in (1, 2, 3):
+            _, jobs = reference.read_recording(reference.Settings("settings"), OCTETS, {20: version})
+            Path("chk").write_bytes(jobs[20][1])
+            self.assertEqual(tmx.records_done("chk"), 20, version)
+            rest = list(recording.packets(resume="chk", checkpoint="chk"))
+            self.assertEqual((rest, tmx.records_done("chk")), (whole[-len(rest) :], 300), version)
+
+    def test_a_checkpoint_is_on_the_disk_before_it_takes_its_name(self) -> None:
+        done = mock.Mock()
+        with mock.patch("os.fsync", done.sync), mock.patch("os.replace", done.replace):
+            list(example().packets(checkpoint="chk"))
+        self.assertEqual([name for name, _, _ in done.mock_calls], ["sync", "replace"])
+
+    def test_a_file_that_grows_between_two_runs(self) -> None:
+        Path("growing.rec").write_bytes(OCTETS[:25600])
+        Path("more").write_bytes(OCTETS[25600:])
+        self.program(
+            'case $1 in\npackets) "$real" "$@"; exec touch listed;;\n'
+            'extract) until [ -e listed ]; do sleep 0.01; done; cat more >>growing.rec;;\nesac\nexec "$real" "$@"'
+        )
+        found = list(tmx.Recording("growing.rec", SETTINGS).packets(checkpoint="chk", stop_after=200))
+        self.assertEqual((len(found), tmx.records_done("chk")), (254, 100))
 
     def test_files_of_the_program(self) -> None:
         recording, step = example(), {"checkpoint": "chk", "stop_after": 100}
@@ -86,13 +118,41 @@ class Follow(TestCase):
         self.assertEqual(found, list(example().packets()))
         self.assertEqual(tmx.records_done("chk"), 300)
 
+    def test_how_long_a_file_is_waited_for(self) -> None:
+        clock = mock.Mock(now=0)
+
+        def sleep(seconds: float) -> None:
+            clock.now += seconds
+            Path("growing.rec").write_bytes(OCTETS[: 25600 * (1 + clock.now // 4)])
+
+        sleep(0)
+        with mock.patch("tmx.steps.time", mock.Mock(monotonic=lambda: clock.now, sleep=sleep)):
+            found = list(tmx.Recording("growing.rec", SETTINGS).follow(interval=2, timeout=5))
+        self.assertEqual((len(found), clock.now), (848, 14))
+
     def test_a_file_is_followed_from_where_the_job_stands(self) -> None:
-        Path("growing.rec").write_bytes(RECORDING.read_bytes()[:50000])
-        recording = tmx.Recording("growing.rec", SETTINGS)
-        found = list(recording.follow(apid=101, checkpoint="chk", timeout=0))
-        Path("growing.rec").write_bytes(RECORDING.read_bytes())
-        found += recording.follow(apid=101, checkpoint="chk", timeout=0)
-        self.assertEqual(found, list(example().packets(apid=101)))
+        Path("-growing.rec").write_bytes(OCTETS[:50000])  # its name looks like an option
+        recording = tmx.Recording("-growing.rec", SETTINGS)
+        found = list(recording.follow(apid=101, channel=3, checkpoint="chk", timeout=0))
+        Path("-growing.rec").write_bytes(OCTETS)
+        found += recording.follow(apid=101, channel=3, checkpoint="chk", timeout=0)
+        self.assertEqual(found, list(example().packets(apid=101, channel=3)))
+
+    def test_a_file_that_is_shorter_than_its_job(self) -> None:
+        list(example().packets(checkpoint="chk"))
+        Path("short.rec").write_bytes(OCTETS[:25600])
+        follow = tmx.Recording("short.rec", SETTINGS).follow(checkpoint="chk", timeout=0)
+        self.raises(tmx.RunError, "recording is shorter than the checkpoint", lambda: list(follow))
+        stream = tmx.Recording(io.BytesIO(OCTETS[:25600]), SETTINGS).follow(checkpoint="chk")
+        self.raises(tmx.RunError, "recording is shorter than the checkpoint", lambda: list(stream))
+
+    def test_a_stream_is_followed_from_where_the_job_stands(self) -> None:
+        first = list(example().packets(checkpoint="chk", stop_after=100))
+        octets = io.BytesIO(OCTETS)
+        stream = mock.Mock(spec=["read"], read=lambda _: octets.read(20000))
+        rest = tmx.Recording(stream, SETTINGS).follow(checkpoint="chk")
+        self.assertEqual(first + list(rest), list(example().packets(checkpoint="other")))
+        self.assertEqual(tmx.records_done("chk"), 300)
 
     def test_a_pipe(self) -> None:
         read, written = os.pipe()
@@ -114,19 +174,19 @@ class Commands(TestCase):
         octets = RECORDING.read_bytes()
         for length in (20000, 20010, 50000, 60000, len(octets)):
             Path("growing.rec").write_bytes(octets[:length])
-            line = [sys.executable, "-m", "tmx", "follow", "--once", "--settings", SETTINGS, "growing.rec", "steps"]
-            subprocess.run(line, check=True, env=os.environ | {"PYTHONPATH": str(PACKAGE)})
+            self.assertEqual(self.follow("steps"), "")
             if length == 50000:
                 Path("steps/step-0000002.chk").unlink()  # as a crash leaves it
         names = [f"step-000000{number}.{kind}" for number in (1, 2, 3) for kind in ("chk", "packets", "report")]
         self.assertEqual(sorted(os.listdir("steps")), ["job", *names])
         listed = "".join(it.read_text() for it in sorted(Path("steps").glob("*.packets")))
         self.assertEqual(listed.splitlines(), [str(it) for it in example().packets()])
+        Path("steps/step-0000001.chk").unlink()
+        self.assertEqual(following.last_step("steps"), 3)
 
     def follow(self, folder: str, *words: object) -> str:
         """What a call of `follow` says on standard error."""
-        line = [sys.executable, "-m", "tmx", "follow", "--once", "--settings", SETTINGS, *map(str, words), "growing.rec", folder]
-        return subprocess.run(line, capture_output=True, text=True, env=os.environ | {"PYTHONPATH": str(PACKAGE)}).stderr
+        return command("follow", "--once", "--settings", SETTINGS, *words, "growing.rec", folder)[1]
 
     def grow_with(self, folder: str, *words: object) -> None:
         """Steps of a growing recording; a whole one loses its checkpoint, and one more call finds nothing new."""
@@ -150,13 +210,26 @@ class Commands(TestCase):
         rows = "".join(it.read_text() for it in sorted(Path("rows").glob("*.csv"))).splitlines()
         self.assertEqual(len(rows), 1 + recording.fields(ATTITUDE, 101).rows)
 
+    def test_steps_as_a_recording_grows(self) -> None:
+        def grow(seconds: float) -> None:
+            self.assertEqual(seconds, 7)
+            if Path("growing.rec").stat().st_size == len(OCTETS):
+                raise KeyboardInterrupt
+            Path("growing.rec").write_bytes(OCTETS)
+
+        Path("growing.rec").write_bytes(OCTETS[:25600])
+        with mock.patch("time.sleep", grow), mock.patch("tmx.__main__.put") as put:
+            status = commands.main(["follow", "--settings", str(SETTINGS), "--interval", "7", "growing.rec", "steps"])
+        said = [b"steps/step-0000001.chk has 100 records\n", b"steps/step-0000002.chk has 300 records\n"]
+        self.assertEqual((status, [it.args[0] for it in put.call_args_list]), (130, said))
+
     def test_a_folder_of_another_job_is_refused(self) -> None:
         fields = ("--command", "fields", "--definition", ATTITUDE, "--apid")
         self.grow_with("steps", *fields, 101)
         kept = {it.name: it.read_bytes() for it in Path("steps").iterdir()}
         says = "tmx follow: steps has steps of another {}: name another folder, or take the steps away\n".format
         self.assertEqual(self.follow("steps"), says("command"))
-        self.assertEqual(self.follow("steps", *fields, 100), says("application"))
+        self.assertEqual(self.follow("steps", *fields, 0), says("application"))
         Path("other.csv").write_text("name,data_type,bit_length\nA,uint,8\n")
         self.assertEqual(self.follow("steps", *fields[:3], "other.csv", "--apid", 101), says("definition"))
         Path("growing.rec").write_bytes(RECORDING.read_bytes()[256:] + RECORDING.read_bytes())
@@ -170,7 +243,14 @@ class Commands(TestCase):
         self.assertIn("--definition and --apid are for --command fields", self.follow("steps", "--apid", 101))
         Path("growing.rec").write_bytes(bytes(100))
         self.assertEqual(self.follow("steps"), "")
+        self.assertEqual(self.follow("steps", "--command", "fields", "--definition", ATTITUDE, "--apid", 0), "")
         self.assertEqual(os.listdir("steps"), [])
+
+    def test_the_checkpoint_of_a_step_is_taken_away_first(self) -> None:
+        step = following.Step(".", 1, following.Wanted())
+        with mock.patch.object(Path, "unlink", autospec=True) as unlink:
+            step.remove()
+        self.assertEqual(unlink.call_args_list[0].args, (step.checkpoint,))
 
 
 class CutBack(TestCase):
@@ -179,12 +259,31 @@ class CutBack(TestCase):
         first = "".join(f"{it}\n" for it in recording.packets(checkpoint="chk", stop_after=100, report="report"))
         report = Path("report").read_text()
         Path("list").write_text(first + "".join(f"{it}\n" for it in recording.packets(resume="chk", report="report")) + "packet rec")
-        lost = tmx.cut_back("chk", "list", "report")
-        self.assertEqual((Path("list").read_text(), Path("report").read_text()), (first, report))
-        self.assertEqual(set(lost), {"list", "report"})
+        Path("part").write_text(first + "packet rec")
         Path("other").write_text("something else\n")
+        whole = [Path(it).read_text() for it in ("list", "report")]
         self.raises(tmx.CutBackError, None, tmx.cut_back, "chk", "list", "other")
         self.raises(tmx.CutBackError, None, tmx.cut_back, "other", "list")
+        self.assertEqual([Path(it).read_text() for it in ("list", "report")], whole)
+        lost = tmx.cut_back("chk", "list", "report", "part")
+        self.assertEqual((Path("list").read_text(), Path("report").read_text()), (first, report))
+        self.assertEqual(lost, {"list": len(whole[0]) - len(first), "report": len(whole[1]) - len(report), "part": 10})
+
+    def test_rows_are_cut_back(self) -> None:
+        line = [os.environ["TMX"], "fields", "--settings", SETTINGS, "--definition", ATTITUDE, "--apid", "101", RECORDING]
+        line += ["--report", "report"]
+        with open("rows", "wb") as rows:
+            subprocess.run([*line, "--checkpoint", "chk", "--stop-after", "104"], stdout=rows, check=True)
+            first = Path("rows").read_text()
+            subprocess.run([*line, "--resume", "chk"], stdout=rows, check=True)
+        cut = len(Path("rows").read_text()) - len(first)
+        Path("twice").write_text(first * 2)
+        self.raises(tmx.CutBackError, None, tmx.cut_back, "chk", "twice")
+        self.assertEqual(command("cut-back", "chk", "report", "rows", out="said"), (0, ""))
+        self.assertEqual(Path("said").read_text().splitlines()[2:], [f"rows: {cut} octets cut, {len(first)} stay"])
+        self.assertEqual(Path("rows").read_text(), first)
+        Path("short").write_bytes(Path("chk").read_bytes()[:23])
+        self.raises(tmx.CutBackError, None, tmx.records_done, "short")
 
 
 if __name__ == "__main__":

@@ -1,4 +1,4 @@
-"""Columns of fields: their types, floats, texts and times, as arrays and as lists."""
+"""Columns of fields: their types, floats, texts and times, as lists and as arrays."""
 
 import csv
 import io
@@ -7,28 +7,16 @@ import os
 import struct
 import subprocess
 import unittest
-from contextlib import ExitStack, contextmanager
-from datetime import datetime, timedelta
+from datetime import date, datetime, timedelta
 from pathlib import Path
 from unittest import mock
 
-from support import ATTITUDE, HOUSEKEEPING, RECORDING, SETTINGS, TestCase, example, tmx
+from support import ATTITUDE, HOUSEKEEPING, RECORDING, SETTINGS, TestCase, example, needs, tmx
 
 from tmx import values
 
 FLOATS = (0.0, -0.0, 1.0, -2.5, 65504.0, 2.0**-24, math.inf, -math.inf, math.nan)
 TEXTS = (b"plain!", b'a,b"c\'', b"\\x41\\\\", b"\0\xff\r\n \0", b"      ", b"NA\0\0\0\0", b"\xc3\xa9abcd")
-KINDS = {"arrays": (), "lists": ("numpy",)}  # of columns, and the modules that are missing for them
-
-
-@contextmanager
-def without(missing):
-    """Has modules be missing."""
-    there = values.module
-    with ExitStack() as stack:
-        for name in ("tmx.values.module", "tmx.fields.module"):
-            stack.enter_context(mock.patch(name, lambda it: None if it in missing else there(it)))
-        yield
 
 
 def packets_of(payloads: list[bytes]) -> bytes:
@@ -41,70 +29,68 @@ def packets_of(payloads: list[bytes]) -> bytes:
     return b"".join(frames)
 
 
-def rows_of(payloads: list[bytes], definition: str, **how) -> tmx.Fields:
-    Path("definition.csv").write_text(f"name,data_type,bit_length\n{definition}")
+def rows_of(payloads: list[bytes], definition: str, head: str = "name,data_type,bit_length", **how) -> tmx.Fields:
+    Path("definition.csv").write_text(f"{head}\n{definition}", errors="surrogateescape")
     settings = tmx.Settings(42, 12 + len(payloads[0]), False)
     return tmx.Recording(io.BytesIO(packets_of(payloads)), settings).fields("definition.csv", 300, **how)
 
 
-class Values(TestCase):
-    def kinds(self):
-        """Each kind of columns that this machine has."""
-        for kind, missing in KINDS.items():
-            if kind == "lists" or values.module("numpy"):
-                with self.subTest(kind=kind), without(missing):
-                    yield kind
+def printed(definition: Path, apid: int) -> str:
+    """What `tmx fields` prints of the example."""
+    line = [os.environ["TMX"], "fields", "--settings", SETTINGS, "--definition", definition, "--apid", str(apid), RECORDING]
+    return subprocess.run(line, capture_output=True, text=True, check=True).stdout
+
+
+class WithModules(TestCase):
+    def have(self, **modules) -> None:
+        """Has other modules stand for these, for the rest of the test; None is one that isn't there."""
+        there = values.module
+        for name in ("tmx.values.module", "tmx.fields.module"):
+            self.enterContext(mock.patch(name, lambda it: modules[it] if it in modules else there(it)))
+
+
+class Columns:
+    """What is tried of both kinds of columns."""
+
+    def times(self, fields: tmx.Fields) -> list[datetime]:
+        return list(fields.time)
 
     def test_the_example(self) -> None:
         for definition, apid in ((ATTITUDE, 101), (HOUSEKEEPING, 100), (ATTITUDE, 5)):
-            line = [os.environ["TMX"], "fields", "--settings", SETTINGS, "--definition", definition, "--apid", str(apid)]
-            text = subprocess.run([*line, RECORDING], capture_output=True, text=True, check=True).stdout
+            text = printed(definition, apid)
             rows = list(csv.DictReader(io.StringIO(text)))
-            for _ in self.kinds():
-                fields = example().fields(definition, apid, encoding="ascii")
-                self.assertEqual(fields.rows, len(rows))
-                self.assertEqual(list(fields), text.partition("\n")[0].split(","))
-                for name in fields:
-                    self.assertEqual([str(it) for it in fields[name]], [row[name] for row in rows])
+            fields = example().fields(definition, apid, encoding="ascii")
+            self.assertEqual(fields.rows, len(rows))
+            self.assertEqual(list(fields), text.partition("\n")[0].split(","))
+            for name in fields:
+                self.assertEqual([str(it) for it in fields[name]], [row[name] for row in rows])
 
     def test_floats(self) -> None:
         payloads = [struct.pack(">efd", it, it, it) for it in FLOATS]
-        for name in self.kinds():
-            fields = rows_of(payloads, "A,float,16\nB,float,32\nC,float,64\n")
-            for column in "ABC":
-                found = [struct.pack(">d", it) for it in fields[column]]
-                self.assertEqual(found, [struct.pack(">d", it) for it in FLOATS], column)
-            if name != "lists":
-                self.assertEqual([str(fields[it].dtype) for it in "ABC"], ["float16", "float32", "float64"])
+        fields = rows_of(payloads, "A,float,16\nB,float,32\nC,float,64\n")
+        for column in "ABC":
+            found = [struct.pack(">d", it) for it in fields[column]]
+            self.assertEqual(found, [struct.pack(">d", it) for it in FLOATS], column)
 
     def test_integers(self) -> None:
         payloads = [b"\0" * 16, b"\xff" * 16, b"\x80" + b"\0" * 15, bytes(range(16))]
-        definition = "A,uint,64,\nB,int,64,\nC,uint,1,48\nD,int,9,48\nE,uint,17,48\nF,int,33,48\n"
-        for name in self.kinds():
-            Path("definition.csv").write_text(f"name,data_type,bit_length,bit_offset\n{definition}")
-            settings = tmx.Settings(42, 28, False)
-            fields = tmx.Recording(io.BytesIO(packets_of(payloads)), settings).fields("definition.csv", 300)
-            self.assertEqual(list(fields["A"]), [int.from_bytes(it[:8], "big") for it in payloads])
-            self.assertEqual(list(fields["B"]), [int.from_bytes(it[8:], "big", signed=True) for it in payloads])
-            self.assertEqual(list(fields["D"]), [int.from_bytes(it[:2], "big", signed=True) >> 7 for it in payloads])
-            if name != "lists":
-                types = [str(fields[it].dtype) for it in "ABCDEF"]
-                self.assertEqual(types, ["uint64", "int64", "uint8", "int16", "uint32", "int64"])
+        fields = rows_of(payloads, "A,uint,64,\nB,int,64,\nD,int,9,48\n", "name,data_type,bit_length,bit_offset")
+        self.assertEqual(list(fields["A"]), [int.from_bytes(it[:8], "big") for it in payloads])
+        self.assertEqual(list(fields["B"]), [int.from_bytes(it[8:], "big", signed=True) for it in payloads])
+        self.assertEqual(list(fields["D"]), [int.from_bytes(it[:2], "big", signed=True) >> 7 for it in payloads])
 
     def test_texts(self) -> None:
-        for _ in self.kinds():
-            self.assertEqual(list(rows_of(list(TEXTS), "T,str,48\n")["T"]), list(TEXTS))
-            texts = [it.decode("latin-1") for it in TEXTS]
-            self.assertEqual(list(rows_of(list(TEXTS), "T,str,48\n", encoding="latin-1")["T"]), texts)
-            self.raises(UnicodeDecodeError, None, rows_of, list(TEXTS), "T,str,48\n", encoding="utf-8")
+        self.assertEqual(list(rows_of(list(TEXTS), "T,str,48\n")["T"]), list(TEXTS))
+        texts = [it.decode("latin-1") for it in TEXTS]
+        self.assertEqual(list(rows_of(list(TEXTS), "T,str,48\n", encoding="latin-1")["T"]), texts)
+        self.raises(UnicodeDecodeError, None, rows_of, list(TEXTS), "T,str,48\n", encoding="utf-8")
 
     def test_long_texts(self) -> None:
         texts = [it * 20 for it in TEXTS]
-        for _ in self.kinds():
-            self.assertEqual(list(rows_of(texts, "T,str,960\n")["T"]), texts)
-            for length in (64, 65, 1500):
-                others = [b"\\" * length, b"\0" * length, b"a" * length]
-                self.assertEqual(list(rows_of(others, f"T,str,{8 * length}\n")["T"]), others)
+        self.assertEqual(list(rows_of(texts, "T,str,960\n")["T"]), texts)
+        for length in (64, 65, 1500):
+            others = [b"\\" * length, b"\0" * length, b"a" * length]
+            self.assertEqual(list(rows_of(others, f"T,str,{8 * length}\n")["T"]), others)
 
     def test_the_longest_text(self) -> None:
         packet = (300).to_bytes(2, "big") + b"\xc0\0\xff\xff" + b"\xff" * 65536
@@ -119,61 +105,119 @@ class Values(TestCase):
             if part:
                 frames.append(struct.pack(">HBBH", 42 << 4, number, number, pointer) + part)
         Path("definition.csv").write_text("name,data_type,bit_length\nT,str,524288\n")
-        for _ in self.kinds():
-            recording = tmx.Recording(io.BytesIO(b"".join(frames)), tmx.Settings(42, 2048, False))
-            self.assertEqual(list(recording.fields("definition.csv", 300)["T"]), [b"\xff" * 65536])
+        recording = tmx.Recording(io.BytesIO(b"".join(frames)), tmx.Settings(42, 2048, False))
+        self.assertEqual(list(recording.fields("definition.csv", 300)["T"]), [b"\xff" * 65536])
 
     def test_names_that_csv_quotes(self) -> None:
-        for _ in self.kinds():
-            fields = rows_of([b"ab"], '"A, ""quoted""\nname",uint,8\n\N{GREEK SMALL LETTER ALPHA},uint,8\n')
-            self.assertEqual(list(fields)[4:], ['A, "quoted"\nname', "\N{GREEK SMALL LETTER ALPHA}"])
+        fields = rows_of([b"ab"], '"A, ""quoted""\nname",uint,8\n\N{GREEK SMALL LETTER ALPHA},uint,8\n')
+        self.assertEqual(list(fields)[4:], ['A, "quoted"\nname', "\N{GREEK SMALL LETTER ALPHA}"])
+
+    def test_other_names(self) -> None:
+        long, limit = "L" * 200_000, csv.field_size_limit()
+        fields = rows_of([b"abc"], f" \fA\t,uint,8\n\udcff,uint,8\n{long},uint,8\n", "\ufeffname,data_type,bit_length")
+        self.assertEqual(list(fields)[4:6], ["\fA", "\udcff"])
+        self.assertTrue(long in fields)
+        self.assertEqual(csv.field_size_limit(), limit)
 
     def test_times(self) -> None:
-        payloads = [struct.pack(">IH", *it) for it in ((0, 0), (1, 0x8000), (2**32 - 1, 0xFFFF))]
-        for name in self.kinds():
-            fields = rows_of(payloads, "S,uint,32\nF,uint,16\n", time=("S", "F"), epoch="1958-01-01")
-            begin = datetime(1958, 1, 1)
-            wanted = [begin, begin + timedelta(seconds=1.5), begin + timedelta(seconds=2**32 - 1, microseconds=999984)]
-            found = list(fields.time) if name == "lists" else fields.time.astype("datetime64[us]").tolist()
-            self.assertEqual(found, wanted)
-            other = rows_of(payloads, "S,uint,32\nF,uint,16\n", time="S", epoch="1958-01-01T01:00:00+01:00")
-            found = list(other.time) if name == "lists" else other.time.astype("datetime64[us]").tolist()
-            self.assertEqual(found, [it.replace(microsecond=0) for it in wanted])
+        payloads = [struct.pack(">IQ", *it) for it in ((0, 0), (1, 1 << 63), (2**32 - 1, 0xFFFF << 48))]
+        begin = datetime(1958, 2, 3)
+        wanted = [begin, begin + timedelta(seconds=1.5), begin + timedelta(seconds=2**32 - 1, microseconds=999984)]
+        for bits in (16, 64):
+            fields = rows_of(payloads, f"S,uint,32\nF,uint,{bits}\n", time=("S", "F"), epoch="1958-02-03")
+            self.assertEqual(self.times(fields), wanted)
+        for epoch in ("1958-02-03T01:00:00+01:00", begin, date(1958, 2, 3)):
+            fields = rows_of(payloads, "S,uint,32\nF,uint,16\n", time="S", epoch=epoch)
+            self.assertEqual(self.times(fields), [it.replace(microsecond=0) for it in wanted])
 
     def test_a_time_that_is_too_late(self) -> None:
-        for _ in self.kinds():
-            self.raises(OverflowError, None, rows_of, [b"\xff" * 8], "S,uint,64\n", time="S", epoch="2000-01-01")
+        self.raises(OverflowError, None, rows_of, [b"\xff" * 8], "S,uint,64\n", time="S", epoch="2000-01-01")
 
     def test_short_packets(self) -> None:
-        for _ in self.kinds():
-            fields = rows_of([b"ab"], "S,uint,64\n")
-            self.assertEqual(fields.rows, 0)
-            short = tmx.ShortPacket(record=0, channel=0, from_=0, at=0, needed=112, found=64)
-            self.assertEqual(fields.short_packets, [short])
-            self.assertIn("1 packet", repr(fields))
+        fields = rows_of([b"ab", b"cd"], "S,uint,64\n")
+        self.assertEqual(fields.rows, 0)
+        short = [tmx.ShortPacket(record=it, channel=0, from_=it, at=0, needed=112, found=64) for it in (0, 1)]
+        self.assertEqual(fields.short_packets, short)
+        self.assertTrue(repr(fields).endswith("\n0 rows, 5 columns, 2 packets too short for a row"))
 
+    def test_shown(self) -> None:
+        fields = example().fields(ATTITUDE, 101, time="SECONDS", epoch="2000-01-01")
+        self.assertEqual(repr(fields).splitlines()[11:], ["503 rows, 14 columns"])
+        self.assertIn("<th>ANGLE_X</th>", fields._repr_html_())
+        self.assertIn("<td>&lt;b&gt;</td>", rows_of([b"<b>"], "T,str,24\n", encoding="ascii")._repr_html_())
+
+
+class Lists(Columns, WithModules):
+    """Columns where numpy isn't there, or as if it weren't, of rows that are read in several blocks."""
+
+    def setUp(self) -> None:
+        super().setUp()
+        self.have(numpy=None, pandas=None)
+        self.enterContext(mock.patch.object(values, "ROWS", 100))
+
+    def test_octets_are_read_in_parts(self) -> None:
+        rows = values.Rows(iter([b"abc", b"d"]))
+        self.assertEqual([rows.read(2) for _ in range(4)], [b"ab", b"c", b"d", b""])
+
+    def test_what_needs_modules(self) -> None:
+        fields = example().fields(ATTITUDE, 101)
+        self.raises(ImportError, None, fields.to_numpy)
+        self.raises(ImportError, None, fields.to_pandas)
+
+
+@needs("numpy")
+class Arrays(Columns, TestCase):
+    def times(self, fields: tmx.Fields) -> list[datetime]:
+        return fields.time.astype("datetime64[us]").tolist()
+
+    def test_types(self) -> None:
+        head = "name,data_type,bit_length,bit_offset"
+        columns = "C,uint,1,\nD,int,9,\nE,uint,17,48\nF,int,33,48\nG,float,16,48\nH,float,32,48\nI,float,64,48\nJ,str,8,48\n"
+        wanted = "uint32 uint8 uint16 uint16 uint8 int16 uint32 int64 float16 float32 float64 object"
+        self.assertEqual(" ".join(str(it.dtype) for it in rows_of([bytes(8)], columns, head).values()), wanted)
+
+    def test_nanoseconds(self) -> None:
+        fields = rows_of([b"\0\1\xff\xff"], "S,uint,16\nF,uint,16\n", time=("S", "F"), epoch="1970-01-01")
+        self.assertEqual(fields.time.astype("int64").tolist(), [1_999_984_741])
+
+    def test_numpy(self) -> None:
+        self.assertEqual(int(example().fields(ATTITUDE, 101).to_numpy()["ANGLE_X"].max()), 899)
+
+    @needs("pandas")
     def test_pandas(self) -> None:
-        if values.module("pandas") is None:
-            self.raises(ImportError, None, example().fields(ATTITUDE, 101).to_pandas)
-            return
         fields = example().fields(ATTITUDE, 101, time=("SECONDS", "FRACTION"), epoch="2000-01-01")
         table = fields.to_pandas()
         self.assertEqual((len(table), list(table.columns), table.index.name), (503, list(fields), "time"))
         self.assertEqual(int(table["ANGLE_X"].max()), 899)
         self.assertEqual([str(it) for it in table.dtypes], [str(it.dtype) for it in fields.to_numpy().values()])
 
-    def test_numpy(self) -> None:
-        fields = example().fields(ATTITUDE, 101)
-        if values.module("numpy") is None:
-            self.raises(ImportError, None, fields.to_numpy)
-        else:
-            self.assertEqual(int(fields.to_numpy()["ANGLE_X"].max()), 899)
 
-    def test_shown(self) -> None:
-        for _ in self.kinds():
-            fields = example().fields(ATTITUDE, 101, time="SECONDS", epoch="2000-01-01")
-            self.assertIn("503 rows, 14 columns", repr(fields))
-            self.assertIn("<th>ANGLE_X</th>", fields._repr_html_())
+class StandIns(WithModules):
+    """What numpy and pandas are called with, on machines without them too."""
+
+    def test_what_numpy_reads(self) -> None:
+        numpy, read = mock.MagicMock(), []
+        numpy.dtype.side_effect = lambda it: it if isinstance(it, str) else mock.DEFAULT
+        numpy.loadtxt.side_effect = lambda text, kind, **how: read.append((text.read(), kind, how))
+        self.have(numpy=numpy)
+        definition = "A,uint,8,48\nB,uint,9,\nC,int,32,\nD,int,33,\nE,float,32,\nF,str,512,48\nG,str,520,48\n"
+        Path("d.csv").write_text(f"name,data_type,bit_length,bit_offset\n{definition}")
+        example().fields("d.csv", 100)
+        how = {"comments": None, "delimiter": ",", "quotechar": '"', "ndmin": 1}
+        self.assertEqual(read, [(printed("d.csv", 100).partition("\n")[2], numpy.dtype.return_value, how)])
+        types = ["uint32", "uint8", "uint16", "uint16", "uint8", "uint16", "int32", "int64", "S10", "S256", object]
+        columns = [(f"column {number}", it) for number, it in enumerate(types)]
+        self.assertEqual(numpy.dtype.call_args, mock.call(columns))
+
+    def test_what_a_table_of_pandas_is_made_of(self) -> None:
+        pandas = mock.Mock()
+        self.have(pandas=pandas)
+        fields = example().fields(ATTITUDE, 101, time="SECONDS", epoch="2000-01-01")
+        self.assertIs(fields.to_pandas(), pandas.DataFrame.return_value)
+        pandas.DatetimeIndex.assert_called_once_with(fields.time, name="time")
+        pandas.DataFrame.assert_called_once_with(dict(fields), index=pandas.DatetimeIndex.return_value, copy=True)
+        example().fields(ATTITUDE, 101).to_pandas()
+        self.assertIsNone(pandas.DataFrame.call_args.kwargs["index"])
 
 
 if __name__ == "__main__":

@@ -7,14 +7,15 @@ from functools import cache
 from typing import Any, NamedTuple
 
 from .checkpoints import Name
-from .errors import CheckpointError, Error, LibraryMissingError, OutOfMemoryError, RunError, SettingsError
+from .errors import CheckpointError, Error, FileError, LibraryMissingError, OutOfMemoryError, RunError, SettingsError
 from .lines import REPORT, Packet, packet, read_lines, read_packet_lines
 from .recording import Item
 from .settings import Settings
 
 # The numbers of include/tmx.h.
 EXTRACT, PACKETS, FIELDS, FRAMES, SUMMARY = range(5)
-DONE, ROOM, COMMAND, SETTINGS, CHECKPOINT, TOO_MANY, MEMORY, DEFINITION, APPLICATION, WHOLE = range(10)
+DONE, ROOM, COMMAND, SETTINGS, CHECKPOINT, TOO_MANY, MEMORY, DEFINITION, APPLICATION, WHOLE, LONG = range(11)
+INPUTS = ("", "settings", "definition", "checkpoint")
 SETTINGS_FAULTS = ("", "toml", "unknown", "missing", "kind", "range")
 CHECKPOINT_FAULTS = ("", "short", "magic", "version", "check", "settings", "state", "trailing")
 KEYS = (
@@ -90,6 +91,8 @@ class Engine:
     checkpoint  the octets of a checkpoint to go on from; without them the job begins anew
     library     the file of the library; without it the one that TMX_LIBRARY names, else libtmx.so where the system looks
 
+    A thread that calls it needs 3 MiB of stack: `threading.stack_size(4 << 20)` before the thread starts.
+
     `checkpoint` is what the next engine goes on from, and `records` how many records are done.  What `feed` or `close` raises
     leaves the engine as it was.
     """
@@ -149,6 +152,8 @@ def refused(answer: Answer) -> Error:
     if answer.status == CHECKPOINT:
         word = CHECKPOINT_FAULTS[answer.fault]
         return CheckpointError(f"tmx: checkpoint: {word}", 2, word)
+    if answer.status == LONG:
+        return FileError(f"tmx: {INPUTS[answer.fault]}: too long", 2, "too long")
     if answer.status == TOO_MANY:
         return RunError("tmx: too many records", 1, "too many records")
     return OutOfMemoryError("tmx: out of memory", 3, "out of memory")

@@ -9,7 +9,7 @@ from collections.abc import Iterator, Mapping, Sequence
 from datetime import UTC, date, datetime, timedelta
 from typing import Any
 
-from .definition import Column, column_named, read_definition
+from .definition import Column, column_named, long_values, read_definition
 from .errors import ColumnError, DisagreementError
 from .lines import ShortPacket, read_lines
 from .program import Command, line_blocks, running
@@ -131,7 +131,8 @@ def without_head(block: bytes, blocks: Iterator[bytes], columns: Sequence[Column
         if not more:
             raise DisagreementError("the program printed no head")
         block += more
-    head = next(csv.reader(io.StringIO(block[:end].decode("utf-8", "surrogateescape"), newline="")))
+    with long_values():
+        head = next(csv.reader(io.StringIO(block[:end].decode("utf-8", "surrogateescape"), newline="")))
     names = [it.name for it in columns]
     if head != names:
         raise DisagreementError(f"the program's columns are not those of the definition: {head} and {names}")

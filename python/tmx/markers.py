@@ -5,7 +5,7 @@ from collections.abc import Iterator
 from dataclasses import dataclass
 from typing import IO
 
-from .source import Source
+from .source import Source, refuse_to_overwrite
 
 SEARCHED = 1 << 16  # octets that are searched at once
 MISSING = 3  # markers in a row that may be damaged beyond what is let pass, while those behind them stand in place
@@ -112,7 +112,8 @@ class Cut:
         return self.window.ended or self.window.end >= self.at + self.step + len(self.marker)
 
     def write(self, path: str | os.PathLike[str]) -> None:
-        """Writes the records that are left to a file."""
+        """Writes the records that are left to a file.  Raises FileError where it is the stream's own."""
+        refuse_to_overwrite(path, self.source.file)
         with open(path, "wb") as file:
             file.writelines(self.found)
 

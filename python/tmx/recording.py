@@ -5,7 +5,7 @@ from collections.abc import Iterator, Sequence
 from typing import IO
 
 from .checkpoints import Name
-from .errors import ColumnError, FileError
+from .errors import ColumnError
 from .fields import Epoch, Fields, read_fields, time_of
 from .lines import (
     FRAMES,
@@ -30,7 +30,7 @@ from .loss_map import Lines, LossMap, drawing
 from .pairs import Chosen, Numbers, spelled
 from .program import Command, running, single_lines, whole_lines
 from .settings import Settings
-from .source import Source
+from .source import Source, refuse_to_overwrite
 from .steps import Job, follow, report_words, step_words
 from .summary import Summary, summary_of
 
@@ -177,10 +177,10 @@ class Recording:
         """Writes the octets of all packets to a file, nothing between them.  With `resume` they are appended.
 
         The other words are those of `packets`, but `checkpoint` is written by the program.  Raises OSError where the file
-        can't be opened, and FileError where it is a file of the recording, its settings or its checkpoint.
+        can't be opened, and FileError where it is the recording, its settings, its report or a checkpoint.
         """
         words = report_words(report) + step_words(checkpoint, resume, stop_after)
-        self.refuse_to_overwrite(path, resume)
+        refuse_to_overwrite(path, self.source.file, self.settings, report, checkpoint, resume)
         with open(path, "wb" if resume is None else "ab") as file:
             self.run(Command(["extract", *words], "end", file))
 
@@ -205,10 +205,3 @@ class Recording:
         """A run of the program whose output is not read."""
         with running(self.source, self.settings, command) as runs:
             runs.finish()
-
-    def refuse_to_overwrite(self, path: Name, resume: Name | None) -> None:
-        """Raises FileError where a file that is read would be written."""
-        settings = None if isinstance(self.settings, Settings) else self.settings
-        for other in (self.source.path, settings, resume):
-            if other is not None and os.path.exists(path) and os.path.exists(other) and os.path.samefile(path, other):
-                raise FileError(f"tmx: {os.fspath(path)}: failed", 1, "failed")

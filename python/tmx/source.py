@@ -5,7 +5,7 @@ import stat
 import sys
 from typing import IO, Any
 
-from .errors import ConsumedError
+from .errors import ConsumedError, FileError
 
 BLOCK = 1 << 17  # octets that are fed at once
 
@@ -30,6 +30,16 @@ class Source:
     def path(self) -> str | None:
         """Its name, where it has one; also where no such file is there, which the program says."""
         return self.given if isinstance(self.given, str) and self.given != "-" else None
+
+    @property
+    def file(self) -> str | int | None:
+        """The file that is read, by its name or its descriptor; None where there is none."""
+        if self.path is not None:
+            return self.path
+        try:
+            return int((sys.stdin if self.given == "-" else self.given).fileno())
+        except (AttributeError, OSError, ValueError):
+            return None
 
     @property
     def words(self) -> list[str]:
@@ -77,6 +87,20 @@ class Source:
         if not isinstance(block, (bytes, bytearray, memoryview)):
             raise TypeError("a recording has to be a binary stream, whose read() gives bytes")
         return bytes(block)
+
+
+def refuse_to_overwrite(path: str | os.PathLike[str], *others: object) -> None:
+    """Raises FileError where what is to be written is one of the other files.  Those are names or descriptors, or no files."""
+    for other in others:
+        if isinstance(other, (str, os.PathLike, int)) and are_one_file(path, other):
+            raise FileError(f"tmx: {os.fspath(path)}: failed", 1, "failed")
+
+
+def are_one_file(one: str | os.PathLike[str], other: str | os.PathLike[str] | int) -> bool:
+    """Whether both are one regular file, or one that isn't there yet."""
+    if os.path.exists(one) and os.path.exists(other):
+        return os.path.isfile(one) and os.path.samefile(one, other)
+    return not isinstance(other, int) and os.path.realpath(one) == os.path.realpath(other)
 
 
 def position(stream: Any) -> int | None:

@@ -8,12 +8,12 @@ from dataclasses import dataclass, replace
 from pathlib import Path
 
 from .checkpoints import CutBackError, Name, NewCheckpoint, records_done
-from .errors import DisagreementError
+from .errors import DisagreementError, RunError
 from .lines import Packet
 from .pairs import Chosen
 from .program import Command, running
 from .settings import Settings
-from .source import Source
+from .source import Source, refuse_to_overwrite
 
 
 def report_words(report: Name | None) -> list[str]:
@@ -52,10 +52,14 @@ class Job:
     stop_after: int | None = None
 
     def packets(self) -> Iterator[Packet]:
-        """The packets; with `checkpoint` the job is kept when the last one was given."""
+        """The packets; with `checkpoint` the job is kept when the last one was given.
+
+        Raises FileError where `checkpoint` is another file of the job.
+        """
         if self.checkpoint is None:
             yield from self.run([None, None], self.stop_after)
             return
+        refuse_to_overwrite(self.checkpoint, self.source.file, self.settings, self.report)
         new = NewCheckpoint(self.checkpoint)
         try:
             with tempfile.TemporaryDirectory() as folder:
@@ -168,6 +172,9 @@ def follow_stream(job: Job, part: Path) -> Iterator[Packet]:
                 write_part(part, done * length, rest[: records * length])
                 yield from replace(next_step(job), source=Source(part)).packets()
                 done, rest = done + records, rest[records * length :]
+        if skip:
+            word = "recording is shorter than the checkpoint"
+            raise RunError(f"tmx: {word}", 1, word)
     finally:
         job.source.close()
 

@@ -10,10 +10,14 @@ pages.  Each word of help has to stand in FORMATS.md and in the manual, in the s
 Compared with each other are FORMATS.md and the manual: keys of settings, with their ranges and what holds without them; columns
 of definitions, with their numbers; the forms of printed lines; and the lines of faults.
 
-Prints a line `ok ..` or `FAILED: ..` for each.
+The sum of the logic that `tmx --version` prints is the one of `rt version`, where there is `rt`, and README.md and PROVED.md
+name it.
+
+Prints a line `ok ..`, `FAILED: ..` or `SKIPPED: ..` for each, and at the end `plan N`, which is how many there were.
 """
 
 import re
+import shutil
 import subprocess
 import sys
 from dataclasses import dataclass
@@ -24,8 +28,10 @@ DOCS = HERE / "docs"
 FORMATS = (DOCS / "FORMATS.md").read_text(encoding="utf-8")
 MANUAL = (DOCS / "tmx.1").read_text(encoding="utf-8")
 README = (HERE / "README.md").read_text(encoding="utf-8")
+PROVED = (DOCS / "PROVED.md").read_text(encoding="utf-8")
 SPELLED = re.compile(r"(--[a-z-]+|[A-Z]{2,})(?: ([A-Z]+))?")  # a word, and what stands for its value
 FOR_ALL = "--settings"
+TOLD = []  # the names of all comparisons
 
 
 @dataclass(frozen=True)
@@ -40,6 +46,7 @@ class Word:
 
 def tell(name, wanted, found):
     """Says whether two things are the same."""
+    TOLD.append(name)
     if wanted != found:
         if isinstance(wanted, set):
             wanted, found = sorted(wanted - found), sorted(found - wanted)
@@ -190,6 +197,13 @@ def compare_pages(text, helps):
     tell("examples of the manual", set(), examples - set(re.findall(r"^\.Dl (.*)$", MANUAL, re.M)))
 
 
+def compare_pass():
+    """The manual has the commands of README.md for a pass in progress."""
+    block = next(it for it in re.findall(r"(?:^ {4}.*\n)+", README, re.M) if "nc -l" in it)
+    lines = [it.removeprefix(r"\&") for it in re.findall(r"^\.Dl (.*)$", MANUAL, re.M)]
+    tell("the commands for a pass in the manual", [], [it for it in re.findall(r"^ {4}(.*)$", block, re.M) if it not in lines])
+
+
 def compare_names(helps):
     """Whatever looks like a word of the command line in FORMATS.md and the manual is one."""
     known = {it.name for text in helps.values() for it in words_of(text)} | {"--help", "--version"}
@@ -260,6 +274,20 @@ def compare_faults():
     tell("statuses of the manual", set(rows), {head for head, _ in items("EXIT STATUS")})
 
 
+def compare_sums(tmx):
+    """The sum of the logic that proved the program."""
+    second = output_of(tmx, "--version").splitlines()[1]
+    name = "the second line of --version beside rt version"
+    if shutil.which("rt"):
+        tell(name, re.search(r"logic \w+$", output_of("rt", "version").strip())[0], second)
+    else:
+        TOLD.append(name)
+        print(f"SKIPPED: {name}: no rt")
+    for name, page in ("README.md", README), ("PROVED.md", PROVED):
+        sums = set(re.findall(r"\b[0-9a-f]{16}\b", page))
+        tell(f"sums of the logic in {name}", {second.removeprefix("logic ")}, sums)
+
+
 def main(tmx):
     text = output_of(tmx, "--help")
     commands = dict(part_of(text, "Commands"))
@@ -272,6 +300,9 @@ def main(tmx):
     compare_definitions()
     compare_lines()
     compare_faults()
+    compare_sums(tmx)
+    compare_pass()
+    print(f"plan {len(TOLD)}")
 
 
 if __name__ == "__main__":

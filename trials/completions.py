@@ -4,7 +4,8 @@
     trials/completions.py TMX BASH ZSH FISH
 
 TMX is the program, and the others are the files of the three shells. bash is asked what it would complete. The words of zsh and
-fish are read off their files. Prints a line `ok ..` or `FAILED: ..` for each comparison.
+fish are read off their files. Prints a line `ok ..` or `FAILED: ..` for each comparison,
+behind `plan N` for all.
 """
 
 import re
@@ -102,6 +103,7 @@ def main():
     tmx, bash, zsh, fish = (str(Path(word).resolve()) for word in sys.argv[1:])
     texts = {name: Path(file).read_text() for name, file in (("zsh", zsh), ("fish", fish))}
     commands, _ = help_of(tmx)
+    print(f"plan {6 + 5 * len(commands)}")
     tell("bash completes the commands", ask_bash(bash, "tmx", ""), commands)
     tell("zsh completes the commands", re.findall(r"^        '([a-z]+):", texts["zsh"], re.M), commands)
     tell("fish completes the commands", re.findall(r"__tmx_command_is -a (\w+)", texts["fish"]), commands)

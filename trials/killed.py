@@ -5,8 +5,8 @@
 
 STEP is the number of records of a run; 0 has the recording grow by some octets before each run, which goes to its end.
 WORD.. are further words of the command.  After a run that was ended, the outputs are cut to what they had when the
-checkpoint that stands was written.  The joined outputs have to be those of one run.  Prints what was done.  The status is
-1 where something is wrong.  Works in the current folder.
+checkpoint that stands was written.  The joined outputs have to be those of one run, and a signal has to have ended
+a run at least.  Prints what was done.  The status is 1 where something is wrong.  Works in the current folder.
 """
 
 import os
@@ -57,14 +57,15 @@ class Steps:
         return contents(folder)
 
     def run(self, ending, with_signal):
-        """One run; whether it came to its end."""
+        """One run; whether it came to its end. Until a signal has ended one, each gets a signal at once."""
+        with_signal = with_signal or not self.ended
         begun = time.monotonic()
         with open(self.folder / "out", "ab") as out:
             process = subprocess.Popen(
                 self.line(self.folder, ending), stdout=out, stderr=subprocess.PIPE, preexec_fn=plain_signals
             )
             if with_signal:
-                time.sleep(self.chance.uniform(0, self.longest))
+                time.sleep(self.chance.uniform(0, self.longest) if self.ended else 0)
                 process.send_signal(self.chance.choice(SIGNALS))
             errors = process.communicate()[1]
         if process.returncode > 0 or errors:
@@ -145,6 +146,8 @@ def main(words):
         f"{steps.ended} runs ended by a signal, {steps.left_over} of them with a file chk.new left over,"
         f" {steps.overtaken} of them behind their checkpoint"
     )
+    if not steps.ended:
+        sys.exit("no run was ended by a signal")
     if found != wanted:
         names = [it for it in wanted.keys() | found.keys() if wanted.get(it) != found.get(it)]
         sys.exit(f"not what one run gives: {sorted(names)}")

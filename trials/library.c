@@ -2,14 +2,19 @@
 
    library chunks SIZE SETTINGS RECORDING    `extract` in chunks of so many octets, each call first without room, and then with just enough
    library hostile 0 SETTINGS RECORDING      checkpoints with bits changed and cut after octets, rooms one octet too small, settings cut after
-                                             each octet, numbers that stand for nothing
+                                             each octet, texts one octet too long, two wrong ones at once, numbers that stand for nothing
    library many TIMES SETTINGS RECORDING     so often two calls over a chunk of one octet: no memory may stay behind
-   library speed SIZE SETTINGS RECORDING     how long a call takes by `extract`, in chunks of so many octets: the least of 20 rounds */
+   library stack OCTETS SETTINGS RECORDING   how much of a stack of so many octets the calls take, each command with a definition of 1000 rows and
+                                             the longest checkpoint
+   library speed SIZE SETTINGS RECORDING     how long a call takes by `extract`, in chunks of so many octets: the least of 20 rounds
+   library rows TIMES SETTINGS RECORDING     how long a call over no octets takes by `extract`, and by `fields` with 1000 rows: the least */
 #include "tmx.h"
 #include <malloc.h>
+#include <pthread.h>
 #include <stdio.h>
 #include <stdlib.h>
 #include <string.h>
+#include <sys/mman.h>
 #include <time.h>
 
 struct octets {
@@ -58,14 +63,16 @@ static struct tmx_octets lent(struct octets it) {
     return (struct tmx_octets){it.at, it.length};
 }
 
-/* The application of all calls. */
+/* The application and the definition of all calls. */
 static uint32_t application = 100;
+static const char one_row[] = "name,data_type,bit_length\nfirst,uint,8\n";
+static struct octets definition = {(uint8_t *)one_row, sizeof one_row - 1};
 
 /* A call over copies, into rooms of these lengths. */
 static struct given call(struct octets settings, struct octets checkpoint, const uint8_t *at, size_t length, uint32_t command, uint32_t last,
                          const size_t rooms[3]) {
-    const uint8_t rows[] = "name,data_type,bit_length\nfirst,uint,8\n";
-    struct octets texts[4] = {copy(settings.at, settings.length), copy(checkpoint.at, checkpoint.length), copy(at, length), copy(rows, sizeof rows - 1)};
+    struct octets texts[4] = {copy(settings.at, settings.length), copy(checkpoint.at, checkpoint.length), copy(at, length),
+                              copy(definition.at, definition.length)};
     struct given given = {{0}, some(rooms[0]), some(rooms[1]), some(rooms[2])};
     struct tmx_request request = {lent(texts[0]), lent(texts[1]), lent(texts[2]), lent(texts[3]), command, application, last};
     uint32_t status = tmx_run(&request, given.out.at, rooms[0], given.report.at, rooms[1], given.checkpoint.at, rooms[2], &given.answer);
@@ -118,6 +125,57 @@ static void refused(const char *what, struct given given, uint32_t status) {
     drop(&given);
 }
 
+/* Likewise: what is read beside the recording is too long. */
+static void too_long(const char *what, struct given given, uint32_t fault) {
+    if (given.answer.fault != fault) printf("%s: fault %u, not %u\n", what, given.answer.fault, fault);
+    refused(what, given, TMX_LONG);
+}
+
+/* A text with octets behind it, so many in all. */
+static struct octets padded(struct octets text, char behind, size_t length) {
+    struct octets it = some(length);
+    memset(it.at, behind, length);
+    memcpy(it.at, text.at, text.length);
+    return it;
+}
+
+/* The longest settings, definition and checkpoint are read, and one octet more is refused. The first of two wrong ones tells. */
+static void limits(struct octets settings, struct octets kept, const uint8_t *next, size_t rest) {
+    const struct octets row = definition, none_of_all = {(uint8_t *)"?", 1};
+    struct octets comment = padded(settings, '#', settings.length + 1), most[3], more[3];
+    struct given given;
+    for (size_t over = 0; over < 2; over++) {
+        struct octets *all = over ? more : most;
+        all[0] = padded(comment, ' ', TMX_INPUT_MOST + over);
+        all[1] = padded(row, '\n', TMX_INPUT_MOST + over);
+        all[2] = padded(kept, 0, TMX_INPUT_MOST + over);
+    }
+    definition = most[1];
+    given = served(most[0], kept, next, rest, TMX_FIELDS, 1);
+    drop(&given);
+    refused("a checkpoint with octets behind it", call(settings, most[2], next, rest, TMX_EXTRACT, 1, none), TMX_CHECKPOINT);
+    for (uint32_t command = TMX_EXTRACT; command <= TMX_FRAMES; command++) {
+        definition = command == TMX_FIELDS ? row : more[1];
+        too_long("settings", call(more[0], more[2], next, rest, command, 1, none), TMX_INPUT_SETTINGS);
+        too_long("a checkpoint", call(settings, more[2], next, rest, command, 1, none), TMX_INPUT_CHECKPOINT);
+        refused("settings before a checkpoint", call(none_of_all, more[2], next, rest, command, 1, none), TMX_SETTINGS);
+    }
+    too_long("settings of a summary", call(more[0], (struct octets){NULL, 0}, next, rest, TMX_SUMMARY, 1, none), TMX_INPUT_SETTINGS);
+    definition = more[1];
+    too_long("a definition", call(settings, more[2], next, rest, TMX_FIELDS, 1, none), TMX_INPUT_DEFINITION);
+    too_long("settings before a definition", call(more[0], more[2], next, rest, TMX_FIELDS, 1, none), TMX_INPUT_SETTINGS);
+    refused("wrong settings before a definition", call(none_of_all, more[2], next, rest, TMX_FIELDS, 1, none), TMX_SETTINGS);
+    definition = none_of_all;
+    refused("a wrong definition before a checkpoint", call(settings, more[2], next, rest, TMX_FIELDS, 1, none), TMX_DEFINITION);
+    refused("wrong settings before a wrong definition", call(none_of_all, kept, next, rest, TMX_FIELDS, 1, none), TMX_SETTINGS);
+    application = 2048;
+    refused("an application before settings", call(none_of_all, kept, next, rest, TMX_FIELDS, 1, none), TMX_APPLICATION);
+    application = 100;
+    definition = row;
+    for (int k = 0; k < 3; k++) free(most[k].at), free(more[k].at);
+    free(comment.at);
+}
+
 static int hostile(struct octets settings, struct octets recording) {
     const struct octets empty = {NULL, 0};
     size_t half = recording.length / 2;
@@ -138,6 +196,7 @@ static int hostile(struct octets settings, struct octets recording) {
     refused("octets that are no settings", call(recording, kept, next, rest, TMX_EXTRACT, 1, none), TMX_SETTINGS);
     refused("a summary behind a checkpoint", call(settings, kept, next, rest, TMX_SUMMARY, 1, none), TMX_WHOLE);
     refused("a summary of a part", call(settings, empty, next, rest, TMX_SUMMARY, 0, none), TMX_WHOLE);
+    limits(settings, kept, next, rest);
     application = 2048;
     refused("an application that is none", call(settings, kept, next, rest, TMX_FIELDS, 1, none), TMX_APPLICATION);
     application = 100;
@@ -184,6 +243,83 @@ static int many(struct octets settings, struct octets recording, long calls) {
     return 0;
 }
 
+/* 1000 rows of long names. */
+static struct octets most_rows(void) {
+    struct octets it = some(1 << 20);
+    size_t length = (size_t)sprintf((char *)it.at, "name,data_type,bit_length,bit_offset\n");
+    for (int row = 0; row < 1000; row++) length += (size_t)sprintf((char *)it.at + length, "a_name_that_is_rather_long_%04d,uint,8,%d\n", row, 48 + 8 * row);
+    it.length = length;
+    return it;
+}
+
+/* What the calls on the small stack read. */
+static struct octets deep_settings, deep_recording;
+
+/* Each command with these settings, first anew and then behind a checkpoint. */
+static void *calls_on_it(void *unused) {
+    static uint8_t out[1 << 20], report[1 << 20], kept[TMX_CHECKPOINT_MOST], next[TMX_CHECKPOINT_MOST];
+    struct tmx_request request = {lent(deep_settings), {kept, 0}, lent(deep_recording), lent(definition), 0, application, 0};
+    struct tmx_answer answer;
+    for (size_t round = 0; round < 2; round++) {
+        for (request.command = TMX_EXTRACT; request.command <= TMX_SUMMARY; request.command++) {
+            request.last = request.command == TMX_SUMMARY;
+            tmx_run(&request, out, sizeof out, report, sizeof report, next, sizeof next, &answer);
+            if (request.command == TMX_EXTRACT && answer.status == TMX_DONE) {
+                memcpy(kept, next, answer.checkpoint_length);
+                request.checkpoint.length = answer.checkpoint_length;
+            }
+        }
+    }
+    return unused;
+}
+
+/* A thread with a stack of its own, which is painted before and looked at afterwards. */
+static int stack(struct octets settings, struct octets recording, size_t size) {
+    const uint8_t paint = 0xa5;
+    const size_t guard = 65536;
+    uint8_t *below = mmap(NULL, guard + size, PROT_READ | PROT_WRITE, MAP_PRIVATE | MAP_ANONYMOUS, -1, 0), *area = below + guard;
+    pthread_attr_t attributes;
+    pthread_t thread;
+    size_t untouched = 0;
+    if (below == MAP_FAILED || mprotect(below, guard, PROT_NONE) != 0) return 3;
+    memset(area, paint, size);
+    deep_settings = settings;
+    deep_recording = recording;
+    definition = most_rows();
+    if (pthread_attr_init(&attributes) != 0 || pthread_attr_setstack(&attributes, area, size) != 0) return 8;
+    if (pthread_create(&thread, &attributes, calls_on_it, NULL) != 0 || pthread_join(thread, NULL) != 0) return 9;
+    while (untouched < size && area[untouched] == paint) untouched++;
+    printf("%zu\n", size - untouched);
+    free(definition.at);
+    return munmap(below, guard + size);
+}
+
+/* The least time of a call over no octets, in microseconds. */
+static double least_of(struct octets settings, uint32_t command, long times) {
+    uint8_t out[65536], report[1], kept[4096];
+    struct tmx_request request = {lent(settings), {kept, 0}, {kept, 0}, lent(definition), command, application, 0};
+    struct tmx_answer answer;
+    struct timespec begin, end;
+    double least = 1e9;
+    for (long k = 0; k < times; k++) {
+        double time;
+        clock_gettime(CLOCK_MONOTONIC, &begin);
+        if (tmx_run(&request, out, sizeof out, report, sizeof report, kept, sizeof kept, &answer) != TMX_DONE) exit(7);
+        clock_gettime(CLOCK_MONOTONIC, &end);
+        time = 1e6 * (double)(end.tv_sec - begin.tv_sec) + 1e-3 * (double)(end.tv_nsec - begin.tv_nsec);
+        if (time < least) least = time;
+    }
+    return least;
+}
+
+static int rows(struct octets settings, long times) {
+    double plain = least_of(settings, TMX_EXTRACT, times), one = least_of(settings, TMX_FIELDS, times);
+    definition = most_rows();
+    printf("extract %.1f microseconds, fields %.1f with a row and %.1f with 1000\n", plain, one, least_of(settings, TMX_FIELDS, times));
+    free(definition.at);
+    return 0;
+}
+
 /* The whole recording, once: seconds, and how many calls it took. Rooms are large enough, and stay. */
 static double round_of(struct octets settings, struct octets recording, size_t size, struct octets rooms[4], size_t *calls) {
     struct tmx_answer answer = {0};
@@ -226,6 +362,8 @@ int main(int argc, char **argv) {
     if (strcmp(argv[1], "chunks") == 0) status = chunks(settings, recording, (size_t)atol(argv[2]));
     if (strcmp(argv[1], "hostile") == 0) status = hostile(settings, recording);
     if (strcmp(argv[1], "many") == 0) status = many(settings, recording, atol(argv[2]));
+    if (strcmp(argv[1], "stack") == 0) status = stack(settings, recording, (size_t)atol(argv[2]));
+    if (strcmp(argv[1], "rows") == 0) status = rows(settings, atol(argv[2]));
     if (strcmp(argv[1], "speed") == 0) status = speed(settings, recording, (size_t)atol(argv[2]));
     free(settings.at);
     free(recording.at);

@@ -96,6 +96,7 @@ def main(program, library, rounds):
     run = engine.load_library(library)
     pathlib.Path("definition").write_bytes(DEFINITION)
     failed = 0
+    print("plan 2", flush=True)
     for name, found in (
         (f"{rounds} random recordings in random chunks give what one run gives", [it for k in range(int(rounds)) for it in differences(program, run, 7000 + k)]),
         ("the library's checkpoint is the program's", [*checkpoints(program, run, HERE.parent / "example")]),

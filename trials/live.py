@@ -27,6 +27,7 @@ from contextlib import suppress
 from pathlib import Path
 
 import reference
+from passes import Passes
 
 COMMANDS = ("frames", "packets", "extract", "fields", "split")
 JOBS = COMMANDS[1:]
@@ -173,6 +174,8 @@ class Run:
         """Waits until something is so. Whether it is before the program has waited for two seconds, or has ended."""
         begun = waiting = time.monotonic()
         while not is_done():
+            if self.has_ended():
+                return is_done()
             now = time.monotonic()
             if not self.has_stopped():
                 waiting = now
@@ -192,9 +195,12 @@ class Run:
         """Whether the program has read all that was fed, and sleeps."""
         return self.has_read_all() and self.state() == "S"
 
+    def has_ended(self):
+        return self.process.returncode is not None or self.state() == "Z"
+
     def has_stopped(self):
         """Whether nothing can come any more, but by further input."""
-        return self.process.returncode is not None or self.state() == "Z" or self.feeder is not None and self.is_waiting()
+        return self.has_ended() or self.feeder is not None and self.is_waiting()
 
     def differs(self, wanted):
         """What is wrong with what has come within two seconds, or comes until the program waits for more."""
@@ -408,7 +414,8 @@ def most_writes(command, name, octets):
 def few_writes(trials):
     """Over a file that is given by name each output is written where its buffer is full, and at the end."""
     if not os.access("/proc/self/io", os.R_OK):
-        print("note the system doesn't say how many calls write")
+        for command in COMMANDS:
+            print(f"SKIPPED: {command} of a file by its name writes no more often than its buffers are full: no /proc/self/io")
         return
     octets = (trials.example / "pass.rec").read_bytes() * 20
     Path("copies.rec").write_bytes(octets)
@@ -425,6 +432,15 @@ def few_writes(trials):
         print(f"note {command} of {len(octets)} octets: {found} calls that write, of {most} at the most")
 
 
+def recorded(trials):
+    """What README.md says of a pass in progress."""
+    octets, settings = trials.recording.octets, Path("live.toml").read_bytes()
+    by_half, wanted = trials.recording.states["packets"][RECORDS // 2]["out"], trials.recording.closed["packets"]
+    Passes(trials.tmx, trials.tell, settings, octets).watched("a pass is watched while it is recorded", by_half, wanted)
+    settings = (trials.example / "settings.toml").read_bytes()
+    Passes(trials.tmx, trials.tell, settings, (trials.example / "pass.rec").read_bytes() * 20).with_faults()
+
+
 def killed_trial(trials, command, records):
     """SIGKILL while a run waits behind so many records. The next run goes on from the checkpoint that stands."""
     done, states = 10, trials.recording.states[command]
@@ -438,7 +454,8 @@ def killed_trial(trials, command, records):
         wrong = "" if run.until(Path("c.new").exists) else "no c.new is made while the run waits"
         wrong = wrong or run.differs(state)
         run.process.kill()
-        run.process.wait()
+        if run.process.wait() != -signal.SIGKILL:
+            wrong = wrong or f"status {run.process.returncode} before it is killed"
     wrong = wrong or left_by(trials.recording.checkpoints[done], b"")
     trials.begin_behind(states[done])
     with open("run/out", "wb") as out:
@@ -484,6 +501,7 @@ def waiting(trials):
     trials.unwritten(False)
     trials.unwritten(True)
     few_writes(trials)
+    recorded(trials)
 
 
 def killed(trials):
@@ -495,7 +513,9 @@ def killed(trials):
 
 def main(words):
     trials = Trials(*words[:3])
-    {"waiting": waiting, "killed": killed}[words[3]](trials)
+    make, planned = {"waiting": (waiting, 67), "killed": (killed, 12)}[words[3]]
+    print(f"plan {planned}", flush=True)
+    make(trials)
     return 1 if trials.failed else 0
 
 

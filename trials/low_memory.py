@@ -5,7 +5,7 @@
 
 LIBRARY is for LD_PRELOAD: it refuses the request whose number the variable REFUSED has, the first being 1, and makes a file `refused`
 when it does.  DEFINITION is fields.csv, and CASE a command, `waiting` (`split` of standard input, which may wait), `help`, or a fault:
-`unknown` or `missing`.  A run has to end with status 3 and its line,
+`unknown`, `missing` or `clash`.  A run has to end with status 3 and its line,
 or just as it does with all memory; what that gives is worked out by reference.py, but for the help.  After status 3 each output has a
 prefix of what belongs there, in whole lines or packets; the files of `split`, but for one at the most, have just the packets before one
 place; an older checkpoint is as it was; and there is no further file.  Prints how many requests there are, and how many of them gave status 3; the status is 1
@@ -46,6 +46,8 @@ class Case:
     ending: tuple = (0, b"")
     # What standard input is.
     feeder: str = os.devnull
+    # Links in the folder of the run, and what they lead to.
+    links: dict = field(default_factory=dict)
 
 
 def text_of(lines):
@@ -117,6 +119,11 @@ class Known:
         """A fault with the name of a file."""
         return Case([self.tmx, "packets", "--settings", self.file, "missing.rec"], ending=(1, b"tmx: missing.rec: failed\n"))
 
+    def clash(self):
+        """The fault of a report that is a link to the checkpoint, which isn't there yet. It doesn't come where the link is taken for none."""
+        words = self.words("packets", "--report", "later", "--checkpoint", "unmade")
+        return Case(words, ending=(1, b"tmx: later: failed\n"), links={"later": "unmade"})
+
 
 def is_prefix(found, whole, ends=None):
     """Octets are a prefix of others: of whole lines, or of one of these lengths."""
@@ -164,14 +171,16 @@ def attempt(case, library, number):
         path = Path(folder)
         (path / "split").mkdir()
         (path / "checkpoint").write_bytes(OLDER)
+        for link, target in case.links.items():
+            (path / link).symlink_to(target)
         more = {**os.environ, "LD_PRELOAD": library, "REFUSED": str(number)}
         with open(case.feeder, "rb") as feeder:
             ran = subprocess.run(case.words, stdin=feeder, capture_output=True, cwd=folder, env=more, check=False)
         ending, names = (ran.returncode, ran.stderr), {it.name for it in path.iterdir()}
         report = (path / "report").read_bytes() if "report" in names else b""
         given = ran.stdout, report, (path / "checkpoint").read_bytes(), files_of(path / "split")
-        if names - FILES:
-            wrong = f"there is {', '.join(names - FILES)}"
+        if added := names - FILES - case.links.keys():
+            wrong = f"there is {', '.join(added)}"
         elif ending == case.ending:
             wrong = wrong_when_whole(case, *given)
         elif ending == OUT_OF_MEMORY and "refused" in names:

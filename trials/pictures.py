@@ -8,7 +8,7 @@ that a picture says on hover are counted again from the lines.  Each mark has to
 each part of a band has to show the worst of them.  The marks of a bad frame light up together, and say in which bands they
 stand.  The highest bar of each row bears its number, and bars stand apart from the band below.  Texts must not lie over each
 other.  The colour-blind have to tell the colours apart.  Alters lines, and has each such input refused with one line that
-names file and line.  Prints a line `ok ..` or `FAILED: ..` for each.  Works in the current folder.
+names file and line.  Prints a line `ok ..` or `FAILED: ..` for each, behind `plan N` for all.  Works in the current folder.
 """
 
 import os
@@ -424,6 +424,7 @@ def refused(name, frames, report, wanted):
 
 
 def main(records):
+    print("plan 43", flush=True)
     lines = "spacecraft = 5\nframe_length = 300\nerror_control = true\nmax_packet = 3007\n"
     Path("settings").write_text(lines, encoding="ascii")
     for trial in refusals(*pictures(reference.Settings("settings"), int(records))):

@@ -1,13 +1,13 @@
 #!/usr/bin/env python3
-"""docs/PROVED.md and the tree agree.
+"""docs/PROVED.md and the tree agree, and each link of each page leads somewhere.
 
 A promise is an entry: a heading, what it promises, and the parts **Means:**, **Clauses:** and **Guards:**. The first part may be missing.
 The entries stand before the section on what is only tested, each in the section of a crate.
 
-What the page names has to be there: the files and headings that it links to; the definitions, in the file of specs/ that is linked; the
-functions, in the file of src/ that is linked, and the clauses at them, at least one if none is named; the planted bugs, in their crate's
-must-fail/; the tests, in their file; and the groups of trials, in theirs. The same goes for the functions, planted bugs, their clauses and
-the trials of the section on what the contracts let through.
+What the page names has to be there: the definitions, in the file of specs/ that is linked; the functions, in the file of src/ that is
+linked, and the clauses at them, at least one if none is named; the planted bugs, in their crate's must-fail/; the tests, in their file; and
+the groups of trials, in theirs. The same goes for the functions, planted bugs, their clauses and the trials of the section on what the
+contracts let through. The files and headings that this page or any other links to have to be there too.
 
 An entry has to name each file of must-fail/, each test, and each public function that has a contract. Each heading has an anchor of its
 own, and no line is over 160 columns.
@@ -188,16 +188,26 @@ def slug(heading):
     return re.sub(r"[^\w\- ]", "", heading.strip("# ").lower()).replace(" ", "-")
 
 
-def wrong_links(text):
-    """Links that lead to no file, or to no heading of it; and links to another crate's file under a name that doesn't say so."""
-    for name, target in LINK.findall(text):
+def anchors_in(text):
+    """The anchors of a page's headings. A comment in a block of code is none."""
+    return [slug(it) for it in re.findall(r"^#+ .*$", re.sub(r"^```.*?^```", "", text, flags=re.M | re.S), re.M)]
+
+
+def pages():
+    """The pages for readers."""
+    return sorted([*ROOT.glob("*.md"), *ROOT.glob("*/*.md")])
+
+
+def wrong_links(page):
+    """Links of a page that lead to no file, or to no heading of it; and links to another crate's file under a name that doesn't say so."""
+    for name, target in LINK.findall(page.read_text(encoding="utf-8")):
         if target.startswith("http"):
             continue
         place, _, anchor = target.partition("#")
-        path = (PAGE.parent / place).resolve() if place else PAGE
+        path = (page.parent / place).resolve() if place else page
         if not path.exists():
             yield f"{target} is not there"
-        elif anchor and anchor not in map(slug, re.findall(r"^#+ .*$", path.read_text(encoding="utf-8"), re.M)):
+        elif anchor and anchor not in anchors_in(path.read_text(encoding="utf-8")):
             yield f"{target} has no such heading"
         elif "/" in name and path.is_relative_to(CRATES) and name.split("/")[0] != path.relative_to(CRATES).parts[0]:
             yield f"{target} is not of {name.split('/')[0]}"
@@ -276,7 +286,7 @@ def wrong_guards(entry):
 
 def groups_of_trials():
     """The groups that hostile.sh tries."""
-    return re.search(r"groups=\$\{\*:-([^}]*)\}", (ROOT / "trials" / "hostile.sh").read_text(encoding="utf-8")).group(1).split()
+    return (ROOT / "trials" / "groups.txt").read_text(encoding="utf-8").split()
 
 
 def tests_of(text, functions):
@@ -342,7 +352,7 @@ def wrong_bodies(text, functions, groups):
 def wrong_lines(text):
     """Lines that are too long, and headings whose anchor an earlier one has."""
     yield from (f"line {number} has {len(line)} columns" for number, line in enumerate(text.splitlines(), 1) if len(line) > COLUMNS)
-    anchors = [slug(it) for it in re.findall(r"^#+ .*$", text, re.M)]
+    anchors = anchors_in(text)
     yield from (f"two headings have the anchor #{it}" for it in dict.fromkeys(anchors) if anchors.count(it) > 1)
 
 
@@ -361,7 +371,6 @@ def judge(text):
     return {
         "each entry has its parts": [f"line {entry.line} begins no whole entry" for entry in entries if not entry.is_whole()],
         "each line is short, and each heading has an anchor": list(wrong_lines(text)),
-        "each link leads somewhere": list(wrong_links(text)),
         "each definition is in its file": [f"line {entry.line}: {it}" for entry in entries for it in wrong_definitions(entry)],
         "each function and clause is in its file": [f"line {entry.line}: {it[0]}" for entry, it in clauses if it[0]],
         "each guard is one": [f"line {entry.line}: {it}" for entry in entries for it in wrong_guards(entry)],
@@ -380,12 +389,14 @@ def judge(text):
 
 
 def main():
-    found = judge(PAGE.read_text(encoding="utf-8"))
+    judged = judge(PAGE.read_text(encoding="utf-8"))
+    found = {f"PROVED.md: {what}": [f"PROVED.md: {it}" for it in faults] for what, faults in judged.items()}
+    found["each link of each page leads somewhere"] = [f"{page.relative_to(ROOT)}: {it}" for page in pages() for it in wrong_links(page)]
     for what, faults in found.items():
         for fault in dict.fromkeys(faults):
-            print(f"FAILED: PROVED.md: {fault}")
+            print(f"FAILED: {fault}")
         if not faults:
-            print(f"ok   PROVED.md: {what}")
+            print(f"ok   {what}")
     failed = sum(len(dict.fromkeys(faults)) for faults in found.values())
     print(f"{sum(not faults for faults in found.values())} passed, {failed} failed")
     return 1 if failed else 0

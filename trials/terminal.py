@@ -14,6 +14,7 @@ crates/tm_faults/src/explanation.rt.
 Prints a line `ok ..` or `FAILED: ..` for each.
 """
 
+import gzip
 import os
 import pty
 import re
@@ -21,6 +22,7 @@ import shutil
 import subprocess
 import sys
 import termios
+import threading
 from binascii import crc_hqx
 from dataclasses import dataclass
 from pathlib import Path
@@ -31,6 +33,7 @@ CRATES = HERE / "crates"
 HEADING = "\n### At a terminal\n"
 VALUE = re.compile(r"\{\w*\}|\b(?!UTF\b|TMXC\b)[A-Z]+\b")  # what stands in a text for a value
 NOBODY = 65534
+LIMIT = 30  # seconds in which a run at a terminal has to end
 
 
 @dataclass(frozen=True)
@@ -66,13 +69,45 @@ def of_files():
         Case(RESUMED.format("none.chk"), 1, "none.chk: failed", f"the checkpoint to go on from none.chk: no such file; {RIGHT}"),
         Case(r"frames --settings s.toml '\033[31m'", 1, r"\x5c033[31m: failed", rf"the recording \x5c033[31m: no such file; {RIGHT}"),
         Case("frames --settings s.toml \"$(printf 'a\\033[31m')\"", 1, r"a\x1b[31m: failed", rf"the recording a\x1b[31m: no such file; {RIGHT}"),
+        Case(
+            "frames --settings s.toml \"$(printf 'gr\\303\\266\\303\\237e-\\357\\274\\222.rec')\"",
+            1,
+            r"gr\xc3\xb6\xc3\x9fe-\xef\xbc\x92.rec: failed",
+            f"the recording größe-２.rec: no such file; {RIGHT}",
+        ),
+        Case(
+            "frames --settings s.toml \"$(printf '\\303\\266\\302\\233\\342\\200\\256.rec')\"",
+            1,
+            r"\xc3\xb6\xc2\x9b\xe2\x80\xae.rec: failed",
+            rf"the recording ö\xc2\x9b\xe2\x80\xae.rec: no such file; {RIGHT}",
+        ),
         Case(SETTINGS.format("dir"), 1, "dir: failed", "the settings dir: a folder; name a file"),
         Case(PACKETS.format("--report dir"), 1, "dir: failed", "the report dir: a folder; name a file"),
+        Case("split --settings s.toml --dir dir --report dir pass.rec", 1, "dir: failed", "the report dir: a folder; name a file"),
         Case(PACKETS.format("--checkpoint dir"), 1, "dir: failed", "the checkpoint dir: a folder; name a file"),
         Case("frames --settings s.toml ''", 1, ": failed", "the recording: an empty name; name a file"),
         Case("split --settings s.toml --dir '' pass.rec", 1, ": failed", "the folder: an empty name; name a file"),
         Case(PACKETS.format("--report no/r"), 1, "no/r: failed", "the report no/r: no such folder; make it, or name another"),
-        Case(PACKETS.format("--checkpoint no/c"), 1, "no/c: failed", "the checkpoint no/c: no such folder; make it, or name another"),
+        Case(
+            PACKETS.format("--checkpoint no/c"),
+            1,
+            "no/c: failed",
+            "the file beside the checkpoint no/c.new: no such folder; make it, or name another",
+        ),
+        Case(
+            PACKETS.format("--resume c.chk --checkpoint c.chk"),
+            1,
+            "c.chk: failed",
+            "the file beside the checkpoint c.chk.new: no permission; see with ls -l who may do it",
+            True,
+        ),
+        Case(
+            PACKETS.format("--resume shut.chk --checkpoint shut.chk"),
+            1,
+            "shut.chk: failed",
+            "the checkpoint to go on from shut.chk: no permission; see with ls -l who may do it",
+            True,
+        ),
         Case("frames --settings shut.toml pass.rec", 1, "shut.toml: failed", "the settings shut.toml: no permission; see with ls -l who may do it", True),
         Case(PACKETS.format("--report r.txt"), 1, "r.txt: failed", "the report r.txt: no permission; see with ls -l who may do it", True),
         Case(
@@ -83,6 +118,12 @@ def of_files():
         ),
         Case(SETTINGS.format("long.toml"), 2, "long.toml: too long", f"the settings long.toml: {long}"),
         Case(FIELDS.format("long.toml"), 2, "long.toml: too long", f"the definition long.toml: {long}"),
+        Case(
+            SETTINGS.format("large.toml"),
+            2,
+            "large.toml: too long",
+            "the settings large.toml: 4294967301 octets, and at most 1048576 are read; see whether it is the right file",
+        ),
         Case(SETTINGS.format("/dev/zero"), 2, "/dev/zero: too long", "the settings /dev/zero: over 1048576 octets; see whether it is the right file"),
     ]
 
@@ -120,6 +161,32 @@ def of_clashes():
             "write failed",
             "standard output would be written over the settings s.toml; name another file",
         ),
+        Case(
+            "fields --settings s.toml --definition f.csv --apid 1 --report r pass.rec >> f.csv",
+            1,
+            "write failed",
+            "standard output would be written over the definition f.csv; name another file",
+        ),
+    ]
+
+
+def of_pipes():
+    """Cases of files that are no regular ones: a pipe that nobody writes to any more would never end."""
+
+    def piped(words, file, line, said=""):
+        return Case(words, 2, line, said, before=f"cat {file} > pipe &")
+
+    return [
+        piped(SETTINGS.format("pipe"), "bad.toml", "settings: toml"),
+        piped(
+            SETTINGS.format("pipe"),
+            "missing.toml",
+            "settings: missing spacecraft",
+            "the settings pipe: spacecraft is not there; add it with a value that is an integer from 0 to 1023",
+        ),
+        piped(FIELDS.format("pipe"), "kind.csv", "definition: kind row 1"),
+        Case(FIELDS.format("/dev/stdin"), 2, "definition: kind row 1", fed="kind.csv"),
+        piped(RESUMED.format("pipe"), "short.chk", "checkpoint: short"),
     ]
 
 
@@ -139,6 +206,12 @@ def of_settings():
             2,
             "settings: toml",
             "the settings twice.toml, line 5, column 1: duplicate key; write lines key = value, each key once",
+        ),
+        Case(
+            SETTINGS.format("letter.toml"),
+            2,
+            "settings: toml",
+            "the settings letter.toml, line 3, column 20: unexpected key or value, expected newline, `#`; write lines key = value, each key once",
         ),
         Case(SETTINGS.format("latin.toml"), 2, "settings: toml", "the settings latin.toml, line 2, column 6: not UTF-8; save it as UTF-8"),
         Case(
@@ -169,6 +242,15 @@ def of_settings():
     ]
     wanted = {key: number.format(key, low, high) for key, low, high in NUMBERS}
     wanted |= {key: f"the value of {key} has to be {values}" for key, values in OTHERS.items()}
+    cases += [
+        Case(
+            SETTINGS.format(f"word-{word}.toml"),
+            2,
+            f"settings: unknown {word}",
+            f"the settings word-{word}.toml: the key may be meant for {key}; correct it, or take it out",
+        )
+        for word, key in MEANT.items()
+    ]
     return cases + [
         Case(SETTINGS.format(f"range-{key}.toml"), 2, f"settings: {'kind' if key == TRUTH else 'range'} {key}", f"the settings range-{key}.toml: {said}")
         for key, said in wanted.items()
@@ -176,6 +258,7 @@ def of_settings():
 
 
 NUMBERS = (("spacecraft", 0, 1023), ("frame_length", 9, 2048), ("skip_before", 0, 1024), ("skip_after", 0, 1024), ("max_packet", 7, 65542))
+MEANT = {"scid": "spacecraft", "vcid": "channels", "fecf": "error_control", "crc": "error_control", "asm": "skip_before", "rs": "skip_after"}
 WORDS = '"flag", "always" or "never"'
 TRUTH = "error_control"
 OTHERS = {"secondary": WORDS, "ocf": WORDS, TRUTH: "true or false", "channels": "an array of distinct integers from 0 to 7, at least one"}
@@ -189,16 +272,25 @@ def of_definitions():
 
     return [
         refused("lengths", "csv", ": row 2 has 2 values, and the heading 3; give each line as many, and quote a value with a comma"),
+        refused("short-rows", "csv", ": row 1 has 2 values, and the heading 3; give each line as many, and quote a value with a comma"),
+        refused("empty", "column name", ": the heading is empty; write name,data_type,bit_length there"),
+        refused("semicolons", "column name", ": semicolons part the heading; part all values by commas"),
         refused("column", "column bit_length", ": the heading has the columns name, data_type, bits; name bit_length there"),
         refused("columns", "column name", ": the heading has the columns name, name, data_type, bit_length; name name there once"),
         refused("kind", "kind row 1", ", field a: uint8 is no data_type; write uint, int, float, str or fill"),
         refused("array", "array row 1", ", field a: uint(4) is an array; write a row for each element"),
-        refused("uint", "bits row 2", ", field b: bit_length is 70; of type uint it is 1 to 64"),
-        refused("float", "bits row 1", ", field a: bit_length is 8; of type float it is 16, 32 or 64"),
-        refused("str", "bits row 1", ", field a: bit_length is 9; of type str it is a multiple of 8 from 8 to 524336"),
-        refused("fill", "bits row 1", ", field a: bit_length is 0; of type fill it is 1 to 524336"),
-        refused("offset", "offset row 1", ", field a: bit_offset x is no number, or the 8 bits end behind bit 524336; write a number, or leave it out"),
+        refused("uint", "bits row 2", ", field b: bit_length is 70; of type uint it is 1 to 64, in one to nine digits"),
+        refused("feed", "bits row 1", r", field \x0ca: bit_length is 70; of type uint it is 1 to 64, in one to nine digits"),
+        refused("float", "bits row 1", ", field a: bit_length is 8; of type float it is 16, 32 or 64, in one to nine digits"),
+        refused("str", "bits row 1", ", field a: bit_length is 9; of type str it is a multiple of 8 from 8 to 524336, in one to nine digits"),
+        refused("fill", "bits row 1", ", field a: bit_length is 0; of type fill it is 1 to 524336, in one to nine digits"),
+        refused(
+            "offset",
+            "offset row 1",
+            ", field a: bit_offset 0000000008 is not one to nine digits, or the 8 bits end behind bit 524336; correct it, or leave it out",
+        ),
         refused("names", "name row 3", ", field a: row 1 has this name, too; give each field its own"),
+        refused("filler", "name row 3", ", field a: row 2 has this name, too; give each field its own"),
         refused("nameless", "name row 1", ": the row has no name; give the field one"),
         refused("many", "too many", ": 1001 fields, and at most 1000 are read; split the definition over two runs"),
     ]
@@ -232,6 +324,19 @@ def of_checkpoints():
     give = "give the recording of the checkpoint, from its beginning"
     shorter = "recording is shorter than the checkpoint"
     return cases + [
+        Case(
+            "packets --settings s.toml --resume oldest.chk short.rec",
+            2,
+            shorter,
+            f"the recording short.rec: 78 records, and 100 of them are done in the checkpoint to go on from oldest.chk; {give}",
+        ),
+        Case(
+            "packets --settings other-max_packet.toml --resume oldest.chk pass.rec",
+            2,
+            "checkpoint: settings",
+            "the checkpoint to go on from oldest.chk: max_packet is 65542 there, and 100 in the settings other-max_packet.toml;"
+            " take the settings that it was written with",
+        ),
         Case(f"{resume} short.rec", 2, shorter, f"the recording short.rec: 78 records, and 100 of them are done in {done}; {give}"),
         Case(f"{resume} < short.rec", 2, shorter, f"standard input: 78 records, and 100 of them are done in {done}; {give}"),
         Case(resume, 2, shorter, f"standard input: fewer than the 100 records that are done in {done}; {give}", fed="short.rec"),
@@ -274,6 +379,26 @@ def of_runs():
         Case("split --settings s.toml --dir s.toml pass.rec", 1, "write failed", "the folder s.toml: not a folder; name one that is there"),
         Case("split --settings s.toml --dir full --report /dev/null pass.rec", 1, "write failed", f"the folder full: {full}"),
         Case(
+            "split --settings s.toml --dir blocked --report /dev/null pass.rec",
+            1,
+            "write failed",
+            "a file of packets blocked/apid-0100.pkt: Is a directory (os error 21); take it away, or name another folder",
+        ),
+        Case(
+            "split --settings s.toml --dir shut --report /dev/null pass.rec",
+            1,
+            "write failed",
+            "a file of packets shut/apid-0100.pkt: Permission denied (os error 13); take it away, or name another folder",
+            True,
+        ),
+        Case(
+            "split --settings s.toml --dir dir --report /dev/null pass.rec",
+            1,
+            "write failed",
+            "the folder dir: no permission; see with ls -l who may do it",
+            True,
+        ),
+        Case(
             "packets --settings tiny.toml --resume last.chk many.rec",
             1,
             "too many records",
@@ -304,6 +429,10 @@ def of_bad_frames():
         Case("frames --settings s.toml pass.rec", 0),
         Case("extract --settings s.toml --report /dev/null pass.rec", 0),
         Case(f"extract {quiet}", 0),
+        Case("frames --settings s.toml pass.rec.gz", 0, said="the recording pass.rec.gz: packed by gzip; unpack it first"),
+        Case("frames --settings s.toml pass.rec.zst", 0, said="the recording pass.rec.zst: packed by zstd; unpack it first"),
+        Case("frames --settings s.toml < pass.rec.gz", 0, said="standard input: packed by gzip; unpack it first"),
+        Case("frames --settings tiny.toml pipe", 0, said=said.format(3), before="cat head.gz > pipe &"),
     ]
 
 
@@ -323,6 +452,9 @@ def make_settings():
         Path(f"{name}.toml").write_text("".join(lines), encoding="utf-8")
 
     Path("bad.toml").write_text("spacecraft = 42\nframe_length == 256\n", encoding="utf-8")
+    Path("letter.toml").write_text('spacecraft = 42\n# é\nframe_length = "é" 3\n', encoding="utf-8")
+    with open("large.toml", "wb") as file:
+        file.truncate(2**32 + 5)
     Path("latin.toml").write_bytes(b"spacecraft = 42\n# caf\xe9\n")
     Path("long.toml").write_bytes(b"\n" * 1048577)
     write("s")
@@ -338,6 +470,8 @@ def make_settings():
         write(f"range-{key}", **{key: value})
     for key, _, here in DIFFERENT:
         write(f"other-{key}", **{key: here})
+    for word in MEANT:
+        write(f"word-{word}", **{word: "1"})
     write("shut")
     os.chmod("shut.toml", 0)
 
@@ -346,16 +480,21 @@ def make_definitions():
     heading = "name,data_type,bit_length"
     texts = {
         "lengths": f"{heading}\na,uint,8\nb,uint\n",
+        "short-rows": f"{heading}\na,uint\nb,uint,8\nc\n",
+        "empty": "",
+        "semicolons": "name;data_type;bit_length\na;uint;8\n",
         "column": "name,data_type,bits\na,uint,8\n",
         "columns": "name,name,data_type,bit_length\na,b,uint,8\n",
         "kind": f"{heading}\na,uint8,8\n",
         "array": f"{heading}\na,uint(4),8\n",
         "uint": f"{heading}\na,uint,8\n b ,uint, 70\n",
+        "feed": f"{heading}\n\fa,uint,70\n",
         "float": f"{heading}\na,float,8\n",
         "str": f"{heading}\na,str,9\n",
         "fill": f"{heading}\na,fill,0\n",
-        "offset": f"{heading},bit_offset\na,uint,8,x\n",
+        "offset": f"{heading},bit_offset\na,uint,8,0000000008\n",
         "names": f"{heading}\na,uint,8\nb,uint,8\na,uint,8\n",
+        "filler": f"{heading}\na,fill,8\na,uint,8\na,uint,8\n",
         "nameless": f"{heading}\n,uint,8\n",
         "many": f"{heading}\n" + "".join(f"f{at},uint,8\n" for at in range(1001)),
     }
@@ -367,6 +506,10 @@ def make_checkpoints():
     """A checkpoint of 100 records, and others with one thing wrong."""
     subprocess.run("./tmx packets --settings s.toml --checkpoint c.chk --stop-after 100 pass.rec", shell=True, capture_output=True, check=True)
     octets = Path("c.chk").read_bytes()
+    shutil.copy("c.chk", "shut.chk")
+    os.chmod("shut.chk", 0)
+    line = [sys.executable, HERE / "trials" / "reference.py", "keep", "s.toml", "pass.rec", "100", "1"]
+    Path("oldest.chk").write_bytes(subprocess.run(line, capture_output=True, check=True).stdout)
     inner = octets[:-2]
     wrong = {
         "short": octets[:20],
@@ -391,8 +534,16 @@ def make_folder(tmx):
     shutil.copy(tmx, "tmx")
     os.chmod("tmx", 0o755)  # so that nobody can run it, too
     Path("short.rec").write_bytes(Path("pass.rec").read_bytes()[: 78 * 256 + 32])
-    for name in ("dir", "packets", "full"):
+    Path("pass.rec.gz").write_bytes(gzip.compress(Path("pass.rec").read_bytes()))
+    Path("pass.rec.zst").write_bytes(bytes.fromhex("28b52ffd") + Path("pass.rec").read_bytes())
+    Path("head.gz").write_bytes(bytes.fromhex("1f8b08000000000000") * 3)
+    os.mkfifo("pipe")
+    for name in ("dir", "packets", "full", "blocked", "shut"):
         os.mkdir(name)
+    os.mkfifo("blocked/apid-0000.pkt")
+    os.mkdir("blocked/apid-0100.pkt")
+    Path("shut/apid-0100.pkt").touch(0)
+    os.chmod("shut", 0o777)
     os.link("pass.rec", "link.rec")
     shutil.copy("pass.rec", "packets/apid-0100.pkt")
     for application in range(2048):
@@ -429,14 +580,18 @@ def in_pipe(case):
     return program.wait(), said
 
 
-def at_terminal(case):
-    """The status of a case, and what it says to a terminal."""
+def at_terminal(case, typed=b""):
+    """The status of a case, and what it says to a terminal, at which this is typed."""
     reading, errors = pty.openpty()
     form = termios.tcgetattr(errors)
     form[1] &= ~termios.OPOST
+    form[3] &= ~termios.ECHO
     termios.tcsetattr(errors, termios.TCSANOW, form)
+    os.write(reading, typed)
     program = start(case, errors)
     os.close(errors)
+    limit = threading.Timer(LIMIT, program.kill)
+    limit.start()
     said = b""
     while True:
         try:
@@ -447,6 +602,7 @@ def at_terminal(case):
             break
         said += octets
     os.close(reading)
+    limit.cancel()
     return program.wait(), said
 
 
@@ -472,15 +628,25 @@ def mistake(case):
 
 
 def report_mistake():
-    """What is wrong where the report goes to the terminal: it says that all frames are bad, so nothing more is said."""
-    case = Case("packets --settings other-spacecraft.toml pass.rec", 0)
+    """What is wrong where the report goes to the terminal: it says that all frames are bad, so only that a recording is packed is said."""
+    case, packed = Case("packets --settings other-spacecraft.toml pass.rec", 0), Case("packets --settings s.toml pass.rec.gz", 0)
     piped, seen = in_pipe(case), at_terminal(case)
-    return "" if piped == seen and piped[1].count(b"bad record=") == 300 else f"{piped}, {seen}"
+    if piped != seen or piped[1].count(b"bad record=") != 300:
+        return f"{piped}, {seen}"
+    piped, seen = in_pipe(packed), at_terminal(packed)
+    wanted = piped[1] + b"  the recording pass.rec.gz: packed by gzip; unpack it first\n"
+    return "" if seen == (0, wanted) else f"{seen}, wanted {wanted}"
+
+
+def typed_mistake():
+    """What is wrong where the settings are typed at the terminal, if anything: it would wait for more to be typed."""
+    found = at_terminal(Case(SETTINGS.format("/dev/stderr"), 2), b"spacecraft\n\x04")
+    return "" if found == (2, b"tmx: settings: toml\n") else str(found)
 
 
 def word_mistake():
-    """What is wrong with the words that are not UTF-8, if anything."""
-    case = Case("frames --settings s.toml \"$(printf 'caf\\351.rec')\"", 2, "")
+    """What is wrong with the words that are not UTF-8, if anything. A word that is too long to be looked at comes before."""
+    case = Case("frames --settings $(printf %05000d 0) \"$(printf 'caf\\351.rec')\"", 2, "")
     text = b"error: the arguments are not UTF-8\n\nFor more information, try '--help'.\n"
     said = b"  word 4, caf\\xe9.rec, is not UTF-8; rename the file, or give the recording to standard input: < FILE\n"
     found = in_pipe(case), at_terminal(case)
@@ -547,10 +713,12 @@ def main():
     os.mkdir("terminal")
     os.chdir("terminal")
     make_folder(tmx)
-    cases = of_files() + of_clashes() + of_settings() + of_definitions() + of_checkpoints() + of_runs() + of_bad_frames()
+    cases = of_files() + of_clashes() + of_pipes() + of_settings() + of_definitions() + of_checkpoints() + of_runs() + of_bad_frames()
+    print(f"plan {len(cases) + 6}", flush=True)
     for case in cases:
         tell(f"terminal: {case.words}", mistake(case))
     tell("terminal: a report that goes there", report_mistake())
+    tell("terminal: settings that are typed there", typed_mistake())
     tell("terminal: words that are not UTF-8", word_mistake())
     tell("terminal: memory that runs out", memory_mistake())
     tell("terminal: the table of FORMATS.md is that of the code", table_mistake())

@@ -2,5 +2,6 @@
 # Group `arguments`: what the docs say of the words of the command line, beside what help says.
 
 arguments() {
-    take_lines < <(python3 "$here/arguments.py" "$tmx" 2>&1)
+    part arguments.py python3 "$here/arguments.py" "$tmx"
+    plan 1
 }

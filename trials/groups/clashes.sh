@@ -63,6 +63,8 @@ clashes() {
     errors_clashes
     split_clashes
     no_clashes
+    one_number
+    plan 193
 }
 
 report_clashes() {
@@ -191,4 +193,15 @@ no_clashes() {
     tell "split with standard output closed: all of it" "$(diff -r expected/split own/d 2>&1)"
     no_clash "split with the recording in its folder" "cp own/z.rec own/d/apid-0099.pkt; $tmx split --settings own/s.toml --dir own/d --report own/r own/d/apid-0099.pkt"
     tell "split with the recording in its folder: it is as it was" "$(cmp "$rec" own/d/apid-0099.pkt)"
+}
+
+# Two files that have one number, each on a device of its own, are two.
+one_number() {
+    local said
+    said=$(python3 "$here/one_number.py" "$tmx" "$s" "$rec" expected 2>&1)
+    case $? in
+    0) ok "a recording and a report that have one number on two devices" ;;
+    3) skip 1 "a recording and a report that have one number on two devices" "$said" ;;
+    *) no "a recording and a report that have one number on two devices: $said" ;;
+    esac
 }

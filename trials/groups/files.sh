@@ -19,7 +19,7 @@ files() {
     names
     for seed in 1 2 3 4; do
         for octets in 1 40 3000 1048576; do
-            python3 "$here/reference.py" make random $seed $octets >junk
+            python3 "$here/reference.py" make random $seed $octets >junk || no "junk isn't made"
             refused "settings of $octets random octets, seed $seed" "tmx: settings: (toml|missing spacecraft)" "$tmx packets --settings junk $rec"
             refused "definition of $octets random octets, seed $seed" "tmx: definition: (csv|column name)" "$tmx fields --settings $s --definition junk --apid 1 $rec"
             refused "checkpoint of $octets random octets, seed $seed" "tmx: checkpoint: (short|magic)" "$packets --resume junk $rec"
@@ -51,12 +51,13 @@ files() {
     nested_settings
     altered_checkpoints
     two_checkpoints
+    plan 95
 }
 
 # Settings that are as deep or as many as 1 MiB allows.
 nested_settings() {
     local name
-    python3 - <<'END'
+    python3 - <<'END' || no "the deep settings aren't made"
 most = 1048576
 def text(name, octets):
     open(name, "w").write(octets[:most])
@@ -78,7 +79,7 @@ END
         growing_key quote comment digits; do
         refused "settings of 1 MiB: $name" "tmx: settings: (toml|unknown .*|missing spacecraft|kind spacecraft)" "$tmx packets --settings $name $rec"
     done
-    python3 - <<'END'
+    python3 - <<'END' || no "the long definitions aren't made"
 most = 1048576
 def text(name, octets):
     open(name, "w").write(octets[:most])
@@ -101,13 +102,13 @@ altered_checkpoints() {
         cp "$rec" c
         cp "$rec" c.new
         gives "a checkpoint after $records records" 0 "" "$packets --report r --checkpoint c --stop-after $records $rec"
-        python3 "$here/reference.py" keep "$s" "$rec" $records 3 >c3
+        python3 "$here/reference.py" keep "$s" "$rec" $records 3 >c3 || no "c3 isn't made"
         tell "a checkpoint after $records records: the known octets" "$(cmp c c3 2>&1)"
         altered_checkpoint $records "$s" c
     done
     grep -v '^max_packet' "$s" >plain.toml
     for version in 1 2; do
-        python3 "$here/reference.py" keep plain.toml "$rec" 150 $version >c
+        python3 "$here/reference.py" keep plain.toml "$rec" 150 $version >c || no "c isn't made"
         gives "a checkpoint of version $version" 0 "" "$tmx packets --settings plain.toml --resume c --report r $rec"
         altered_checkpoint "150, version $version" plain.toml c
     done
@@ -115,14 +116,15 @@ altered_checkpoints() {
 
 # The records, the settings and the checkpoint.
 altered_checkpoint() {
-    local said
-    if said=$(python3 "$here/checkpoints.py" "$tmx" "$2" "$rec" "$3" 2>&1); then ok "after $1 records: $said"; else no "after $1 records: $said"; fi
+    says "after $1 records" python3 "$here/checkpoints.py" "$tmx" "$2" "$rec" "$3"
 }
 
 # A job goes on from the file of --resume, whatever that of --checkpoint has.
 two_checkpoints() {
     local records
-    for records in 100 150 190; do python3 "$here/reference.py" keep "$s" "$rec" $records 3 >after$records; done
+    for records in 100 150 190; do
+        python3 "$here/reference.py" keep "$s" "$rec" $records 3 >after$records || no "after$records isn't made"
+    done
     cp after100 c
     gives "from one checkpoint to another" 0 "" "$packets --report r --resume after150 --checkpoint c --stop-after 40 $rec"
     tell "from one checkpoint to another: the known octets" "$(cmp c after190 2>&1)"

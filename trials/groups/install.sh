@@ -20,26 +20,28 @@ runs_there() {
     (cd "$1" && ./bin/tmx packets --settings $page/settings.toml --report "$folder/r" $page/pass.rec) 2>&1 | cmp - expected/packets 2>&1
 }
 
-# The manual page as a reader shows it that is there, without bold and underlined letters; its source where none is.
+# The manual page as a reader shows it that is there, without bold and underlined letters. The status is 1 where none is.
 show_page() {
-    if command -v mandoc; then
+    if command -v mandoc >/dev/null; then
         mandoc -T ascii "$1"
     elif man --version | grep -q '^man '; then
         man -l "$1"
-    elif command -v groff; then
+    elif command -v groff >/dev/null; then
         zcat -f "$1" | GROFF_NO_SGR=1 groff -mandoc -T ascii
     else
-        zcat -f "$1"
-    fi 2>/dev/null | sed $'s/.\b//g'
+        return 1
+    fi >shown 2>/dev/null
+    sed $'s/.\b//g' shown >page
 }
 
-# What is missing in a manual page.
-page_lacks() {
+# The name of a trial, and a manual page: a reader shows it, with these words.
+page_is_read() {
     local word
-    show_page "$1" >page
-    for word in "EXIT STATUS" summary stop-after max_packet; do
-        grep -q -- "$word" page || echo "no $word"
-    done
+    if ! show_page "$2"; then
+        skip 1 "$1" "no mandoc, man or groff"
+        return
+    fi
+    tell "$1" "$(for word in "EXIT STATUS" summary stop-after max_packet; do grep -q -- "$word" page || echo "no $word"; done)"
 }
 
 # What is refused: status, and one line that says why; and nothing is made.
@@ -66,7 +68,7 @@ by_prefix() {
     stands "a place" >before
     gives "install below a prefix" 0 "" "umask 077; tree/install --prefix '$to'"
     tell "the installed program runs on the installed example" "$(runs_there "$to")"
-    tell "the installed manual page can be read" "$(page_lacks "$to/share/man/man1/tmx.1")"
+    page_is_read "the installed manual page can be read" "$to/share/man/man1/tmx.1"
     tell "the list names what was installed" "$(cd "$to" && sed -n 's/^file \S* //p' share/doc/tmx/installed-files |
         sort | diff - <(find . -type f -printf '%P\n' | grep -v /installed-files | LC_ALL=C sort))"
     tell "all may read what was installed, and run the program" \
@@ -95,6 +97,17 @@ foreign_files() {
         "$(find q ! -type d | sort | diff - <(printf '%s\n' q/share/doc/tmx/{README.md,example/foreign}))"
 }
 
+# A link where the program stood, to that program: it is somebody else's too.
+foreign_link() {
+    tree/install --prefix k >/dev/null
+    mv k/bin/tmx copy
+    ln -s "$PWD/copy" k/bin/tmx
+    gives "install over a link to the program" 1 "install: $PWD/k/bin/tmx is there, and ./install didn't put it there" "tree/install --prefix k"
+    gives "removal beside a link to the program" 0 "install: $PWD/k/bin/tmx stays: it was changed" "tree/install --remove --prefix k"
+    tell "removal beside a link to the program: it stays, and nothing else" \
+        "$(find k ! -type d ! -lname "$PWD/copy"; [ -L k/bin/tmx ] || echo "no link")"
+}
+
 # A newer installation in the place of an older one, whose list knows a further sum: nothing of it stays.
 newer() {
     tree/install --prefix n >/dev/null
@@ -109,16 +122,42 @@ newer() {
     tell "removal of newer files: nothing is left" "$(ls -d n 2>/dev/null)"
 }
 
-# Installations that are ended by a signal: what they put can be taken away, and nothing is left.
+# A tool of this name that has its caller ended by a signal, once it was called so many times. `cp` has then copied ten octets.
+ending_tool() {
+    rm -rf stops
+    mkdir stops
+    cat >"stops/$1" <<END
+#!/bin/bash
+echo >>"$PWD/stops/calls"
+"$(command -v "$1")" "\$@" || exit
+[ "\$(wc -l <"$PWD/stops/calls")" = $2 ] || exit 0
+[ $1 != cp ] || truncate -s 10 "\${!#}"
+kill -TERM \$PPID
+END
+    chmod 755 "stops/$1"
+}
+
+# What is wrong with an installation that is ended so. Its list names what it put, which can be taken away.
+wrong_end() {
+    local list=share/doc/tmx/installed-files status=0
+    PATH=$PWD/stops:$PATH tree/install --prefix e >out 2>&1 || status=$?
+    [ "$status $(wc -l <stops/calls)" = "1 $1" ] || echo "it doesn't end there: status $status: $(cat out)"
+    echo $list >known
+    [ ! -e e/$list ] || sed -n 's/^file \S* //p' e/$list >>known
+    [ ! -e e ] || find e -type f -printf '%P\n' | grep -vxFf known
+    [ ! -e e/$list ] || { tree/install --remove --prefix e >/dev/null; } 2>&1
+    [ ! -e e ] || find e
+}
+
+# Installations that are ended by a signal: at their first folders, at the list, in the first and the fifth file.
 ended() {
-    local seconds left=
-    for seconds in 0.05 0.1 0.15 0.2 0.25 0.3 0.4 0.5 0.6 0.8; do
-        timeout $seconds tree/install --prefix e >/dev/null 2>&1
-        [ ! -e e/share/doc/tmx/installed-files ] || tree/install --remove --prefix e >/dev/null 2>err || cat err
-        [ ! -e e ] || left="$left after $seconds s: $(find e)"
+    local place
+    for place in "mkdir 1" "mkdir 3" "mv 1" "cp 1" "cp 5" "chmod 1" "mv 3"; do
+        # shellcheck disable=SC2086
+        ending_tool $place
+        tell "an installation that is ended by a signal at $place leaves nothing" "$(wrong_end "${place#* }")"
         rm -rf e
     done
-    tell "installations that are ended by a signal leave nothing" "$left"
 }
 
 # Installs below DESTDIR, and takes all away in another place. The folder of that place wasn't made by ./install.
@@ -139,8 +178,12 @@ with_library() {
     tree/install --prefix l >/dev/null
     tell "the library is installed where it was made" \
         "$(cd l && find lib include -type f | sort | diff - <(printf '%s\n' include/tmx.h lib/libtmx.a lib/libtmx.so lib/pkgconfig/tmx.pc))"
-    ! command -v pkg-config >/dev/null || tell "pkg-config finds it" \
-        "$(PKG_CONFIG_PATH=$PWD/l/lib/pkgconfig pkg-config --cflags --libs tmx 2>&1 | tr ' ' '\n' | grep -cx -- "-[IL]$PWD/l/.*" | grep -vx 2)"
+    if command -v pkg-config >/dev/null; then
+        tell "pkg-config finds it" \
+            "$(PKG_CONFIG_PATH=$PWD/l/lib/pkgconfig pkg-config --cflags --libs tmx 2>&1 | tr ' ' '\n' | grep -cx -- "-[IL]$PWD/l/.*" | grep -vx 2)"
+    else
+        skip 1 "pkg-config finds it" "no pkg-config"
+    fi
     tree/install --remove --prefix l >/dev/null
     tell "removal of the library: nothing is left" "$(ls -d l 2>/dev/null)"
     rm -r tree/out
@@ -150,25 +193,27 @@ with_library() {
 completions() {
     local shell place=$1/share
     local files=("$place/bash-completion/completions/tmx" "$place/zsh/site-functions/_tmx" "$place/fish/vendor_completions.d/tmx.fish")
-    take_lines < <(python3 "$here/completions.py" "$tmx" "${files[@]}" 2>&1)
+    part completions.py python3 "$here/completions.py" "$tmx" "${files[@]}"
     for shell in bash zsh fish; do
         if command -v $shell >/dev/null; then
             tell "$shell reads its completion" "$($shell -n "${files[0]}" 2>&1)"
         else
-            echo "note without $shell its completion isn't read by it"
+            skip 1 "$shell reads its completion" "no $shell"
         fi
         files=("${files[@]:1}")
     done
 }
 
-# The machine code of the program below a prefix, and its constants.
+# The machine code of the program below a prefix, and its constants, in a file.
 code_of() {
-    objdump -s -j .text -j .rodata "$1/bin/tmx" | tail -n +4
+    objdump -s -j .text -j .rodata "$1/bin/tmx" >code || echo "objdump doesn't read $1/bin/tmx"
+    tail -n +4 code >"$2"
 }
 
 # The package: what is in it, and that it runs.
 as_package() {
     local file
+    sed -i '0,/^## \[/s//## [Unreleased]\n\n### Added\n\n- what is not\n  released\n\n&/' tree/CHANGELOG.md
     file=tree/out/tmx_$version-1_$(dpkg --print-architecture).deb
     gives "package" 0 "" "tree/package"
     tell "the package's name" "$([ "$(cat out)" = "${file#tree/}" ] || cat out; ls "$file" 2>&1 >/dev/null)"
@@ -179,10 +224,14 @@ as_package() {
         grep -vE "^(Package: tmx|Version: $version-1|Depends: libc6 \(>= 2\.[0-9]+\)(, [a-z0-9.+-]+)*|Maintainer: .+ <.+>)$")"
     dpkg-deb -x "$file" root
     tell "the program of the package runs" "$(runs_there root/usr)"
-    tell "the manual page of the package can be read" "$(page_lacks root/usr/share/man/man1/tmx.1.gz)"
-    tell "the changelog of the package names its version" "$(zcat root/usr/share/doc/tmx/changelog.Debian.gz | head -n 1 | grep -vF "tmx ($version-1) ")"
+    page_is_read "the manual page of the package can be read" root/usr/share/man/man1/tmx.1.gz
+    zcat root/usr/share/doc/tmx/changelog.Debian.gz >debian
+    tell "the changelog of the package names its version" "$(head -n 1 debian | grep -vF "tmx ($version-1) ")"
+    sed -nE 's/^(- |  )//p' tree/CHANGELOG.md >said
+    sed -nE 's/^  (\* |  )//p' debian >given
+    tell "the changelog of the package says all, also what isn't released" "$(diff said given 2>&1)"
     tree/install --prefix plain >/dev/null
-    tell "the program of the package has the code that was built" "$(cmp <(code_of plain) <(code_of root/usr) 2>&1)"
+    tell "the program of the package has the code that was built" "$(code_of plain plain.code; code_of root/usr packed.code; cmp plain.code packed.code 2>&1)"
     tell "the package has what is installed" "$(diff -r plain root/usr 2>&1 | grep -vE "$differs")"
 }
 
@@ -197,6 +246,7 @@ install() {
     refused_installs
     by_prefix
     foreign_files
+    foreign_link
     newer
     ended
     by_destdir
@@ -206,6 +256,7 @@ install() {
     if command -v dpkg-deb >/dev/null && command -v strip >/dev/null; then
         as_package
     else
-        echo "note without dpkg-deb and strip no package is made"
+        skip 11 "the package" "no dpkg-deb, or no strip"
     fi
+    plan 65
 }

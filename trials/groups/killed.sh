@@ -16,38 +16,44 @@ killed() {
     rm "$long"
     live_trials killed
     stopped
+    plan $((12 * ROUNDS + 2))
 }
 
 # The name of a trial, and the words of killed.py from the command on.
 killed_trial() {
-    local said
     # shellcheck disable=SC2086
-    if said=$(python3 "$here/killed.py" "$tmx" "$2" "$example/settings.toml" "$3" "$4" "$5" $6 2>&1); then
-        ok "$1: $said"
-    else
-        no "$1: $said"
-    fi
+    says "$1" python3 "$here/killed.py" "$tmx" "$2" "$example/settings.toml" "$3" "$4" "$5" $6
 }
 
-# A run that is stopped and let go on, as by a terminal.
+# A run that is stopped and let go on, as by a terminal, before each piece of its recording.
 stopped() {
-    local pid
+    local pid stops=0
     names
-    (
-        exec 3<"$rec"
-        for _ in $(seq 20); do
-            head -c 3840 <&3
-            sleep 0.02
-        done
-    ) | (
-        echo "$BASHPID" >pid
-        exec $packets --report r
-    ) >out 2>err &
-    sleep 0.05
-    for _ in $(seq 10); do
-        pid=$(cat pid)
-        kill -STOP "$pid" && sleep 0.02 && kill -CONT "$pid" && sleep 0.01
+    mkfifo feed
+    $packets --report r <feed >out 2>err &
+    pid=$!
+    exec 8<"$rec" 9>feed
+    for _ in $(seq 20); do
+        kill -STOP $pid
+        has_stopped $pid || break
+        stops=$((stops + 1))
+        head -c 3840 <&8 >&9
+        kill -CONT $pid
+        sleep 0.01
     done 2>/dev/null
-    wait $!
-    tell "packets, stopped and let go on ten times" "$(cmp out expected/packets 2>&1; cmp r expected/report 2>&1; cat err)"
+    kill -CONT $pid 2>/dev/null
+    exec 8<&- 9>&-
+    wait $pid || echo "status $?" >>err
+    rm feed
+    tell "packets, stopped and let go on twenty times" \
+        "$([ $stops = 20 ] || echo "stopped $stops times; "; cmp out expected/packets 2>&1; cmp r expected/report 2>&1; cat err)"
+}
+
+# Whether the system says within a second that a process is stopped.
+has_stopped() {
+    for _ in $(seq 100); do
+        ! grep -q '^State:.T' "/proc/$1/status" || return 0
+        sleep 0.01
+    done
+    return 1
 }

@@ -1,6 +1,6 @@
 # shellcheck shell=bash disable=SC2154
 # Group `library`: libtmx, as C, Rust and Python call it, beside the program. LIBRARY names a folder that has it. Without that it is made of what
-# `rt` has proved; where there is no `rt` either, the group is left out.
+# `rt` has proved, and put into the folder that KEEP_LIBRARY names; where there is no `rt` either, the group is skipped.
 
 # Makes libtmx.a and libtmx.so. Behind `rt ci` the crates below stand proved, without a stamp of `rt lib`: then only tm_c itself is checked once
 # more, and compiled, with those of the kit that it names.
@@ -35,11 +35,23 @@ differs() {
     cmp report expected/report 2>&1
 }
 
+# What a program prints that has nothing to say, and its status if that isn't 0.
+told() {
+    local status=0
+    "$@" >told 2>&1 || status=$?
+    head -c 1000 told
+    [ $status = 0 ] || echo "status $status"
+}
+
 # What C and Rust give, linked with the archive and with the shared library.
 library_examples() {
     local flags=(-std=c11 -Wall -Wextra -pedantic -Werror -O1 -I "$here/../include")
     tell "the header in C11" "$(header gcc -std=c11 -x c)"
-    ! command -v g++ >/dev/null || tell "the header in C++17" "$(header g++ -std=c++17 -x c++)"
+    if command -v g++ >/dev/null; then
+        tell "the header in C++17" "$(header g++ -std=c++17 -x c++)"
+    else
+        skip 1 "the header in C++17" "no g++"
+    fi
     tell "the page has the program that is tried" \
         "$(sed -n '/^```c$/,/^```$/p' "$here/../docs/LIBRARY.md" | sed '/^```/d' | diff - "$here/../library/extract.c" 2>&1 | head -n 3)"
     gcc "${flags[@]}" -o extract_c "$here/../library/extract.c" library/libtmx.a 2>made || cat made
@@ -52,34 +64,67 @@ library_examples() {
     if command -v rustc >/dev/null; then
         rustc --edition 2021 -O -o extract_rs "$here/../library/extract.rs" -L library -l static=tmx 2>made || cat made
         tell "the example in Rust" "$(differs ./extract_rs)"
+        rustc --edition 2021 -O -o wrapper_rs "$here/library.rs" -L library -l static=tmx 2>made || cat made
+        tell "the wrapper in Rust, by each command in chunks" "$(told ./wrapper_rs "$s" "$rec" "$example/attitude.csv")"
+    else
+        skip 2 "the example and the wrapper in Rust" "no rustc"
     fi
 }
 
-# Calls over memory that is just as large as it is said to be, with a sanitizer where there is one.
+# Calls over memory that is just as large as it is said to be, by a sanitizer.
 library_calls() {
-    local flags=(-std=gnu11 -g -O1 -I "$here/../include") seen=(-fsanitize=address,undefined -fno-sanitize-recover=all) size
+    local flags=(-std=gnu11 -g -O1 -pthread -I "$here/../include") seen=(-fsanitize=address,undefined -fno-sanitize-recover=all) size
     gcc "${flags[@]}" -o calls "$here/library.c" library/libtmx.a 2>made || cat made
-    gcc "${flags[@]}" "${seen[@]}" -o calls_seen "$here/library.c" library/libtmx.a 2>made || cp calls calls_seen
-    for size in 1115 100000; do
-        tell "rooms of just enough octets, in chunks of $size" "$(differs ./calls_seen chunks $size)"
-    done
-    tell "hostile calls" "$(./calls_seen hostile 0 "$s" "$rec" 2>&1 | head -c 1000)"
+    if [ -e calls ] && ! gcc "${flags[@]}" "${seen[@]}" -o calls_seen "$here/library.c" library/libtmx.a 2>made; then
+        skip 3 "calls over memory that is just as large as it is said to be" "no AddressSanitizer"
+    else
+        for size in 1115 100000; do
+            tell "rooms of just enough octets, in chunks of $size" "$(differs ./calls_seen chunks $size)"
+        done
+        tell "hostile calls" "$(./calls_seen hostile 0 "$s" "$rec" 2>&1 | head -c 1000)"
+    fi
     printf 'spacecraft = 42\nframe_length = 24\nerror_control = false\nmax_packet = 7\n' >small.toml
     tell "1,000,000 calls leave no memory behind" "$(./calls many 500000 small.toml "$rec" 2>&1 | head -c 1000)"
 }
 
+# How much stack is taken: by each command of the library with a long definition and a checkpoint, and by the program. Settings as deep as
+# they are read need most, and docs/LIBRARY.md says that 3 MiB are enough.
+library_stack() {
+    local shape used most=0 plain said
+    plain=$(./calls stack 3145728 "$s" "$rec") || plain="status $?"
+    for shape in tables refused arrays keys; do
+        python3 "$here/deep.py" "$shape" >deep.toml || no "deep settings are made: $shape"
+        used=$(./calls stack 3145728 deep.toml "$rec") || used="status $?"
+        tell "calls with deep settings, $shape, in 3 MiB of stack" "$([[ $used =~ ^[0-9]+$ ]] || echo "$used")"
+        [[ $used =~ ^[0-9]+$ ]] && [ "$used" -gt "$most" ] && most=$used
+        said=$(ulimit -s 3072 && "$tmx" frames --settings deep.toml "$rec" 2>&1; echo "status $?")
+        tell "the program with deep settings, $shape, in 3 MiB of stack" "$([[ $said =~ ^"tmx: settings: "(unknown a|toml)$'\n'"status 2"$ ]] || echo "$said")"
+    done
+    tell "deep settings take over 2 MiB of stack, and no more than 2.5" "$([ "$most" -gt 2097152 ] && [ "$most" -le 2621440 ] || echo "$most")"
+    tell "the example's settings take less than a tenth of 3 MiB" "$([[ $plain =~ ^[0-9]+$ ]] && [ "$plain" -lt 314572 ] || echo "$plain")"
+    echo "note calls take $plain octets of stack with the example's settings, and at most $most with deep ones"
+}
+
 library() {
+    plan 24
     names
     if [ -n "${LIBRARY:-}" ]; then
         cp -r "$LIBRARY" library
     elif ! command -v rt >/dev/null; then
-        ok "library: left out: no rt"
+        skip 24 "the library" "no rt"
         return
     elif ! make_library; then
         no "the library is made: $(tail -n 3 made)"
         return
     fi
-    ! command -v gcc >/dev/null || library_examples
-    ! command -v gcc >/dev/null || library_calls
-    take_lines < <(python3 "$here/library.py" "$tmx" "$PWD/library/libtmx.so" "${CHUNKED:-40}" 2>&1; TMX=$tmx TMX_LIBRARY=$PWD/library/libtmx.so python3 "$here/../python/tests/run.py" test_engine 2>&1)
+    [ -z "${KEEP_LIBRARY:-}" ] || cp -r library "$KEEP_LIBRARY"
+    if command -v gcc >/dev/null; then
+        library_examples
+        library_calls
+        library_stack
+    else
+        skip 22 "the library from C and Rust" "no gcc"
+    fi
+    part library.py python3 "$here/library.py" "$tmx" "$PWD/library/libtmx.so" "${CHUNKED:-40}"
+    part test_engine env "TMX=$tmx" "TMX_LIBRARY=$PWD/library/libtmx.so" python3 "$here/../python/tests/run.py" test_engine
 }

@@ -3,9 +3,10 @@
 
 live() {
     live_trials waiting
+    plan 1
 }
 
 # A part of live.py.
 live_trials() {
-    take_lines < <(python3 "$here/live.py" "$tmx" "$here/fields.csv" "$example" "$1" 2>&1)
+    part "live.py $1" python3 "$here/live.py" "$tmx" "$here/fields.csv" "$example" "$1"
 }

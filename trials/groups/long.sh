@@ -61,7 +61,7 @@ long() {
             for _ in $(seq $copy); do cat "$example/pass.rec"; done
             head -c $((OCTETS % 76800)) "$example/pass.rec"
         } >recording
-        python3 "$here/reference.py" expect "$example/settings.toml" recording expected$copy
+        python3 "$here/reference.py" expect "$example/settings.toml" recording expected$copy || no "the reference doesn't come to its end"
     done
     rm -rf expected
     cp -r expected2 expected
@@ -79,4 +79,5 @@ long() {
         echo "note $command: $time ms, $((OCTETS / 1000 / time)) MB/s, $(tr -s '\t\n ' ' ' <peak)"
     done
     rm -rf found report copies
+    plan 6
 }

@@ -39,17 +39,15 @@ END
 }
 
 low_memory() {
-    local run said
+    local run
+    plan 11
     if ! command -v cc >/dev/null || ! refusing_library; then
-        echo "note without a C compiler and glibc no trial has a request for memory refused"
+        skip 11 "each request for memory refused" "no C compiler, or no glibc"
         return
     fi
     names
-    for run in frames packets extract split waiting fields summary help unknown missing; do
-        if said=$(python3 "$here/low_memory.py" "$tmx" "$PWD/refused.so" "$s" "$rec" "$here/fields.csv" $run 2>&1); then
-            ok "each request for memory of $run refused: $said"
-        else
-            no "each request for memory of $run refused: $said"
-        fi
+    for run in frames packets extract split waiting fields summary help unknown missing clash; do
+        says "each request for memory of $run refused" \
+            python3 "$here/low_memory.py" "$tmx" "$PWD/refused.so" "$s" "$rec" "$here/fields.csv" $run
     done
 }

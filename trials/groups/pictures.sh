@@ -17,5 +17,6 @@ pictures() {
     gives "a picture of a folder" 1 "tmx map: .: Is a directory" "$draw . report.txt"
     gives "a picture of zeros without end" 1 "tmx map: /dev/zero, line 1: no line of \`tmx frames\`" "$draw /dev/zero report.txt"
     gives "a picture on a full device" 1 "tmx map: standard output: No space left on device" "$draw frames.txt report.txt >/dev/full"
-    take_lines < <(python3 "$here/pictures.py" "$PICTURED" 2>&1)
+    part pictures.py python3 "$here/pictures.py" "$PICTURED"
+    plan 6
 }

@@ -1,13 +1,15 @@
 # shellcheck shell=bash disable=SC2154
 # Group `python`: the package for Python, over the example and over damaged recordings, beside what reference.py says.
 
-# Half of the time goes to two modules, so they run beside the others.
+# Half of the time goes to two modules, so they run beside the others. The group `library` has test_engine.
 python() {
-    local others
-    others=$(cd "$here/../python/tests" && printf '%s\n' test_*.py | sed 's/\.py$//' | grep -vxE 'test_probe|test_steps')
+    local others longest
+    others=$(cd "$here/../python/tests" && printf '%s\n' test_*.py | sed 's/\.py$//' | grep -vxE 'test_probe|test_steps|test_engine')
     TMX=$tmx python3 "$here/../python/tests/run.py" test_probe test_steps >longest 2>&1 &
+    longest=$!
     # shellcheck disable=SC2086
-    TMX=$tmx python3 "$here/../python/tests/run.py" $others >shortest 2>&1
-    wait
-    take_lines < <(cat longest shortest)
+    part "the other tests" env "TMX=$tmx" python3 "$here/../python/tests/run.py" $others
+    wait $longest
+    count_part "test_probe and test_steps" $? longest
+    plan 2
 }

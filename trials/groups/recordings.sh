@@ -134,6 +134,7 @@ record_length() {
 random_recordings() {
     local name octets seed kind record most
     cd "$(mktemp -d -p .)" || exit 2
+    echo "plan $((20 * $#))"
     make_settings
     for name in "$@"; do
         record=$(record_length "$name")
@@ -143,7 +144,7 @@ random_recordings() {
             for kind in random likely; do
                 for seed in 1 2 3; do
                     [ "$octets" -gt "$record" ] || [ $seed = 1 ] || continue
-                    python3 "$here/reference.py" make $kind $seed "$octets" "$name" >recording
+                    python3 "$here/reference.py" make $kind $seed "$octets" "$name" >recording || no "the recording isn't made"
                     trial "$octets octets, $kind $seed, settings $name" "$name" recording
                 done
             done
@@ -153,20 +154,31 @@ random_recordings() {
 
 # Two halves run side by side.
 random() {
+    local short long
     random_recordings s9 s9e s24 s24o >short_frames 2>&1 &
+    short=$!
     random_recordings s1115 s1115n s2048 s2048e >long_frames 2>&1 &
-    wait
-    take_lines < <(cat short_frames long_frames)
+    long=$!
+    wait $short
+    count_part "recordings of short frames" $? short_frames
+    wait $long
+    count_part "recordings of long frames" $? long_frames
     make_settings
     trial "the example" "$example/settings.toml" "$example/pass.rec"
     head -c "$LARGEST" /dev/urandom >recording
     trial "$LARGEST octets of /dev/urandom" s24 recording
-    [ "$LARGEST" -lt 1048576 ] || damaged_lengths
+    if [ "$LARGEST" -lt 1048576 ]; then
+        skip 6 "damaged lengths of packets" "LARGEST is less than 1 MiB"
+    else
+        damaged_lengths
+    fi
+    plan 10
 }
 
 damaged_lengths() {
     local name
-    python3 "$here/lengths.py" . | sed 's/^/note /'
+    python3 "$here/lengths.py" . >figures || no "the recordings with damaged lengths aren't made"
+    sed 's/^/note /' figures
     for name in lengths[0-9].*; do
         trial "damaged lengths of packets, settings $name" "$name" "${name%.*}"
     done
@@ -189,10 +201,11 @@ zero() {
     gives "packets of /dev/zero, stopped after 100000 records" 0 "" \
         "$tmx packets --settings z --report r --checkpoint c --stop-after 100000 /dev/zero"
     tell "packets of /dev/zero gives two packets for each record" "$([ "$(wc -l <out)" = 200000 ] || echo "$(wc -l <out) lines")"
+    plan 9
 }
 
 # Random settings and damaged recordings, in one run and in steps.
 anything() {
-    local said
-    if said=$(python3 "$here/anything.py" "$tmx" "$here/fields.csv" "$ANYTHING" 1 2>&1); then ok "anything: $said"; else no "anything: $said"; fi
+    says anything python3 "$here/anything.py" "$tmx" "$here/fields.csv" "$ANYTHING" 1
+    plan 1
 }

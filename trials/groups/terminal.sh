@@ -2,5 +2,6 @@
 # Group `terminal`: what is said of a fault at a terminal, and that nothing more is said elsewhere.
 
 terminal() {
-    take_lines < <(python3 "$here/terminal.py" "$tmx" 2>&1)
+    part terminal.py python3 "$here/terminal.py" "$tmx"
+    plan 1
 }

@@ -1,0 +1,242 @@
+#!/bin/bash
+# Tries the trials themselves, and ./test: they have to fail where they can't do their work.
+#
+#   trials/gate.sh TMX GROUP..
+#
+# TMX is the program. Each group is run with a `python3` that is killed at once, and, where a part of it is a program in Python, with one that
+# ends in order after two lines. It is run with a program that fails and prints nothing, and with one that answers 0 to everything. Its status
+# has to be another than 0, and its last line has to count failures. `library` takes the library that LIBRARY names, without a compiler: so its
+# Python parts alone are tried. Each run ends at its first failure. Groups of a few lines show each rule by which trials are counted, and so does
+# a copy of ./test over stubs. Prints a line for each trial and a count, as hostile.sh does.
+set -u
+here=$(cd "$(dirname "$0")" && pwd)
+tmx=$(realpath "${1:?the path of the program tmx is missing}")
+shift
+folder=$(mktemp -d)
+trap 'rm -rf "$folder"' EXIT
+cd "$folder" || exit 2
+export GIVE_UP=1 LARGEST=65536 ANYTHING=1 ROUNDS=1 PICTURED=400 CHUNKED=1
+python=$(command -v python3)
+with_parts="live pictures python install terminal arguments library"
+passed=0
+failed=0
+skipped=0
+
+# Says how a trial went: its name, and what is wrong, if anything.
+tell() {
+    if [ -z "$2" ]; then
+        passed=$((passed + 1))
+        echo "ok $1"
+    else
+        failed=$((failed + 1))
+        echo "FAILED: $1: $2"
+    fi
+}
+
+# So many trials can't be made here: their name, and why.
+skip() {
+    skipped=$((skipped + $1))
+    echo "SKIPPED: $2: $3"
+}
+
+# A program of this name, from standard input.
+program() {
+    mkdir -p "$(dirname "$1")"
+    { echo "#!/bin/bash"; cat; } >"$1"
+    chmod 755 "$1"
+}
+
+# Stands for a program or for python3, each in the folder of a case.
+make_stubs() {
+    program killed/python3 <<<'kill -KILL $$'
+    program short/python3 <<<"'$python' \"\$@\" 2>&1 | head -n 2"
+    program failing/tmx <<<'exit 1'
+    program silent/tmx <<<'exit 0'
+}
+
+# Links to all programs of the PATH but compilers.
+without_compilers() {
+    local place
+    mkdir plain
+    while read -rd : place; do
+        find -L "$place" -maxdepth 1 -type f ! -name gcc ! -name g++ ! -name rustc -exec ln -st plain {} + 2>/dev/null
+    done <<<"$PATH:"
+}
+
+# What a case is called.
+name_of() {
+    case $1 in
+    killed) echo "with a python3 that is killed" ;;
+    short) echo "with a python3 that ends after two lines" ;;
+    failing) echo "with a program that fails and prints nothing" ;;
+    silent) echo "with a program that answers 0 to everything" ;;
+    esac
+}
+
+# The cases of a group.
+cases_of() {
+    echo killed failing silent
+    [[ " $with_parts " != *" $1 "* ]] || echo short
+}
+
+# How a run ended, by its status and the file that it wrote: `as a failure`, or with what.
+ended() {
+    local counts
+    counts=$(tail -n 1 "$2" | grep -xE '[0-9]+ (ok|passed), [0-9]+ failed, [0-9]+ skipped')
+    if [ "$1" = 0 ] || [ "$1" -gt 123 ] || [ -z "$counts" ] || [[ $counts == *" 0 failed,"* ]]; then
+        echo "status $1, last line: $(tail -n 1 "$2")"
+    else
+        echo "as a failure"
+    fi
+}
+
+# Says of a run that has to fail how it ended: its name, and what the function above says.
+tell_failed() {
+    local wrong=""
+    [ "$2" = "as a failure" ] || wrong=${2:-it has no end}
+    tell "$1 fails" "$wrong"
+}
+
+# Runs a group as a case has it. How it ended goes to a file. Standard error goes to one of its own: bash says there, at any time, which of its
+# programs was killed.
+run_group() {
+    local used=$tmx path=$folder/$1:$PATH
+    [ ! -e "$1/tmx" ] || used=$folder/$1/tmx
+    [ "$2" != library ] || path=$folder/$1:$folder/plain
+    PATH=$path timeout 100 "$here/hostile.sh" "$used" "$2" >"$1/$2" 2>"$1/$2.errors" </dev/null
+    ended $? "$1/$2" >"$1/$2.ended"
+}
+
+# Each group in each case, as many at once as there are processors. Each says by its file how it ended.
+run_groups() {
+    local group case running=0
+    for group in "$@"; do
+        for case in $(cases_of "$group"); do
+            [ $((running += 1)) -le "$(nproc)" ] || wait -n
+            run_group "$case" "$group" &
+        done
+    done
+    wait
+}
+
+try_groups() {
+    local group case
+    make_stubs
+    without_compilers
+    run_groups "$@"
+    for group in "$@"; do
+        for case in $(cases_of "$group"); do
+            if tail -n 1 "$case/$group" | grep -qxE '0 ok, 0 failed, [1-9][0-9]* skipped'; then
+                skip 1 "$group $(name_of "$case") fails" "all its trials are skipped here"
+            else
+                tell_failed "$group $(name_of "$case")" "$(cat "$case/$group.ended")"
+            fi
+        done
+    done
+}
+
+# Groups of hostile.sh that break a rule each, but for the first.
+small_groups() {
+    cat <<'END'
+in_order() {
+    ok a
+    part b printf '%s\n' "plan 2" "ok c" "SKIPPED: d: e" "note f"
+    says g echo h
+    skip 3 i j
+    plan 6
+}
+that_counts_nothing() { plan 0; }
+without_a_plan() { ok a; }
+with_fewer_trials_than_it_plans() { ok a; plan 2; }
+with_more_trials_than_it_plans() { ok a; ok b; plan 1; }
+whose_part_is_killed() { part a bash -c 'echo plan 1; echo ok b; kill -KILL $$'; plan 1; }
+whose_part_is_killed_in_the_background() { local pid; bash -c 'echo plan 1; echo ok b; kill -KILL $$' >c & pid=$!; wait $pid; count_part a $? c; plan 1; }
+whose_part_has_another_status() { part a bash -c 'echo plan 1; echo ok b; exit 1'; plan 1; }
+whose_part_counts_nothing() { part a echo plan 0; plan 1; }
+whose_part_says_nothing() { part a true; plan 1; }
+whose_part_has_no_plan() { part a echo ok b; plan 1; }
+whose_part_has_fewer_trials_than_it_plans() { part a printf '%s\n' "plan 2" "ok b"; plan 1; }
+whose_part_has_more_trials_than_it_plans() { part a printf '%s\n' "plan 1" "ok b" "ok c"; plan 1; }
+whose_part_says_something_else() { part a printf '%s\n' "plan 1" "ok b" "Killed"; plan 1; }
+whose_comparison_is_killed() { tell a "$(kill -KILL $BASHPID)"; plan 1; }
+whose_program_says_nothing() { says a true; plan 1; }
+whose_program_has_another_status() { says a bash -c 'echo b; exit 1'; plan 1; }
+END
+}
+
+try_rules() {
+    local group
+    mkdir -p rules/groups
+    cp "$here/hostile.sh" rules
+    small_groups >rules/groups/small.sh
+    rules/hostile.sh "$tmx" in_order >said 2>&1 || echo "status $?" >>said
+    tell "a group in order" "$(tail -n 1 said | grep -vxF "3 ok, 0 failed, 4 skipped")"
+    for group in $(sed -nE 's/^(w[a-z_]*|that[a-z_]*)\(\).*/\1/p' rules/groups/small.sh) that_is_not_there; do
+        rules/hostile.sh "$tmx" "$group" >said 2>&1
+        tell_failed "a group ${group//_/ }" "$(ended $? said)"
+    done
+}
+
+# What goes wrong in a copy of ./test, where all that it runs is a stub: the program to put in the place of a stub, from standard input. For that
+# of unproved.sh, which makes the program besides, it is ./test quick.
+copy_of_test() {
+    local name words=()
+    rm -rf copy
+    for name in copy/trials/names.py copy/trials/promises.py copy/rt; do
+        program $name <<<'echo "3 passed, 0 failed"'
+    done
+    for name in copy/trials/hostile.sh copy/trials/gate.sh; do
+        program $name <<<'printf "%s\n" "SKIPPED: a: b" "2 ok, 0 failed, 1 skipped"'
+    done
+    printf '%s\n' zero live long files >copy/trials/groups.txt
+    cp "$here/../test" copy
+    [ $# = 0 ] || program "copy/$1"
+    if [ "${1:-}" = trials/unproved.sh ]; then
+        words=(quick)
+        sed -i '1a [ "$1" != program ] || install /dev/null "$2"' "copy/$1"
+    fi
+    PATH=$folder/copy:$PATH bash copy/test "${words[@]}" >said 2>&1 </dev/null
+}
+
+# The name of a wrong end, and the program that has it.
+wrong_end() {
+    local name
+    for name in rt trials/hostile.sh trials/unproved.sh; do
+        copy_of_test $name <<<"$2"
+        tell_failed "./test where ${name#trials/} $1" "$(ended $? said)"
+    done
+}
+
+try_test() {
+    copy_of_test || echo "status $?" >>said
+    tell "./test in order" "$(tail -n 1 said | grep -vxF "15 passed, 0 failed, 3 skipped")"
+    tell "./test says what is skipped" "$(printf '%s: SKIPPED: a: b\n' live files gate | diff - <(tail -n 5 said | head -n 3))"
+    copy_of_test trials/unproved.sh <<<'echo "3 passed, 0 failed, 0 skipped"' || echo "status $?" >>said
+    tell "./test quick in order" "$(tail -n 2 said | diff - <(printf '%s\n' "nothing was proved: ./test does that" "21 passed, 0 failed, 5 skipped"))"
+    copy_of_test trials/unproved.sh <<<'rm "$2"; echo "3 passed, 0 failed, 0 skipped"'
+    tell_failed "./test quick where no program is made" "$(ended $? said)"
+    wrong_end "is killed" 'kill -KILL $$'
+    wrong_end "is killed behind its last line" 'echo "3 passed, 0 failed"; kill -KILL $$'
+    wrong_end "says nothing" 'exit 0'
+    wrong_end "counts nothing" 'echo "0 passed, 0 failed"'
+    wrong_end "counts a failure, and answers 0" 'echo "3 passed, 1 failed, 0 skipped"'
+    wrong_end "has another last line" 'echo "3 passed, 0 failed"; echo Killed'
+}
+
+try_rules
+try_test
+groups=()
+for group in "$@"; do
+    if [ "$group" = library ] && ! [ -d "${LIBRARY:-}" ]; then
+        skip 4 "library" "LIBRARY names no library"
+    else
+        groups+=("$group")
+    fi
+done
+try_groups "${groups[@]}"
+# 18 rules, 22 ends of ./test, and the cases of all groups.
+planned=$((18 + 22 + $(for group in "$@"; do cases_of "$group"; done | wc -w)))
+tried=$((passed + failed + skipped))
+tell "all of it is tried" "$([ $tried = $planned ] || echo "$tried trials are made, and $planned planned")"
+echo "$passed ok, $failed failed, $skipped skipped"
+[ $failed = 0 ]

@@ -1,0 +1,56 @@
+//! The wrapper in Rust: each command in chunks that are no records gives what one chunk gives, and a refused call tells why and changes nothing.
+//!
+//!     library SETTINGS RECORDING DEFINITION
+#[path = "../library/tmx.rs"]
+mod tmx;
+use std::collections::HashSet;
+use tmx::{Command, Job};
+
+/// What chunks of so many octets give in all.
+fn all(settings: &[u8], recording: &[u8], command: &Command, size: usize) -> (Vec<u8>, Vec<u8>) {
+    let mut job = Job::new(settings, command.clone());
+    let (mut out, mut report) = (vec![], vec![]);
+    let mut given: Vec<_> = recording.chunks(size).map(|chunk| job.feed(chunk).expect("a chunk")).collect();
+    given.push(job.close().expect("the end"));
+    for it in given {
+        out.extend(it.out);
+        report.extend(it.report);
+    }
+    (out, report)
+}
+
+fn commands(settings: &[u8], recording: &[u8], definition: Vec<u8>) {
+    let mut seen = HashSet::new();
+    let starts = ["", "packet ", "tm_record", "frame "];
+    let commands = [Command::Extract, Command::Packets, Command::Fields(definition, 101), Command::Frames];
+    for (command, start) in commands.iter().zip(starts) {
+        let whole = all(settings, recording, command, recording.len());
+        for size in [1000, recording.len() / 2] {
+            assert!(whole == all(settings, recording, command, size), "{start}: chunks of {size} octets give something else");
+        }
+        assert!(whole.0.starts_with(start.as_bytes()), "{start}: another command");
+        assert!(seen.insert(whole.0), "{start}: what another command gives");
+    }
+}
+
+fn refusals(settings: &[u8], recording: &[u8]) {
+    let mut job = Job::new(b"frame_length = 256\n", Command::Extract);
+    let it = job.feed(recording).expect_err("no spacecraft");
+    assert!((it.status, it.fault, it.key, it.column, it.row) == (3, 3, 1, 0, 0), "settings: {it}");
+    let mut job = Job::new(settings, Command::Fields(b"name,data_type\n".to_vec(), 101));
+    let it = job.feed(recording).expect_err("no lengths");
+    assert!((it.status, it.fault, it.key, it.column, it.row) == (7, 2, 0, 3, 0), "a column: {it}");
+    let mut job = Job::new(settings, Command::Fields(b"name,data_type,bit_length\na,uint,8\nb,uint,65\n".to_vec(), 101));
+    let it = job.feed(recording).expect_err("65 bits");
+    assert!((it.status, it.fault, it.key, it.column, it.row) == (7, 5, 0, 0, 2), "a row: {it}");
+    let it = Job::new(&vec![b' '; 1048577], Command::Extract).feed(recording).expect_err("too long");
+    assert!((it.status, it.fault) == (10, 1), "long settings: {it}");
+}
+
+fn main() {
+    let words: Vec<String> = std::env::args().collect();
+    let read = |at: usize| std::fs::read(&words[at]).expect(&words[at]);
+    let (settings, recording) = (read(1), read(2));
+    commands(&settings, &recording, read(3));
+    refusals(&settings, &recording);
+}

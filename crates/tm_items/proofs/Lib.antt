@@ -1,4 +1,4 @@
 pub mod Reaching
 pub mod Headers
-pub mod Spans
+pub mod Fronts
 pub mod Leads

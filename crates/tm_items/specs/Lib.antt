@@ -4,4 +4,4 @@ pub mod OnePacket
 pub mod Sinks
 pub mod Giving
 pub mod Among
-pub mod Spans
+pub mod Fronts

@@ -6,5 +6,5 @@ mod packets;
 mod sink;
 
 pub use items::{Item, Reason};
-pub use packets::packet_length;
+pub use packets::{packet_length, whole_packet};
 pub use sink::{Sink, Span};

@@ -1,23 +1,23 @@
 //! Who takes items.
 
-ghost use Rattle.std.specs.Prelude.{◌+◌, ◌<◌, ◌^◌, IfErr, OnOk, length};
+ghost use Rattle.std.specs.Prelude.{◌≡◌, ◌+◌, ◌<◌, ◌^◌, IfErr, IfOk, OnOk, length};
 ghost use Rattle.tm_items.specs.Item as value;
 ghost use Rattle.tm_items.specs.Sinks.{item_of, ItemFits, RefusesOne, TakesAll};
-ghost use Rattle.tm_items.specs.Spans.{IsSpan, items_of_span};
+ghost use Rattle.tm_items.specs.Fronts.{front_items, front_length};
 
 use crate::items::Item;
-use crate::packets::packet_length;
+use crate::packets::whole_packet;
 
-/// Packets of a channel that lie end to end in the data field of one record.
+/// Octets of a channel in the data field of one record.
 #[derive(Clone, Copy, Debug)]
 pub struct Span<'a> {
     /// The record, counted from 0.
     pub seen: u32,
     /// The channel, at most 7.
     pub channel: u8,
-    /// Where the first of them begins in the data field.
+    /// Where they begin in the data field.
     pub place: u16,
-    /// Their octets.
+    /// The octets.
     pub octets: &'a [u8],
 }
 
@@ -43,31 +43,34 @@ pub trait Sink {
         ensures accepted { OnOk result (takes (known self.old) (item_of item.entry) (known self.new)) }
         ensures refused { IfErr result (λ fault. refuses (known self.old) (item_of item.entry) fault (known self.new)) };
 
-    /// Takes the packets of a span as if one by one.
-    fn take_span(&mut self, span: Span<'_>) -> Result<(), Self::Fault>
+    /// Takes the packets that lie whole at the front of a span, as if one by one: up to the first place where no packet of version 0 and
+    /// at most `limit` octets lies whole. Answers how many octets they have.
+    fn take_front(&mut self, limit: usize, span: Span<'_>) -> Result<usize, Self::Fault>
         requires channel { span.channel < 8 }
         requires places { span.place + length span.octets.now < 2 ^ 16 }
-        requires packets { IsSpan span.octets.now }
-        ensures accepted { OnOk result (TakesAll takes (known self.old) (items_of_span span.entry) (known self.new)) }
+        ensures length { IfOk result (λ many. many ≡ front_length limit span.entry.octets.now) }
+        ensures accepted { OnOk result (TakesAll takes (known self.old) (front_items limit span.entry) (known self.new)) }
         ensures refused { IfErr result (λ fault.
-            RefusesOne takes refuses (known self.old) (items_of_span span.entry) fault (known self.new)) }
+            RefusesOne takes refuses (known self.old) (front_items limit span.entry) fault (known self.new)) }
     {
-        let mut offset = 0;
-        while offset < span.octets.len() {
-            let rest = &span.octets[offset..];
-            let length = packet_length(rest);
+        let mut at = 0;
+        loop {
+            let rest = &span.octets[at..];
+            let Some(header) = whole_packet(limit, rest) else {
+                return Ok(at);
+            };
+            let length = header.length() as usize;
             let packet = Item::Packet {
                 seen: span.seen,
                 channel: span.channel,
                 first: span.seen,
-                place: span.place + offset as u16,
+                place: span.place + at as u16,
                 octets: &rest[..length],
             };
             if let Err(fault) = self.take(packet) {
                 return Err(fault);
             }
-            offset += length;
+            at += length;
         }
-        Ok(())
     }
 }

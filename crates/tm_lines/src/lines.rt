@@ -133,6 +133,7 @@ fn format_flags(line: &mut LineBuffer, flags: Flags)
 }
 
 /// The line of a packet.
+#[inline(always)]
 pub fn format_packet(line: &mut LineBuffer, packet: &Packet<'_>)
     ensures { line.new
         ≡ packet_line packet.now.seen packet.now.channel packet.now.first packet.now.place packet.now.header

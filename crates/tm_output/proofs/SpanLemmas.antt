@@ -1,59 +1,77 @@
--- Packets that lie end to end: the first of them, and those that add nothing to the report.
-use Rattle.std.proofs.Common.{◌≡◌, ◌≢◌, ℕ, ◌+◌, ◌-◌, ◌<◌, ◌≤◌, Ok, Err, Result, List, [], ◌∷◌, ◌++◌, length, take, drop, refl, sym, ap, subst, ◌∙◌, append-nil, arith, inl, inr, ⊎_elim}
+-- Packets at the front of a span: the first of them, and those that add nothing to the report.
+use Rattle.std.proofs.Common.{◌≡◌, ◌≢◌, ℕ, ◌+◌, ◌-◌, ◌<◌, ◌≤◌, Some, None, List, [], ◌∷◌, ◌++◌, length, take, drop, refl, sym, ap, subst, ◌∙◌, append-nil, append_assoc, length-append, arith, inl, inr, ⊎_elim}
 use Rattle.std.specs.Borrow.{Bor}
 use Rattle.std.proofs.KnownBytes.{Appends-nil}
-use Rattle.std.proofs.lemmas.Bool.{cases_lt, eqb-true}
+use Rattle.std.proofs.lemmas.Bool.{cases_lt}
 use Rattle.std.proofs.lemmas.List.{drop-append-le, drop-drop, drop_at, length-drop, length-take-le, take-append-drop, take-append-le, take_at, take_rest}
-use Rattle.tm_packet.specs.declared.header.PacketFault.{PacketFault}
-use Rattle.tm_packet.specs.Header.{Fields, packet_header_of, header_reading_of, packet_version_of}
+use Rattle.std.proofs.Math.Seq.{take-add}
+use Rattle.tm_packet.specs.Header.{Fields, packet_header_of}
 use Rattle.tm_items.specs.declared.sink.Span.{Span}
 use Rattle.tm_items.specs.Item.{Item, Packet}
-use Rattle.tm_items.specs.OnePacket.{IsOnePacket, packet_length}
+use Rattle.tm_items.specs.OnePacket.{packet_length}
 use Rattle.tm_items.specs.Sinks.{RefusesOne, TakesAll}
-use Rattle.tm_items.specs.Spans.{IsSpan, items_of_span, placed, packets_in, span_items}
-use Rattle.tm_items.proofs.Headers.{header-front, packet_length_read, reading-ok, reading-err}
-use Rattle.tm_items.proofs.Reaching.{packet_length_least}
+use Rattle.tm_items.specs.Fronts.{front_header, front_items, front_length, front_packets, joined, placed}
+use Rattle.tm_items.proofs.Headers.{header-front}
 use Rattle.tm_items.proofs.Leads.{RefusesOne-left}
-use Rattle.tm_items.proofs.Spans.{packets-first, packets-one, span-both, span-first, span-longer, span-next}
+use Rattle.tm_items.proofs.Fronts.{front-none, front-some, header-none, header-some, whole-true}
 use Rattle.tm_devices.specs.Devices.{raised}
+use Rattle.tm_faults.specs.declared.run.RunFault.{RunFault}
 use Rattle.tm_faults.specs.declared.run.RunFault.TheVariants.{Write}
 use Rattle.tm_output.specs.Outputs.{PutsPart, SameCounts, Buffering, view}
 use Rattle.tm_packet.specs.Merge.{Entries}
 use Rattle.tm_output.specs.Pieces.{Texts, noted, noted_all, piece_of}
 use Rattle.tm_output.specs.Seen.{OutputState}
 use Rattle.tm_output.specs.Packets.{item_with}
-use Rattle.tm_output.specs.code.Quiet.{AreQuiet, HasNoted, IsFirstPacket, IsQuiet, IsAccepted, first_items, outs_of}
+use Rattle.tm_output.specs.code.Quiet.{AreFirst, AreQuiet, HasNoted, IsFirstPacket, IsQuiet, IsAccepted, outs_of, span_items}
 use Rattle.tm_lines.specs.declared.packet.Packet as lent
 use Rattle.tm_output.specs.code.Sinking.{Refuses, Takes}
-use Rattle.tm_output.proofs.PacketLemmas.{none_both, version_front}
+use Rattle.tm_output.proofs.PacketLemmas.{none_both}
 use Rattle.tm_output.proofs.PieceLemmas.{stopped_put, took_piece}
 
 -- ---- the first
 
-pub record IsFirstReach (far : ℕ) (octets : List ℕ) (header : Fields) : Type 0 where
-  pub reached : far ≡ packet_length octets
-  pub long : length (take far octets) ≡ far
-  pub own : header ≡ packet_header_of (take far octets)
+-- what reading the header at the front says of so many octets
+pub record IsFront (limit n : ℕ) (octets : List ℕ) (h : Fields) : Type 0 where
+  pub inside : n ≤ length octets
+  pub own : h ≡ packet_header_of (take n octets)
+  pub whole : n ≡ length (take n octets)
+  pub some : 0 < length (take n octets)
+  pub front : front_packets limit octets ≡ take n octets ∷ front_packets limit (drop (length (take n octets)) octets)
 
-pub first_is : (far : ℕ) (octets : List ℕ) (h : Fields) → 0 < length octets → IsSpan octets → header_reading_of octets ≡ Ok h → far ≡ h.data_length + 7
-    → IsFirstReach far octets h
-first_is far octets h some span read far_is =
-    let first = span-first octets some span in
-    let reached : far ≡ packet_length octets = far_is ∙ packet_length_read octets h read in
-    let inside : far ≤ length octets = omega (arith, first.inside) in
+pub front_is : (limit n : ℕ) (octets : List ℕ) (h : Fields) → Some h ≡ front_header limit octets → n ≡ h.data_length + 7 → IsFront limit n octets h
+front_is limit n octets h e far =
+    let head = header-some limit octets h e in
+    let w = whole-true limit octets head.there in
+    let reached : n ≡ packet_length octets = far ∙ head.far in
+    let inside : n ≤ length octets = omega (arith, w.inside) in
+    let few : length (take n octets) ≡ n = length-take-le n octets inside in
     record {
-      reached = reached;
-      long = length-take-le far octets inside;
-      own = (reading-ok octets h read).1 ∙ sym (header-front far octets inside (omega (arith, packet_length_least octets)));
+      inside = inside;
+      own = head.own ∙ sym (header-front n octets inside (omega arith));
+      whole = sym few;
+      some = omega (arith, few);
+      front = front-some limit octets head.there ∙ rw (few, reached) refl;
     }
 
-pub first_not : (octets : List ℕ) (r : Result Fields PacketFault) (fault : PacketFault) → 0 < length octets → IsSpan octets
-    → r ≡ header_reading_of octets → r ≡ Err fault → ⊥
-first_not octets r fault some span is refused =
-    let first = span-first octets some span in
-    let zero : packet_version_of octets ≡ 0 = sym (version_front octets some) ∙ eqb-true (packet_version_of (take 1 octets)) 0 first.version in
-    let short = reading-err octets fault zero (sym is ∙ refused) in
-    omega (arith, packet_length_least octets, first.inside)
+pub front_none : (limit : ℕ) (octets : List ℕ) → None ≡ front_header limit octets → front_packets limit octets ≡ []
+front_none limit octets e = front-none limit octets (header-none limit octets e)
+
+-- packets, and others behind them
+joined-append : (ps qs : List (List ℕ)) → joined (ps ++ qs) ≡ joined ps ++ joined qs
+joined-append [] qs = refl
+joined-append (p ∷ ps) qs = ap (λ (l : List ℕ). p ++ l) (joined-append ps qs) ∙ sym (append_assoc p (joined ps) (joined qs))
+
+placed-append : (seen channel place : ℕ) (ps qs : List (List ℕ))
+    → placed seen channel place (ps ++ qs) ≡ placed seen channel place ps ++ placed seen channel (place + length (joined ps)) qs
+placed-append seen channel place [] qs = ap (λ (n : ℕ). placed seen channel n qs) (omega arith)
+placed-append seen channel place (p ∷ ps) qs =
+    ap (λ (xs : List Item). Packet seen channel seen place p ∷ xs)
+    (placed-append seen channel (place + length p) ps qs
+    ∙ ap (λ (n : ℕ). placed seen channel (place + length p) ps ++ placed seen channel n qs) (omega (arith, length-append p (joined ps))))
+
+-- they have so many octets
+first-length : (limit : ℕ) (span : Span) (packets : List (List ℕ)) (many : ℕ) → AreFirst limit span packets many → length (joined packets) ≡ many
+first-length limit span packets many first = ap length first.octets ∙ length-take-le many span.octets.now first.inside
 
 -- ---- that add nothing to the report
 
@@ -66,36 +84,48 @@ quiet_more : {A : Type 0} (text : Texts A) (entries : Entries) (xs : List Item) 
 quiet_more text entries [] x quiet none = (none, tt)
 quiet_more text entries (y ∷ ys) x quiet none = (quiet.0, quiet_more text (noted entries y) ys x quiet.1 none)
 
-module _ {A : Type 0} (text : Texts A) (old : Entries) (span : Span) where
-  pub noted_none : IsSpan span.octets.now → HasNoted text old old span 0
-  noted_none whole = record { inside = omega arith; prefix = tt; rest = whole; noted_is = refl; quiet = tt }
+module _ {A : Type 0} (text : Texts A) (limit : ℕ) (old : Entries) (span : Span) where
+  pub noted_none : HasNoted text limit old old span 0
+  noted_none = record { packets = []; first = record { inside = omega arith; octets = refl; front = refl }; none = λ _. refl; noted_is = refl; quiet = tt }
 
   -- and the next one
   pub noted_next : (now next : Entries) (at : ℕ) (left : Bor (List ℕ)) (packet : lent.Packet)
-      → left.now ≡ take (length span.octets.now - at) (drop at span.octets.now) → at < length span.octets.now
-      → HasNoted text old now span at → IsFirstPacket (record span { place = span.place + at; octets = left }) packet
-      → IsQuiet text now (item_with packet) → next ≡ noted now (item_with packet) → HasNoted text old next span (at + length packet.octets.now)
-  noted_next now next at left packet is some done head silent after =
+      → left.now ≡ take (length span.octets.now - at) (drop at span.octets.now)
+      → HasNoted text limit old now span at → IsFirstPacket limit (record span { place = span.place + at; octets = left }) packet
+      → IsQuiet text now (item_with packet) → next ≡ noted now (item_with packet) → HasNoted text limit old next span (at + length packet.octets.now)
+  noted_next now next at left packet is done head silent after =
       let octets = span.octets.now in
-      let far = length packet.octets.now in
+      let p = packet.octets.now in
+      let n = length p in
       let all : left.now ≡ drop at octets = is ∙ take_rest octets at in
-      let step = span-next span.seen span.channel span.place at far octets left.now is head.length_is some done.rest in
-      let x = Packet span.seen span.channel span.seen (span.place + at) (take far left.now) in
-      let own : item_with packet ≡ x = rw head.length_is head.item in
-      let longer = span-longer span.seen span.channel span.place at far octets (omega arith) done.prefix (rw all at step.one) in
-      let before = first_items span at in
-      let items : first_items span (at + far) ≡ before ++ x ∷ [] = rw all longer.items in
+      let far : length left.now ≡ length octets - at = ap length all ∙ length-drop at octets in
+      let long = first-length limit span done.packets at done.first in
+      let x = Packet span.seen span.channel span.seen (span.place + at) p in
+      let before = span_items span done.packets in
+      let items : span_items span (done.packets ++ p ∷ []) ≡ before ++ x ∷ [] =
+      placed-append span.seen span.channel span.place done.packets (p ∷ []) ∙ rw long refl in
       record {
-        inside = step.inside;
-        prefix = longer.span;
-        rest = step.others;
-        noted_is = rw (after, own, done.noted_is, items, noted_more) refl;
-        quiet = rw items (quiet_more text old before x done.quiet (rw (own, done.noted_is) at silent));
+        packets = done.packets ++ p ∷ [];
+        first = record {
+          inside = omega (arith, head.first.inside, far, done.first.inside);
+          octets =
+              joined-append done.packets (p ∷ [])
+              ∙ rw (done.first.octets, head.first.octets, all) refl
+              ∙ sym (take-add at n octets);
+          front =
+              done.first.front
+              ∙ ap (λ (ps : List (List ℕ)). done.packets ++ ps)
+              (ap (front_packets limit) (sym all) ∙ head.first.front ∙ ap (λ (l : List ℕ). p ∷ front_packets limit l) (ap (drop n) all ∙ drop-drop n at octets))
+              ∙ sym (append_assoc done.packets (p ∷ []) (front_packets limit (drop (at + n) octets)));
+        };
+        none = λ e. absurd (omega (arith, head.some, e));
+        noted_is = rw (after, head.item, done.noted_is, items, noted_more) refl;
+        quiet = rw items (quiet_more text old before x done.quiet (rw (head.item, done.noted_is) at silent));
       }
 
 -- no octets were noted, and so nothing
-pub nothing_noted : {A : Type 0} (text : Texts A) (old new : Entries) (span : Span) (many : ℕ) → HasNoted text old new span many → many ≡ 0 → new ≡ old
-nothing_noted text old new span many done none = rw none at done.noted_is
+pub nothing_noted : {A : Type 0} (text : Texts A) (limit : ℕ) (old new : Entries) (span : Span) (many : ℕ) → HasNoted text limit old new span many → many ≡ 0 → new ≡ old
+nothing_noted text limit old new span many done none = rw (done.none none) at done.noted_is
 
 -- ---- taken
 
@@ -115,25 +145,23 @@ longer_some xs prefix more e short none =
     let same : length xs ≡ length prefix = rw (e, none, append-nil) refl in
     omega arith
 
+-- where there are octets there is a packet
+some_first : (ps : List (List ℕ)) → 0 < length (joined ps) → (p : List ℕ) × (qs : List (List ℕ)) × (ps ≡ p ∷ qs)
+some_first [] some = absurd (omega arith)
+some_first (p ∷ qs) some = (p, qs, refl)
+
 module _ {A K M : Type 0} (grows : K → K → List A → Type 0) (grows-nil : (k : K) → grows k k [])
     (grows-trans : (j k l : K) (xs ys : List A) → grows j k xs → grows k l ys → grows j l (xs ++ ys))
     (grows-split : (j l : K) (xs ys : List A) → grows j l (xs ++ ys) → (k : K) × grows j k xs × grows k l ys)
     (text : M → Texts A) (buffering : Buffering) where
-  module _ (s t : OutputState K M) {span : Span} {packet : lent.Packet} (some : 0 < length span.octets.now) (head : IsFirstPacket span packet) where
+  module _ (s t : OutputState K M) (limit : ℕ) {span : Span} {packet : lent.Packet} (head : IsFirstPacket limit span packet) where
     -- the first packet, alone
-    pub one_taken : IsSpan span.octets.now → Takes grows text buffering s (item_with packet) t
-        → IsAccepted (Takes grows text buffering) s t span (length packet.octets.now)
-    one_taken whole accepted =
-        let octets = span.octets.now in
-        let first = span-first octets some whole in
-        let far = length packet.octets.now in
-        let one : IsOnePacket (take far octets) = rw head.length_is first.one in
-        let own : item_with packet ≡ Packet span.seen span.channel span.seen span.place (take far octets) = rw head.length_is head.item in
-        record {
-          prefix = rw (packets-one (take far octets) one) (one, tt);
-          rest = rw head.length_is first.others;
-          accepted = rw (packets-one (take far octets) one) (t, rw own at accepted, refl);
-        }
+    pub one_taken : Takes grows text buffering s (item_with packet) t → IsAccepted (Takes grows text buffering) limit s t span (length packet.octets.now)
+    one_taken accepted = record { packets = packet.octets.now ∷ []; first = head.first; accepted = (t, rw head.item at accepted, refl) }
+
+    pub one_refused : {fault : RunFault} → Refuses grows text buffering s (item_with packet) fault t
+        → RefusesOne (Takes grows text buffering) (Refuses grows text buffering) s (front_items limit span) fault t
+    one_refused refused = rw head.first.front (inl (rw head.item at refused))
 
   module _ (s : OutputState K M) (x : Item) (quiet : IsQuiet (text s.fixture.texts) s.entries x) where
     -- it is taken where what belongs to `out` was added, and nothing else
@@ -197,56 +225,60 @@ module _ {A K M : Type 0} (grows : K → K → List A → Type 0) (grows-nil : (
       ))
       (cases_lt (length prefix) (length own))
 
-  module _ (s t : OutputState K M) {span : Span} {many : ℕ} (some : many ≡ 0 → ⊥) (done : HasNoted (text s.fixture.texts) s.entries t.entries span many)
+  module _ (s t : OutputState K M) {limit : ℕ} {span : Span} {many : ℕ} (some : 0 < many) (done : HasNoted (text s.fixture.texts) limit s.entries t.entries span many)
       (same : t.fixture ≡ s.fixture) (report : t.view.report ≡ s.view.report) where
-    abbrev octets : List ℕ
-    octets = take many span.octets.now
+    long : length (joined done.packets) ≡ many
+    long = first-length limit span done.packets many done.first
 
-    abbrev items : List Item
-    items = placed span.seen span.channel span.place (take (packet_length octets) octets ∷ packets_in (drop (packet_length octets) octets))
-
-    first : first_items span many ≡ items
-    first = ap (placed span.seen span.channel span.place) (packets-first octets (omega (arith, length-take-le many span.octets.now done.inside)))
-
-    quiet : AreQuiet (text s.fixture.texts) s.entries items
-    quiet = rw first at done.quiet
+    parts : (p : List ℕ) × (qs : List (List ℕ)) × (done.packets ≡ p ∷ qs)
+    parts = some_first done.packets (omega (arith, some, long))
 
     -- the packets in front that are noted
-    pub span_taken : SameCounts s.view t.view → grows s.view.out t.view.out (outs_of (text s.fixture.texts) (first_items span many))
-        → IsAccepted (Takes grows text buffering) s t span many
+    pub span_taken : SameCounts s.view t.view → grows s.view.out t.view.out (outs_of (text s.fixture.texts) (span_items span done.packets))
+        → IsAccepted (Takes grows text buffering) limit s t span many
     span_taken counts grown = record {
-      prefix = done.prefix;
-      rest = done.rest;
-      accepted = rw first (all_taken s t _ _ quiet same (rw first at done.noted_is) report counts (rw first at grown));
+      packets = done.packets;
+      first = done.first;
+      accepted = rw parts.2 (all_taken s t _ _ (rw parts.2 at done.quiet) same (rw parts.2 at done.noted_is) report counts (rw parts.2 at grown));
     }
 
     pub span_stopped : t.view.out_failures ≡ raised s.view.out_failures → t.view.report_failures ≡ s.view.report_failures
-        → PutsPart grows s.view.out t.view.out (outs_of (text s.fixture.texts) (first_items span many))
-        → RefusesOne (Takes grows text buffering) (Refuses grows text buffering) s (items_of_span span) Write t
+        → PutsPart grows s.view.out t.view.out (outs_of (text s.fixture.texts) (span_items span done.packets))
+        → RefusesOne (Takes grows text buffering) (Refuses grows text buffering) s (front_items limit span) Write t
     span_stopped out_failed report_failed part =
-        rw (span-both span.seen span.channel span.place many span.octets.now done.inside done.prefix)
-        (RefusesOne-left (Takes grows text buffering) (Refuses grows text buffering) s t (first_items span many)
-        (span_items span.seen span.channel (span.place + many) (drop many span.octets.now)) Write
-        (rw first (one_stopped s t _ _ quiet same report out_failed report_failed (rw first at part))))
+        rw (done.first.front, placed-append span.seen span.channel span.place done.packets (front_packets limit (drop many span.octets.now)))
+        (RefusesOne-left (Takes grows text buffering) (Refuses grows text buffering) s t (span_items span done.packets)
+        (placed span.seen span.channel (span.place + length (joined done.packets)) (front_packets limit (drop many span.octets.now))) Write
+        (rw parts.2 (one_stopped s t _ _ (rw parts.2 at done.quiet) same report out_failed report_failed (rw parts.2 at part))))
 
--- what is left of packets that lie end to end, once so many octets of them were taken
-pub record IsLeft (seen channel place at many : ℕ) (octets left : List ℕ) : Type 0 where
-  pub items : span_items seen channel (place + at) (drop at octets)
-      ≡ span_items seen channel (place + at) (take many left) ++ span_items seen channel (place + (at + many)) (drop (at + many) octets)
-  pub rest : IsSpan (drop (at + many) octets)
+-- what is left of a front, once so many octets of it were taken
+pub record IsLeft (limit seen channel place at many : ℕ) (octets : List ℕ) (packets : List (List ℕ)) : Type 0 where
+  pub items : placed seen channel (place + at) (front_packets limit (drop at octets))
+      ≡ placed seen channel (place + at) packets ++ placed seen channel (place + (at + many)) (front_packets limit (drop (at + many) octets))
+  pub longer : front_length limit (drop at octets) ≡ many + front_length limit (drop (at + many) octets)
   pub inside : at + many ≤ length octets
 
-pub span_left : (seen channel place at many : ℕ) (octets left : List ℕ) → left ≡ take (length octets - at) (drop at octets) → at ≤ length octets
-    → many ≤ length left → IsSpan (take many left) → IsSpan (drop many left) → IsLeft seen channel place at many octets left
-span_left seen channel place at many octets left is inside fits prefix rest =
-    let all : left ≡ drop at octets = is ∙ take_rest octets at in
-    let behind : drop many left ≡ drop (at + many) octets = ap (drop many) all ∙ drop-drop many at octets in
-    let next : (place + at) + many ≡ place + (at + many) = omega arith in
+pub front_left : (limit : ℕ) (span : Span) (at many : ℕ) (left : Bor (List ℕ)) (packets : List (List ℕ))
+    → left.now ≡ take (length span.octets.now - at) (drop at span.octets.now) → at ≤ length span.octets.now
+    → AreFirst limit (record span { place = span.place + at; octets = left }) packets many
+    → IsLeft limit span.seen span.channel span.place at many span.octets.now packets
+front_left limit span at many left packets is within first =
+    let octets = span.octets.now in
+    let all : left.now ≡ drop at octets = is ∙ take_rest octets at in
+    let long = first-length limit (record span { place = span.place + at; octets = left }) packets many first in
+    let behind : drop many left.now ≡ drop (at + many) octets = ap (drop many) all ∙ drop-drop many at octets in
+    let front : front_packets limit (drop at octets) ≡ packets ++ front_packets limit (drop (at + many) octets) =
+    ap (front_packets limit) (sym all) ∙ first.front ∙ rw behind refl in
+    let next : (span.place + at) + many ≡ span.place + (at + many) = omega arith in
     record {
       items =
-          ap (span_items seen channel (place + at)) (sym all)
-          ∙ span-both seen channel (place + at) many left fits prefix
-          ∙ rw (behind, next) refl;
-      rest = rw behind at rest;
-      inside = omega (arith, fits, ap length all, length-drop at octets);
+          ap (placed span.seen span.channel (span.place + at)) front
+          ∙ placed-append span.seen span.channel (span.place + at) packets (front_packets limit (drop (at + many) octets))
+          ∙ rw (long, next) refl;
+      longer =
+          ap (λ (ps : List (List ℕ)). length (joined ps)) front
+          ∙ ap length (joined-append packets (front_packets limit (drop (at + many) octets)))
+          ∙ length-append (joined packets) (joined (front_packets limit (drop (at + many) octets)))
+          ∙ rw long refl;
+      inside = omega (arith, first.inside, ap length all, length-drop at octets);
     }

@@ -5,11 +5,12 @@ ghost use Rattle.std.specs.List.{flat_map};
 ghost use Rattle.std.specs.Io.KnownBytes.{Appends, Keeps};
 ghost use Rattle.std.proofs.KnownBytes.{Appends-nil, Appends-trans};
 ghost use Rattle.tm_items.specs.Item.{Item};
-ghost use Rattle.tm_items.specs.Spans.{items_of_span, span_items};
+ghost use Rattle.tm_items.specs.Fronts.{joined, placed};
 ghost use Rattle.tm_devices.specs.Devices.{Counts, raised};
+ghost use Rattle.tm_output.specs.FieldRows.{tabled};
 ghost use Rattle.tm_output.specs.Packets.{HasHeader, item_with};
 ghost use Rattle.tm_output.specs.code.Outlets.{GivesNone, PutStopped, appends_split, listed_none, octets_joined, octets_none};
-ghost use Rattle.tm_output.specs.code.Quiet.{outs_of};
+ghost use Rattle.tm_output.specs.code.Quiet.{outs_of, span_items};
 ghost use Rattle.tm_output.specs.Outputs.{FixedDrain, PutsPart, Buffering, lines_buffering, octets_buffering};
 ghost use Rattle.tm_output.specs.Pieces.{HasLine, Texts, listed, no_remark, packet_octets};
 ghost use Rattle.tm_output.specs.code.ShelfLaws.{no_shelf, shelves_nil, shelves_split, shelves_trans};
@@ -91,17 +92,21 @@ pub trait Outlet {
     fn can_join(&self) -> bool
         ensures { result ≡ can_join };
 
-    /// Writes at once what belongs here for packets that lie end to end, if the outlet joins them, and answers whether it did. If not, nothing
+    /// Writes at once what belongs here for the packets of a span, if the outlet joins them, and answers whether it did. If not, nothing
     /// changes.
     fn write_span(&mut self, span: Span<'_>) -> Result<bool, DeviceFailed>
         ensures same { Self.fixed self.new ≡ Self.fixed self.old }
         ensures joined { IfOk result (λ put. put ≡ Self.can_join) }
-        ensures whole { IfOk result (λ put. put ≡ true → Self.grows (Self.held self.old) (Self.held self.new)
-            (outs_of (Self.text (Self.fixed self.old)) (items_of_span span.entry)) × (Self.failures self.new ≡ Self.failures self.old)) }
+        ensures whole { IfOk result (λ put. put ≡ true
+            → ((packets : List (List ℕ)) → joined packets ≡ span.entry.octets.now
+            → Self.grows (Self.held self.old) (Self.held self.new)
+            (outs_of (Self.text (Self.fixed self.old)) (span_items span.entry packets)))
+            × (Self.failures self.new ≡ Self.failures self.old)) }
         ensures apart { IfOk result (λ put. put ≡ false → self.new ≡ self.old) }
         ensures stopped { OnErr result ((Self.failures self.new ≡ raised (Self.failures self.old))
-            × PutsPart Self.grows (Self.held self.old) (Self.held self.new)
-            (outs_of (Self.text (Self.fixed self.old)) (items_of_span span.entry))) };
+            × ((packets : List (List ℕ)) → joined packets ≡ span.entry.octets.now
+            → PutsPart Self.grows (Self.held self.old) (Self.held self.new)
+            (outs_of (Self.text (Self.fixed self.old)) (span_items span.entry packets)))) };
 
     /// An item that has a line gives nothing to the outlet, and nothing more to the report.
     ghost text_none: { (f : Fixed) (x : Item) → HasLine x → GivesNone (text f) x };
@@ -136,8 +141,8 @@ pub trait PacketText {
     ghost text_none: { (x : Item) → HasLine x → text x ≡ [] };
 
     /// Where packets may be put at once, their texts are the octets in which they lie.
-    ghost text_joined: { can_join ≡ true → (seen channel place : ℕ) (octets : List ℕ)
-        → flat_map text (span_items seen channel place octets) ≡ octets };
+    ghost text_joined: { can_join ≡ true → (seen channel place : ℕ) (packets : List (List ℕ))
+        → flat_map text (placed seen channel place packets) ≡ joined packets };
 }
 
 /// A packet's own octets.
@@ -242,6 +247,7 @@ impl<W: Drain, T: PacketText> Outlet for PacketTexts<'_, W, T> {
         Ok(())
     }
 
+    #[inline(always)]
     fn write(&mut self, packet: &Packet<'_>) -> Result<(), RunFault> {
         match write_all(self.out, self.text.octets(packet)) {
             Ok(()) => Ok(()),
@@ -313,6 +319,7 @@ impl<H: Shelf> Outlet for PacketShelf<'_, H> {
         Ok(())
     }
 
+    #[inline(always)]
     #[tactic(auto, using(crate::proofs::ShelfLemmas::shelf_stopped, crate::specs::code::ShelfLaws::shelves_put), unfolding(crate::specs::Shelves::shelved_of))]
     fn write(&mut self, packet: &Packet<'_>) -> Result<(), RunFault> {
         if let Err(_) = self.shelf.put(packet.header.application(), packet.octets) {
@@ -343,6 +350,57 @@ pub struct PacketRows<'r, 'd, 'o, W> {
     pub rows: &'r mut Rows<'d>,
     pub application: u16,
     pub out: &'o mut W,
+}
+
+/// A copy of a packet.
+#[inline(always)]
+pub(crate) fn copy_of<'p>(packet: &Packet<'p>) -> Packet<'p>
+    ensures { result ≡ packet.now }
+{
+    Packet {
+        seen: packet.seen,
+        channel: packet.channel,
+        first: packet.first,
+        place: packet.place,
+        header: packet.header,
+        octets: packet.octets,
+    }
+}
+
+// Writes the row of a packet of the application. It stands apart, since most packets are of others.
+#[inline(never)]
+#[tactic(auto, unfolding(crate::specs::FieldRows::tabled))]
+fn write_row<W: Drain>(
+    rows: &mut Rows<'_>,
+    application: u16,
+    out: &mut W,
+    packet: &Packet<'_>,
+) -> Result<(), RunFault>
+    requires header { HasHeader packet.now }
+    requires application { packet.now.header.application ≡ application }
+    ensures same { W.fixed out.new ≡ W.fixed out.old }
+    ensures fields { rows.new.fields ≡ rows.old.fields }
+    ensures whole { OnOk result (Appends (W.written out.old) (W.written out.new)
+        (tabled rows.old.fields application (item_with packet.now))
+        × (W.failures out.new ≡ W.failures out.old)) }
+    ensures stopped { IfErr result (PutStopped Appends lines_buffering (W.written out.old) (W.written out.new)
+        (W.failures out.old) (W.failures out.new)
+        (tabled rows.old.fields application (item_with packet.now))) }
+{
+    let lead = Lead {
+        seen: packet.seen,
+        channel: packet.channel,
+        application: packet.header.application(),
+        count: packet.header.count(),
+    };
+    match rows.write(lead, packet.octets) {
+        Ok(()) => match write_all(out, rows.row()) {
+            Ok(()) => Ok(()),
+            Err(_) => Err(RunFault::Write),
+        },
+        Err(RowFault::ShortPacket { .. }) => Ok(()),
+        Err(RowFault::NoMemory) => Err(RunFault::NoMemory),
+    }
 }
 
 impl<W> PacketRows<'_, '_, '_, W> {
@@ -394,6 +452,7 @@ impl<W: Drain> Outlet for PacketRows<'_, '_, '_, W> {
     #[tactic(auto, unfolding(crate::specs::FieldRows::too_short))]
     fn adds_nothing_to_report(&self, packet: &Packet<'_>) -> bool {
         !self.is_of_application(&packet.header)
+            || packet.octets.len() >= self.rows.bits_needed().div_ceil(8) as usize
     }
 
     #[tactic(auto, using(crate::proofs::RowLemmas::some_short_packet), unfolding(crate::specs::FieldRows::too_short))]
@@ -409,25 +468,14 @@ impl<W: Drain> Outlet for PacketRows<'_, '_, '_, W> {
         lines.extend_from_slice(line.as_slice())
     }
 
+    #[inline(always)]
     #[tactic(auto, unfolding(crate::specs::FieldRows::tabled))]
     fn write(&mut self, packet: &Packet<'_>) -> Result<(), RunFault> {
         if !self.is_of_application(&packet.header) {
             return Ok(());
         }
-        let lead = Lead {
-            seen: packet.seen,
-            channel: packet.channel,
-            application: packet.header.application(),
-            count: packet.header.count(),
-        };
-        match self.rows.write(lead, packet.octets) {
-            Ok(()) => match write_all(self.out, self.rows.row()) {
-                Ok(()) => Ok(()),
-                Err(_) => Err(RunFault::Write),
-            },
-            Err(RowFault::ShortPacket { .. }) => Ok(()),
-            Err(RowFault::NoMemory) => Err(RunFault::NoMemory),
-        }
+        // A copy, so that a packet of another application is never put together in memory.
+        write_row(self.rows, self.application, self.out, &copy_of(packet))
     }
 
     fn flush(&mut self) -> Result<(), DeviceFailed> {

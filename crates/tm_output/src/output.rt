@@ -1,11 +1,11 @@
 //! Where the texts of items go.
 
-ghost use Rattle.std.specs.Prelude.{◌≡◌, ◌≢◌, ◌+◌, ◌^◌, ◌<◌, ◌≤◌, ◌++◌, ◌∷◌, [], true, false, drop, length, IfErr, IfOk, OnOk, OnErr};
+ghost use Rattle.std.specs.Prelude.{◌≡◌, ◌≢◌, ◌+◌, ◌^◌, ◌<◌, ◌≤◌, ◌++◌, ◌∷◌, [], true, false, drop, length, None, IfErr, IfOk, IfSome, OnOk, OnErr};
 ghost use Rattle.std.specs.Io.KnownBytes.{Keeps};
 ghost use Rattle.tm_packet.specs.Merge as sequence;
 ghost use Rattle.tm_packet.specs.Header.{packet_header_of};
 ghost use Rattle.tm_items.specs.Sinks.{RefusesOne, item_of};
-ghost use Rattle.tm_items.specs.Spans.{IsSpan, items_of_span};
+ghost use Rattle.tm_items.specs.Fronts.{front_items, front_packets};
 ghost use Rattle.tm_items.specs.OnePacket.{IsOnePacket};
 ghost use Rattle.tm_lines.specs.Lines.{note_line, note_lines};
 ghost use Rattle.tm_output.specs.Outputs.{Written};
@@ -16,11 +16,11 @@ ghost use Rattle.tm_output.specs.code.Sinking.{NotesItem, Refuses, Takes, Writes
 ghost use Rattle.tm_output.specs.Seen.{OutputState, fixture, output_both, output_state};
 
 use crate::Packet;
-use crate::outlet::Outlet;
+use crate::outlet::{Outlet, copy_of};
 use std::alloc::AllocError;
 use tm_devices::{Drain, write_all};
 use tm_faults::RunFault;
-use tm_items::{Item, Sink, Span};
+use tm_items::{Item, Sink, Span, whole_packet};
 use tm_lines::{
     DroppedPart, LineBuffer, format_bad, format_drop, format_gap, format_master_gap, format_note,
     format_short, format_vca,
@@ -148,25 +148,22 @@ fn note_packet(
     push_notes(lines, packet.seen, packet.channel, application, &notes)
 }
 
-// The first packet of a span.
+// The packet at the front of a span, if one of at most `limit` octets lies whole there.
 #[inline(always)]
-#[tactic(auto, using(crate::proofs::SpanLemmas::first_not))]
-fn first_packet(span: Span<'_>) -> Packet<'_>
-    requires some { 0 < length span.octets.now }
-    requires packets { IsSpan span.octets.now }
-    ensures { IsFirstPacket span.entry result }
+fn first_packet(limit: usize, span: Span<'_>) -> Option<Packet<'_>>
+    ensures some { IfSome result (IsFirstPacket limit span.entry) }
+    ensures none { result ≡ None → front_packets limit span.entry.octets.now ≡ [] }
 {
-    let header = match read_header(span.octets) {
-        Ok(header) => header,
-        Err(_) => unreachable!(),
-    };
-    Packet {
-        seen: span.seen,
-        channel: span.channel,
-        first: span.seen,
-        place: span.place,
-        header,
-        octets: &span.octets[..header.length() as usize],
+    match whole_packet(limit, span.octets) {
+        Some(header) => Some(Packet {
+            seen: span.seen,
+            channel: span.channel,
+            first: span.seen,
+            place: span.place,
+            header,
+            octets: &span.octets[..header.length() as usize],
+        }),
+        None => None,
     }
 }
 
@@ -188,25 +185,26 @@ fn note_if_quiet<O: Outlet>(tracker: &mut Tracker, outlet: &O, packet: &Packet<'
 
 // Takes note of the first packets of a span that add nothing to the report, and answers how many octets they have.
 #[inline(always)]
-fn note_quiet<O: Outlet>(tracker: &mut Tracker, outlet: &O, span: Span<'_>) -> usize
+fn note_quiet<O: Outlet>(tracker: &mut Tracker, outlet: &O, limit: usize, span: Span<'_>) -> usize
     requires channel { span.channel < 8 }
     requires places { span.place + length span.octets.now < 2 ^ 16 }
-    requires packets { IsSpan span.octets.now }
-    ensures { HasNoted (O.text (O.fixed outlet.now)) tracker.old tracker.new span.entry result }
+    ensures { HasNoted (O.text (O.fixed outlet.now)) limit tracker.old tracker.new span.entry result }
 {
     let mut at = 0;
-    while at < span.octets.len() {
-        let packet = first_packet(Span {
+    loop {
+        let rest = Span {
             place: span.place + at as u16,
             octets: &span.octets[at..],
             ..span
-        });
+        };
+        let Some(packet) = first_packet(limit, rest) else {
+            return at;
+        };
         if !note_if_quiet(tracker, outlet, &packet) {
             return at;
         }
         at += packet.octets.len();
     }
-    at
 }
 
 impl<O: Outlet, V: Drain> Output<'_, O, V> {
@@ -242,7 +240,8 @@ impl<O: Outlet, V: Drain> Output<'_, O, V> {
         ensures written { WritesItem O.Outlet V.Drain self.old self.new (item_with packet.now) result }
     {
         if !note_if_quiet(self.tracker, self.outlet, packet) {
-            return self.write_reported(packet);
+            // A copy, so that a packet that adds nothing to the report is never put together in memory.
+            return self.write_reported(&copy_of(packet));
         }
         if let Err(fault) = self.outlet.write(packet) {
             return Err(fault);
@@ -250,22 +249,20 @@ impl<O: Outlet, V: Drain> Output<'_, O, V> {
         Ok(())
     }
 
-    // Takes one or some of the packets in front of a span, and answers how many octets they have.
+    // Takes one or some of the packets at the front of a span, if there are any, and answers how many octets they have.
     #[inline(always)]
-    fn write_first(&mut self, span: Span<'_>) -> Result<usize, RunFault>
+    fn write_first(&mut self, limit: usize, span: Span<'_>) -> Result<usize, RunFault>
         requires channel { span.channel < 8 }
-        requires some { 0 < length span.octets.now }
         requires places { span.place + length span.octets.now < 2 ^ 16 }
-        requires packets { IsSpan span.octets.now }
-        ensures many { IfOk result (λ many. (0 < many) × (many ≤ length span.entry.octets.now)) }
-        ensures accepted { IfOk result (λ many. IsAccepted (Takes O.grows O.text O.buffering)
-            (output_state O.Outlet V.Drain self.old) (output_state O.Outlet V.Drain self.new) span.entry many) }
+        ensures accepted { IfOk result (IsAccepted (Takes O.grows O.text O.buffering) limit
+            (output_state O.Outlet V.Drain self.old) (output_state O.Outlet V.Drain self.new) span.entry) }
+        ensures ended { IfOk result (λ many. many ≡ 0 → front_packets limit span.entry.octets.now ≡ []) }
         ensures refused { IfErr result (λ fault. RefusesOne (Takes O.grows O.text O.buffering)
-            (Refuses O.grows O.text O.buffering)
-            (output_state O.Outlet V.Drain self.old) (items_of_span span.entry) fault (output_state O.Outlet V.Drain self.new)) }
+            (Refuses O.grows O.text O.buffering) (output_state O.Outlet V.Drain self.old)
+            (front_items limit span.entry) fault (output_state O.Outlet V.Drain self.new)) }
     {
         if self.outlet.can_join() {
-            let quiet = note_quiet(self.tracker, self.outlet, span);
+            let quiet = note_quiet(self.tracker, self.outlet, limit, span);
             if quiet > 0 {
                 let front = Span {
                     octets: &span.octets[..quiet],
@@ -278,7 +275,9 @@ impl<O: Outlet, V: Drain> Output<'_, O, V> {
                 };
             }
         }
-        let packet = first_packet(span);
+        let Some(packet) = first_packet(limit, span) else {
+            return Ok(0);
+        };
         match self.write_packet(&packet) {
             Ok(()) => Ok(packet.octets.len()),
             Err(fault) => Err(fault),
@@ -404,19 +403,19 @@ impl<O: Outlet, V: Drain> Sink for Output<'_, O, V> {
         }
     }
 
-    fn take_span(&mut self, span: Span<'_>) -> Result<(), RunFault> {
+    fn take_front(&mut self, limit: usize, span: Span<'_>) -> Result<usize, RunFault> {
         let mut at = 0;
-        while at < span.octets.len() {
+        loop {
             let rest = Span {
                 place: span.place + at as u16,
                 octets: &span.octets[at..],
                 ..span
             };
-            match self.write_first(rest) {
+            match self.write_first(limit, rest) {
+                Ok(0) => return Ok(at),
                 Ok(many) => at += many,
                 Err(fault) => return Err(fault),
             }
         }
-        Ok(())
     }
 }

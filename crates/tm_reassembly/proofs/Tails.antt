@@ -5,7 +5,7 @@ use Rattle.std.proofs.lemmas.Bool.{le-leb, eq-eqb, eqb-true}
 use Rattle.tm_reassembly.specs.State.{Tail, octets_in}
 use Rattle.tm_reassembly.specs.Parts.{agrees_at, is_long}
 use Rattle.tm_items.specs.OnePacket.{IsOnePacket, is_packet, packet_length}
-use Rattle.tm_items.proofs.Spans.{one-front}
+use Rattle.tm_items.proofs.Fronts.{one-front}
 use Rattle.tm_reassembly.specs.code.Field.{step_parts, frame_parts}
 use Rattle.tm_reassembly.specs.code.Slots.{tail_of_octets, grown, completed, member_at}
 

@@ -3,7 +3,7 @@
 ghost use Rattle.std.specs.Prelude.{◌≡◌, ◌+◌, ◌^◌, ◌<◌, ◌≤◌, ◌==◌, true, false, length, take, drop, None, Some, ◌++◌, IfOk, IfErr, IfSome, OnOk};
 ghost use Rattle.tm_items.specs.OnePacket as one_packet;
 ghost use Rattle.tm_reassembly.specs.code.DataFields.{IsDataField, IsFieldOf, member_with};
-ghost use Rattle.tm_reassembly.specs.code.Field.{HasNoWholePacket, IsLeft, IsMeasured, IsWholePacketOf, begun_parts, field_parts, unfinished, items_from, left_in, part_items, GivesParts};
+ghost use Rattle.tm_reassembly.specs.code.Field.{HasNoWholePacket, IsLeft, IsMeasured, begun_parts, field_parts, unfinished, items_from, left_in, part_items, GivesParts};
 ghost use Rattle.tm_reassembly.specs.code.Slots.{member_at};
 ghost use Rattle.tm_reassembly.specs.Parts as model;
 ghost use Rattle.tm_reassembly.specs.Parts.{begins_packet, unread_reason, lead_part};
@@ -139,21 +139,6 @@ pub fn give_lead<S: Sink>(
     }
 }
 
-// How many octets the packet has that begins here, where it is read and lies whole in these octets. No packet has fewer than seven.
-#[tactic(auto, using(tm_items::proofs::Reaching::packet_length_least))]
-fn whole_packet(limit: usize, octets: &[u8]) -> Option<usize>
-    ensures whole { IfSome result (IsWholePacketOf limit octets.now) }
-    ensures none { result ≡ None → HasNoWholePacket limit octets.now }
-{
-    if octets.len() < 7 {
-        return None;
-    }
-    match measure(limit, octets) {
-        Ok(length) if length <= octets.len() => Some(length),
-        Ok(_) | Err(_) => None,
-    }
-}
-
 // Gives what of a field stands behind its last whole packet: its unread part, if it has one. Answers as `read_field` does.
 fn give_unread<S: Sink>(
     limit: usize,
@@ -204,20 +189,16 @@ pub fn read_field<S: Sink>(
         (field_parts limit site.seen (length field.now) place field.now) result }
     ensures left { IfOk result (λ left. IsLeft limit field.now left (unfinished limit place field.now)) }
 {
-    let mut offset = place;
-    while let Some(length) = whole_packet(limit, &field[offset..]) {
-        offset += length;
-    }
-    let whole = Span {
+    let span = Span {
         seen: site.seen,
         channel: site.channel,
         place: place as u16,
-        octets: &field[place..offset],
+        octets: &field[place..],
     };
-    if let Err(fault) = sink.take_span(whole) {
-        return Err(fault);
+    match sink.take_front(limit, span) {
+        Ok(many) => give_unread(limit, site, field, place + many, sink),
+        Err(fault) => Err(fault),
     }
-    give_unread(limit, site, field, offset, sink)
 }
 
 /// Gives what a field has where no packet is open. What stands before its place is lost for this reason. Then come its packets and

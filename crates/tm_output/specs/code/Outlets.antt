@@ -5,8 +5,7 @@ use Rattle.std.specs.List.{flat_map}
 use Rattle.std.proofs.Common.{sym, ap, ◌∙◌, append_assoc}
 use Rattle.tm_fields.specs.declared.field.Field.{Field}
 use Rattle.tm_items.specs.Item.{Item, Bad, MasterGap, Gap, Vca, Dropped, Packet, Short}
-use Rattle.tm_items.specs.Spans.{packets_in, placed, span_items}
-use Rattle.tm_items.proofs.Spans.{joined, joined-all}
+use Rattle.tm_items.specs.Fronts.{joined, placed}
 use Rattle.tm_devices.specs.Devices.{raised}
 use Rattle.tm_output.specs.declared.command.Command.{Command}
 use Rattle.tm_output.specs.declared.command.Command.TheVariants.{Extract, Packets, Fields}
@@ -78,14 +77,11 @@ no_text Extract x has = (octets_none x has, refl)
 no_text Packets x has = (listed_none x has, refl)
 no_text (Fields definition application) x has = no_row definition.now application x has
 
-octets_placed : (seen channel place : ℕ) (ps : List (List ℕ)) → flat_map packet_octets (placed seen channel place ps) ≡ joined ps
-unfolding packet_octets
-octets_placed seen channel place [] = refl
-octets_placed seen channel place (p ∷ ps) = ap (λ (l : List ℕ). p ++ l) (octets_placed seen channel (place + length p) ps)
-
 -- packets that lie end to end give the octets in which they lie
-pub octets_joined : (seen channel place : ℕ) (octets : List ℕ) → flat_map packet_octets (span_items seen channel place octets) ≡ octets
-octets_joined seen channel place octets = octets_placed seen channel place (packets_in octets) ∙ joined-all octets
+pub octets_joined : (seen channel place : ℕ) (packets : List (List ℕ)) → flat_map packet_octets (placed seen channel place packets) ≡ joined packets
+unfolding packet_octets
+octets_joined seen channel place [] = refl
+octets_joined seen channel place (p ∷ ps) = ap (λ (l : List ℕ). p ++ l) (octets_joined seen channel (place + length p) ps)
 
 -- octets that are added at once may be added in two steps
 pub appends_split : (j l : Option (List ℕ)) (xs ys : List ℕ) → Appends j l (xs ++ ys) → (k : Option (List ℕ)) × Appends j k xs × Appends k l ys

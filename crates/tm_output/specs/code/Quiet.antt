@@ -1,11 +1,10 @@
--- Packets that lie end to end, and add nothing to the report.
-use Rattle.std.specs.Prelude.{◌≡◌, ◌≤◌, ℕ, List, [], ◌∷◌, ◌++◌, length, take, drop}
+-- Packets at the front of a span, and those that add nothing to the report.
+use Rattle.std.specs.Prelude.{◌≡◌, ◌<◌, ◌≤◌, ℕ, List, [], ◌∷◌, ◌++◌, length, take, drop}
 use Rattle.std.specs.List.{flat_map}
 use Rattle.tm_items.specs.declared.sink.Span.{Span}
 use Rattle.tm_items.specs.Item.{Item, Packet}
-use Rattle.tm_items.specs.OnePacket.{packet_length}
 use Rattle.tm_items.specs.Sinks.{TakesAll}
-use Rattle.tm_items.specs.Spans.{IsSpan, span_items}
+use Rattle.tm_items.specs.Fronts.{front_packets, joined, placed}
 use Rattle.tm_lines.specs.declared.packet.Packet as lent
 use Rattle.tm_output.specs.Packets.{HasHeader, item_with}
 use Rattle.tm_packet.specs.Merge.{Entries}
@@ -24,27 +23,34 @@ abbrev pub AreQuiet : {A : Type 0} → Texts A → Entries → List Item → Typ
 AreQuiet text entries [] = Unit {0}
 AreQuiet text entries (x ∷ xs) = IsQuiet text entries x × AreQuiet text (noted entries x) xs
 
--- the packets of the first octets of a span, so many of them
-abbrev pub first_items : Span → ℕ → List Item
-first_items s many = span_items s.seen s.channel s.place (take many s.octets.now)
+-- packets of a span, as items
+abbrev pub span_items : Span → List (List ℕ) → List Item
+span_items s packets = placed s.seen s.channel s.place packets
 
--- so many octets of a span were noted: those first packets that add nothing to the report
-pub record HasNoted {A : Type 0} (text : Texts A) (old new : Entries) (s : Span) (many : ℕ) : Type 0 where
+-- these packets are the first of a span's front, and have so many octets
+pub record AreFirst (limit : ℕ) (s : Span) (packets : List (List ℕ)) (many : ℕ) : Type 0 where
   pub inside : many ≤ length s.octets.now
-  pub prefix : IsSpan (take many s.octets.now)
-  pub rest : IsSpan (drop many s.octets.now)
-  pub noted_is : new ≡ noted_all old (first_items s many)
-  pub quiet : AreQuiet text old (first_items s many)
+  pub octets : joined packets ≡ take many s.octets.now
+  pub front : front_packets limit s.octets.now ≡ packets ++ front_packets limit (drop many s.octets.now)
+
+-- so many octets of a span were noted: first packets that add nothing to the report
+pub record HasNoted {A : Type 0} (text : Texts A) (limit : ℕ) (old new : Entries) (s : Span) (many : ℕ) : Type 0 where
+  pub packets : List (List ℕ)
+  pub first : AreFirst limit s packets many
+  pub none : many ≡ 0 → packets ≡ []
+  pub noted_is : new ≡ noted_all old (span_items s packets)
+  pub quiet : AreQuiet text old (span_items s packets)
 
 -- the packet is the first of a span
-pub record IsFirstPacket (s : Span) (packet : lent.Packet) : Type 0 where
-  pub item : item_with packet ≡ Packet s.seen s.channel s.seen s.place (take (packet_length s.octets.now) s.octets.now)
+pub record IsFirstPacket (limit : ℕ) (s : Span) (packet : lent.Packet) : Type 0 where
+  pub item : item_with packet ≡ Packet s.seen s.channel s.seen s.place packet.octets.now
   pub channel_is : packet.channel ≡ s.channel
   pub header : HasHeader packet
-  pub length_is : length packet.octets.now ≡ packet_length s.octets.now
+  pub some : 0 < length packet.octets.now
+  pub first : AreFirst limit s (packet.octets.now ∷ []) (length packet.octets.now)
 
--- the first packets of a span, which have so many octets, were accepted
-pub record IsAccepted {S : Type 0} (takes : S → Item → S → Type 0) (old new : S) (s : Span) (many : ℕ) : Type 0 where
-  pub prefix : IsSpan (take many s.octets.now)
-  pub rest : IsSpan (drop many s.octets.now)
-  pub accepted : TakesAll takes old (first_items s many) new
+-- first packets of a span, which have so many octets, were accepted
+pub record IsAccepted {S : Type 0} (takes : S → Item → S → Type 0) (limit : ℕ) (old new : S) (s : Span) (many : ℕ) : Type 0 where
+  pub packets : List (List ℕ)
+  pub first : AreFirst limit s packets many
+  pub accepted : TakesAll takes old (span_items s packets) new

@@ -129,21 +129,13 @@ GivesParts s old new channel ps r = Gives s old new (part_items channel ps) r
 abbrev pub items_from : ℕ → ℕ → ℕ → List ℕ → ℕ → List Item
 items_from limit seen channel field at = part_items channel (field_parts limit seen (length field) 0 (drop at field))
 
--- a packet of so many octets begins with these, is read, and lies whole in them
-pub record IsWholePacketOf (limit : ℕ) (octets : List ℕ) (reach : ℕ) : Type 0 where
-  pub some : 0 < length octets
-  pub version : is_packet octets ≡ true
-  pub begins : begins_packet limit octets ≡ true
-  pub reaches : reach ≡ packet_length octets
-  pub whole : reach ≤ length octets
-
 -- a packet of so many octets begins with these, and is read; it is no longer than the limit where its whole header is there
 abbrev pub IsMeasured : ℕ → List ℕ → ℕ → Type 0
 IsMeasured limit octets reach =
     (begins_packet limit octets ≡ true) × (is_packet octets ≡ true) × (reach ≡ packet_length octets)
     × (reach ≤ 65542) × (6 ≤ length octets → reach ≤ limit)
 
--- none lies whole in them
+-- no packet that is read lies whole in these octets, from the first on
 abbrev pub HasNoWholePacket : ℕ → List ℕ → Type 0
 HasNoWholePacket limit octets = begins_packet limit octets ≡ true → length octets < packet_length octets
 

@@ -10,7 +10,7 @@ use Rattle.tm_packet.specs.declared.header.PacketFault.{PacketFault}
 use Rattle.tm_packet.specs.Header.{Fields, packet_version_of, packet_header_of, header_reading_of}
 use Rattle.tm_items.specs.Item.{Packet}
 use Rattle.tm_items.specs.OnePacket.{IsOnePacket, is_packet, packet_length}
-use Rattle.tm_items.specs.Fronts.{has_packet, front_header, packets_behind, front_packets, front_length, joined, placed}
+use Rattle.tm_items.specs.Fronts.{has_packet, front_header, packets_behind, front_packets, front_length, octets_of, placed}
 use Rattle.tm_items.proofs.Headers.{packet_length_read, reading-ok, reading-err}
 use Rattle.tm_items.proofs.Reaching.{packet_length_least, packet_length-append, packet_length-long}
 
@@ -170,7 +170,7 @@ front-next limit seen channel place at n o left h is within e far =
       whole = sym few;
       one = one-front left n reached (omega (arith, w.inside)) w.version;
       items = rw (first, few, next) refl;
-      longer = ap (λ (ps : List (List ℕ)). length (joined ps)) first ∙ length-append (take n left) (joined (front_packets limit (drop (at + n) o))) ∙ omega (arith, few);
+      longer = ap (λ (ps : List (List ℕ)). length (octets_of ps)) first ∙ length-append (take n left) (octets_of (front_packets limit (drop (at + n) o))) ∙ omega (arith, few);
     }
 
 -- and where it has none, none is left

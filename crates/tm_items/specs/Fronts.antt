@@ -28,12 +28,12 @@ abbrev pub front_packets : ℕ → List ℕ → List (List ℕ)
 front_packets limit octets = packets_behind limit 0 octets
 
 -- packets, end to end
-abbrev pub joined : List (List ℕ) → List ℕ
-joined ps = flat_map (λ p. p) ps
+abbrev pub octets_of : List (List ℕ) → List ℕ
+octets_of ps = flat_map (λ p. p) ps
 
 -- how many octets that front has
 abbrev pub front_length : ℕ → List ℕ → ℕ
-front_length limit octets = length (joined (front_packets limit octets))
+front_length limit octets = length (octets_of (front_packets limit octets))
 
 -- packets of a channel that lie end to end in the data field of one record, from this place on
 abbrev pub placed : ℕ → ℕ → ℕ → List (List ℕ) → List Item

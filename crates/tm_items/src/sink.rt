@@ -43,8 +43,8 @@ pub trait Sink {
         ensures accepted { OnOk result (takes (known self.old) (item_of item.entry) (known self.new)) }
         ensures refused { IfErr result (λ fault. refuses (known self.old) (item_of item.entry) fault (known self.new)) };
 
-    /// Takes the packets that lie whole at the front of a span, as if one by one: up to the first place where no packet of version 0 and
-    /// at most `limit` octets lies whole. Answers how many octets they have.
+    /// Takes the packets that lie whole at the front of a span, as if one by one, and answers how many octets they have. They end
+    /// where no packet of version 0 and at most `limit` octets lies whole.
     fn take_front(&mut self, limit: usize, span: Span<'_>) -> Result<usize, Self::Fault>
         requires channel { span.channel < 8 }
         requires places { span.place + length span.octets.now < 2 ^ 16 }

@@ -10,7 +10,7 @@ use Rattle.tm_items.specs.declared.sink.Span.{Span}
 use Rattle.tm_items.specs.Item.{Item, Packet}
 use Rattle.tm_items.specs.OnePacket.{packet_length}
 use Rattle.tm_items.specs.Sinks.{RefusesOne, TakesAll}
-use Rattle.tm_items.specs.Fronts.{front_header, front_items, front_length, front_packets, joined, placed}
+use Rattle.tm_items.specs.Fronts.{front_header, front_items, front_length, front_packets, octets_of, placed}
 use Rattle.tm_items.proofs.Headers.{header-front}
 use Rattle.tm_items.proofs.Leads.{RefusesOne-left}
 use Rattle.tm_items.proofs.Fronts.{front-none, front-some, header-none, header-some, whole-true}
@@ -57,20 +57,20 @@ pub front_none : (limit : ℕ) (octets : List ℕ) → None ≡ front_header lim
 front_none limit octets e = front-none limit octets (header-none limit octets e)
 
 -- packets, and others behind them
-joined-append : (ps qs : List (List ℕ)) → joined (ps ++ qs) ≡ joined ps ++ joined qs
-joined-append [] qs = refl
-joined-append (p ∷ ps) qs = ap (λ (l : List ℕ). p ++ l) (joined-append ps qs) ∙ sym (append_assoc p (joined ps) (joined qs))
+octets_of-append : (ps qs : List (List ℕ)) → octets_of (ps ++ qs) ≡ octets_of ps ++ octets_of qs
+octets_of-append [] qs = refl
+octets_of-append (p ∷ ps) qs = ap (λ (l : List ℕ). p ++ l) (octets_of-append ps qs) ∙ sym (append_assoc p (octets_of ps) (octets_of qs))
 
 placed-append : (seen channel place : ℕ) (ps qs : List (List ℕ))
-    → placed seen channel place (ps ++ qs) ≡ placed seen channel place ps ++ placed seen channel (place + length (joined ps)) qs
+    → placed seen channel place (ps ++ qs) ≡ placed seen channel place ps ++ placed seen channel (place + length (octets_of ps)) qs
 placed-append seen channel place [] qs = ap (λ (n : ℕ). placed seen channel n qs) (omega arith)
 placed-append seen channel place (p ∷ ps) qs =
     ap (λ (xs : List Item). Packet seen channel seen place p ∷ xs)
     (placed-append seen channel (place + length p) ps qs
-    ∙ ap (λ (n : ℕ). placed seen channel (place + length p) ps ++ placed seen channel n qs) (omega (arith, length-append p (joined ps))))
+    ∙ ap (λ (n : ℕ). placed seen channel (place + length p) ps ++ placed seen channel n qs) (omega (arith, length-append p (octets_of ps))))
 
 -- they have so many octets
-first-length : (limit : ℕ) (span : Span) (packets : List (List ℕ)) (many : ℕ) → AreFirst limit span packets many → length (joined packets) ≡ many
+first-length : (limit : ℕ) (span : Span) (packets : List (List ℕ)) (many : ℕ) → AreFirst limit span packets many → length (octets_of packets) ≡ many
 first-length limit span packets many first = ap length first.octets ∙ length-take-le many span.octets.now first.inside
 
 -- ---- that add nothing to the report
@@ -109,7 +109,7 @@ module _ {A : Type 0} (text : Texts A) (limit : ℕ) (old : Entries) (span : Spa
         first = record {
           inside = omega (arith, head.first.inside, far, done.first.inside);
           octets =
-              joined-append done.packets (p ∷ [])
+              octets_of-append done.packets (p ∷ [])
               ∙ rw (done.first.octets, head.first.octets, all) refl
               ∙ sym (take-add at n octets);
           front =
@@ -146,7 +146,7 @@ longer_some xs prefix more e short none =
     omega arith
 
 -- where there are octets there is a packet
-some_first : (ps : List (List ℕ)) → 0 < length (joined ps) → (p : List ℕ) × (qs : List (List ℕ)) × (ps ≡ p ∷ qs)
+some_first : (ps : List (List ℕ)) → 0 < length (octets_of ps) → (p : List ℕ) × (qs : List (List ℕ)) × (ps ≡ p ∷ qs)
 some_first [] some = absurd (omega arith)
 some_first (p ∷ qs) some = (p, qs, refl)
 
@@ -227,7 +227,7 @@ module _ {A K M : Type 0} (grows : K → K → List A → Type 0) (grows-nil : (
 
   module _ (s t : OutputState K M) {limit : ℕ} {span : Span} {many : ℕ} (some : 0 < many) (done : HasNoted (text s.fixture.texts) limit s.entries t.entries span many)
       (same : t.fixture ≡ s.fixture) (report : t.view.report ≡ s.view.report) where
-    long : length (joined done.packets) ≡ many
+    long : length (octets_of done.packets) ≡ many
     long = first-length limit span done.packets many done.first
 
     parts : (p : List ℕ) × (qs : List (List ℕ)) × (done.packets ≡ p ∷ qs)
@@ -248,7 +248,7 @@ module _ {A K M : Type 0} (grows : K → K → List A → Type 0) (grows-nil : (
     span_stopped out_failed report_failed part =
         rw (done.first.front, placed-append span.seen span.channel span.place done.packets (front_packets limit (drop many span.octets.now)))
         (RefusesOne-left (Takes grows text buffering) (Refuses grows text buffering) s t (span_items span done.packets)
-        (placed span.seen span.channel (span.place + length (joined done.packets)) (front_packets limit (drop many span.octets.now))) Write
+        (placed span.seen span.channel (span.place + length (octets_of done.packets)) (front_packets limit (drop many span.octets.now))) Write
         (rw parts.2 (one_stopped s t _ _ (rw parts.2 at done.quiet) same report out_failed report_failed (rw parts.2 at part))))
 
 -- what is left of a front, once so many octets of it were taken
@@ -276,9 +276,9 @@ front_left limit span at many left packets is within first =
           ∙ placed-append span.seen span.channel (span.place + at) packets (front_packets limit (drop (at + many) octets))
           ∙ rw (long, next) refl;
       longer =
-          ap (λ (ps : List (List ℕ)). length (joined ps)) front
-          ∙ ap length (joined-append packets (front_packets limit (drop (at + many) octets)))
-          ∙ length-append (joined packets) (joined (front_packets limit (drop (at + many) octets)))
+          ap (λ (ps : List (List ℕ)). length (octets_of ps)) front
+          ∙ ap length (octets_of-append packets (front_packets limit (drop (at + many) octets)))
+          ∙ length-append (octets_of packets) (octets_of (front_packets limit (drop (at + many) octets)))
           ∙ rw long refl;
       inside = omega (arith, first.inside, ap length all, length-drop at octets);
     }

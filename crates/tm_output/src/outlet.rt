@@ -5,7 +5,7 @@ ghost use Rattle.std.specs.List.{flat_map};
 ghost use Rattle.std.specs.Io.KnownBytes.{Appends, Keeps};
 ghost use Rattle.std.proofs.KnownBytes.{Appends-nil, Appends-trans};
 ghost use Rattle.tm_items.specs.Item.{Item};
-ghost use Rattle.tm_items.specs.Fronts.{joined, placed};
+ghost use Rattle.tm_items.specs.Fronts.{octets_of, placed};
 ghost use Rattle.tm_devices.specs.Devices.{Counts, raised};
 ghost use Rattle.tm_output.specs.FieldRows.{tabled};
 ghost use Rattle.tm_output.specs.Packets.{HasHeader, item_with};
@@ -98,13 +98,13 @@ pub trait Outlet {
         ensures same { Self.fixed self.new ≡ Self.fixed self.old }
         ensures joined { IfOk result (λ put. put ≡ Self.can_join) }
         ensures whole { IfOk result (λ put. put ≡ true
-            → ((packets : List (List ℕ)) → joined packets ≡ span.entry.octets.now
+            → ((packets : List (List ℕ)) → octets_of packets ≡ span.entry.octets.now
             → Self.grows (Self.held self.old) (Self.held self.new)
             (outs_of (Self.text (Self.fixed self.old)) (span_items span.entry packets)))
             × (Self.failures self.new ≡ Self.failures self.old)) }
         ensures apart { IfOk result (λ put. put ≡ false → self.new ≡ self.old) }
         ensures stopped { OnErr result ((Self.failures self.new ≡ raised (Self.failures self.old))
-            × ((packets : List (List ℕ)) → joined packets ≡ span.entry.octets.now
+            × ((packets : List (List ℕ)) → octets_of packets ≡ span.entry.octets.now
             → PutsPart Self.grows (Self.held self.old) (Self.held self.new)
             (outs_of (Self.text (Self.fixed self.old)) (span_items span.entry packets)))) };
 
@@ -142,7 +142,7 @@ pub trait PacketText {
 
     /// Where packets may be put at once, their texts are the octets in which they lie.
     ghost text_joined: { can_join ≡ true → (seen channel place : ℕ) (packets : List (List ℕ))
-        → flat_map text (placed seen channel place packets) ≡ joined packets };
+        → flat_map text (placed seen channel place packets) ≡ octets_of packets };
 }
 
 /// A packet's own octets.
@@ -352,7 +352,7 @@ pub struct PacketRows<'r, 'd, 'o, W> {
     pub out: &'o mut W,
 }
 
-/// A copy of a packet.
+/// A copy of a packet, made field by field. So the compiler needn't put the packet together in memory, as it would for a reference to it.
 #[inline(always)]
 pub(crate) fn copy_of<'p>(packet: &Packet<'p>) -> Packet<'p>
     ensures { result ≡ packet.now }
@@ -474,7 +474,6 @@ impl<W: Drain> Outlet for PacketRows<'_, '_, '_, W> {
         if !self.is_of_application(&packet.header) {
             return Ok(());
         }
-        // A copy, so that a packet of another application is never put together in memory.
         write_row(self.rows, self.application, self.out, &copy_of(packet))
     }
 

@@ -240,7 +240,6 @@ impl<O: Outlet, V: Drain> Output<'_, O, V> {
         ensures written { WritesItem O.Outlet V.Drain self.old self.new (item_with packet.now) result }
     {
         if !note_if_quiet(self.tracker, self.outlet, packet) {
-            // A copy, so that a packet that adds nothing to the report is never put together in memory.
             return self.write_reported(&copy_of(packet));
         }
         if let Err(fault) = self.outlet.write(packet) {

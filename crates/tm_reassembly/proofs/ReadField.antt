@@ -10,7 +10,7 @@ use Rattle.tm_reassembly.proofs.Split.{drop-pred, whole_part}
 use Rattle.tm_items.specs.Item.{Item, Packet}
 use Rattle.tm_reassembly.specs.Parts.{begins_packet}
 use Rattle.tm_items.specs.OnePacket.{packet_length}
-use Rattle.tm_items.specs.Fronts.{has_packet, front_packets, front_length, joined, placed}
+use Rattle.tm_items.specs.Fronts.{has_packet, front_packets, front_length, octets_of, placed}
 use Rattle.tm_items.proofs.Fronts.{IsWhole, whole-true, front-none, front-some}
 use Rattle.tm_reassembly.specs.code.Field.{HasNoWholePacket, field_parts, unfinished, items_from, part_items}
 
@@ -85,7 +85,7 @@ module _ (limit : ℕ) where
       let rest : List ℕ = drop (at + n) field in
       let packets : front_packets limit t ≡ take n t ∷ front_packets limit rest = front-some limit t is ∙ rw (drop-drop n at field) refl in
       let long : front_length limit t ≡ n + front_length limit rest =
-      ap (λ (ps : List (List ℕ)). length (joined ps)) packets ∙ length-append (take n t) (joined (front_packets limit rest)) ∙ ap (λ (m : ℕ). m + front_length limit rest) few in
+      ap (λ (ps : List (List ℕ)). length (octets_of ps)) packets ∙ length-append (take n t) (octets_of (front_packets limit rest)) ∙ ap (λ (m : ℕ). m + front_length limit rest) few in
       let there : at + front_length limit t ≡ (at + n) + front_length limit rest = omega (arith, long) in
       record {
         inside = rw there more.inside;
@@ -113,7 +113,7 @@ module _ (limit : ℕ) where
           read_one seen channel field at w is
           (rest (at + packet_length t) (omega (arith, w.inside, length-drop at field)) (omega (arith, packet_length_least t)))
 
-  -- the octets of a field from a place on, so many of which are whole packets
+  -- from a place on a field has whole packets, with so many octets
   pub record IsReadTo (seen channel : ℕ) (field : List ℕ) (place many : ℕ) (octets : List ℕ) : Type 0 where
     pub inside : place + many ≤ length field
     pub items : part_items channel (field_parts limit seen (length field) place field)

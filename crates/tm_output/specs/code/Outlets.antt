@@ -5,7 +5,7 @@ use Rattle.std.specs.List.{flat_map}
 use Rattle.std.proofs.Common.{sym, ap, ◌∙◌, append_assoc}
 use Rattle.tm_fields.specs.declared.field.Field.{Field}
 use Rattle.tm_items.specs.Item.{Item, Bad, MasterGap, Gap, Vca, Dropped, Packet, Short}
-use Rattle.tm_items.specs.Fronts.{joined, placed}
+use Rattle.tm_items.specs.Fronts.{octets_of, placed}
 use Rattle.tm_devices.specs.Devices.{raised}
 use Rattle.tm_output.specs.declared.command.Command.{Command}
 use Rattle.tm_output.specs.declared.command.Command.TheVariants.{Extract, Packets, Fields}
@@ -78,7 +78,7 @@ no_text Packets x has = (listed_none x has, refl)
 no_text (Fields definition application) x has = no_row definition.now application x has
 
 -- packets that lie end to end give the octets in which they lie
-pub octets_joined : (seen channel place : ℕ) (packets : List (List ℕ)) → flat_map packet_octets (placed seen channel place packets) ≡ joined packets
+pub octets_joined : (seen channel place : ℕ) (packets : List (List ℕ)) → flat_map packet_octets (placed seen channel place packets) ≡ octets_of packets
 unfolding packet_octets
 octets_joined seen channel place [] = refl
 octets_joined seen channel place (p ∷ ps) = ap (λ (l : List ℕ). p ++ l) (octets_joined seen channel (place + length p) ps)

@@ -4,7 +4,7 @@ use Rattle.std.specs.List.{flat_map}
 use Rattle.tm_items.specs.declared.sink.Span.{Span}
 use Rattle.tm_items.specs.Item.{Item, Packet}
 use Rattle.tm_items.specs.Sinks.{TakesAll}
-use Rattle.tm_items.specs.Fronts.{front_packets, joined, placed}
+use Rattle.tm_items.specs.Fronts.{front_packets, octets_of, placed}
 use Rattle.tm_lines.specs.declared.packet.Packet as lent
 use Rattle.tm_output.specs.Packets.{HasHeader, item_with}
 use Rattle.tm_packet.specs.Merge.{Entries}
@@ -30,7 +30,7 @@ span_items s packets = placed s.seen s.channel s.place packets
 -- these packets are the first of a span's front, and have so many octets
 pub record AreFirst (limit : ℕ) (s : Span) (packets : List (List ℕ)) (many : ℕ) : Type 0 where
   pub inside : many ≤ length s.octets.now
-  pub octets : joined packets ≡ take many s.octets.now
+  pub octets : octets_of packets ≡ take many s.octets.now
   pub front : front_packets limit s.octets.now ≡ packets ++ front_packets limit (drop many s.octets.now)
 
 -- so many octets of a span were noted: first packets that add nothing to the report

@@ -196,7 +196,10 @@ pub fn read_field<S: Sink>(
         octets: &field[place..],
     };
     match sink.take_front(limit, span) {
-        Ok(many) => give_unread(limit, site, field, place + many, sink),
+        Ok(many) => {
+            let end = place + many;
+            give_unread(limit, site, field, end, sink)
+        }
         Err(fault) => Err(fault),
     }
 }

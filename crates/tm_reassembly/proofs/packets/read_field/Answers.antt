@@ -6,8 +6,8 @@ use Rattle.tm_items.proofs.Leads.{RefusesOne-left, gives_behind}
 use Rattle.tm_reassembly.proofs.ReadField.{read_front}
 use Rattle.tm_reassembly.proofs.packets.read_field.Goals as goal
 
-pub overflow_add-place : goal.overflow_add-place
-overflow_add-place g c =
+pub overflow_add-end : goal.overflow_add-end
+overflow_add-end g c =
     let read = read_front c.args.limit c.args.site.seen c.args.site.channel c.args.field.now c.args.place c.in-Ok.many _ c.requires.field.2 refl c.in-Ok.ensures.length in
     omega (arith, read.inside, c.requires.field.1)
 

@@ -6,6 +6,7 @@ pub mod HeaderLemmas
 pub mod RoundTrip
 pub mod SpellingLemmas
 pub mod Spelled
+pub mod PlaceLemmas
 pub mod ReadValid
 pub mod DecodingLemmas
 pub mod Examples

@@ -25,7 +25,7 @@ pub length-spelled : (es : List KeyedEntry) → length (spelled es) ≡ 6 * leng
 length-spelled [] = refl
 length-spelled (e ∷ es) = let h = length-spelled es in omega arith
 
-first_back : (f : Option ℕ) → FirstFits f → first_count_of (first_number f) ≡ f
+pub first_back : (f : Option ℕ) → FirstFits f → first_count_of (first_number f) ≡ f
 first_back None h = refl
 first_back (Some n) h = rw (ne_eqb n 65535 (λ (e : n ≡ 65535). omega arith)) refl
 

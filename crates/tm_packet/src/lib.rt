@@ -6,6 +6,7 @@ mod header;
 pub mod laws;
 mod notes;
 mod pair;
+mod place;
 mod step;
 mod tracker;
 

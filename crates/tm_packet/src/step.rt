@@ -11,7 +11,8 @@ use crate::{Flags, Header, Note, Notes, Why};
 /// What is kept of a pair after one more header.
 pub fn kept_after(entry: Option<PairEntry>, header: &Header) -> PairEntry
     requires { EntryFits entry }
-    ensures { result ≡ single_after entry header.now }
+    ensures value { result ≡ single_after entry header.now }
+    ensures fits { IsEntry result }
 {
     let count = header.count();
     let first = match header.flags() {

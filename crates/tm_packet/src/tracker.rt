@@ -2,6 +2,7 @@
 
 ghost use Rattle.std.specs.Prelude.{◌≡◌, ◌+◌, ◌*◌, ◌<◌, ◌≤◌, ◌⊎◌, IfOk, IfErr, IfSome, OnOk, OnErr, IsOk, Ok, Err, Some, None, Decides, true, false, [], ◌∷◌, ◌++◌, length, drop, slice_set, vec_len, vec_capacity};
 
+use crate::place::Place;
 use crate::step::{gives_none, kept_after, notes_after};
 use crate::{Header, Note, Notes, Pair, Why};
 use std::alloc::{AllocError, Global};
@@ -56,7 +57,7 @@ const PAIRS: usize = 16384;
 /// What is kept of each channel and application, at the key of the pair.
 #[derive(Drop)]
 pub struct Tracker {
-    entries: Vec<Option<PairEntry>>,
+    entries: Vec<Place>,
 }
 
 impl Model for Tracker {
@@ -98,7 +99,7 @@ impl Tracker {
         ensures { IfOk result (λ tracker. tracker ≡ no_entries) }
     {
         let mut entries = Vec::with_capacity(alloc, PAIRS)?;
-        entries.resize(PAIRS, None)?;
+        entries.resize(PAIRS, Place::empty())?;
         Ok(Tracker { entries })
     }
 
@@ -114,8 +115,8 @@ impl Tracker {
             return Notes::none();
         }
         let key = key_of(channel, &header);
-        let entry = self.entries[key];
-        self.entries[key] = Some(kept_after(entry, &header));
+        let entry = self.entries[key].entry();
+        self.entries[key] = Place::of(kept_after(entry, &header));
         notes_after(entry, &header)
     }
 
@@ -132,11 +133,11 @@ impl Tracker {
             return true;
         }
         let key = key_of(channel, &header);
-        let entry = self.entries[key];
+        let entry = self.entries[key].entry();
         if !gives_none(entry, &header) {
             return false;
         }
-        self.entries[key] = Some(kept_after(entry, &header));
+        self.entries[key] = Place::of(kept_after(entry, &header));
         true
     }
 
@@ -151,7 +152,7 @@ impl Tracker {
                     count,
                     first: Some(first),
                 },
-            ) = self.entries[key]
+            ) = self.entries[key].entry()
             {
                 let note = Note::Broken {
                     first,
@@ -239,7 +240,7 @@ impl Tracker {
             0xFFFF => None,
             first => Some(first),
         };
-        self.entries[usize::from(raw.key)] = Some(PairEntry {
+        self.entries[usize::from(raw.key)] = Place::of(PairEntry {
             count: raw.count,
             first,
         });
@@ -253,7 +254,7 @@ impl Tracker {
     {
         let mut count = 0;
         for key in 0..PAIRS {
-            if self.entries[key].is_some() {
+            if self.entries[key].entry().is_some() {
                 count += 1;
             }
         }
@@ -272,7 +273,7 @@ impl Tracker {
             if left == 0 {
                 return;
             }
-            if let Some(last) = self.entries[key] {
+            if let Some(last) = self.entries[key].entry() {
                 push_entry(out, key as u16, &last);
                 left -= 1;
             }

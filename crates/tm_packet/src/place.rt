@@ -1,0 +1,69 @@
+//! What is kept of a pair, in 32 bits.
+
+ghost use Rattle.std.specs.Prelude.{◌≡◌, Some, None};
+ghost use Rattle.tm_packet.specs.Valid.{IsEntry};
+
+use crate::tracker::PairEntry;
+use std::marker::Model;
+
+// Where there is no count.
+const NONE: u16 = 0xFFFF;
+
+/// The place of a pair's entry, which is read and written at once.
+#[derive(Clone, Copy)]
+pub struct Place {
+    // The first count of the open group, and behind it the last count. Each is FFFF where there is none.
+    counts: u32,
+}
+
+impl Model for Place {
+    ghost use Rattle.std.specs.Prelude.{Option};
+    ghost use Rattle.tm_packet.specs.declared.tracker.PairEntry.{PairEntry};
+    ghost use Rattle.tm_packet.specs.code.Places.{entry_in, counts_of, ArePlaced};
+
+    ghost Value = { Option PairEntry };
+
+    ghost view = { λ p. entry_in p.counts };
+
+    ghost invariant = { λ p. ArePlaced p.counts };
+
+    ghost inverse = { λ e. record { counts = counts_of e } };
+
+    ghost inverse_ok = { λ p h i. record { counts = h i } };
+}
+
+impl Place {
+    /// A place without an entry.
+    pub fn empty() -> Place
+        ensures { result ≡ None }
+    {
+        Place { counts: u32::MAX }
+    }
+
+    /// The place of a pair's entry.
+    #[tactic(auto, using(crate::proofs::PlaceLemmas::placed))]
+    pub fn of(entry: PairEntry) -> Place
+        requires { IsEntry entry }
+        ensures { result ≡ Some entry }
+    {
+        let first = entry.first.unwrap_or(NONE);
+        Place {
+            counts: u32::from(first) * 0x10000 + u32::from(entry.count),
+        }
+    }
+
+    /// The entry, if there is one.
+    pub fn entry(self) -> Option<PairEntry>
+        ensures { result ≡ self }
+    {
+        let count = (self.counts % 0x10000) as u16;
+        if count == NONE {
+            return None;
+        }
+        let first = match (self.counts / 0x10000) as u16 {
+            NONE => None,
+            first => Some(first),
+        };
+        Some(PairEntry { count, first })
+    }
+}

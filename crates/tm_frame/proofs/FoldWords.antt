@@ -5,14 +5,13 @@ use Rattle.std.specs.Int.Bits.{xor_assoc}
 use Rattle.std.proofs.lemmas.Nat.{xor_comm, shl-shr, shr-shr}
 use Rattle.std.proofs.Math.Seq.{take-add}
 use Rattle.byteorder.specs.Endian.{big_number}
-use Rattle.std.proofs.lemmas.List.{length-set, length-take-le, get_or-take, drop_at, at_drop_more, take_more, take_all, take_more_set, take_rest, take-replicate, length-replicate, replicate-append-replicate}
-use Rattle.tm_bits.specs.Bits.{low_bits, bits_of, number, AreOctets}
+use Rattle.std.proofs.lemmas.List.{length-set, length-take-le, get_or-take, drop_at, at_drop_more, take_more, take_all, take_more_set, take_rest, length-replicate, replicate-append-replicate}
+use Rattle.tm_bits.specs.Bits.{low_bits, bits_of, AreOctets}
 use Rattle.tm_bits.proofs.BitLemmas.{length-low_bits, low_bits-mod, bits_spelled, low_bits-split, bits_of-append}
 use Rattle.tm_bits.proofs.PartLemmas.{octets_behind, length-bits_of-take}
-use Rattle.tm_frame.specs.ErrorControl.{subtract, long_division}
 use Rattle.tm_frame.specs.code.Folding.{Folds, remainder_from, shifted, bits_of_words, words_remainder}
 use Rattle.tm_frame.proofs.HeaderLemmas.{number-bits_of-take}
-use Rattle.tm_frame.proofs.Division.{low_bits-zero, low_bits-shl, remainder_from-append, remainder_from-nil, remainder_from-lt, octets_apart, error_control_of-remainder}
+use Rattle.tm_frame.proofs.Division.{low_bits-zero, low_bits-shl, remainder_from-append}
 use Rattle.tm_frame.proofs.Linear.{passed_linear, bits_linear, after_linear, remainder_from-zeros}
 use Rattle.tm_frame.proofs.Fold.{shifted-passed, remainder-apart, zeros-passed, bits-fold}
 
@@ -216,70 +215,3 @@ words_more ws i inside =
     rw (take_more ws i 0 inside, bits_of_words-append (take i ws) (w ∷ []), bits_of_words-one w, remainder_from-append 0 (bits_of_words (take i ws)) (low_bits 64 w)) refl
 
 pub ruleset word_by_word = (words_none, words_more, take_all)
-
--- ---- the first octets
-
-preset : remainder_from (remainder_from 0 (low_bits 8 0x84)) (low_bits 8 0xCF) ≡ 65535
-unfolding remainder_from number long_division subtract low_bits
-preset = refl
-
-preset_octets : (octets : List ℕ) → remainder_from 0 (bits_of (0x84 ∷ 0xCF ∷ octets)) ≡ remainder_from 65535 (bits_of octets)
-unfolding bits_of
-preset_octets octets =
-    remainder_from-append 0 (low_bits 8 0x84) (low_bits 8 0xCF ++ bits_of octets)
-    ∙ remainder_from-append (remainder_from 0 (low_bits 8 0x84)) (low_bits 8 0xCF) (bits_of octets)
-    ∙ ap (λ r. remainder_from r (bits_of octets)) preset
-
-zero_octets : (n : ℕ) → bits_of (replicate n 0) ≡ replicate (8 * n) false
-unfolding bits_of
-zero_octets zero = refl
-zero_octets (suc n) =
-    let more : 8 + 8 * n ≡ 8 * suc n = omega arith in
-    rw (low_bits-zero 8, zero_octets n, replicate-append-replicate 8 (8 * n) false, more) refl
-
--- zeros in front change nothing, and the two octets behind them are a register of ones
-pub first_octets : (n : ℕ) (octets : List ℕ) → remainder_from 0 (bits_of (replicate n 0 ++ 0x84 ∷ 0xCF ∷ octets)) ≡ remainder_from 65535 (bits_of octets)
-first_octets n octets =
-    let behind : List ℕ = 0x84 ∷ 0xCF ∷ octets in
-    ap (remainder_from 0) (bits_of-append (replicate n 0) behind ∙ ap (λ l. l ++ bits_of behind) (zero_octets n))
-    ∙ zeros-passed (8 * n) (bits_of behind)
-    ∙ preset_octets octets
-
--- the last 16 words are held
-held_last : (k : ℕ) (held folded filled : List ℕ) → held ≡ take 16 (drop k folded) → words_remainder (drop (length filled - 16) folded) ≡ words_remainder filled
-    → length filled ≡ k + 16 → length folded ≡ length filled → words_remainder held ≡ words_remainder filled
-held_last k held folded filled is_held same long as_long =
-    let last : length (drop k folded) ≤ 16 = omega (arith, length-drop k folded, long, as_long) in
-    let front : k ≡ length filled - 16 = omega (arith, long) in
-    ap words_remainder (is_held ∙ take_all 16 (drop k folded) last) ∙ ap (λ j. words_remainder (drop j folded)) front ∙ same
-
--- those that are held first: all but one of those that zeros, the two octets and the first octets fill
-pub begun : (held folded filled front preset back first : List ℕ) → held ≡ take 16 (drop 1 folded)
-    → words_remainder (drop (length filled - 16) folded) ≡ words_remainder filled
-    → bits_of_words filled ≡ bits_of (front ++ (preset ++ back))
-    → front ≡ take (134 - length first) (replicate 136 0) → preset ≡ 0x84 ∷ 0xCF ∷ [] → back ≡ first
-    → length filled ≡ 17 → length folded ≡ length filled
-    → words_remainder held ≡ remainder_from 65535 (bits_of first)
-begun held folded filled front preset back first is_held same spelled zeros two all seventeen as_long =
-    let n : ℕ = 134 - length first in
-    let octets : front ++ (preset ++ back) ≡ replicate n 0 ++ 0x84 ∷ 0xCF ∷ first = rw (zeros, two, all, take-replicate {X = ℕ} n 136 0 (omega arith)) refl in
-    held_last 1 held folded filled is_held same seventeen as_long ∙ ap (remainder_from 0) (spelled ∙ ap bits_of octets) ∙ first_octets n first
-
--- those that are held after a block
-pub appended : (held folded front back old block : List ℕ) → held ≡ take 16 (drop 16 folded)
-    → words_remainder (drop (length (front ++ back) - 16) folded) ≡ words_remainder (front ++ back)
-    → front ≡ old → bits_of_words back ≡ bits_of block
-    → length front ≡ 16 → length back ≡ 16 → length folded ≡ length (front ++ back)
-    → words_remainder held ≡ remainder_from (words_remainder old) (bits_of block)
-appended held folded front back old block is_held same is_old spelled first last as_long =
-    held_last 16 held folded (front ++ back) is_held same (omega (arith, length-append front back)) as_long
-    ∙ ap (remainder_from 0) (bits_of_words-append front back ∙ ap₂ (λ p q. p ++ q) (ap bits_of_words is_old) spelled)
-    ∙ remainder_from-append 0 (bits_of_words old) (bits_of block)
-
--- where no block is left, no octet is
-pub blocks_done : (words rest : List ℕ) → length rest % 128 ≡ 0 → length rest < 128 → remainder_from (words_remainder words) (bits_of rest) ≡ words_remainder words
-unfolding bits_of
-blocks_done words [] whole few = remainder_from-nil (words_remainder words) (remainder_from-lt 0 (bits_of_words words))
-blocks_done words (x ∷ rest) whole few = absurd (omega arith)
-
-pub ruleset by_blocks = (octets_apart, blocks_done, error_control_of-remainder)

@@ -2,6 +2,7 @@ pub mod Division
 pub mod Linear
 pub mod Fold
 pub mod FoldWords
+pub mod FoldPairs
 pub mod Words
 pub mod Entries
 pub mod HeaderLemmas

@@ -20,7 +20,7 @@ differ_exchange a b c d = grind arith
 gain-differ : (c d : Bool) → digit (differ c d) * 0x1021 ≡ bit_xor (digit c * 0x1021) (digit d * 0x1021)
 gain-differ c d = grind arith
 
-xor_exchange : (a b c d : ℕ) → bit_xor (bit_xor a b) (bit_xor c d) ≡ bit_xor (bit_xor a c) (bit_xor b d)
+pub xor_exchange : (a b c d : ℕ) → bit_xor (bit_xor a b) (bit_xor c d) ≡ bit_xor (bit_xor a c) (bit_xor b d)
 xor_exchange a b c d =
     xor_assoc a b (bit_xor c d)
     ∙ ap (bit_xor a) (sym (xor_assoc b c d) ∙ ap (λ n. bit_xor n d) (xor_comm b c) ∙ xor_assoc c b d)

@@ -1,20 +1,21 @@
 //! Error control (CCSDS 132.0-B-3, 4.1.6), by folding and by a table.
 
-ghost use Rattle.std.specs.Prelude.{◌≡◌, ◌≤◌, ◌<◌, ◌+◌, ◌-◌, ◌*◌, ◌/◌, ◌%◌, ◌∷◌, length, drop, bit_xor};
+ghost use Rattle.std.specs.Prelude.{◌≡◌, ◌≤◌, ◌<◌, ◌+◌, ◌-◌, ◌*◌, ◌/◌, ◌%◌, ◌∷◌, ◌++◌, length, take, drop, bit_xor};
 ghost use Rattle.tm_bits.specs.Bits.{bits_of, low_bits};
 ghost use Rattle.tm_frame.specs.ErrorControl.{error_control_of};
 ghost use Rattle.tm_frame.specs.Fault.{control_holds};
-ghost use Rattle.tm_frame.specs.code.Folding.{Folds, bits_of_words, remainder_from, shifted, words_remainder};
+ghost use Rattle.tm_frame.specs.code.Folding.{Folds, bits_of_words, octets_remainder, remainder_from, second_word, shifted, words_remainder};
 
 use crate::table::table_entry;
 use byteorder::{BigEndian, ByteOrder};
+use std::simd::prelude::*;
 
 // Fewer octets than this go faster by the table: folding takes the time of a whole block, however few they are.
 const FEW: usize = 16;
 
 /// The error control of octets: the remainder of their bits and 16 zero bits by `x^16 + x^12 + x^5 + 1`. The register is preset
 /// to ones, and the most significant bit comes first.
-#[tactic(auto, using(crate::proofs::FoldWords::by_blocks))]
+#[tactic(auto, using(crate::proofs::FoldPairs::by_blocks))]
 pub fn error_control(octets: &[u8]) -> u16
     ensures { result ≡ error_control_of octets.now }
 {
@@ -22,14 +23,17 @@ pub fn error_control(octets: &[u8]) -> u16
         return error_control_by_table(octets);
     }
     let (first, blocks) = octets.split_at(octets.len() % 128);
-    let mut held = begin(first);
+    let mut held = [0; 128];
+    begin(&mut held, first);
     let mut rest = blocks;
     while rest.len() >= 128 {
         let (block, behind) = rest.split_at(128);
         append_block(&mut held, block);
         rest = behind;
     }
-    finish(held)
+    let mut last = [0; 128];
+    copy(&mut last, &held);
+    finish(&last)
 }
 
 /// The same as `error_control`, octet by octet through the table of 256 entries (CCSDS 132.0-B-3, 4.1.6): the plain
@@ -66,66 +70,130 @@ fn shift_octet(register: u16, octet: u8) -> u16
     (register << 8) ^ table_entry((register >> 8) as u8 ^ octet)
 }
 
-// Words with the remainder of the first octets. Zeros in front change no remainder, and that of 0x84CF
+// 128 octets with the remainder of the first octets. Zeros in front change no remainder, and that of 0x84CF
 // is a register of ones.
 #[inline(always)]
-#[tactic(auto, using(crate::proofs::FoldWords::begun, crate::proofs::Fold::folds_64))]
-fn begin(first: &[u8]) -> [u64; 16]
+#[tactic(auto, using(crate::proofs::FoldPairs::begun))]
+fn begin(held: &mut [u8; 128], first: &[u8])
     requires { length first.now < 128 }
-    ensures { words_remainder result ≡ remainder_from 65535 (bits_of first.now) }
+    ensures { octets_remainder held.new ≡ remainder_from 65535 (bits_of first.now) }
 {
-    let mut octets = [0; 136];
-    let (_, behind) = octets.split_at_mut(134 - first.len());
+    let mut octets = [0; 144];
+    let (_, behind) = octets.split_at_mut(142 - first.len());
     let (preset, back) = behind.split_at_mut(2);
     preset.copy_from_slice(&[0x84, 0xCF]);
     back.copy_from_slice(first);
-    let mut words = [0; 17];
-    fill(&mut words, &octets);
-    fold(&mut words, 64);
-    let mut held = [0; 16];
-    copy(&mut held, &words[1..]);
-    held
+    fold_pairs(&mut octets);
+    copy(held, &octets[16..]);
 }
 
-// Words with the remainder of those held and a block behind them.
+// Octets with the remainder of those held and a block behind them.
 #[inline(always)]
-#[tactic(auto, using(crate::proofs::FoldWords::appended, crate::proofs::Fold::folds_64))]
-fn append_block(held: &mut [u64; 16], block: &[u8])
+#[tactic(auto, using(crate::proofs::FoldPairs::appended))]
+fn append_block(held: &mut [u8; 128], block: &[u8])
     requires { length block.now ≡ 128 }
-    ensures { words_remainder held.new ≡ remainder_from (words_remainder held.old) (bits_of block.now) }
+    ensures { octets_remainder held.new ≡ remainder_from (octets_remainder held.old) (bits_of block.now) }
 {
-    let mut words = [0; 32];
-    let (front, back) = words.split_at_mut(16);
+    let mut octets = [0; 256];
+    let (front, back) = octets.split_at_mut(128);
     copy(front, held);
-    fill(back, block);
-    fold(&mut words, 64);
-    copy(held, &words[16..]);
+    copy(back, block);
+    fold_pairs(&mut octets);
+    copy(held, &octets[128..]);
 }
 
-// The remainder of the words: they are folded twice more, and the last four are divided.
-#[inline(always)]
+// The remainder of the octets: as words they are folded twice more, and the last four are divided. Apart from its caller, which
+// gives a copy: else the compiler would keep the octets held as words, and so leave the vectors in each block.
+#[inline(never)]
 #[tactic(auto, using(crate::proofs::Fold::folds_32, crate::proofs::Fold::folds_16))]
-fn finish(held: [u64; 16]) -> u16
-    ensures { result ≡ words_remainder held }
+fn finish(held: &[u8; 128]) -> u16
+    ensures { result ≡ octets_remainder held.now }
 {
-    let mut words = held;
+    let mut words = [0; 16];
+    fill(&mut words, held);
     fold(&mut words, 32);
     let (_, half) = words.split_at_mut(8);
     fold(half, 16);
     shift_words(&half[4..])
 }
 
-// The words that are given. Word by word, since `copy_from_slice` asks where slices lie, and so would keep
-// all words in memory.
+// The octets that are given. Pair by pair, since `copy_from_slice` asks where slices lie, and so would keep
+// all octets in memory.
 #[inline(always)]
-fn copy(words: &mut [u64], from: &[u64])
-    requires { length from.now ≡ length words.old }
-    ensures len { length words.new ≡ length words.old }
-    ensures after { words.new ≡ from.now }
+#[tactic(auto, using(crate::proofs::FoldPairs::pair_copied))]
+fn copy(octets: &mut [u8], from: &[u8])
+    requires same { length from.now ≡ length octets.old }
+    requires whole { length octets.old % 16 ≡ 0 }
+    ensures { octets.new ≡ from.now }
 {
-    for i in 0..words.len() {
-        words[i] = from[i];
+    for i in 0..octets.len() / 16 {
+        u8x16::from_slice(&from[16 * i..]).copy_to_slice(&mut octets[16 * i..]);
     }
+}
+
+// All pairs of words are taken away from the front, until 128 octets are left. A vector of the processor holds a pair.
+#[inline(always)]
+#[tactic(auto, using(crate::proofs::FoldPairs::pair_by_pair))]
+fn fold_pairs(octets: &mut [u8])
+    requires room { 128 ≤ length octets.old }
+    requires whole { length octets.old % 16 ≡ 0 }
+    ensures len { length octets.new ≡ length octets.old }
+    ensures same { octets_remainder (drop (length octets.old - 128) octets.new) ≡ octets_remainder octets.old }
+{
+    let none = u8x16::splat(0);
+    let mut before = none;
+    for i in 0..octets.len() / 16 - 8 {
+        let (front, behind) = octets.split_at_mut(16 * i + 16);
+        let pair = u8x16::from_slice(&front[16 * i..]);
+        fold_pair(behind, before, pair);
+        before = pair;
+    }
+    let (_, left) = octets.split_at_mut(octets.len() - 128);
+    add_pair(left, 80, words_across(before, none));
+}
+
+// The pair before these octets is taken away: it is added where its bits stand 4, 11 and 16 times 64 bits further on. 11 words are
+// no whole pairs. There its first word is added beside the second one of the pair before, and its own second one is left to the next.
+#[inline(always)]
+fn fold_pair(octets: &mut [u8], before: u8x16, pair: u8x16)
+    requires room { 128 ≤ length octets.old }
+    requires both { length before ≡ 16 }
+    requires sixteen { length pair ≡ 16 }
+    ensures len { length octets.new ≡ length octets.old }
+    ensures same { bit_xor (octets_remainder octets.new) (second_word (length octets.old - 88) pair)
+        ≡ bit_xor (octets_remainder (pair ++ octets.old)) (second_word (length octets.old - 72) before) }
+{
+    add_pair(octets, 16, pair);
+    add_pair(octets, 64, words_across(before, pair));
+    add_pair(octets, 112, pair);
+}
+
+// The second word of a pair, and the first of the next.
+#[inline(always)]
+fn words_across(pair: u8x16, next: u8x16) -> u8x16
+    requires both { length pair ≡ 16 }
+    requires sixteen { length next ≡ 16 }
+    ensures len { length result ≡ 16 }
+    ensures words { result ≡ drop 8 pair ++ take 8 next }
+{
+    pair.shuffle(
+        next,
+        [8, 9, 10, 11, 12, 13, 14, 15, 16, 17, 18, 19, 20, 21, 22, 23],
+    )
+}
+
+// A pair is added without carries to the octets at a place.
+#[inline(always)]
+#[tactic(auto, using(crate::proofs::FoldPairs::pair_added))]
+fn add_pair(octets: &mut [u8], at: usize, pair: u8x16)
+    requires room { at + 16 ≤ length octets.old }
+    requires sixteen { length pair ≡ 16 }
+    ensures len { length octets.new ≡ length octets.old }
+    ensures sum { octets_remainder octets.new ≡ bit_xor (octets_remainder octets.old)
+        (shifted (8 * (length octets.old - (at + 16))) (bits_of pair)) }
+{
+    let sum = u8x16::from_slice(&octets[at..]) ^ pair;
+    sum.copy_to_slice(&mut octets[at..]);
 }
 
 // The words that octets spell.

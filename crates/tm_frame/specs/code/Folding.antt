@@ -1,6 +1,6 @@
 -- Folding, by which error control is computed. No public contract speaks of it.
-use Rattle.std.specs.Prelude.{ℕ, ◌*◌, Bool, true, false, List, [], ◌∷◌, ◌++◌, ◌≡◌, length, replicate, bit_xor}
-use Rattle.tm_bits.specs.Bits.{low_bits, number}
+use Rattle.std.specs.Prelude.{ℕ, ◌*◌, Bool, true, false, List, [], ◌∷◌, ◌++◌, ◌≡◌, length, drop, replicate, bit_xor}
+use Rattle.tm_bits.specs.Bits.{bits_of, low_bits, number}
 use Rattle.tm_frame.specs.ErrorControl.{long_division, subtract}
 
 -- what division leaves of the bits and 16 zero bits, where the 16 bits of `register` are first subtracted from the front
@@ -11,6 +11,14 @@ remainder_from register bits =
 -- the remainder of the bits, with n zero bits and 16 more behind them
 abbrev pub shifted : ℕ → List Bool → ℕ
 shifted n bits = remainder_from 0 (bits ++ replicate n false)
+
+-- the remainder of the octets' bits and 16 zero bits
+abbrev pub octets_remainder : List ℕ → ℕ
+octets_remainder octets = remainder_from 0 (bits_of octets)
+
+-- what the second word of a pair of words adds to the remainder, where n octets stand behind this word
+abbrev pub second_word : ℕ → List ℕ → ℕ
+second_word n pair = shifted (8 * n) (bits_of (drop 8 pair))
 
 -- A 1 may be taken away if it is added 4, 11 and 16 times `width` bits further on. For modulo the generator, x to the power of 16
 -- times `width` is a sum: that of x to the powers of 12 times `width`, 5 times `width`, and 0.

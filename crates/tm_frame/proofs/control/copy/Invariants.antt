@@ -1,5 +1,6 @@
-use Rattle.std.proofs.Common.{◌≡◌, ◌<◌, ℕ, get_or}
+use Rattle.std.proofs.Common.{◌≡◌, ◌*◌, take}
 use Rattle.tm_frame.proofs.control.copy.Given as goal
 
+-- the octets so far are those that are given
 abbrev pub invariant-loop-i : goal.invariant-loop-i
-invariant-loop-i l = (k : ℕ) → k < l.i → get_or l.words k 0 ≡ get_or l.from k 0
+invariant-loop-i l = take (16 * l.i) l.octets ≡ take (16 * l.i) l.from

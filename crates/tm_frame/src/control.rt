@@ -131,7 +131,8 @@ fn copy(octets: &mut [u8], from: &[u8])
     }
 }
 
-// All pairs of words are taken away from the front, until 128 octets are left. A vector of the processor holds a pair.
+// All pairs of words are taken away from the front, until 128 octets are left. A vector of the processor holds a pair. Behind the
+// last pair its second word is still to be added.
 #[inline(always)]
 #[tactic(auto, using(crate::proofs::FoldPairs::pair_by_pair))]
 fn fold_pairs(octets: &mut [u8])
@@ -152,8 +153,9 @@ fn fold_pairs(octets: &mut [u8])
     add_pair(left, 80, words_across(before, none));
 }
 
-// The pair before these octets is taken away: it is added where its bits stand 4, 11 and 16 times 64 bits further on. 11 words are
-// no whole pairs. There its first word is added beside the second one of the pair before, and its own second one is left to the next.
+// The pair before these octets is taken away: it is added 4, 11 and 16 words further on. These are 32, 88 and 128 octets, less its own
+// 16. Eleven words are five pairs and a half. There its first word is added beside the second one of the pair before, and its own
+// second word waits for the next pair.
 #[inline(always)]
 fn fold_pair(octets: &mut [u8], before: u8x16, pair: u8x16)
     requires room { 128 ≤ length octets.old }

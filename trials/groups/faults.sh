@@ -443,7 +443,7 @@ instructions_for() {
 }
 
 # The error control of a frame is computed in vectors of the processor. LLVM gives them up for small reasons, and no proof shows it: then a frame
-# takes some 1,600 instructions in place of 1,160.
+# takes some 1,600 instructions.
 few_instructions() {
     local few most each name="frames of 1115 octets take few instructions"
     if ! command -v valgrind >/dev/null; then

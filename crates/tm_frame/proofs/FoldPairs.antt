@@ -144,7 +144,8 @@ regrouped r a p f c s =
     ∙ xor_exchange a r q p
     ∙ sym (xor_assoc (bit_xor a q) r p)
 
--- What stands behind a pair, with the pair added at the three places, has the remainder of both. The second word of the pair before is added there as well, and the pair's own is left out.
+-- What stands behind a pair, with the pair added at the three places, has the remainder of both. The second word of the pair before
+-- is added there as well, and the pair's own one is left out.
 pub pair_folds : (before pair octets joined : List ℕ) (first second third m n : ℕ)
     → third ≡ bit_xor second (shifted (8 * (n - (112 + 16))) (bits_of pair))
     → second ≡ bit_xor first (shifted (8 * (m - (64 + 16))) (bits_of joined))
@@ -245,7 +246,7 @@ last_added octets front left after before joined i n total as_long room at first
     ∙ ap₂ (λ l x. bit_xor (octets_remainder l) x) (last ∙ ap (λ j. drop j octets) start) (one ∙ ap (λ j. second_word j before) end)
     ∙ so_far
 
--- 16 octets are 16
+-- a pair has 16 octets
 pub ruleset pair_by_pair = (length-chunk)
 
 -- ---- octets are given

@@ -442,7 +442,7 @@ instructions_for() {
     [ "$(wc -l <out)" != "$1" ] || sed -n 's/^summary: //p' counts
 }
 
-# The error control of a frame is computed in vectors of the processor. LLVM gives them up for small reasons, and no proof shows it: then a frame
+# The error control of a frame is computed in vectors of the processor. A small change can make LLVM give them up, and no proof shows it: then a frame
 # takes some 1,600 instructions.
 few_instructions() {
     local few most each name="frames of 1115 octets take few instructions"

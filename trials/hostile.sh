@@ -27,6 +27,7 @@ trap 'jobs -pr | xargs -r kill 2>/dev/null; rm -rf "$folder"' EXIT
 cd "$folder" || exit 2
 ulimit -c 0
 export LC_ALL=C
+unset TMX_EXPLAIN
 
 passed=0
 failed=0

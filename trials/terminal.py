@@ -1,11 +1,11 @@
 #!/usr/bin/env python3
-"""What the program says of a fault where standard error is a terminal, and that it says nothing more elsewhere.
+"""What the program says behind the line of a fault: at a terminal, and elsewhere where TMX_EXPLAIN says so.
 
     terminal.py TMX
 
-Each case is a command line, the line of its fault, and the line that explains it. It is run twice, with
-standard error a pipe, which has to get the line of the fault alone, and with standard error a terminal, which gets both. The
-status is the same, and so is what the files hold afterwards.
+Each case is a command line, the line of its fault, and the line that explains it. It is run four times. Standard error is a pipe, which has
+to get the line of the fault alone, and with TMX_EXPLAIN=1 both. Or it is a terminal, which gets both, and with TMX_EXPLAIN=0 the line of the
+fault alone. The status is the same, and so is what the files hold afterwards.
 
 Each explanation has to be a row of the table in docs/FORMATS.md, and each row has to come in some case. The rows are compared
 with the texts in crates/tm_explanations/src/texts.rt, which stand in the same order. The last one is in
@@ -556,8 +556,11 @@ def make_folder(tmx):
 # How cases are run.
 
 
-def start(case, errors):
-    """The program of a case, with this standard error."""
+def start(case, errors, explain=None):
+    """The program of a case, with this standard error and this value of TMX_EXPLAIN, if any."""
+    variables = {name: value for name, value in os.environ.items() if name != "TMX_EXPLAIN"}
+    if explain is not None:
+        variables["TMX_EXPLAIN"] = explain
     fed = subprocess.Popen(["cat", case.fed], stdout=subprocess.PIPE) if case.fed else None
     output = subprocess.DEVNULL
     if case.unread:
@@ -565,7 +568,12 @@ def start(case, errors):
         os.close(reading)
     user = NOBODY if case.as_nobody and os.geteuid() == 0 else None
     program = subprocess.Popen(
-        ["sh", "-c", f"{case.before} exec ./tmx {case.words}"], stdin=fed.stdout if fed else subprocess.DEVNULL, stdout=output, stderr=errors, user=user
+        ["sh", "-c", f"{case.before} exec ./tmx {case.words}"],
+        stdin=fed.stdout if fed else subprocess.DEVNULL,
+        stdout=output,
+        stderr=errors,
+        user=user,
+        env=variables,
     )
     if fed:
         fed.stdout.close()
@@ -574,13 +582,13 @@ def start(case, errors):
     return program
 
 
-def in_pipe(case):
-    program = start(case, subprocess.PIPE)
+def in_pipe(case, explain=None):
+    program = start(case, subprocess.PIPE, explain)
     said = program.stderr.read()
     return program.wait(), said
 
 
-def at_terminal(case, typed=b""):
+def at_terminal(case, explain=None, typed=b""):
     """The status of a case, and what it says to a terminal, at which this is typed."""
     reading, errors = pty.openpty()
     form = termios.tcgetattr(errors)
@@ -588,7 +596,7 @@ def at_terminal(case, typed=b""):
     form[3] &= ~termios.ECHO
     termios.tcsetattr(errors, termios.TCSANOW, form)
     os.write(reading, typed)
-    program = start(case, errors)
+    program = start(case, errors, explain)
     os.close(errors)
     limit = threading.Timer(LIMIT, program.kill)
     limit.start()
@@ -613,34 +621,58 @@ def contents():
 
 def mistake(case):
     """What is wrong with a case, if anything."""
-    wanted = f"tmx: {case.line}\n".encode() if case.line else b""
-    found = in_pipe(case)
+    line = f"tmx: {case.line}\n".encode() if case.line else b""
+    both = line + (f"  {case.said}\n".encode() if case.said else b"")
+    first = in_pipe(case)
+    if first != (case.status, line):
+        return f"in a pipe: {first}"
     before = contents()
-    if found != (case.status, wanted):
-        return f"in a pipe: {found}"
-    found = at_terminal(case)
-    explained = wanted + (f"  {case.said}\n".encode() if case.said else b"")
-    if found != (case.status, explained):
-        return f"at a terminal: {found}, wanted {explained}"
-    if contents() != before:
-        return "files were changed"
-    return ""
+    for name, run, explain, wanted in (
+        ("at a terminal", at_terminal, None, both),
+        ("in a pipe by 1", in_pipe, "1", both),
+        ("at a terminal by 0", at_terminal, "0", line),
+    ):
+        found = run(case, explain)
+        if found != (case.status, wanted):
+            return f"{name}: {found}, wanted {wanted}"
+    return "" if contents() == before else "files were changed"
+
+
+def value_mistake():
+    """What is wrong with other values of TMX_EXPLAIN, if anything: they are as none."""
+    case = Case(SETTINGS.format("none.toml"), 1)
+    found = {value: (in_pipe(case, value) == in_pipe(case), at_terminal(case, value) == at_terminal(case)) for value in OTHER_VALUES}
+    wrong = {value: same for value, same in found.items() if same != (True, True)}
+    return str(wrong) if wrong else ""
+
+
+OTHER_VALUES = ("", "2", "10", "01", " 1", "yes", "\udce9", "1" * 5000)
 
 
 def report_mistake():
-    """What is wrong where the report goes to the terminal: it says that all frames are bad, so only that a recording is packed is said."""
+    """What is wrong where the report goes to standard error: it says that all frames are bad, so only that a recording is packed is said."""
     case, packed = Case("packets --settings other-spacecraft.toml pass.rec", 0), Case("packets --settings s.toml pass.rec.gz", 0)
-    piped, seen = in_pipe(case), at_terminal(case)
-    if piped != seen or piped[1].count(b"bad record=") != 300:
-        return f"{piped}, {seen}"
-    piped, seen = in_pipe(packed), at_terminal(packed)
-    wanted = piped[1] + b"  the recording pass.rec.gz: packed by gzip; unpack it first\n"
-    return "" if seen == (0, wanted) else f"{seen}, wanted {wanted}"
+    alone, said = in_pipe(case), [at_terminal(case), in_pipe(case, "1")]
+    if said != [alone, alone] or alone[1].count(b"bad record=") != 300:
+        return f"{alone}, {said}"
+    alone, said = in_pipe(packed), [at_terminal(packed), in_pipe(packed, "1")]
+    wanted = 0, alone[1] + b"  the recording pass.rec.gz: packed by gzip; unpack it first\n"
+    if said != [wanted, wanted]:
+        return f"{said}, wanted {wanted}"
+    return "" if at_terminal(packed, "0") == alone else "something is said by 0"
+
+
+def errors_mistake():
+    """What is wrong where standard error is a file that is read, if anything: nothing may be written there."""
+    before = Path("s.toml").read_bytes()
+    with open("s.toml", "ab") as errors:
+        statuses = [start(Case(SETTINGS.format("s.toml"), 1), errors, explain).wait() for explain in (None, "1")]
+    return "" if statuses == [1, 1] and Path("s.toml").read_bytes() == before else f"{statuses}, {Path('s.toml').read_bytes()}"
 
 
 def typed_mistake():
     """What is wrong where the settings are typed at the terminal, if anything: it would wait for more to be typed."""
-    found = at_terminal(Case(SETTINGS.format("/dev/stderr"), 2), b"spacecraft\n\x04")
+    found = at_terminal(Case(SETTINGS.format("/dev/stderr"), 2), typed=b"spacecraft\n\x04")
     return "" if found == (2, b"tmx: settings: toml\n") else str(found)
 
 
@@ -649,8 +681,8 @@ def word_mistake():
     case = Case("frames --settings $(printf %05000d 0) \"$(printf 'caf\\351.rec')\"", 2, "")
     text = b"error: the arguments are not UTF-8\n\nFor more information, try '--help'.\n"
     said = b"  word 4, caf\\xe9.rec, is not UTF-8; rename the file, or give the recording to standard input: < FILE\n"
-    found = in_pipe(case), at_terminal(case)
-    return "" if found == ((2, text), (2, text + said)) else str(found)
+    found = in_pipe(case), at_terminal(case), in_pipe(case, "1"), at_terminal(case, "0")
+    return "" if found == ((2, text), (2, text + said), (2, text + said), (2, text)) else str(found)
 
 
 def memory_mistake():
@@ -714,10 +746,12 @@ def main():
     os.chdir("terminal")
     make_folder(tmx)
     cases = of_files() + of_clashes() + of_pipes() + of_settings() + of_definitions() + of_checkpoints() + of_runs() + of_bad_frames()
-    print(f"plan {len(cases) + 6}", flush=True)
+    print(f"plan {len(cases) + 8}", flush=True)
     for case in cases:
         tell(f"terminal: {case.words}", mistake(case))
+    tell("terminal: other values of TMX_EXPLAIN", value_mistake())
     tell("terminal: a report that goes there", report_mistake())
+    tell("terminal: standard error that is a file that is read", errors_mistake())
     tell("terminal: settings that are typed there", typed_mistake())
     tell("terminal: words that are not UTF-8", word_mistake())
     tell("terminal: memory that runs out", memory_mistake())

@@ -72,7 +72,13 @@ class Run:
         passed = [] if command.reads == "out" else [written]
         try:
             self.process = subprocess.Popen(
-                line + source.words, stdin=stdin, stdout=out, stderr=self.errors, pass_fds=passed, bufsize=0
+                line + source.words,
+                stdin=stdin,
+                stdout=out,
+                stderr=self.errors,
+                pass_fds=passed,
+                bufsize=0,
+                env=os.environ | {"TMX_EXPLAIN": "0"},  # an error is told by its one line
             )
         except OSError as error:
             os.close(self.output)

@@ -11,6 +11,7 @@ use crate::runs::{output_text, run_text, shorter_text};
 use crate::settings::{settings_text, toml_text};
 use crate::texts::NO_CHECKPOINT;
 use crate::values::some_text;
+use crate::wanted::Wanted;
 use std::alloc::{AllocError, Global};
 use std::rt::Files;
 use tm_arguments::{Plan, plan};
@@ -113,6 +114,7 @@ fn fault_text<R: Files + AllocGlobal>(
 /// `NoMemory` where there is no room for the line, or for what is read again.
 pub fn explain<R: Files + AllocGlobal>(
     rt: &R,
+    _: Wanted,
     words: Vec<String>,
     fault: &ToolFault,
     number: Option<i32>,
@@ -140,6 +142,7 @@ pub fn explain<R: Files + AllocGlobal>(
 /// `NoMemory` where there is no room for the line, or for the plan of the words.
 pub fn explain_no_good_frame<R: Files + AllocGlobal>(
     rt: &R,
+    _: Wanted,
     words: Vec<String>,
     records: u32,
     is_told: bool,

@@ -14,8 +14,10 @@ mod runs;
 mod settings;
 mod texts;
 mod values;
+mod wanted;
 mod words;
 
 pub use explanation::{explain, explain_no_good_frame};
 pub use tm_faults::{Explanation, NoMemory};
+pub use wanted::{Wanted, ask};
 pub use words::explain_words;

@@ -5,6 +5,7 @@ ghost use Rattle.tm_faults.specs.Explanations.{IsLine};
 
 use crate::texts::WORD;
 use crate::values::{Value, fill_text};
+use crate::wanted::Wanted;
 use std::alloc::Global;
 use std::env::FillError;
 use std::rt::Env;
@@ -41,7 +42,10 @@ fn find_word<R: Env>(rt: &R, octets: &mut [u8]) -> Option<(usize, usize)> {
 }
 
 /// Which word of the command line is not UTF-8, and what to do; none if it can't be told. Words are counted after the program's name, from 1.
-pub fn explain_words<R: Env + AllocGlobal>(rt: &R) -> Result<Option<Explanation>, NoMemory>
+pub fn explain_words<R: Env + AllocGlobal>(
+    rt: &R,
+    _: Wanted,
+) -> Result<Option<Explanation>, NoMemory>
     ensures { IfOk result (λ found. IfSome found IsLine) }
 {
     let alloc = rt.alloc();

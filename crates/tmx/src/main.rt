@@ -5,8 +5,11 @@ use std::cell::Cell;
 use std::env;
 use std::io::{ErrorKind, IsTerminal, Write};
 use std::process::ExitCode;
+use std::rt::Env;
 use tm_devices::Watched;
-use tm_explanations::{Explanation, explain, explain_no_good_frame, explain_words};
+use tm_explanations::{
+    Explanation, Wanted, ask, explain, explain_no_good_frame, explain_words,
+};
 use tm_program::{Octets, Outcome, RunFault, ToolFault, UsageFault, fault_line, run, status};
 
 const NOT_TEXT: &str =
@@ -30,14 +33,25 @@ fn all_arguments(rt: &HostRuntime) -> Result<Vec<String>, ToolFault> {
     }
 }
 
-// What is said behind the line of a fault at a terminal: why it came, and what to do. The number is that of the system's first error.
+// Whether a second line is wanted on standard error. A value of `TMX_EXPLAIN` that is longer than an octet is as none.
+fn ask_for_explanation(rt: &HostRuntime) -> Option<Wanted> {
+    let mut value = [0u8; 1];
+    let length = match rt.var("TMX_EXPLAIN", &mut value) {
+        Ok(length) => length,
+        Err(_) => 0,
+    };
+    ask(&value[..length], rt.stderr().is_terminal())
+}
+
+// What is said behind the line of a fault, where it is wanted: why it came, and what to do. The number is that of the system's first error.
 fn explanation(rt: &HostRuntime, fault: &ToolFault, number: Option<i32>) -> Option<Explanation> {
+    let wanted = ask_for_explanation(rt)?;
     let found = match env::args(rt) {
         Ok(args) => match args.skip(1).collect(rt.alloc()) {
-            Ok(arguments) => explain(rt, arguments, fault, number),
+            Ok(arguments) => explain(rt, wanted, arguments, fault, number),
             Err(_) => return None,
         },
-        Err(_) => explain_words(rt),
+        Err(_) => explain_words(rt, wanted),
     };
     match found {
         Ok(line) => line,
@@ -45,7 +59,7 @@ fn explanation(rt: &HostRuntime, fault: &ToolFault, number: Option<i32>) -> Opti
     }
 }
 
-// Prints the line of a fault on standard error, and behind it at a terminal why the fault came.
+// Prints the line of a fault on standard error, and behind it, where that is wanted, why the fault came.
 fn refuse(rt: &HostRuntime, fault: &ToolFault, number: Option<i32>) -> ExitCode {
     let mut errors = rt.stderr();
     let code = match fault_line(rt.alloc(), fault) {
@@ -58,28 +72,27 @@ fn refuse(rt: &HostRuntime, fault: &ToolFault, number: Option<i32>) -> ExitCode 
             ExitCode::from(3)
         }
     };
-    if errors.is_terminal()
-        && let Some(line) = explanation(rt, fault, number)
-    {
+    if let Some(line) = explanation(rt, fault, number) {
         let _ = errors.write_all(line.as_slice());
     }
     code
 }
 
-// Says at a terminal that a run had no good frame. Where its report, which says so, went there, it is only said that a recording is packed.
+// Says, where a second line is wanted, that a run had no good frame. Where its report, which says so, went to standard error, it is only said
+// that a recording is packed.
 fn remark(rt: &HostRuntime, outcome: Outcome) {
-    let mut errors = rt.stderr();
     if outcome.has_no_good_frame()
-        && errors.is_terminal()
+        && let Some(wanted) = ask_for_explanation(rt)
         && let Ok(words) = all_arguments(rt)
         && let Ok(Some(line)) = explain_no_good_frame(
             rt,
+            wanted,
             words,
             outcome.records,
             outcome.reports_to_errors,
         )
     {
-        let _ = errors.write_all(line.as_slice());
+        let _ = rt.stderr().write_all(line.as_slice());
     }
 }
 

@@ -260,6 +260,12 @@ def faults_of_formats():
     return found | {f"tmx: {what}: {row[0]}" for what, rows in words.items() for row in rows}
 
 
+def compare_help(tmx, text, helps):
+    """What `help` prints in place of `--help`."""
+    tell("tmx help beside tmx --help", text, output_of(tmx, "help"))
+    tell("tmx help COMMAND beside tmx COMMAND --help", helps, {name: output_of(tmx, "help", name) for name in helps})
+
+
 def section_of_faults():
     return FORMATS.split("\n## Fault lines and statuses\n")[1].split("\n### ")[0]
 
@@ -292,6 +298,7 @@ def main(tmx):
     text = output_of(tmx, "--help")
     commands = dict(part_of(text, "Commands"))
     helps = {name: output_of(tmx, name, "--help") for name in commands}
+    compare_help(tmx, text, helps)
     compare_commands(commands, helps)
     compare_words(helps)
     compare_pages(text, helps)

@@ -7,9 +7,8 @@ Each case is a command line, the line of its fault, and the line that explains i
 to get the line of the fault alone, and with TMX_EXPLAIN=1 both. Or it is a terminal, which gets both, and with TMX_EXPLAIN=0 the line of the
 fault alone. The status is the same, and so is what the files hold afterwards.
 
-Each explanation has to be a row of the table in docs/FORMATS.md, and each row has to come in some case. The rows are compared
-with the texts in crates/tm_explanations/src/texts.rt, which stand in the same order. The last one is in
-crates/tm_faults/src/explanation.rt.
+Each explanation has to be a row of the table in docs/FORMATS.md, and each row has to come in some case. So has each text of the code, which
+stands in crates/tm_explanations/src and crates/tm_faults/src/explanation.rt.
 
 Prints a line `ok ..` or `FAILED: ..` for each.
 """
@@ -55,18 +54,19 @@ PACKETS = "packets --settings s.toml {} pass.rec"
 FIELDS = "fields --settings s.toml --definition {} --apid 1 pass.rec"
 RESUMED = "packets --settings s.toml --resume {} pass.rec"
 RIGHT = "see that the name and the folder are right"
-EARLIER = "take an earlier one, or begin anew"
 
 
 def of_files():
     """Cases of files that can't be opened, made, read or written."""
-    long = "1048577 octets, and at most 1048576 are read; see whether it is the right file"
     return [
         Case(SETTINGS.format("none.toml"), 1, "none.toml: failed", f"the settings none.toml: no such file; {RIGHT}"),
         Case("frames --settings s.toml none.rec", 1, "none.rec: failed", f"the recording none.rec: no such file; {RIGHT}"),
         Case(f"{SETTINGS.format('none.toml')} > /dev/full", 1, "none.toml: failed", f"the settings none.toml: no such file; {RIGHT}"),
         Case(FIELDS.format("none.csv"), 1, "none.csv: failed", f"the definition none.csv: no such file; {RIGHT}"),
         Case(RESUMED.format("none.chk"), 1, "none.chk: failed", f"the checkpoint to go on from none.chk: no such file; {RIGHT}"),
+        Case("frames --settings s.toml -", 1, "-: failed", "the recording -: no such file; leave RECORDING out to read standard input"),
+        Case(PACKETS.format("--report no/-"), 1, "no/-: failed", "the report no/-: no such folder; make it, or name another"),
+        Case(SETTINGS.format("-"), 1, "-: failed", f"the settings -: no such file; {RIGHT}"),
         Case(r"frames --settings s.toml '\033[31m'", 1, r"\x5c033[31m: failed", rf"the recording \x5c033[31m: no such file; {RIGHT}"),
         Case("frames --settings s.toml \"$(printf 'a\\033[31m')\"", 1, r"a\x1b[31m: failed", rf"the recording a\x1b[31m: no such file; {RIGHT}"),
         Case(
@@ -116,15 +116,10 @@ def of_files():
             "pass.rec/x: failed",
             "the recording pass.rec/x: Not a directory (os error 20); mend this, or name another file",
         ),
-        Case(SETTINGS.format("long.toml"), 2, "long.toml: too long", f"the settings long.toml: {long}"),
-        Case(FIELDS.format("long.toml"), 2, "long.toml: too long", f"the definition long.toml: {long}"),
-        Case(
-            SETTINGS.format("large.toml"),
-            2,
-            "large.toml: too long",
-            "the settings large.toml: 4294967301 octets, and at most 1048576 are read; see whether it is the right file",
-        ),
-        Case(SETTINGS.format("/dev/zero"), 2, "/dev/zero: too long", "the settings /dev/zero: over 1048576 octets; see whether it is the right file"),
+        Case(SETTINGS.format("long.toml"), 2, "long.toml: too long"),
+        Case(FIELDS.format("long.toml"), 2, "long.toml: too long"),
+        Case(SETTINGS.format("large.toml"), 2, "large.toml: too long"),
+        Case(SETTINGS.format("/dev/zero"), 2, "/dev/zero: too long"),
     ]
 
 
@@ -140,7 +135,8 @@ def of_clashes():
         clash("--report s.toml", "s.toml", "report s.toml", "settings s.toml"),
         clash("--checkpoint pass.rec", "pass.rec", "checkpoint pass.rec", "recording pass.rec"),
         clash("--checkpoint s.toml", "s.toml", "checkpoint s.toml", "settings s.toml"),
-        clash("--report r --checkpoint r", "r", "checkpoint r", "report r"),
+        clash("--report r --checkpoint r", "r", "report r", "checkpoint r"),
+        clash("--report pass.rec --checkpoint pass.rec", "pass.rec", "checkpoint pass.rec", "recording pass.rec"),
         clash("--report r.new --checkpoint r", "r", "file beside the checkpoint r.new", "report r.new"),
         clash("--resume c.chk --report c.chk", "c.chk", "report c.chk", "checkpoint to go on from c.chk"),
         Case(
@@ -220,13 +216,7 @@ def of_settings():
             "settings: unknown frame_lenght",
             "the settings typo.toml: the key may be meant for frame_length; correct it, or take it out",
         ),
-        Case(
-            SETTINGS.format("unknown.toml"),
-            2,
-            "settings: unknown bananas",
-            "the settings unknown.toml: no key is near it; take it out, or write one of spacecraft, frame_length, skip_before, skip_after, secondary, ocf,"
-            " error_control, channels, max_packet",
-        ),
+        Case(SETTINGS.format("unknown.toml"), 2, "settings: unknown bananas"),
         Case(
             SETTINGS.format("missing.toml"),
             2,
@@ -267,20 +257,21 @@ OTHERS = {"secondary": WORDS, "ocf": WORDS, TRUTH: "true or false", "channels": 
 def of_definitions():
     """Cases of definitions that are refused."""
 
-    def refused(name, line, said):
-        return Case(FIELDS.format(f"{name}.csv"), 2, f"definition: {line}", f"the definition {name}.csv{said}")
+    def refused(name, line, said=""):
+        return Case(FIELDS.format(f"{name}.csv"), 2, f"definition: {line}", said and f"the definition {name}.csv{said}")
 
     return [
         refused("lengths", "csv", ": row 2 has 2 values, and the heading 3; give each line as many, and quote a value with a comma"),
         refused("short-rows", "csv", ": row 1 has 2 values, and the heading 3; give each line as many, and quote a value with a comma"),
-        refused("empty", "column name", ": the heading is empty; write name,data_type,bit_length there"),
-        refused("semicolons", "column name", ": semicolons part the heading; part all values by commas"),
-        refused("column", "column bit_length", ": the heading has the columns name, data_type, bits; name bit_length there"),
-        refused("columns", "column name", ": the heading has the columns name, name, data_type, bit_length; name name there once"),
-        refused("kind", "kind row 1", ", field a: uint8 is no data_type; write uint, int, float, str or fill"),
-        refused("array", "array row 1", ", field a: uint(4) is an array; write a row for each element"),
+        refused("empty", "column name"),
+        refused("semicolons", "column name"),
+        refused("column", "column bit_length"),
+        refused("columns", "column name"),
+        refused("kind", "kind row 1"),
+        refused("array", "array row 1"),
         refused("uint", "bits row 2", ", field b: bit_length is 70; of type uint it is 1 to 64, in one to nine digits"),
         refused("feed", "bits row 1", r", field \x0ca: bit_length is 70; of type uint it is 1 to 64, in one to nine digits"),
+        refused("latin", "bits row 1", ", field : bit_length is 70; of type uint it is 1 to 64, in one to nine digits"),
         refused("float", "bits row 1", ", field a: bit_length is 8; of type float it is 16, 32 or 64, in one to nine digits"),
         refused("str", "bits row 1", ", field a: bit_length is 9; of type str it is a multiple of 8 from 8 to 524336, in one to nine digits"),
         refused("fill", "bits row 1", ", field a: bit_length is 0; of type fill it is 1 to 524336, in one to nine digits"),
@@ -289,27 +280,21 @@ def of_definitions():
             "offset row 1",
             ", field a: bit_offset 0000000008 is not one to nine digits, or the 8 bits end behind bit 524336; correct it, or leave it out",
         ),
-        refused("names", "name row 3", ", field a: row 1 has this name, too; give each field its own"),
-        refused("filler", "name row 3", ", field a: row 2 has this name, too; give each field its own"),
-        refused("nameless", "name row 1", ": the row has no name; give the field one"),
-        refused("many", "too many", ": 1001 fields, and at most 1000 are read; split the definition over two runs"),
+        refused("names", "name row 3"),
+        refused("filler", "name row 3"),
+        refused("nameless", "name row 1"),
+        refused("many", "too many"),
     ]
 
 
 def of_checkpoints():
     """Cases of checkpoints that are refused, and of recordings that are shorter."""
 
-    def refused(word, said):
-        return Case(RESUMED.format(f"{word}.chk"), 2, f"checkpoint: {word}", f"the checkpoint to go on from {word}.chk: {said}")
+    def refused(word, said=""):
+        return Case(RESUMED.format(f"{word}.chk"), 2, f"checkpoint: {word}", said and f"the checkpoint to go on from {word}.chk: {said}")
 
-    cases = [
-        refused("short", f"20 octets, fewer than a checkpoint has; {EARLIER}"),
-        refused("magic", "it does not begin with TMXC, as a checkpoint does; see whether it is the right file"),
-        refused("version", "version 9, and 1 to 3 are read; take a newer tmx, or begin anew"),
-        refused("check", f"its check does not fit, so it is damaged; {EARLIER}"),
-        refused("state", f"what stands behind the settings does not fit together; {EARLIER}"),
-        refused("trailing", f"octets are left over at its end; {EARLIER}"),
-    ]
+    cases = [refused(word) for word in ("short", "magic", "check", "state", "trailing")]
+    cases.append(refused("version", "version 9, and 1 to 3 are read; take a newer tmx, or begin anew"))
     for key, there, here in DIFFERENT:
         cases.append(
             Case(
@@ -328,7 +313,7 @@ def of_checkpoints():
             "packets --settings s.toml --resume oldest.chk short.rec",
             2,
             shorter,
-            f"the recording short.rec: 78 records, and 100 of them are done in the checkpoint to go on from oldest.chk; {give}",
+            f"the recording short.rec: fewer than the 100 records that are done in the checkpoint to go on from oldest.chk; {give}",
         ),
         Case(
             "packets --settings other-max_packet.toml --resume oldest.chk pass.rec",
@@ -337,8 +322,8 @@ def of_checkpoints():
             "the checkpoint to go on from oldest.chk: max_packet is 65542 there, and 100 in the settings other-max_packet.toml;"
             " take the settings that it was written with",
         ),
-        Case(f"{resume} short.rec", 2, shorter, f"the recording short.rec: 78 records, and 100 of them are done in {done}; {give}"),
-        Case(f"{resume} < short.rec", 2, shorter, f"standard input: 78 records, and 100 of them are done in {done}; {give}"),
+        Case(f"{resume} short.rec", 2, shorter, f"the recording short.rec: fewer than the 100 records that are done in {done}; {give}"),
+        Case(f"{resume} < short.rec", 2, shorter, f"standard input: fewer than the 100 records that are done in {done}; {give}"),
         Case(resume, 2, shorter, f"standard input: fewer than the 100 records that are done in {done}; {give}", fed="short.rec"),
     ]
 
@@ -398,18 +383,8 @@ def of_runs():
             "the folder dir: no permission; see with ls -l who may do it",
             True,
         ),
-        Case(
-            "packets --settings tiny.toml --resume last.chk many.rec",
-            1,
-            "too many records",
-            "the recording many.rec: at most 4294967295 records are read; cut it in two",
-        ),
-        Case(
-            "packets --settings s.toml --stop-after 3 pass.rec",
-            2,
-            "--stop-after needs --checkpoint",
-            "a run that stops is kept in a checkpoint; name a file for it by --checkpoint FILE",
-        ),
+        Case("packets --settings tiny.toml --resume last.chk many.rec", 1, "too many records"),
+        Case("packets --settings s.toml --stop-after 3 pass.rec", 2, "--stop-after needs --checkpoint"),
     ]
 
 
@@ -489,6 +464,7 @@ def make_definitions():
         "array": f"{heading}\na,uint(4),8\n",
         "uint": f"{heading}\na,uint,8\n b ,uint, 70\n",
         "feed": f"{heading}\n\fa,uint,70\n",
+        "latin": f"{heading}\nH\udcf6he,uint,70\n",
         "float": f"{heading}\na,float,8\n",
         "str": f"{heading}\na,str,9\n",
         "fill": f"{heading}\na,fill,0\n",
@@ -499,7 +475,7 @@ def make_definitions():
         "many": f"{heading}\n" + "".join(f"f{at},uint,8\n" for at in range(1001)),
     }
     for name, text in texts.items():
-        Path(f"{name}.csv").write_text(text, encoding="utf-8")
+        Path(f"{name}.csv").write_text(text, encoding="utf-8", errors="surrogateescape")
 
 
 def make_checkpoints():
@@ -676,25 +652,50 @@ def typed_mistake():
     return "" if found == (2, b"tmx: settings: toml\n") else str(found)
 
 
-def word_mistake():
-    """What is wrong with the words that are not UTF-8, if anything. A word that is too long to be looked at comes before."""
-    case = Case("frames --settings $(printf %05000d 0) \"$(printf 'caf\\351.rec')\"", 2, "")
-    text = b"error: the arguments are not UTF-8\n\nFor more information, try '--help'.\n"
-    said = b"  word 4, caf\\xe9.rec, is not UTF-8; rename the file, or give the recording to standard input: < FILE\n"
-    found = in_pipe(case), at_terminal(case), in_pipe(case, "1"), at_terminal(case, "0")
-    return "" if found == ((2, text), (2, text + said), (2, text + said), (2, text)) else str(found)
+def words_mistake(words, line, said):
+    """What is wrong with words that are refused by a text of `clap`, which begins with a line, if anything."""
+    case = Case(words, 2)
+    status, text = in_pipe(case)
+    if (status, text.decode().splitlines()[0]) != (2, line):
+        return f"{status}, {text}"
+    both = text + (f"  {said}\n".encode() if said else b"")
+    found = at_terminal(case), in_pipe(case, "1"), at_terminal(case, "0")
+    return "" if found == ((2, both), (2, both), (2, text)) else f"{found}, wanted {both}"
+
+
+OF_STOP = "--stop-after takes a decimal number from 1 to 4294967295"
+OF_APID = "--apid takes a decimal number from 0 to 2047"
+JOINED = "a run reads one recording; join them by cat"
+OTHER_WORD = "word 4, caf\\xe9.rec, is not UTF-8; rename the file, or give the recording to standard input: < FILE"
+STOPPED = "packets --settings s.toml --checkpoint c --stop-after"
+READ = "fields --settings s.toml --definition f.csv"
+UNKNOWN = "error: unexpected argument '{}' found"
+INVALID = "error: invalid value '{}' for '{} <N>': {}"
+
+# Words, the first line of what `clap` says of them, and what is said behind. A word that is too long to be looked at comes before the last.
+WRONG_WORDS = (
+    (f"{STOPPED} ten pass.rec", INVALID.format("ten", "--stop-after", "invalid digit found in string"), OF_STOP),
+    (f"{STOPPED}=0 pass.rec", INVALID.format("0", "--stop-after", "0 is not in 1..=4294967295"), OF_STOP),
+    (f"{STOPPED} 4294967296 pass.rec", INVALID.format("4294967296", "--stop-after", "4294967296 is not in 1..=4294967295"), OF_STOP),
+    (f"{READ} --apid 0x64 pass.rec", INVALID.format("0x64", "--apid", "invalid digit found in string"), OF_APID),
+    (f"{READ} --apid=2048 pass.rec", INVALID.format("2048", "--apid", "2048 is not in 0..=2047"), OF_APID),
+    ("packets --settings s.toml a.rec b.rec", UNKNOWN.format("b.rec"), JOINED),
+    ("packets a.rec --settings=s.toml b.rec c.rec", UNKNOWN.format("b.rec"), JOINED),
+    ("packets --settings s.toml --bananas a.rec", UNKNOWN.format("--bananas"), ""),
+    ("packets pass.rec", "error: the following required arguments were not provided:", ""),
+    ("bananas a.rec b.rec", "error: unrecognized subcommand 'bananas'", ""),
+    ("frames --settings $(printf %05000d 0) \"$(printf 'caf\\351.rec')\"", "error: the arguments are not UTF-8", OTHER_WORD),
+)
 
 
 def memory_mistake():
-    """What is wrong where memory runs out, if anything: the line alone, or an explanation behind it."""
-    line, said, found = b"tmx: out of memory\n", b"  the process has too little memory; see ulimit -v, or give the machine more\n", set()
+    """What is wrong where memory runs out, if anything: the line stands alone."""
+    found = set()
     for limit in range(2000, 40000, 500):
         words = "extract --settings s.toml --report /dev/null pass.rec"
         found.add(at_terminal(Case(words, 3, "", before=f"ulimit -v {limit};")))
-    wrong = {one for one in found if one[0] == 3} - {(3, line), (3, line + said)}
-    if wrong:
-        return str(wrong)
-    return "" if (3, line + said) in found else "it was never explained"
+    wrong = {one for one in found if one[0] == 3} - {(3, b"tmx: out of memory\n")}
+    return str(wrong) if wrong else "" if (3, b"tmx: out of memory\n") in found else "memory never ran out"
 
 
 # The table.
@@ -712,24 +713,27 @@ def pattern(text):
 
 
 def texts():
-    """The texts of the code, in their order: those of texts.rt, and the one that is formatted."""
-    table = (CRATES / "tm_explanations" / "src" / "texts.rt").read_text(encoding="utf-8")
-    formatted = (CRATES / "tm_faults" / "src" / "explanation.rt").read_text(encoding="utf-8")
-    found = re.findall(r'const \w+: &str =\s*"((?:[^"\\]|\\.)*)";', table) + re.findall(r'format!\(in alloc; "(.*)"\)', formatted)
-    return [VALUE.sub("{}", text) for text in found]
+    """The texts of the code, with values in braces."""
+    sources = [*(CRATES / "tm_explanations" / "src").glob("*.rt"), CRATES / "tm_faults" / "src" / "explanation.rt"]
+    found = [re.findall(r'format!\(\s*in alloc;\s*"((?:[^"\\]|\\.)*)"', path.read_text(encoding="utf-8")) for path in sources]
+    return [text for several in found for text in several]
 
 
-def table_mistake():
-    found, wanted = [VALUE.sub("{}", row) for row in rows()], texts()
-    more, less = [row for row in found if row not in wanted], [text for text in wanted if text not in found]
-    return "" if found == wanted else f"FORMATS.md has {more}, and lacks {less}"
+def texts_mistake(cases):
+    """Which texts of the code no case has."""
+    patterns = {text: ".*".join(re.escape(part) for part in re.split(r"\{\w+\}", text)) for text in texts()}
+    unseen = [text for text, form in patterns.items() if not any(re.match(form, one) for one in said_in(cases))]
+    return f"no case: {unseen}" if unseen or len(patterns) < 20 else ""
+
+
+def said_in(cases):
+    """All that cases say behind the line of a fault."""
+    return [case.said for case in cases if case.said] + [said for _, _, said in WRONG_WORDS if said]
 
 
 def rows_mistake(cases):
     """Which rows no case has, and which cases have no row."""
-    said = [case.said for case in cases if case.said]
-    said += ["word 4, caf, is not UTF-8; rename the file, or give the recording to standard input: < FILE"]
-    said += ["the process has too little memory; see ulimit -v, or give the machine more"]
+    said = said_in(cases)
     missing = [row for row in rows() if not any(pattern(row).fullmatch(one) for one in said)]
     other = [one for one in said if not any(pattern(row).fullmatch(one) for row in rows())]
     return f"no case: {missing}; no row: {other}" if missing or other else ""
@@ -746,16 +750,17 @@ def main():
     os.chdir("terminal")
     make_folder(tmx)
     cases = of_files() + of_clashes() + of_pipes() + of_settings() + of_definitions() + of_checkpoints() + of_runs() + of_bad_frames()
-    print(f"plan {len(cases) + 8}", flush=True)
+    print(f"plan {len(cases) + len(WRONG_WORDS) + 7}", flush=True)
     for case in cases:
         tell(f"terminal: {case.words}", mistake(case))
     tell("terminal: other values of TMX_EXPLAIN", value_mistake())
     tell("terminal: a report that goes there", report_mistake())
     tell("terminal: standard error that is a file that is read", errors_mistake())
     tell("terminal: settings that are typed there", typed_mistake())
-    tell("terminal: words that are not UTF-8", word_mistake())
+    for words, line, said in WRONG_WORDS:
+        tell(f"terminal: {words}", words_mistake(words, line, said))
     tell("terminal: memory that runs out", memory_mistake())
-    tell("terminal: the table of FORMATS.md is that of the code", table_mistake())
+    tell("terminal: each text of the code comes", texts_mistake(cases))
     tell("terminal: each row of the table comes", rows_mistake(cases))
 
 

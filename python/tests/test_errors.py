@@ -167,6 +167,11 @@ class Streams(TestCase):
 
 
 class Programs(TestCase):
+    def test_the_line_stands_alone(self) -> None:
+        with mock.patch.dict(os.environ, {"TMX_EXPLAIN": "1"}):
+            found = self.raises(tmx.FileError, "failed", tmx.Recording(RECORDING, "none").summary)
+        self.assertEqual(found.line, "tmx: none: failed")
+
     def test_missing(self) -> None:
         with mock.patch.dict(os.environ, {"TMX": "/nowhere/tmx"}):
             self.raises(tmx.ProgramMissingError, None, example().summary)

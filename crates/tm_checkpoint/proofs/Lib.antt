@@ -1,3 +1,4 @@
+pub mod ToldLemmas
 pub mod CheckpointLength
 pub mod VersionLemmas
 pub mod ReadValid

@@ -132,8 +132,8 @@ fn three_octets(number: u32) -> [u8; 3]
     [(number / 65536) as u8, low[0], low[1]]
 }
 
-// The settings in fifteen octets.
-fn settings_octets(layout: Layout, channels: Channels, max_packet: u32) -> [u8; 15]
+/// The settings in fifteen octets.
+pub(crate) fn settings_octets(layout: Layout, channels: Channels, max_packet: u32) -> [u8; 15]
     requires { IsLimit max_packet }
     ensures { result ≡ settings_octets (record { layout = layout; channels = channels; max_packet = max_packet }) }
 {

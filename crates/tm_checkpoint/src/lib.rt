@@ -5,7 +5,9 @@
 
 mod checkpoint;
 pub mod laws;
+mod told;
 mod version;
 
 pub use checkpoint::{read_checkpoint, write_checkpoint};
+pub use told::{OtherSetting, find_other_setting, records_told};
 pub use version::{Version, VersionForm};

@@ -1,166 +1,125 @@
 //! The explanation of a fault.
 
-ghost use Rattle.std.specs.Prelude.{IfOk, IfSome};
+ghost use Rattle.std.specs.Prelude.{◌≡◌, None, IfOk, IfSome};
 ghost use Rattle.tm_faults.specs.Explanations.{IsLine};
 
-use crate::checkpoint::checkpoint_text;
-use crate::definition::definition_text;
-use crate::files::{file_text, length_text, octets_in};
-use crate::recording::packed_text;
-use crate::runs::{output_text, run_text, shorter_text};
-use crate::settings::{settings_text, toml_text};
-use crate::texts::NO_CHECKPOINT;
-use crate::values::some_text;
-use crate::wanted::Wanted;
-use std::alloc::{AllocError, Global};
+use crate::asked::Asked;
+use crate::phrases::Said;
+use crate::run::output_text;
+use crate::usage::usage_text;
+use std::alloc::Global;
 use std::rt::Files;
 use tm_arguments::{Plan, plan};
 use tm_faults::{Explanation, NoMemory, RunFault, ToolFault, UsageFault, explain_bad_frames};
-use tm_settings::{Settings, SettingsFault};
 
-// The settings of the plan, as its file says them now.
-fn settings_in<R: Files + AllocGlobal>(rt: &R, plan: &Plan) -> Option<Settings> {
-    let octets = octets_in(rt, &plan.settings)?;
-    match Settings::read(rt.alloc(), octets.as_slice()) {
-        Ok(settings) => Some(settings),
-        Err(_) => None,
-    }
+/// A run that ended: its system, its plan, and the number of the system's first error.
+#[derive(Drop)]
+pub(crate) struct EndedRun<'r, R> {
+    pub(crate) rt: &'r R,
+    pub(crate) plan: &'r Plan,
+    pub(crate) number: Option<i32>,
 }
 
-// Why a fault came, of the checkpoint or of a recording that is shorter than it.
-fn resumed_text<R: Files + AllocGlobal>(
-    rt: &R,
-    plan: &Plan,
-    fault: &ToolFault,
-) -> Result<Option<Vec<u8>>, AllocError> {
-    let Some(octets) = octets_in(rt, &plan.resume) else {
-        return Ok(None);
-    };
-    let Some(settings) = settings_in(rt, plan) else {
-        return Ok(None);
-    };
-    let text = match fault {
-        ToolFault::Checkpoint(fault) => {
-            checkpoint_text(rt.alloc(), plan, *fault, octets.as_slice(), &settings)
+impl<R: Files + AllocGlobal> EndedRun<'_, R> {
+    // Why a fault of this run came, and what to do.
+    fn text(&self, fault: &ToolFault) -> Said {
+        match fault {
+            ToolFault::Settings(fault) => self.settings_text(fault),
+            ToolFault::Definition(fault) => self.definition_text(*fault),
+            ToolFault::Checkpoint(fault) => self.checkpoint_text(Some(*fault)),
+            ToolFault::File(name) => self.file_text(name),
+            ToolFault::Run(RunFault::ShortRecording) => self.checkpoint_text(None),
+            ToolFault::Run(fault) => self.run_text(*fault),
+            ToolFault::Usage(_) | ToolFault::TooLong(_) | ToolFault::Errors => Ok(None),
         }
-        _ => shorter_text(rt, plan, octets.as_slice(), &settings),
-    };
-    drop(settings);
-    text
-}
-
-// Why a fault of this plan came, and what to do. The number is that of the system's first error.
-fn plan_text<R: Files + AllocGlobal>(
-    rt: &R,
-    plan: &Plan,
-    fault: &ToolFault,
-    number: Option<i32>,
-) -> Result<Option<Vec<u8>>, AllocError> {
-    let alloc = rt.alloc();
-    match fault {
-        ToolFault::Settings(SettingsFault::Toml) => match octets_in(rt, &plan.settings) {
-            Some(octets) => toml_text(alloc, plan, octets.as_slice()),
-            None => Ok(None),
-        },
-        ToolFault::Settings(fault) => settings_text(alloc, plan, fault),
-        ToolFault::Definition(fault) => match octets_in(rt, &plan.definition) {
-            Some(octets) => definition_text(alloc, plan, *fault, octets.as_slice()),
-            None => Ok(None),
-        },
-        ToolFault::Checkpoint(_) | ToolFault::Run(RunFault::ShortRecording) => {
-            resumed_text(rt, plan, fault)
-        }
-        ToolFault::File(name) => file_text(rt, plan, name, number),
-        ToolFault::TooLong(name) => length_text(rt, plan, name),
-        ToolFault::Run(fault) => run_text(rt, plan, *fault, number),
-        ToolFault::Usage(_) | ToolFault::Errors => Ok(None),
     }
 }
 
-// Why words are no plan. There is more to say only of help that can't be written.
-fn usage_text(
-    alloc: Global,
-    usage: &UsageFault,
-    number: Option<i32>,
-) -> Result<Option<Vec<u8>>, AllocError> {
-    match (usage, number) {
-        (UsageFault::Help(_), Some(number)) => output_text(alloc, number),
-        _ => Ok(None),
-    }
-}
-
-// Why a fault of these words came, and what to do.
+// Why a fault of these words came, and what to do. Help that can't be written has no plan.
 fn fault_text<R: Files + AllocGlobal>(
     rt: &R,
     words: Vec<String>,
     fault: &ToolFault,
     number: Option<i32>,
-) -> Result<Option<Vec<u8>>, AllocError> {
-    match plan(rt.alloc(), words) {
-        Ok(plan) => {
-            let text = plan_text(rt, &plan, fault, number);
+) -> Said {
+    if let ToolFault::Usage(UsageFault::Usage(refusal)) = fault {
+        return usage_text(rt.alloc(), words.as_slice(), refusal.as_slice());
+    }
+    match (plan(rt.alloc(), words), number) {
+        (Ok(plan), _) => {
+            let run = EndedRun {
+                rt,
+                plan: &plan,
+                number,
+            };
+            let text = run.text(fault);
+            drop(run);
             drop(plan);
             text
         }
-        Err(usage) => usage_text(rt.alloc(), &usage, number),
+        (Err(UsageFault::Help(_)), Some(number)) => output_text(rt.alloc(), number),
+        (Err(_), _) => Ok(None),
     }
 }
 
-/// Why a run by these words ended in a fault, and what to do: one line, if that can be told. The number is that of the system's first error.
-/// Regular files that the words name are looked at again, and none is changed. A pipe or a device is not: it may wait for ever.
-///
-/// # Errors
-///
-/// `NoMemory` where there is no room for the line, or for what is read again.
-pub fn explain<R: Files + AllocGlobal>(
-    rt: &R,
-    _: Wanted,
-    words: Vec<String>,
-    fault: &ToolFault,
-    number: Option<i32>,
-) -> Result<Option<Explanation>, NoMemory>
+// The line of a text, where there is one.
+fn line_of(alloc: Global, text: Said) -> Result<Option<Explanation>, NoMemory>
     ensures { IfOk result (λ found. IfSome found IsLine) }
 {
-    let text = match fault {
-        ToolFault::Usage(UsageFault::StopAfter) => {
-            drop(words);
-            some_text(rt.alloc(), NO_CHECKPOINT, &[])
-        }
-        _ => fault_text(rt, words, fault, number),
-    };
     match text? {
-        Some(text) => Ok(Some(Explanation::new(rt.alloc(), text.as_slice())?)),
+        Some(text) => Ok(Some(Explanation::new(alloc, text.as_bytes())?)),
         None => Ok(None),
     }
 }
 
+/// Why a run by these words ended in a fault, and what to do: one line, if that can be told. The number is that of the system's first error.
+/// Regular files that the words name are looked at again, and none is changed. A pipe or a device is not: it may wait for ever. Nothing is said
+/// where standard error is a file that is read.
+/// `NoMemory` comes where there is no room for the line, or for what is read again.
+pub fn explain<R: Files + AllocGlobal>(
+    rt: &R,
+    _: Asked,
+    words: Vec<String>,
+    fault: &ToolFault,
+    number: Option<i32>,
+) -> Result<Option<Explanation>, NoMemory>
+    ensures line { IfOk result (λ found. IfSome found IsLine) }
+    ensures silent { fault.now ≡ ToolFault.Errors → IfOk result (λ found. found ≡ None) }
+{
+    if let ToolFault::Errors = fault {
+        return Ok(None);
+    }
+    line_of(rt.alloc(), fault_text(rt, words, fault, number))
+}
+
 /// What to say of a run by these words that had no good frame in this many records, one at least: one line. If its report says that frames
 /// are bad, it is told only that a recording is packed.
-///
-/// # Errors
-///
-/// `NoMemory` where there is no room for the line, or for the plan of the words.
+/// `NoMemory` comes where there is no room for the line, or for the plan of the words.
 pub fn explain_no_good_frame<R: Files + AllocGlobal>(
     rt: &R,
-    _: Wanted,
+    _: Asked,
     words: Vec<String>,
     records: u32,
     is_told: bool,
 ) -> Result<Option<Explanation>, NoMemory>
     ensures { IfOk result (λ found. IfSome found IsLine) }
 {
-    let alloc = rt.alloc();
-    let text = match plan(alloc, words) {
+    let text = match plan(rt.alloc(), words) {
         Ok(plan) => {
-            let text = packed_text(rt, &plan);
+            let run = EndedRun {
+                rt,
+                plan: &plan,
+                number: None,
+            };
+            let text = run.packed_text();
+            drop(run);
             drop(plan);
             text
         }
         Err(_) => Ok(None),
     };
-    match text? {
-        Some(text) => Ok(Some(Explanation::new(alloc, text.as_slice())?)),
-        None if is_told => Ok(None),
-        None => Ok(Some(explain_bad_frames(alloc, records)?)),
+    match line_of(rt.alloc(), text)? {
+        None if !is_told => Ok(Some(explain_bad_frames(rt.alloc(), records)?)),
+        line => Ok(line),
     }
 }

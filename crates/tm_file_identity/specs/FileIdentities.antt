@@ -1,37 +1,46 @@
 -- Which files of a run clash. A file that is written must be no other file of the run. Two pairs may be one file: the new
 -- checkpoint and the one that is resumed, and the two standard streams.
-use Rattle.std.specs.Prelude.{◌||◌, Bool}
+use Rattle.std.specs.Prelude.{Bool, List, [], ◌∷◌, Option, find, is_some}
 use Rattle.tm_file_identity.specs.FileIdentity.{is_same}
 use Rattle.tm_file_identity.specs.declared.identity.FileIdentity.{FileIdentity}
 use Rattle.tm_file_identity.specs.declared.identities.FileIdentities.{FileIdentities}
+use Rattle.tm_file_identity.specs.declared.identities.Place.{Place}
+use Rattle.tm_file_identity.specs.declared.identities.Place.TheVariants.{Recording, Settings, Definition, Resumed, Report, Checkpoint, TemporaryCheckpoint, Output, Errors, Faults}
 
--- a file that is read, but for the checkpoint to go on from
-abbrev pub is_input : FileIdentities → FileIdentity → Bool
-is_input s identity = is_same identity s.recording || is_same identity s.settings || is_same identity s.definition
+-- The files over which the file at a place must not be written, in the order in which they are told. That the checkpoint is not the
+-- report is said of the report, and that a stream is no other file that is written is said of that.
+abbrev pub others_of : Place → List Place
+others_of Checkpoint = Recording ∷ Settings ∷ Definition ∷ Output ∷ Errors ∷ []
+others_of TemporaryCheckpoint = Recording ∷ Settings ∷ Definition ∷ Output ∷ Errors ∷ Resumed ∷ Report ∷ Checkpoint ∷ []
+others_of Report = Recording ∷ Settings ∷ Definition ∷ Output ∷ Errors ∷ Resumed ∷ Checkpoint ∷ []
+others_of Output = Recording ∷ Settings ∷ Definition ∷ Resumed ∷ []
+others_of Faults = Recording ∷ Settings ∷ Definition ∷ Resumed ∷ []
+others_of _ = []
 
--- the file of a standard stream that is written
-abbrev pub is_streamed : FileIdentities → FileIdentity → Bool
-is_streamed s identity = is_same identity s.output || is_same identity s.errors
+-- all places of files, as far as the run reads or writes them: a file of packets must not be written over any
+abbrev pub all_places : List Place
+all_places = Recording ∷ Settings ∷ Definition ∷ Output ∷ Errors ∷ Resumed ∷ Report ∷ Checkpoint ∷ TemporaryCheckpoint ∷ []
 
--- the checkpoint may be the one that is resumed; that it is not the report is said of the report
-abbrev pub checkpoint_clashes : FileIdentities → Bool
-checkpoint_clashes s = is_input s s.checkpoint || is_streamed s s.checkpoint
+abbrev pub identity_at : FileIdentities → Place → FileIdentity
+identity_at s Recording = s.recording
+identity_at s Settings = s.settings
+identity_at s Definition = s.definition
+identity_at s Resumed = s.resumed
+identity_at s Report = s.report
+identity_at s Checkpoint = s.checkpoint
+identity_at s TemporaryCheckpoint = s.temporary_checkpoint
+identity_at s Output = s.output
+identity_at s Errors = s.errors
+identity_at s Faults = s.faults
 
--- the file beside the checkpoint
-abbrev pub temporary_clashes : FileIdentities → Bool
-temporary_clashes s = is_input s s.temporary_checkpoint || is_streamed s s.temporary_checkpoint || is_same s.temporary_checkpoint s.resumed || is_same s.temporary_checkpoint s.checkpoint || is_same s.temporary_checkpoint s.report
+-- the identity is that of the file at a place
+abbrev pub is_at : FileIdentities → FileIdentity → Place → Bool
+is_at s identity place = is_same identity (identity_at s place)
 
-abbrev pub report_clashes : FileIdentities → Bool
-report_clashes s = is_input s s.report || is_streamed s s.report || is_same s.report s.resumed || is_same s.report s.checkpoint
-
--- the streams may be one; that they are none of the files above is said there
-abbrev pub output_clashes : FileIdentities → Bool
-output_clashes s = is_input s s.output || is_same s.output s.resumed
-
--- standard error, to which the line of a fault goes whether or not the run writes there
-abbrev pub faults_clash : FileIdentities → Bool
-faults_clash s = is_input s s.faults || is_same s.faults s.resumed
+-- the first file over which the file at a place would be written, by what their names stand for
+abbrev pub clash_at : FileIdentities → Place → Option Place
+clash_at s place = find (is_at s (identity_at s place)) (others_of place)
 
 -- a file of the run
 abbrev pub has : FileIdentities → FileIdentity → Bool
-has s identity = is_input s identity || is_streamed s identity || is_same identity s.resumed || is_same identity s.report || is_same identity s.checkpoint || is_same identity s.temporary_checkpoint
+has s identity = is_some (find (is_at s identity) all_places)

@@ -5,7 +5,7 @@ mod identities;
 mod identity;
 mod links;
 
-pub use identities::FileIdentities;
+pub use identities::{FileIdentities, Place};
 pub use identity::{
     FileIdentity, FileKind, Namespace, Node, identity_of, identity_of_file, is_any,
 };

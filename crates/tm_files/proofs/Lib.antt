@@ -1,2 +1,3 @@
+pub mod ClashLemmas
 pub mod FaultLemmas
 pub mod FileLemmas

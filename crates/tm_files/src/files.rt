@@ -1,7 +1,8 @@
 //! Files that are opened by their names, and files that are read whole.
 
 ghost use Rattle.std.specs.Prelude.{◌≡◌, ◌<◌, ◌≤◌, [], length, vec_len, IfOk, IfErr, IfSome, IsErr, MatchOption};
-ghost use Rattle.tm_files.specs.code.Files.{IsFaultOf, IsFileFault, most_octets};
+ghost use Rattle.tm_files.specs.Names.{temporary_checkpoint};
+ghost use Rattle.tm_files.specs.code.Files.{IsFaultOf, IsFileFault, IsNoMemory, most_octets};
 ghost use Rattle.tm_files.specs.code.Replacements.{replaced_name, replaced_octets, replacement_name};
 
 use std::alloc::Global;
@@ -10,6 +11,9 @@ use std::io::{self, ErrorKind, Read, Write};
 use std::rt::Files;
 use tm_bits::Octets;
 use tm_faults::{RunFault, ToolFault};
+
+/// How the name of the file ends in which a checkpoint is written before it takes its name.
+pub const TEMPORARY_ENDING: &str = ".new";
 
 // The octets that a file may have at the most.
 const MOST_OCTETS: usize = 1_048_576;
@@ -48,6 +52,20 @@ pub fn file_fault(alloc: Global, name: &Octets) -> ToolFault
     match copy_of(alloc, name) {
         Some(name) => ToolFault::File(name),
         None => ToolFault::Run(RunFault::NoMemory),
+    }
+}
+
+/// The name of the file in which a checkpoint is written before it takes its name.
+pub(crate) fn temporary_name(alloc: Global, name: &[u8]) -> Result<Vec<u8>, ToolFault>
+    ensures name { IfOk result (λ found. found.items ≡ temporary_checkpoint name.now) }
+    ensures refused { IfErr result IsNoMemory }
+{
+    let Ok(mut octets) = Vec::from_slice(alloc, name) else {
+        return Err(ToolFault::Run(RunFault::NoMemory));
+    };
+    match octets.extend_from_slice(TEMPORARY_ENDING.as_bytes()) {
+        Ok(()) => Ok(octets),
+        Err(_) => Err(ToolFault::Run(RunFault::NoMemory)),
     }
 }
 
@@ -129,8 +147,8 @@ pub fn begin_replacement<'n, R: Files + AllocGlobal>(
 {
     let alloc = rt.alloc();
     let path = path_of(alloc, name)?;
-    let Ok(temporary) = format!(in alloc; "{path}.new") else {
-        return Err(ToolFault::Run(RunFault::NoMemory));
+    let Ok(temporary) = String::from_utf8(temporary_name(alloc, path.as_bytes())?) else {
+        return Err(file_fault(alloc, name));
     };
     if path.is_empty() || is_folder(rt, path) {
         return Err(file_fault(alloc, name));

@@ -15,10 +15,12 @@ pub use decisions::{
     choose_report, is_job, stream_fault, writes_errors, writes_output,
 };
 pub use files::{
-    Replaced, Replacement, abandon_replacement, append, begin_replacement, create, file_fault,
-    finish_replacement, open, read_file,
+    Replaced, Replacement, TEMPORARY_ENDING, abandon_replacement, append, begin_replacement,
+    create, file_fault, finish_replacement, open, read_file,
 };
 pub use identities::identify_files;
-pub use names::{Checked, check_errors, check_names};
+pub use names::{
+    Checked, Clash, check_errors, check_names, find_clash, find_place, is_named, name_at,
+};
 pub use opening::{make_drain, open_recording, open_report, source_of_input};
 pub use report::Report;

@@ -1,146 +1,203 @@
-//! Which files of a plan clash, by their names and by what these stand for.
+//! Which files of a plan clash, by their names and by what these stand for. `Place::others` has the rule.
 
-ghost use Rattle.std.specs.Prelude.{◌≡◌, ◌⊎◌, None, Some, false, true, IfErr, IfOk, IfSome, OnOk};
-ghost use Rattle.tm_file_identity.specs.FileIdentities.{faults_clash};
-ghost use Rattle.tm_files.specs.code.Clashes.{checkpoint_clash, clash_of, output_clash, report_clash};
-ghost use Rattle.tm_files.specs.Names.{AreClear, temporary_checkpoint, has_name, is_checkpoint, is_in_the_way, is_read};
+ghost use Rattle.std.specs.Prelude.{◌≡◌, ◌⊎◌, None, Some, IfErr, IfOk, IsSome, OnOk, find, option_map};
+ghost use Rattle.tm_file_identity.specs.FileIdentities.{clash_at};
+ghost use Rattle.tm_files.specs.code.Clashes.{checkpoint_clash, clash_of, clash_over, fault_of_clash, fault_of_file, output_clash, report_clash};
+ghost use Rattle.tm_files.specs.Names.{AreClear, is_named, name_at, named_over, temporary_checkpoint};
 ghost use Rattle.tm_files.specs.code.Files.{HasFault, IsNoMemory, IsRunFault};
 
 use crate::decisions::{Stream, stream_fault, writes_output};
-use crate::files::file_fault;
+use crate::files::{file_fault, temporary_name};
 use std::alloc::Global;
 use tm_arguments::Plan;
 use tm_bits::Octets;
-use tm_faults::{RunFault, ToolFault};
-use tm_file_identity::FileIdentities;
+use tm_faults::ToolFault;
+use tm_file_identity::{FileIdentities, Place};
 
 /// The names of a plan were checked. Only `check_names` says so, and `open_report` asks for it: so no report is opened
 /// before.
 #[derive(Clone, Copy)]
 pub struct Checked(());
 
-// There is such a file, and it has this name.
-fn has_name(file: &Option<Octets>, name: &Octets) -> bool
-    ensures { result ≡ has_name name.now file.now }
+/// The name that the plan has for a place. The file beside the checkpoint, and the streams, have none of their own.
+pub fn name_at(plan: &Plan, place: Place) -> Option<&Octets>
+    ensures { option_map (λ name. name.now) result ≡ name_at plan.now place }
 {
-    match file {
-        Some(file) => file.as_slice() == name.as_slice(),
+    match place {
+        Place::Recording => plan.recording.as_ref(),
+        Place::Settings => plan.settings.as_ref(),
+        Place::Definition => plan.definition.as_ref(),
+        Place::Resumed => plan.resume.as_ref(),
+        Place::Report => plan.report.as_ref(),
+        Place::Checkpoint => plan.checkpoint.as_ref(),
+        Place::TemporaryCheckpoint | Place::Output | Place::Errors | Place::Faults => None,
+    }
+}
+
+/// The plan has this name for the place.
+pub fn is_named(plan: &Plan, place: Place, name: &Octets) -> bool
+    ensures { result ≡ is_named plan.now name.now place }
+{
+    match name_at(plan, place) {
+        Some(found) => found.as_slice() == name.as_slice(),
         None => false,
     }
 }
 
-// A file of this name is read, and so must not be written.
-fn is_read(plan: &Plan, name: &Octets) -> bool
-    ensures { result ≡ is_read plan.now name.now }
-{
-    has_name(&plan.recording, name)
-        || has_name(&plan.settings, name)
-        || has_name(&plan.definition, name)
-}
-
-// A file of this name has the checkpoint, before the run or after it.
-fn is_checkpoint(plan: &Plan, name: &Octets) -> bool
-    ensures { result ≡ is_checkpoint plan.now name.now }
-{
-    has_name(&plan.checkpoint, name) || has_name(&plan.resume, name)
-}
-
 /// The name of the file in which a checkpoint is written before it takes its name.
-pub fn temporary_checkpoint(alloc: Global, name: &Octets) -> Result<Octets, ToolFault>
+pub(crate) fn temporary_checkpoint(alloc: Global, name: &Octets) -> Result<Octets, ToolFault>
     ensures name { IfOk result (λ found. found ≡ temporary_checkpoint name.now) }
     ensures refused { IfErr result IsNoMemory }
 {
-    let Ok(mut octets) = Vec::from_slice(alloc, name.as_slice()) else {
-        return Err(ToolFault::Run(RunFault::NoMemory));
+    Ok(Octets::new(temporary_name(alloc, name.as_slice())?))
+}
+
+/// The file at a place would be written over the one at another.
+#[derive(Clone, Copy, Debug, PartialEq, Eq)]
+pub struct Clash {
+    pub written: Place,
+    pub over: Place,
+}
+
+/// The first of some places for which the plan has this name.
+pub fn find_place(plan: &Plan, name: &Octets, places: &[Place]) -> Option<Place>
+    ensures { result ≡ find (is_named plan.now name.now) places.now }
+{
+    for place in places {
+        if is_named(plan, *place, name) {
+            return Some(*place);
+        }
+    }
+    None
+}
+
+// The place of the first file over which a file would be written that has this name, for the place where it is written.
+fn find_named(plan: &Plan, name: &Octets, written: Place) -> Option<Place>
+    ensures { result ≡ named_over plan.now name.now written }
+{
+    find_place(plan, name, written.others())
+}
+
+// Over which file the file at a place would be written, if over any: by its name, or by what its name stands for.
+fn find_over(
+    plan: &Plan,
+    identities: &FileIdentities,
+    name: &Octets,
+    written: Place,
+) -> Option<Clash>
+    ensures { result ≡ clash_over plan.now identities.now written name.now }
+{
+    let over = match find_named(plan, name, written) {
+        None => identities.find_clash(written),
+        found => found,
     };
-    match octets.extend_from_slice(b".new") {
-        Ok(()) => Ok(Octets::new(octets)),
-        Err(_) => Err(ToolFault::Run(RunFault::NoMemory)),
+    match over {
+        Some(over) => Some(Clash { written, over }),
+        None => None,
     }
 }
 
-// A file that the plan reads or writes has the name of the checkpoint or of the file beside it.
-fn is_in_the_way(plan: &Plan, name: &Octets, new_name: &Octets) -> bool
-    requires { new_name.now ≡ temporary_checkpoint name.now }
-    ensures { result ≡ is_in_the_way plan.now name.now }
-{
-    is_read(plan, name)
-        || is_read(plan, new_name)
-        || has_name(&plan.report, new_name)
-        || has_name(&plan.resume, new_name)
-}
-
-// The checkpoint must not be the report or a file that is read, except the one to resume from. Nor must the file beside it be any of these.
-#[tactic(auto, using(crate::proofs::FaultLemmas::no_memory_there, crate::proofs::FaultLemmas::fault_exactly))]
-fn check_checkpoint(
+// The clash of the checkpoint, or of the file beside it.
+fn find_checkpoint_clash(
     alloc: Global,
     plan: &Plan,
     identities: &FileIdentities,
-) -> Result<(), ToolFault>
-    ensures ok { OnOk result (IfSome plan.now.checkpoint (λ name. is_in_the_way plan.now name ≡ false)) }
-    ensures refused { IfErr result (HasFault plan.now.checkpoint) }
-    ensures clear { OnOk result (checkpoint_clash plan.now identities.now plan.now.checkpoint ≡ None) }
-    ensures clash { IfErr result (λ fault. IsNoMemory fault
-        ⊎ (checkpoint_clash plan.now identities.now plan.now.checkpoint ≡ Some fault)) }
+) -> Result<Option<Clash>, ToolFault>
+    ensures clash { IfOk result (λ found. found ≡ checkpoint_clash plan.now identities.now plan.now.checkpoint) }
+    ensures refused { IfErr result IsNoMemory }
 {
     let Some(name) = &plan.checkpoint else {
-        return Ok(());
+        return Ok(None);
     };
     let new_name = temporary_checkpoint(alloc, name)?;
-    if is_in_the_way(plan, name, &new_name)
-        || identities.checkpoint_clashes()
-        || identities.temporary_clashes()
-    {
-        return Err(file_fault(alloc, name));
+    match find_over(plan, identities, name, Place::Checkpoint) {
+        None => Ok(find_over(plan, identities, &new_name, Place::TemporaryCheckpoint)),
+        found => Ok(found),
     }
-    Ok(())
 }
 
-// The report must not be a file that is read or the checkpoint.
-#[tactic(auto, using(crate::proofs::FaultLemmas::fault_exactly))]
-fn check_report(alloc: Global, plan: &Plan, identities: &FileIdentities) -> Result<(), ToolFault>
-    ensures ok { OnOk result (IfSome plan.now.report
-        (λ name. (is_read plan.now name ≡ false) × (is_checkpoint plan.now name ≡ false))) }
-    ensures refused { IfErr result (HasFault plan.now.report) }
-    ensures clear { OnOk result (report_clash plan.now identities.now plan.now.report ≡ None) }
-    ensures clash { IfErr result (λ fault. IsNoMemory fault
-        ⊎ (report_clash plan.now identities.now plan.now.report ≡ Some fault)) }
+// The clash of the report.
+fn find_report_clash(plan: &Plan, identities: &FileIdentities) -> Option<Clash>
+    ensures { result ≡ report_clash plan.now identities.now plan.now.report }
 {
-    let Some(name) = &plan.report else {
-        return Ok(());
-    };
-    if is_read(plan, name) || is_checkpoint(plan, name) || identities.report_clashes() {
-        return Err(file_fault(alloc, name));
+    match &plan.report {
+        Some(name) => find_over(plan, identities, name, Place::Report),
+        None => None,
     }
-    Ok(())
 }
 
-// Standard output, where the plan writes to it, must not be a file that is read.
-fn check_output(plan: &Plan, identities: &FileIdentities) -> Result<(), ToolFault>
-    ensures refused { IfErr result IsRunFault }
-    ensures clear { OnOk result (output_clash plan.now identities.now ≡ None) }
-    ensures clash { IfErr result (λ fault. output_clash plan.now identities.now ≡ Some fault) }
+// The clash of standard output, where the plan writes to it.
+fn find_output_clash(plan: &Plan, identities: &FileIdentities) -> Option<Clash>
+    ensures { result ≡ output_clash plan.now identities.now }
 {
-    if writes_output(plan) && identities.output_clashes() {
-        return Err(stream_fault(Stream::Output));
+    if !writes_output(plan) {
+        return None;
     }
-    Ok(())
+    match identities.find_clash(Place::Output) {
+        Some(over) => Some(Clash {
+            written: Place::Output,
+            over,
+        }),
+        None => None,
+    }
+}
+
+/// The first clash of the plan's files. The checkpoint is looked at first, then the file beside it, the report, and standard output. Two names
+/// are one file if they are spelled alike, or have the same identity.
+pub fn find_clash(
+    alloc: Global,
+    plan: &Plan,
+    identities: &FileIdentities,
+) -> Result<Option<Clash>, ToolFault>
+    ensures clash { IfOk result (λ found. found ≡ clash_of plan.now identities.now) }
+    ensures refused { IfErr result IsNoMemory }
+{
+    if let Some(clash) = find_checkpoint_clash(alloc, plan, identities)? {
+        return Ok(Some(clash));
+    }
+    match find_report_clash(plan, identities) {
+        None => Ok(find_output_clash(plan, identities)),
+        found => Ok(found),
+    }
+}
+
+// The fault of a file that would be written: it names the file, and only standard output has no name.
+#[tactic(auto, using(crate::proofs::FaultLemmas::fault_there, crate::proofs::FaultLemmas::fault_exactly))]
+fn fault_of_file(alloc: Global, name: &Option<Octets>) -> ToolFault
+    ensures fault { IsNoMemory result ⊎ (result ≡ fault_of_file name.now) }
+    ensures named { HasFault name.now result ⊎ IsRunFault result }
+{
+    match name {
+        Some(name) => file_fault(alloc, name),
+        None => stream_fault(Stream::Output),
+    }
+}
+
+// The fault of a clash.
+fn clash_fault(alloc: Global, plan: &Plan, clash: Clash) -> ToolFault
+    ensures fault { IsNoMemory result ⊎ (result ≡ fault_of_clash plan.now clash) }
+    ensures refused { HasFault plan.now.report result ⊎ HasFault plan.now.checkpoint result ⊎ IsRunFault result }
+{
+    match clash.written {
+        Place::Output => stream_fault(Stream::Output),
+        Place::Report => fault_of_file(alloc, &plan.report),
+        _ => fault_of_file(alloc, &plan.checkpoint),
+    }
 }
 
 /// Standard error must not be a file that is read, whatever the plan writes there: the line of a fault would be written to that file.
 pub fn check_errors(identities: &FileIdentities) -> Result<(), ToolFault>
-    ensures clear { OnOk result (faults_clash identities.now ≡ false) }
-    ensures clash { IfErr result (λ fault. (fault ≡ ToolFault.Errors) × (faults_clash identities.now ≡ true)) }
+    ensures clear { OnOk result (clash_at identities.now Place.Faults ≡ None) }
+    ensures clash { IfErr result (λ fault. (fault ≡ ToolFault.Errors) × IsSome (clash_at identities.now Place.Faults)) }
 {
-    if identities.faults_clash() {
-        return Err(ToolFault::Errors);
+    match identities.find_clash(Place::Faults) {
+        Some(_) => Err(ToolFault::Errors),
+        None => Ok(()),
     }
-    Ok(())
 }
 
-/// No file that the run writes may be one that it reads, or another that it writes. The checkpoint is looked at first, then the report, then
-/// standard output. Two names are one file if they are spelled alike, or have the same identity.
-#[tactic(auto, using(crate::proofs::FaultLemmas::first_none, crate::proofs::FaultLemmas::first_then, crate::proofs::FaultLemmas::first_here))]
+/// No file that the run writes may be one that it reads, or another that it writes. What `find_clash` finds first is refused.
+#[tactic(auto, using(crate::proofs::FaultLemmas::no_memory_run, crate::proofs::ClashLemmas::are_clear))]
 pub fn check_names(
     alloc: Global,
     plan: &Plan,
@@ -150,10 +207,11 @@ pub fn check_names(
     ensures refused { IfErr result (λ fault. HasFault plan.now.report fault ⊎ HasFault plan.now.checkpoint fault
         ⊎ IsRunFault fault) }
     ensures clear { OnOk result (clash_of plan.now identities.now ≡ None) }
-    ensures clash { IfErr result (λ fault. IsNoMemory fault ⊎ (clash_of plan.now identities.now ≡ Some fault)) }
+    ensures clash { IfErr result (λ fault. IsNoMemory fault
+        ⊎ (option_map (fault_of_clash plan.now) (clash_of plan.now identities.now) ≡ Some fault)) }
 {
-    check_checkpoint(alloc, plan, identities)?;
-    check_report(alloc, plan, identities)?;
-    check_output(plan, identities)?;
-    Ok(Checked(()))
+    match find_clash(alloc, plan, identities)? {
+        Some(clash) => Err(clash_fault(alloc, plan, clash)),
+        None => Ok(Checked(())),
+    }
 }

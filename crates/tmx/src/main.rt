@@ -7,9 +7,7 @@ use std::io::{ErrorKind, IsTerminal, Write};
 use std::process::ExitCode;
 use std::rt::Env;
 use tm_devices::Watched;
-use tm_explanations::{
-    Explanation, Wanted, ask, explain, explain_no_good_frame, explain_words,
-};
+use tm_explanations::{Asked, Explanation, ask, explain, explain_no_good_frame, explain_words};
 use tm_program::{Octets, Outcome, RunFault, ToolFault, UsageFault, fault_line, run, status};
 
 const NOT_TEXT: &str =
@@ -33,8 +31,24 @@ fn all_arguments(rt: &HostRuntime) -> Result<Vec<String>, ToolFault> {
     }
 }
 
+// The words of the command line. `help` in front of the others is `--help` behind them.
+fn all_words(rt: &HostRuntime) -> Result<Vec<String>, ToolFault> {
+    let mut words = all_arguments(rt)?;
+    if words.is_empty() || words[0].as_str() != "help" {
+        return Ok(words);
+    }
+    drop(words.remove(0));
+    let Ok(option) = String::from_str(rt.alloc(), "--help") else {
+        return Err(ToolFault::Run(RunFault::NoMemory));
+    };
+    match words.push(option) {
+        Ok(()) => Ok(words),
+        Err(_) => Err(ToolFault::Run(RunFault::NoMemory)),
+    }
+}
+
 // Whether a second line is wanted on standard error. A value of `TMX_EXPLAIN` that is longer than an octet is as none.
-fn ask_for_explanation(rt: &HostRuntime) -> Option<Wanted> {
+fn ask_for_explanation(rt: &HostRuntime) -> Option<Asked> {
     let mut value = [0u8; 1];
     let length = match rt.var("TMX_EXPLAIN", &mut value) {
         Ok(length) => length,
@@ -46,12 +60,10 @@ fn ask_for_explanation(rt: &HostRuntime) -> Option<Wanted> {
 // What is said behind the line of a fault, where it is wanted: why it came, and what to do. The number is that of the system's first error.
 fn explanation(rt: &HostRuntime, fault: &ToolFault, number: Option<i32>) -> Option<Explanation> {
     let wanted = ask_for_explanation(rt)?;
-    let found = match env::args(rt) {
-        Ok(args) => match args.skip(1).collect(rt.alloc()) {
-            Ok(arguments) => explain(rt, wanted, arguments, fault, number),
-            Err(_) => return None,
-        },
-        Err(_) => explain_words(rt, wanted),
+    let found = match all_words(rt) {
+        Ok(words) => explain(rt, wanted, words, fault, number),
+        Err(ToolFault::Usage(_)) => explain_words(rt, wanted),
+        Err(_) => return None,
     };
     match found {
         Ok(line) => line,
@@ -83,7 +95,7 @@ fn refuse(rt: &HostRuntime, fault: &ToolFault, number: Option<i32>) -> ExitCode 
 fn remark(rt: &HostRuntime, outcome: Outcome) {
     if outcome.has_no_good_frame()
         && let Some(wanted) = ask_for_explanation(rt)
-        && let Ok(words) = all_arguments(rt)
+        && let Ok(words) = all_words(rt)
         && let Ok(Some(line)) = explain_no_good_frame(
             rt,
             wanted,
@@ -109,8 +121,8 @@ fn help(rt: &HostRuntime, fault: &ToolFault) -> ExitCode {
 
 fn main(rt: HostRuntime) -> ExitCode {
     let first = Cell::new(None);
-    let done = match all_arguments(&rt) {
-        Ok(arguments) => run(&Watched::new(&rt, &first), arguments, rt.stderr()),
+    let done = match all_words(&rt) {
+        Ok(words) => run(&Watched::new(&rt, &first), words, rt.stderr()),
         Err(fault) => Err(fault),
     };
     match done {

@@ -1,32 +1,64 @@
--- The fault of the first of a plan's files that would be written over another file of the plan: by their names, and by what these stand for.
-use Rattle.std.specs.Prelude.{◌&&◌, ◌||◌, ℕ, List, Option, Some, None, if◌then◌else◌}
+-- The first of a plan's files that would be written over another file of the plan, by their names and by what these stand for; and its fault.
+use Rattle.std.specs.Prelude.{ℕ, List, Option, Some, None, if◌then◌else◌, option_map}
 use Rattle.tm_faults.specs.declared.run.RunFault.TheVariants as run
-use Rattle.tm_file_identity.specs.FileIdentities.{temporary_clashes, checkpoint_clashes, output_clashes, report_clashes}
+use Rattle.tm_file_identity.specs.FileIdentities.{clash_at}
 use Rattle.tm_file_identity.specs.declared.identities.FileIdentities.{FileIdentities}
+use Rattle.tm_file_identity.specs.declared.identities.Place.{Place}
+use Rattle.tm_file_identity.specs.declared.identities.Place.TheVariants.{Report, Checkpoint, TemporaryCheckpoint, Output}
 use Rattle.tm_files.specs.code.Decisions.{writes_output}
-use Rattle.tm_files.specs.Names.{is_checkpoint, is_in_the_way, is_read}
+use Rattle.tm_files.specs.declared.names.Clash.{Clash}
+use Rattle.tm_files.specs.Names.{named_over, temporary_checkpoint}
 use Rattle.tm_faults.specs.declared.program.ToolFault.{ToolFault}
 use Rattle.tm_faults.specs.declared.program.ToolFault.TheVariants as tool
 use Rattle.tm_arguments.specs.declared.request.Plan.{Plan}
 
--- that of the checkpoint's file, and of the file beside it
-abbrev pub checkpoint_clash : Plan → FileIdentities → Option (List ℕ) → Option ToolFault
+-- the first of two
+abbrev pub first_place : Option Place → Option Place → Option Place
+first_place None next = next
+first_place (Some place) next = Some place
+
+abbrev pub first_clash : Option Clash → Option Clash → Option Clash
+first_clash None next = next
+first_clash (Some clash) next = Some clash
+
+-- over which file the file at a place would be written: by its name, or by what its name stands for
+abbrev pub place_over : Plan → FileIdentities → Place → List ℕ → Option Place
+place_over p s written name = first_place (named_over p name written) (clash_at s written)
+
+-- the clash of a file with the one over which it would be written
+abbrev pub clash_with : Place → Place → Clash
+clash_with written over = record { written = written; over = over }
+
+abbrev pub clash_over : Plan → FileIdentities → Place → List ℕ → Option Clash
+clash_over p s written name = option_map (clash_with written) (place_over p s written name)
+
+-- that of the checkpoint's file, or of the file beside it
+abbrev pub checkpoint_clash : Plan → FileIdentities → Option (List ℕ) → Option Clash
 checkpoint_clash p s None = None
-checkpoint_clash p s (Some name) = if is_in_the_way p name || checkpoint_clashes s || temporary_clashes s then Some (tool.File name) else None
+checkpoint_clash p s (Some name) = first_clash (clash_over p s Checkpoint name) (clash_over p s TemporaryCheckpoint (temporary_checkpoint name))
 
 -- that of the report's file
-abbrev pub report_clash : Plan → FileIdentities → Option (List ℕ) → Option ToolFault
+abbrev pub report_clash : Plan → FileIdentities → Option (List ℕ) → Option Clash
 report_clash p s None = None
-report_clash p s (Some name) = if is_read p name || is_checkpoint p name || report_clashes s then Some (tool.File name) else None
+report_clash p s (Some name) = clash_over p s Report name
 
 -- that of standard output, where the plan writes to it
-abbrev pub output_clash : Plan → FileIdentities → Option ToolFault
-output_clash p s = if writes_output p.action && output_clashes s then Some (tool.Run run.Write) else None
+abbrev pub output_clash : Plan → FileIdentities → Option Clash
+output_clash p s = if writes_output p.action then option_map (clash_with Output) (clash_at s Output) else None
 
--- the first of two
-abbrev pub first_clash : Option ToolFault → Option ToolFault → Option ToolFault
-first_clash None next = next
-first_clash (Some fault) next = Some fault
-
-abbrev pub clash_of : Plan → FileIdentities → Option ToolFault
+abbrev pub clash_of : Plan → FileIdentities → Option Clash
 clash_of p s = first_clash (checkpoint_clash p s p.checkpoint) (first_clash (report_clash p s p.report) (output_clash p s))
+
+-- the fault of a file that would be written: it names the file, and only standard output has no name
+abbrev pub fault_of_file : Option (List ℕ) → ToolFault
+fault_of_file None = tool.Run run.Write
+fault_of_file (Some name) = tool.File name
+
+-- the file that a clash names
+abbrev pub file_at : Plan → Place → Option (List ℕ)
+file_at p Output = None
+file_at p Report = p.report
+file_at p _ = p.checkpoint
+
+abbrev pub fault_of_clash : Plan → Clash → ToolFault
+fault_of_clash p clash = fault_of_file (file_at p clash.written)

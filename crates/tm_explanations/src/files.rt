@@ -96,7 +96,8 @@ impl<R: Files + AllocGlobal> EndedRun<'_, R> {
         find_clash(self.rt.alloc(), self.plan, &identities).map_err(|_| AllocError)
     }
 
-    // Why a file failed without an error of the system: it is in the way of another file of the run, or a folder.
+    // Why a file failed without an error of the system: it is in the way of another file of the run, or a folder. A file that is read fails so
+    // only where one of packets has its name.
     fn place_text(&self, place: Option<Place>, file: Phrase<'_>) -> Said {
         let alloc = self.rt.alloc();
         if let Some(clash) = self.first_clash()? {
@@ -109,8 +110,16 @@ impl<R: Files + AllocGlobal> EndedRun<'_, R> {
         }
         let identity = identity_of(self.rt, file.name)?;
         let identities = self.identities()?;
-        match (place, identities.find(&identity, &Place::ALL)) {
-            (None, Some(over)) => self.over_text(file, over),
+        match (
+            place,
+            &self.plan.dir,
+            identities.find(&identity, &Place::ALL),
+        ) {
+            (Some(Place::Report | Place::Checkpoint), _, _) => Ok(None),
+            (_, Some(_), Some(over)) => self.over_text(
+                phrase("a file of packets", file.name),
+                over,
+            ),
             _ => Ok(None),
         }
     }

@@ -11,12 +11,12 @@ const NONE: u16 = 0xFFFF;
 
 /// The place of a pair's entry, which is read and written at once.
 #[derive(Clone, Copy)]
-pub struct Place {
+pub struct PairPlace {
     // The first count of the open group, and behind it the last count. Each is FFFF where there is none.
     counts: u32,
 }
 
-impl Model for Place {
+impl Model for PairPlace {
     ghost use Rattle.std.specs.Prelude.{Option};
     ghost use Rattle.tm_packet.specs.declared.tracker.PairEntry.{PairEntry};
     ghost use Rattle.tm_packet.specs.code.Places.{entry_in, counts_of, ArePlaced};
@@ -32,22 +32,22 @@ impl Model for Place {
     ghost inverse_ok = { λ p h i. record { counts = h i } };
 }
 
-impl Place {
+impl PairPlace {
     /// A place without an entry.
-    pub fn empty() -> Place
+    pub fn empty() -> PairPlace
         ensures { result ≡ None }
     {
-        Place { counts: u32::MAX }
+        PairPlace { counts: u32::MAX }
     }
 
     /// The place of a pair's entry.
     #[tactic(auto, using(crate::proofs::PlaceLemmas::placed))]
-    pub fn of(entry: PairEntry) -> Place
+    pub fn of(entry: PairEntry) -> PairPlace
         requires { IsEntry entry }
         ensures { result ≡ Some entry }
     {
         let first = entry.first.unwrap_or(NONE);
-        Place {
+        PairPlace {
             counts: u32::from(first) * 0x10000 + u32::from(entry.count),
         }
     }

@@ -2,7 +2,7 @@
 
 ghost use Rattle.std.specs.Prelude.{◌≡◌, ◌+◌, ◌*◌, ◌<◌, ◌≤◌, ◌⊎◌, IfOk, IfErr, IfSome, OnOk, OnErr, IsOk, Ok, Err, Some, None, Decides, true, false, [], ◌∷◌, ◌++◌, length, drop, slice_set, vec_len, vec_capacity};
 
-use crate::place::Place;
+use crate::place::PairPlace;
 use crate::step::{gives_none, kept_after, notes_after};
 use crate::{Header, Note, Notes, Pair, Why};
 use std::alloc::{AllocError, Global};
@@ -57,7 +57,7 @@ const PAIRS: usize = 16384;
 /// What is kept of each channel and application, at the key of the pair.
 #[derive(Drop)]
 pub struct Tracker {
-    entries: Vec<Place>,
+    entries: Vec<PairPlace>,
 }
 
 impl Model for Tracker {
@@ -99,7 +99,7 @@ impl Tracker {
         ensures { IfOk result (λ tracker. tracker ≡ no_entries) }
     {
         let mut entries = Vec::with_capacity(alloc, PAIRS)?;
-        entries.resize(PAIRS, Place::empty())?;
+        entries.resize(PAIRS, PairPlace::empty())?;
         Ok(Tracker { entries })
     }
 
@@ -116,7 +116,7 @@ impl Tracker {
         }
         let key = key_of(channel, &header);
         let entry = self.entries[key].entry();
-        self.entries[key] = Place::of(kept_after(entry, &header));
+        self.entries[key] = PairPlace::of(kept_after(entry, &header));
         notes_after(entry, &header)
     }
 
@@ -137,7 +137,7 @@ impl Tracker {
         if !gives_none(entry, &header) {
             return false;
         }
-        self.entries[key] = Place::of(kept_after(entry, &header));
+        self.entries[key] = PairPlace::of(kept_after(entry, &header));
         true
     }
 
@@ -240,7 +240,7 @@ impl Tracker {
             0xFFFF => None,
             first => Some(first),
         };
-        self.entries[usize::from(raw.key)] = Place::of(PairEntry {
+        self.entries[usize::from(raw.key)] = PairPlace::of(PairEntry {
             count: raw.count,
             first,
         });

@@ -1,7 +1,7 @@
 //! Why a file can't be opened, made, read or written.
 
 use crate::explanation::EndedRun;
-use crate::phrases::{Phrase, Said, phrase, phrase_at, place_of, said, text_of, word_of};
+use crate::phrases::{Phrase, Said, phrase_at, place_of, said, text_of, word_of};
 use std::alloc::{AllocError, Global};
 use std::fs;
 use std::io::{self, ErrorKind};
@@ -117,7 +117,7 @@ impl<R: Files + AllocGlobal> EndedRun<'_, R> {
         ) {
             (Some(Place::Report | Place::Checkpoint), _, _) => Ok(None),
             (_, Some(_), Some(over)) => self.over_text(
-                phrase("a file of packets", file.name),
+                Phrase::new("a file of packets", file.name),
                 over,
             ),
             _ => Ok(None),
@@ -131,7 +131,7 @@ impl<R: Files + AllocGlobal> EndedRun<'_, R> {
             (None, Some(dir)) if dir.as_slice() == name.as_slice() => "the folder",
             (None, _) => "a file of packets",
         };
-        phrase(word, text_of(name.as_slice()))
+        Phrase::new(word, text_of(name.as_slice()))
     }
 
     /// Why the file of this name failed.

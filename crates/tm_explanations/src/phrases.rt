@@ -43,12 +43,14 @@ impl Display for Phrase<'_> {
     }
 }
 
-/// What a line calls a file of this name, or a stream.
-pub(crate) fn phrase<'p>(word: &'static str, name: &'p str) -> Phrase<'p> {
-    Phrase {
-        word,
-        name,
-        ending: "",
+impl<'p> Phrase<'p> {
+    /// What a line calls a file of this name, or a stream.
+    pub(crate) fn new(word: &'static str, name: &'p str) -> Phrase<'p> {
+        Phrase {
+            word,
+            name,
+            ending: "",
+        }
     }
 }
 
@@ -88,13 +90,13 @@ pub(crate) fn place_of(plan: &Plan, name: &Octets) -> Option<Place>
 pub(crate) fn phrase_at(plan: &Plan, place: Place) -> Phrase<'_> {
     let word = word_of(place);
     match (name_at(plan, place), place, &plan.checkpoint) {
-        (Some(name), _, _) => phrase(word, text_of(name.as_slice())),
-        (None, Place::Recording, _) => phrase("standard input", ""),
+        (Some(name), _, _) => Phrase::new(word, text_of(name.as_slice())),
+        (None, Place::Recording, _) => Phrase::new("standard input", ""),
         (None, Place::TemporaryCheckpoint, Some(name)) => Phrase {
             word,
             name: text_of(name.as_slice()),
             ending: TEMPORARY_ENDING,
         },
-        _ => phrase(word, ""),
+        _ => Phrase::new(word, ""),
     }
 }

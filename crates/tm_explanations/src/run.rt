@@ -2,7 +2,7 @@
 
 use crate::explanation::EndedRun;
 use crate::files::{CLOSED, error_text, is_regular};
-use crate::phrases::{Said, phrase, phrase_at, said, text_of};
+use crate::phrases::{Phrase, Said, phrase_at, said, text_of};
 use std::alloc::{AllocError, Global};
 use std::fs::{self, File, OpenOptions};
 use std::io::{self, Read};
@@ -19,7 +19,7 @@ const ROOM: &str = "make room, or write to another file";
 
 /// Why standard output can't be written.
 pub(crate) fn output_text(alloc: Global, number: i32) -> Said {
-    error_text(alloc, phrase("standard output", ""), number, ROOM)
+    error_text(alloc, Phrase::new("standard output", ""), number, ROOM)
 }
 
 // By what a file with these first octets is packed; none if by nothing that is known.
@@ -58,7 +58,7 @@ impl<R: Files + AllocGlobal> EndedRun<'_, R> {
 
     // Why packets can't be written to this folder: it is none, or one of its files can't be written, or none can.
     fn folder_text(&self, folder: &str) -> Said {
-        let (alloc, file) = (self.rt.alloc(), phrase("the folder", folder));
+        let (alloc, file) = (self.rt.alloc(), Phrase::new("the folder", folder));
         let Some(number) = self.number else {
             return said(match fs::metadata(self.rt, folder) {
                 Ok(metadata) if metadata.is_dir() => return Ok(None),
@@ -69,7 +69,7 @@ impl<R: Files + AllocGlobal> EndedRun<'_, R> {
         let Some(name) = self.refused_file(folder, number)? else {
             return error_text(alloc, file, number, ROOM);
         };
-        let file = phrase("a file of packets", name.as_str());
+        let file = Phrase::new("a file of packets", name.as_str());
         let error = io::Error::from_raw_os_error(number);
         said(format!(in alloc; "{file}: {error}; take it away, or name another folder"))
     }

@@ -62,8 +62,8 @@ fn explanation(rt: &HostRuntime, fault: &ToolFault, number: Option<i32>) -> Opti
     let wanted = ask_for_explanation(rt)?;
     let found = match all_words(rt) {
         Ok(words) => explain(rt, wanted, words, fault, number),
-        Err(ToolFault::Usage(_)) => explain_words(rt, wanted),
-        Err(_) => return None,
+        Err(fault) if matches!(&fault, ToolFault::Usage(_)) => explain_words(rt, wanted),
+        Err(_fault) => return None,
     };
     match found {
         Ok(line) => line,

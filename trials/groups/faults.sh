@@ -344,7 +344,13 @@ little_memory() {
             [ "$least" != 0 ] || least=$limit
             most=$limit
             ;;
-        139) [ "$least" = 0 ] || ! built_by_rt || wrong+="$limit KiB: status $found; " ;;
+        139)
+            if [ "$least" != 0 ] && built_by_rt; then
+                wrong+="$limit KiB: status $found; "
+            elif [ "$least" != 0 ]; then
+                echo "note $1: status $found by $limit KiB, of a program that rt hasn't built"
+            fi
+            ;;
         126 | 127 | 137) [ "$least" = 0 ] || wrong+="$limit KiB: status $found; " ;;
         *) wrong+="$limit KiB: status $found, $(head -c 100 err); " ;;
         esac

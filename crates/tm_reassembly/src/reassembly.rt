@@ -8,7 +8,7 @@ ghost use Rattle.tm_reassembly.specs.code.Blocks.{KeepBlocks, channels_decoding,
 ghost use Rattle.tm_reassembly.specs.Items.{closing, close_channels};
 ghost use Rattle.tm_reassembly.specs.code.Slots.{HaveLimit, lasts, rooms, state_in_slots, unused};
 ghost use Rattle.tm_reassembly.specs.State.{octets_in, State, Last};
-ghost use Rattle.tm_reassembly.specs.Recording.{items, after};
+ghost use Rattle.tm_reassembly.specs.Recording.{items, after, is_chosen_frame};
 ghost use Rattle.tm_frame.specs.Rules.{IsLimit, chooses};
 ghost use Rattle.tm_items.specs.Giving.{Gives};
 ghost use Rattle.tm_items.specs.Sinks.{TakesAll};
@@ -86,12 +86,36 @@ impl Reassembly {
     ///
     /// # Errors
     ///
-    /// `Failed` where an earlier step was refused by its sink; else `TooMany` where 2^32 - 1 records are done; both change nothing. Else
-    /// `Sink` where the sink refused an item: it then has taken the items before that one, each later step is `Failed`, and the number of
-    /// records stays.
+    /// As `take_record`.
     pub fn step<S: Sink>(&mut self, octets: &[u8], sink: &mut S) -> Result<(), StepFault<S::Fault>>
         requires { length octets.now ≡ record_length_of self.old.rules.layout }
         ensures accepted { OnOk result (TakesAll S.takes (S.known sink.old) (step_items self.old octets.now) (S.known sink.new)) }
+        ensures left { OnOk result (self.new ≡ stepped self.old octets.now) }
+        ensures asked { OnOk result ((self.old.failed ≡ false) × (self.old.state.records < most_records)) }
+        ensures refused { IfErr result (StepRefused S.known S.takes S.refuses self.old self.new sink.old sink.new
+            (step_items self.old octets.now)) }
+    {
+        match self.take_record(octets, sink) {
+            Ok(_) => Ok(()),
+            Err(fault) => Err(fault),
+        }
+    }
+
+    /// Takes the octets of the next record, and gives its items in order. Answers whether the record is a good frame of a chosen channel.
+    ///
+    /// # Errors
+    ///
+    /// `Failed` where an earlier step was refused by its sink; else `TooMany` where 2^32 - 1 records are done; both change nothing. Else
+    /// `Sink` where the sink refused an item: it then has taken the items before that one, each later step is `Failed`, and the number of
+    /// records stays.
+    pub fn take_record<S: Sink>(
+        &mut self,
+        octets: &[u8],
+        sink: &mut S,
+    ) -> Result<bool, StepFault<S::Fault>>
+        requires { length octets.now ≡ record_length_of self.old.rules.layout }
+        ensures accepted { OnOk result (TakesAll S.takes (S.known sink.old) (step_items self.old octets.now) (S.known sink.new)) }
+        ensures chosen { IfOk result (λ chosen. chosen ≡ is_chosen_frame self.old.rules octets.now) }
         ensures left { OnOk result (self.new ≡ stepped self.old octets.now) }
         ensures asked { OnOk result ((self.old.failed ≡ false) × (self.old.state.records < most_records)) }
         ensures refused { IfErr result (StepRefused S.known S.takes S.refuses self.old self.new sink.old sink.new
@@ -111,9 +135,9 @@ impl Reassembly {
             octets,
             sink,
         ) {
-            Ok(()) => {
+            Ok(chosen) => {
                 self.records += 1;
-                Ok(())
+                Ok(chosen)
             }
             Err(fault) => {
                 self.failed = true;
@@ -413,7 +437,7 @@ fn eight_states(alloc: Global, limit: usize) -> Result<[ChannelState; 8], AllocE
     Ok(states_in_a_row(four_states(alloc, limit)?, four_states(alloc, limit)?))
 }
 
-// Reads a record, behind so many that were done.
+// Reads a record, after `seen` that are done. Answers whether it is a good frame of a chosen channel.
 fn add_record<S: Sink>(
     rules: &Rules,
     seen: u32,
@@ -421,12 +445,13 @@ fn add_record<S: Sink>(
     states: &mut [ChannelState; 8],
     octets: &[u8],
     sink: &mut S,
-) -> Result<(), S::Fault>
+) -> Result<bool, S::Fault>
     requires record { length octets.now ≡ record_length_of rules.now.layout }
     requires state { IsValidState rules.now (state_in_slots seen master.old states.old) }
     requires limit { HaveLimit rules.now.max_packet states.old }
     ensures given { Gives S.Sink sink.old sink.new
         (items rules.now (state_in_slots seen master.old states.old) (octets.now ∷ [])) result }
+    ensures chosen { IfOk result (λ chosen. chosen ≡ is_chosen_frame rules.now octets.now) }
     ensures left { OnOk result (state_in_slots (seen + 1) master.new states.new
         ≡ after rules.now (state_in_slots seen master.old states.old) (octets.now ∷ [])) }
     ensures limit { OnOk result (HaveLimit rules.now.max_packet states.new) }
@@ -439,14 +464,16 @@ fn add_record<S: Sink>(
             }
             *master = Some(count);
             let channel = frame.channel();
-            if rules.channels.has(channel) {
-                states[channel as usize].add_frame(seen, channel, &frame, sink)
-            } else {
-                Ok(())
+            if !rules.channels.has(channel) {
+                return Ok(false);
+            }
+            match states[channel as usize].add_frame(seen, channel, &frame, sink) {
+                Ok(()) => Ok(true),
+                Err(fault) => Err(fault),
             }
         }
         Err(fault) => match sink.take(Item::Bad { seen, fault }) {
-            Ok(()) => Ok(()),
+            Ok(()) => Ok(false),
             Err(refusal) => Err(refusal),
         },
     }

@@ -25,3 +25,8 @@ is_of channel (Vca seen own) = own == channel
 is_of channel (Dropped seen own first place octets reason) = own == channel
 is_of channel (Packet seen own first place octets) = own == channel
 is_of channel (Short seen octets) = false
+
+-- a packet
+abbrev pub is_packet_item : Item → Bool
+is_packet_item (Packet seen channel first place octets) = true
+is_packet_item _ = false

@@ -6,4 +6,5 @@ pub mod PacketLemmas
 pub mod OpenGroups
 pub mod RowLemmas
 pub mod ShelfLemmas
+pub mod TotalsLemmas
 pub mod SpanLemmas

@@ -1,5 +1,5 @@
 -- Packets at the front of a span: the first of them, and those that add nothing to the report.
-use Rattle.std.proofs.Common.{◌≡◌, ◌≢◌, ℕ, ◌+◌, ◌-◌, ◌<◌, ◌≤◌, Some, None, List, [], ◌∷◌, ◌++◌, length, take, drop, refl, sym, ap, subst, ◌∙◌, append-nil, append_assoc, length-append, arith, inl, inr, ⊎_elim}
+use Rattle.std.proofs.Common.{◌≡◌, ◌≢◌, ℕ, Bool, false, ◌+◌, ◌-◌, ◌<◌, ◌≤◌, Some, None, List, [], ◌∷◌, ◌++◌, length, take, drop, refl, sym, ap, subst, ◌∙◌, append-nil, append_assoc, length-append, arith, inl, inr, ⊎_elim}
 use Rattle.std.specs.Borrow.{Bor}
 use Rattle.std.proofs.KnownBytes.{Appends-nil}
 use Rattle.std.proofs.lemmas.Bool.{cases_lt}
@@ -26,7 +26,10 @@ use Rattle.tm_output.specs.code.Quiet.{AreFirst, AreQuiet, HasNoted, IsFirstPack
 use Rattle.tm_lines.specs.declared.packet.Packet as lent
 use Rattle.tm_output.specs.code.Sinking.{Refuses, Takes}
 use Rattle.tm_output.proofs.PacketLemmas.{none_both}
+use Rattle.tm_output.specs.Totals.{with_item, with_items, with_packet}
+use Rattle.tm_output.specs.declared.totals.Totals.{Totals}
 use Rattle.tm_output.proofs.PieceLemmas.{stopped_put, took_piece}
+use Rattle.tm_output.proofs.TotalsLemmas.{items_counted, quiet_counted}
 
 -- ---- the first
 
@@ -84,16 +87,24 @@ quiet_more : {A : Type 0} (text : Texts A) (entries : Entries) (xs : List Item) 
 quiet_more text entries [] x quiet none = (none, tt)
 quiet_more text entries (y ∷ ys) x quiet none = (quiet.0, quiet_more text (noted entries y) ys x quiet.1 none)
 
-module _ {A : Type 0} (text : Texts A) (limit : ℕ) (old : Entries) (span : Span) where
-  pub noted_none : HasNoted text limit old old span 0
-  noted_none = record { packets = []; first = record { inside = omega arith; octets = refl; front = refl }; none = λ _. refl; noted_is = refl; quiet = tt }
+module _ {A : Type 0} (text : Texts A) (limit : ℕ) (old : Entries) (totals : Totals) (span : Span) where
+  pub noted_none : HasNoted text limit old old totals totals span 0
+  noted_none = record {
+    packets = [];
+    first = record { inside = omega arith; octets = refl; front = refl };
+    none = λ _. refl;
+    noted_is = refl;
+    totals_is = refl;
+    quiet = tt;
+  }
 
   -- and the next one
-  pub noted_next : (now next : Entries) (at : ℕ) (left : Bor (List ℕ)) (packet : lent.Packet)
+  pub noted_next : (now next : Entries) (sum : Totals) (given : Bool) (at : ℕ) (left : Bor (List ℕ)) (packet : lent.Packet)
       → left.now ≡ take (length span.octets.now - at) (drop at span.octets.now)
-      → HasNoted text limit old now span at → IsFirstPacket limit (record span { place = span.place + at; octets = left }) packet
-      → IsQuiet text now (item_with packet) → next ≡ noted now (item_with packet) → HasNoted text limit old next span (at + length packet.octets.now)
-  noted_next now next at left packet is done head silent after =
+      → HasNoted text limit old now totals sum span at → IsFirstPacket limit (record span { place = span.place + at; octets = left }) packet
+      → IsQuiet text now (item_with packet) → next ≡ noted now (item_with packet) → given ≡ text.given (item_with packet)
+      → HasNoted text limit old next totals (with_packet sum given false false) span (at + length packet.octets.now)
+  noted_next now next sum given at left packet is done head silent after given_is =
       let octets = span.octets.now in
       let p = packet.octets.now in
       let n = length p in
@@ -120,12 +131,16 @@ module _ {A : Type 0} (text : Texts A) (limit : ℕ) (old : Entries) (span : Spa
         };
         none = λ e. absurd (omega (arith, head.some, e));
         noted_is = rw (after, head.item, done.noted_is, items, noted_more) refl;
+        totals_is =
+            quiet_counted text now sum packet.seen packet.channel packet.first packet.place p given silent given_is
+            ∙ rw (head.item, done.totals_is, done.noted_is, items, items_counted) refl;
         quiet = rw items (quiet_more text old before x done.quiet (rw (head.item, done.noted_is) at silent));
       }
 
 -- no octets were noted, and so nothing
-pub nothing_noted : {A : Type 0} (text : Texts A) (limit : ℕ) (old new : Entries) (span : Span) (many : ℕ) → HasNoted text limit old new span many → many ≡ 0 → new ≡ old
-nothing_noted text limit old new span many done none = rw (done.none none) at done.noted_is
+pub nothing_noted : {A : Type 0} (text : Texts A) (limit : ℕ) (old new : Entries) (totals sum : Totals) (span : Span) (many : ℕ)
+    → HasNoted text limit old new totals sum span many → many ≡ 0 → (new ≡ old) × (sum ≡ totals)
+nothing_noted text limit old new totals sum span many done none = (rw (done.none none) at done.noted_is, rw (done.none none) at done.totals_is)
 
 -- ---- taken
 
@@ -165,29 +180,37 @@ module _ {A K M : Type 0} (grows : K → K → List A → Type 0) (grows-nil : (
 
   module _ (s : OutputState K M) (x : Item) (quiet : IsQuiet (text s.fixture.texts) s.entries x) where
     -- it is taken where what belongs to `out` was added, and nothing else
-    quiet_taken : (t : OutputState K M) → t.fixture ≡ s.fixture → t.entries ≡ noted s.entries x → t.view.report ≡ s.view.report → SameCounts s.view t.view
+    quiet_taken : (t : OutputState K M) → t.fixture ≡ s.fixture → t.entries ≡ noted s.entries x
+        → t.totals ≡ with_item (text s.fixture.texts) s.entries s.totals x → t.view.report ≡ s.view.report → SameCounts s.view t.view
         → grows s.view.out t.view.out ((text s.fixture.texts).out x) → Takes grows text buffering s x t
-    quiet_taken t same noted_is report counts grown = record {
+    quiet_taken t same noted_is totals_is report counts grown = record {
       same = same;
       noted_is = noted_is;
+      totals_is = totals_is;
       took = took_piece grows s.view t.view (piece_of (text s.fixture.texts) s.entries x) grown
           (rw (report, quiet) (Appends-nil s.view.report)) counts;
     }
 
     -- the state between it and the next
     abbrev between : K → OutputState K M
-    between k = record { fixture = s.fixture; entries = noted s.entries x; view = view k s.view.report s.view.out_failures s.view.report_failures }
+    between k = record {
+      fixture = s.fixture;
+      entries = noted s.entries x;
+      view = view k s.view.report s.view.out_failures s.view.report_failures;
+      totals = with_item (text s.fixture.texts) s.entries s.totals x;
+    }
 
   -- packets that add nothing to the report, by one write
   pub all_taken : (s t : OutputState K M) (x : Item) (xs : List Item) → AreQuiet (text s.fixture.texts) s.entries (x ∷ xs)
-      → t.fixture ≡ s.fixture → t.entries ≡ noted_all s.entries (x ∷ xs) → t.view.report ≡ s.view.report → SameCounts s.view t.view
+      → t.fixture ≡ s.fixture → t.entries ≡ noted_all s.entries (x ∷ xs)
+      → t.totals ≡ with_items (text s.fixture.texts) s.entries s.totals (x ∷ xs) → t.view.report ≡ s.view.report → SameCounts s.view t.view
       → grows s.view.out t.view.out (outs_of (text s.fixture.texts) (x ∷ xs)) → TakesAll (Takes grows text buffering) s (x ∷ xs) t
-  all_taken s t x [] quiet same noted_is report counts grown =
-      (t, quiet_taken s x quiet.0 t same noted_is report counts (subst (grows s.view.out t.view.out) (append-nil ((text s.fixture.texts).out x)) grown), refl)
-  all_taken s t x (y ∷ ys) quiet same noted_is report counts grown =
+  all_taken s t x [] quiet same noted_is totals_is report counts grown =
+      (t, quiet_taken s x quiet.0 t same noted_is totals_is report counts (subst (grows s.view.out t.view.out) (append-nil ((text s.fixture.texts).out x)) grown), refl)
+  all_taken s t x (y ∷ ys) quiet same noted_is totals_is report counts grown =
       let (k, before, behind) = grows-split s.view.out t.view.out ((text s.fixture.texts).out x) (outs_of (text s.fixture.texts) (y ∷ ys)) grown in
       let mid = between s x quiet.0 k in
-      (mid, quiet_taken s x quiet.0 mid refl refl refl (refl, refl) before, all_taken mid t y ys quiet.1 same noted_is report counts behind)
+      (mid, quiet_taken s x quiet.0 mid refl refl refl refl (refl, refl) before, all_taken mid t y ys quiet.1 same noted_is totals_is report counts behind)
 
   -- it is refused where a write stopped in what belongs to `out`
   stopped_here : (s t : OutputState K M) (x : Item) → t.fixture ≡ s.fixture → t.view.report ≡ s.view.report → t.view.out_failures ≡ raised s.view.out_failures
@@ -219,13 +242,13 @@ module _ {A K M : Type 0} (grows : K → K → List A → Type 0) (grows-nil : (
       let mid = between s x quiet.0 k in
       inr (
         mid,
-        quiet_taken s x quiet.0 mid refl refl refl (refl, refl) before,
+        quiet_taken s x quiet.0 mid refl refl refl refl (refl, refl) before,
         one_stopped mid t y ys quiet.1 same report out_failed report_failed
             (more, rest, left, (λ some. proper (λ none. some (none_both own others none).1)), behind),
       ))
       (cases_lt (length prefix) (length own))
 
-  module _ (s t : OutputState K M) {limit : ℕ} {span : Span} {many : ℕ} (some : 0 < many) (done : HasNoted (text s.fixture.texts) limit s.entries t.entries span many)
+  module _ (s t : OutputState K M) {limit : ℕ} {span : Span} {many : ℕ} (some : 0 < many) (done : HasNoted (text s.fixture.texts) limit s.entries t.entries s.totals t.totals span many)
       (same : t.fixture ≡ s.fixture) (report : t.view.report ≡ s.view.report) where
     long : length (octets_of done.packets) ≡ many
     long = first-length limit span done.packets many done.first
@@ -239,7 +262,7 @@ module _ {A K M : Type 0} (grows : K → K → List A → Type 0) (grows-nil : (
     span_taken counts grown = record {
       packets = done.packets;
       first = done.first;
-      accepted = rw parts.2 (all_taken s t _ _ (rw parts.2 at done.quiet) same (rw parts.2 at done.noted_is) report counts (rw parts.2 at grown));
+      accepted = rw parts.2 (all_taken s t _ _ (rw parts.2 at done.quiet) same (rw parts.2 at done.noted_is) (rw parts.2 at done.totals_is) report counts (rw parts.2 at grown));
     }
 
     pub span_stopped : t.view.out_failures ≡ raised s.view.out_failures → t.view.report_failures ≡ s.view.report_failures

@@ -1,10 +1,11 @@
 -- Rows of fields: what a definition gives of the packets of one application.
-use Rattle.std.specs.Prelude.{ℕ, ◌==◌, List, [], Result, Ok, Err, if◌then◌else◌}
+use Rattle.std.specs.Prelude.{ℕ, ◌==◌, ◌&&◌, Bool, false, not, nat_lt, List, [], Result, Ok, Err, if◌then◌else◌}
 use Rattle.tm_fields.specs.declared.faults.RowFault.{RowFault}
 use Rattle.tm_fields.specs.declared.faults.RowFault.TheVariants.{ShortPacket, NoMemory}
 use Rattle.tm_fields.specs.declared.field.Field.{Field}
 use Rattle.tm_fields.specs.declared.lead.Lead.{Lead}
-use Rattle.tm_fields.specs.Rows.{row_from}
+use Rattle.tm_fields.specs.Numbers.{bits_in}
+use Rattle.tm_fields.specs.Rows.{bits_needed, row_from}
 use Rattle.tm_packet.specs.Header.{packet_header_of}
 use Rattle.tm_items.specs.Item.{Item, Packet}
 use Rattle.tm_lines.specs.Lines.{short_packet_line}
@@ -31,6 +32,12 @@ unfoldable pub tabled : List Field → ℕ → Item → List ℕ
 tabled fields application (Packet seen channel first place octets) =
     if (packet_header_of octets).application == application then row_in (row_from fields (lead_of seen channel octets) octets) else []
 tabled fields application _ = []
+
+-- it has a row: it is of the application, and has all bits that the fields need
+unfoldable pub has_row : List Field → ℕ → Item → Bool
+has_row fields application (Packet seen channel first place octets) =
+    ((packet_header_of octets).application == application) && not (nat_lt (bits_in octets) (bits_needed fields))
+has_row fields application _ = false
 
 -- the line of one that has fewer bits than the fields need
 unfoldable pub too_short : List Field → ℕ → Item → List ℕ

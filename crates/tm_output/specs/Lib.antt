@@ -4,6 +4,7 @@ pub mod Listing
 pub mod Outputs
 pub mod FieldRows
 pub mod Pieces
+pub mod Totals
 pub mod Shelves
 pub mod Seen
 pub mod Packets

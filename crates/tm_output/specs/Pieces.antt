@@ -1,5 +1,5 @@
 -- The pieces of items: for each item what belongs to `out`, and its lines for the report.
-use Rattle.std.specs.Prelude.{⊤, ℕ, ◌/◌, ◌%◌, List, [], ◌∷◌, ◌++◌, length, map}
+use Rattle.std.specs.Prelude.{⊤, ℕ, Bool, ◌/◌, ◌%◌, List, [], ◌∷◌, ◌++◌, length, map}
 use Rattle.std.specs.List.{flat_map}
 use Rattle.tm_fields.specs.declared.field.Field.{Field}
 use Rattle.tm_packet.specs.declared.notes.Note.{Note}
@@ -10,7 +10,8 @@ use Rattle.tm_packet.specs.Merge.{Entries, Sent}
 use Rattle.tm_items.specs.Item.{Item, Bad, MasterGap, Gap, Vca, Dropped, Packet, Short}
 use Rattle.tm_output.specs.declared.command.Command.{Command}
 use Rattle.tm_output.specs.declared.command.Command.TheVariants.{Extract, Packets, Fields}
-use Rattle.tm_output.specs.FieldRows.{tabled, too_short}
+use Rattle.tm_items.specs.Among.{is_packet_item}
+use Rattle.tm_output.specs.FieldRows.{has_row, tabled, too_short}
 use Rattle.tm_lines.specs.Lines.{bad_line, drop_line, gap_line, master_gap_line, note_line, note_lines, packet_line, short_line, vca_line}
 use Rattle.tm_output.specs.Outputs.{Piece, Buffering, lines_buffering, octets_buffering}
 
@@ -53,10 +54,11 @@ report_of entries (Packet seen channel first place octets) =
     note_lines seen channel (packet_header_of octets).application (notes_of entries (sent channel octets))
 report_of entries x = item_line x
 
--- what is given of an item: to `out`, and to the report behind the item's line or notes
+-- what is given of an item: to `out`, and to the report behind the item's line or notes; and whether it counts as a packet that is given
 pub record Texts (A : Type 0) : Type 0 where
   pub out : Item → List A
   pub remark : Item → List ℕ
+  pub given : Item → Bool
 
 -- the octets of a packet
 unfoldable pub packet_octets : Item → List ℕ
@@ -74,12 +76,12 @@ no_remark _ = []
 
 -- the row of a packet, and the line for one that is too short
 abbrev pub rows_text : List Field → ℕ → Texts ℕ
-rows_text fields application = record { out = tabled fields application; remark = too_short fields application }
+rows_text fields application = record { out = tabled fields application; remark = too_short fields application; given = has_row fields application }
 
 -- what a command gives of an item
 abbrev pub text_of : Command → Texts ℕ
-text_of Extract = record { out = packet_octets; remark = no_remark }
-text_of Packets = record { out = listed; remark = no_remark }
+text_of Extract = record { out = packet_octets; remark = no_remark; given = is_packet_item }
+text_of Packets = record { out = listed; remark = no_remark; given = is_packet_item }
 text_of (Fields definition application) = rows_text definition.now application
 
 -- how it is written

@@ -4,6 +4,7 @@ use Rattle.tm_devices.specs.declared.device.Drain as drain
 use Rattle.tm_devices.specs.declared.device.Shelf as shelf
 use Rattle.tm_output.specs.declared.outlet.Outlet as outlet
 use Rattle.tm_output.specs.declared.output.Output.{Output}
+use Rattle.tm_output.specs.declared.totals.Totals.{Totals}
 use Rattle.tm_output.specs.Outputs.{FixedDrain, View, view}
 use Rattle.tm_packet.specs.Merge.{Entries}
 
@@ -44,12 +45,13 @@ fixture o v output = record {
   texts = o.fixed output.outlet.now;
 }
 
--- what is known of an output: what stays the same, the entries of its tracker, and its two devices
+-- what is known of an output: what stays the same, the entries of its tracker, its two devices, and what it gave in numbers
 pub record OutputState (K M : Type 0) : Type 0 where
   pub fixture : Fixture M
   pub entries : Entries
   pub view : View K
+  pub totals : Totals
 
 abbrev pub output_state : {O V : Type 0} (o : outlet.Ghosts O) → drain.Ghosts V → Output O V → OutputState o.Held o.Fixed
 output_state o v output =
-    record { fixture = fixture o v output; entries = output.tracker.now; view = output_both o v output }
+    record { fixture = fixture o v output; entries = output.tracker.now; view = output_both o v output; totals = output.totals }

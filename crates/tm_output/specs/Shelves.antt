@@ -1,6 +1,7 @@
 -- Places for the packets of applications.
 use Rattle.std.specs.Prelude.{◌≡◌, ⊤, ℕ, false, ◌==◌, List, [], ◌∷◌, ◌++◌, map, Option, None, Some, if◌then◌else◌}
 use Rattle.tm_packet.specs.Header.{packet_header_of}
+use Rattle.tm_items.specs.Among.{is_packet_item}
 use Rattle.tm_items.specs.Item.{Item, Packet}
 use Rattle.tm_output.specs.Outputs.{Buffering}
 use Rattle.tm_output.specs.Pieces.{Texts, no_remark}
@@ -35,4 +36,4 @@ shelf_buffering = record { memory = false; flush = false }
 
 -- what is given of an item
 abbrev pub shelf_text : Texts Shelved
-shelf_text = record { out = shelved_of; remark = no_remark }
+shelf_text = record { out = shelved_of; remark = no_remark; given = is_packet_item }

@@ -6,6 +6,7 @@ pub mod laws;
 mod listing;
 mod outlet;
 mod output;
+mod totals;
 
 pub use command::{Command, Ending};
 pub use listing::{list_frames, write_record_line, write_rest_line};
@@ -13,4 +14,5 @@ pub use outlet::{
     Outlet, PacketLines, PacketOctets, PacketRows, PacketShelf, PacketText, PacketTexts,
 };
 pub use output::{Output, header_in};
+pub use totals::Totals;
 pub use tm_lines::Packet;

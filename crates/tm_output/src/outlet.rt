@@ -4,15 +4,17 @@ ghost use Rattle.std.specs.Prelude.{◌≡◌, ◌≢◌, ◌++◌, ◌==◌, []
 ghost use Rattle.std.specs.List.{flat_map};
 ghost use Rattle.std.specs.Io.KnownBytes.{Appends, Keeps};
 ghost use Rattle.std.proofs.KnownBytes.{Appends-nil, Appends-trans};
+ghost use Rattle.tm_items.specs.Among.{is_packet_item};
 ghost use Rattle.tm_items.specs.Item.{Item};
 ghost use Rattle.tm_items.specs.Fronts.{octets_of, placed};
 ghost use Rattle.tm_devices.specs.Devices.{Counts, raised};
 ghost use Rattle.tm_output.specs.FieldRows.{tabled};
 ghost use Rattle.tm_output.specs.Packets.{HasHeader, item_with};
-ghost use Rattle.tm_output.specs.code.Outlets.{GivesNone, PutStopped, appends_split, listed_none, octets_joined, octets_none};
+ghost use Rattle.tm_output.specs.code.Outlets.{GivesNone, PutStopped, appends_split, listed_none, octets_joined, octets_none, packet_none};
 ghost use Rattle.tm_output.specs.code.Quiet.{outs_of, span_items};
 ghost use Rattle.tm_output.specs.Outputs.{FixedDrain, PutsPart, Buffering, lines_buffering, octets_buffering};
 ghost use Rattle.tm_output.specs.Pieces.{HasLine, Texts, listed, no_remark, packet_octets};
+ghost use Rattle.tm_output.specs.Totals.{is_some_text};
 ghost use Rattle.tm_output.specs.code.ShelfLaws.{no_shelf, shelves_nil, shelves_split, shelves_trans};
 ghost use Rattle.tm_output.specs.Shelves.{Shelved, Shelves, shelf_text, shelf_buffering};
 
@@ -60,11 +62,18 @@ pub trait Outlet {
         requires { HasHeader packet.now }
         ensures { result ≡ true → (Self.text (Self.fixed self.now)).remark (item_with packet.now) ≡ [] };
 
-    /// Writes what the report says of a packet, after the lines of its notes.
-    fn remark(&self, lines: &mut Vec<u8>, packet: &Packet<'_>) -> Result<(), AllocError>
+    /// Whether a packet counts as one that is given here.
+    fn gives(&self, packet: &Packet<'_>) -> bool
+        requires { HasHeader packet.now }
+        ensures { result ≡ (Self.text (Self.fixed self.now)).given (item_with packet.now) };
+
+    /// Writes what the report says of a packet, after the lines of its notes, and answers whether it says something.
+    fn remark(&self, lines: &mut Vec<u8>, packet: &Packet<'_>) -> Result<bool, AllocError>
         requires { HasHeader packet.now }
         ensures line { OnOk result (lines.new.items
             ≡ lines.old.items ++ (Self.text (Self.fixed self.now)).remark (item_with packet.now)) }
+        ensures said { IfOk result (λ said. said
+            ≡ is_some_text ((Self.text (Self.fixed self.now)).remark (item_with packet.now))) }
         ensures memory { OnErr result ((Self.text (Self.fixed self.now)).remark (item_with packet.now) ≢ []) };
 
     /// Writes what belongs here for a packet.
@@ -223,7 +232,7 @@ impl<W: Drain, T: PacketText> Outlet for PacketTexts<'_, W, T> {
 
     ghost grows = { Appends };
 
-    ghost text = { λ _. record { out = T.text; remark = no_remark } };
+    ghost text = { λ _. record { out = T.text; remark = no_remark; given = is_packet_item } };
 
     ghost buffering = { octets_buffering };
 
@@ -231,7 +240,7 @@ impl<W: Drain, T: PacketText> Outlet for PacketTexts<'_, W, T> {
 
     ghost can_join = { T.can_join };
 
-    ghost text_none = { λ _ x has. (T.text_none x has, refl) };
+    ghost text_none = { λ _ x has. (T.text_none x has, refl, packet_none x has) };
 
     ghost grows_nil = { Appends-nil };
 
@@ -243,8 +252,12 @@ impl<W: Drain, T: PacketText> Outlet for PacketTexts<'_, W, T> {
         true
     }
 
-    fn remark(&self, _lines: &mut Vec<u8>, _packet: &Packet<'_>) -> Result<(), AllocError> {
-        Ok(())
+    fn gives(&self, _packet: &Packet<'_>) -> bool {
+        true
+    }
+
+    fn remark(&self, _lines: &mut Vec<u8>, _packet: &Packet<'_>) -> Result<bool, AllocError> {
+        Ok(false)
     }
 
     #[inline(always)]
@@ -315,8 +328,12 @@ impl<H: Shelf> Outlet for PacketShelf<'_, H> {
         true
     }
 
-    fn remark(&self, _lines: &mut Vec<u8>, _packet: &Packet<'_>) -> Result<(), AllocError> {
-        Ok(())
+    fn gives(&self, _packet: &Packet<'_>) -> bool {
+        true
+    }
+
+    fn remark(&self, _lines: &mut Vec<u8>, _packet: &Packet<'_>) -> Result<bool, AllocError> {
+        Ok(false)
     }
 
     #[inline(always)]
@@ -455,17 +472,26 @@ impl<W: Drain> Outlet for PacketRows<'_, '_, '_, W> {
             || packet.octets.len() >= self.rows.bits_needed().div_ceil(8) as usize
     }
 
+    #[tactic(auto, unfolding(crate::specs::FieldRows::has_row))]
+    fn gives(&self, packet: &Packet<'_>) -> bool {
+        self.is_of_application(&packet.header)
+            && packet.octets.len() >= self.rows.bits_needed().div_ceil(8) as usize
+    }
+
     #[tactic(auto, using(crate::proofs::RowLemmas::some_short_packet), unfolding(crate::specs::FieldRows::too_short))]
-    fn remark(&self, lines: &mut Vec<u8>, packet: &Packet<'_>) -> Result<(), AllocError> {
+    fn remark(&self, lines: &mut Vec<u8>, packet: &Packet<'_>) -> Result<bool, AllocError> {
         let needed = self.rows.bits_needed();
         let octets = packet.octets.len();
         if !self.is_of_application(&packet.header) || octets >= needed.div_ceil(8) as usize {
-            return Ok(());
+            return Ok(false);
         }
         let found = 8 * octets as u64;
         let mut line = LineBuffer::new();
         format_short_packet(&mut line, packet, u64::from(needed), found);
-        lines.extend_from_slice(line.as_slice())
+        match lines.extend_from_slice(line.as_slice()) {
+            Ok(()) => Ok(true),
+            Err(error) => Err(error),
+        }
     }
 
     #[inline(always)]

@@ -9,14 +9,16 @@ ghost use Rattle.tm_items.specs.Fronts.{front_items, front_packets};
 ghost use Rattle.tm_items.specs.OnePacket.{IsOnePacket};
 ghost use Rattle.tm_lines.specs.Lines.{note_line, note_lines};
 ghost use Rattle.tm_output.specs.Outputs.{Written};
-ghost use Rattle.tm_output.specs.Pieces.{HasLine, item_line, noted, report_of, unclosed_piece, unclosed_pieces};
+ghost use Rattle.tm_output.specs.Pieces.{HasLine, item_line, noted, notes_of, report_of, sent, unclosed_piece, unclosed_pieces};
+ghost use Rattle.tm_output.specs.Totals.{note_tells_loss, notes_tell_loss, with_loss, with_unclosed};
 ghost use Rattle.tm_output.specs.Packets.{HasHeader, item_with};
 ghost use Rattle.tm_output.specs.code.Quiet.{HasNoted, IsFirstPacket, IsQuiet, IsAccepted};
-ghost use Rattle.tm_output.specs.code.Sinking.{NotesItem, Refuses, Takes, WritesItem};
+ghost use Rattle.tm_output.specs.code.Sinking.{CountsItem, NotesItem, Refuses, Takes, WritesItem};
 ghost use Rattle.tm_output.specs.Seen.{OutputState, fixture, output_both, output_state};
 
 use crate::Packet;
 use crate::outlet::{Outlet, copy_of};
+use crate::totals::Totals;
 use std::alloc::AllocError;
 use tm_devices::{Drain, write_all};
 use tm_faults::RunFault;
@@ -34,6 +36,8 @@ pub struct Output<'a, O, V> {
     pub notes: &'a mut Vec<u8>,
     pub outlet: &'a mut O,
     pub report: &'a mut V,
+    /// What was given and lost so far, in numbers.
+    pub totals: Totals,
 }
 
 // Makes the line of a note behind others.
@@ -51,7 +55,17 @@ fn push_note(
     lines.extend_from_slice(line.as_slice())
 }
 
-// Makes the lines of notes, one after the other.
+// A note tells a loss: any but that of a whole group.
+fn tells_loss(note: Note) -> bool
+    ensures { result ≡ note_tells_loss note }
+{
+    match note {
+        Note::Whole { .. } => false,
+        Note::Gap { .. } | Note::Broken { .. } | Note::Stray { .. } => true,
+    }
+}
+
+// Makes the lines of notes, one after the other, and answers whether one of them tells a loss.
 #[tactic(auto, using(crate::proofs::PacketLemmas::some_notes))]
 fn push_notes(
     lines: &mut Vec<u8>,
@@ -59,18 +73,21 @@ fn push_notes(
     channel: u8,
     apid: u16,
     notes: &Notes,
-) -> Result<(), AllocError>
+) -> Result<bool, AllocError>
     ensures lines { OnOk result (lines.new.items ≡ lines.old.items ++ note_lines seen channel apid notes.now) }
+    ensures lost { IfOk result (λ lost. lost ≡ notes_tell_loss notes.now) }
     ensures memory { OnErr result (note_lines seen channel apid notes.now ≢ []) }
 {
+    let mut lost = false;
     for i in 0..notes.len() {
         if let Some(note) = notes.get(i) {
             if let Err(error) = push_note(lines, seen, channel, apid, note) {
                 return Err(error);
             }
+            lost |= tells_loss(note);
         }
     }
-    Ok(())
+    Ok(lost)
 }
 
 // Makes the line of an item; of a packet none.
@@ -129,17 +146,19 @@ pub fn header_in(octets: &[u8]) -> Header
     }
 }
 
-// Takes note of a packet, and makes the lines of its notes.
+// Takes note of a packet, makes the lines of its notes, and answers whether one of them tells a loss.
 #[tactic(auto, using(crate::proofs::PacketLemmas::notes_one), unfolding(crate::specs::Pieces::noted, crate::specs::Pieces::report_of))]
 fn note_packet(
     tracker: &mut Tracker,
     lines: &mut Vec<u8>,
     packet: &Packet<'_>,
-) -> Result<(), AllocError>
+) -> Result<bool, AllocError>
     requires channel { packet.now.channel < 8 }
     requires header { HasHeader packet.now }
     ensures noted { tracker.new ≡ noted tracker.old (item_with packet.now) }
     ensures lines { OnOk result (lines.new.items ≡ report_of tracker.old (item_with packet.now)) }
+    ensures lost { IfOk result (λ lost. lost
+        ≡ notes_tell_loss (notes_of tracker.old (sent packet.now.channel packet.now.octets.now))) }
     ensures memory { OnErr result (report_of tracker.old (item_with packet.now) ≢ []) }
 {
     lines.clear();
@@ -183,12 +202,18 @@ fn note_if_quiet<O: Outlet>(tracker: &mut Tracker, outlet: &O, packet: &Packet<'
     tracker.add_without_notes(packet.channel, packet.header)
 }
 
-// Takes note of the first packets of a span that add nothing to the report, and answers how many octets they have.
+// Takes note of the first packets of a span that add nothing to the report, counts them, and answers how many octets they have.
 #[inline(always)]
-fn note_quiet<O: Outlet>(tracker: &mut Tracker, outlet: &O, limit: usize, span: Span<'_>) -> usize
+fn note_quiet<O: Outlet>(
+    tracker: &mut Tracker,
+    totals: &mut Totals,
+    outlet: &O,
+    limit: usize,
+    span: Span<'_>,
+) -> usize
     requires channel { span.channel < 8 }
     requires places { span.place + length span.octets.now < 2 ^ 16 }
-    ensures { HasNoted (O.text (O.fixed outlet.now)) limit tracker.old tracker.new span.entry result }
+    ensures { HasNoted (O.text (O.fixed outlet.now)) limit tracker.old tracker.new totals.old totals.new span.entry result }
 {
     let mut at = 0;
     loop {
@@ -203,6 +228,7 @@ fn note_quiet<O: Outlet>(tracker: &mut Tracker, outlet: &O, limit: usize, span: 
         if !note_if_quiet(tracker, outlet, &packet) {
             return at;
         }
+        totals.add_quiet(outlet.gives(&packet));
         at += packet.octets.len();
     }
 }
@@ -215,19 +241,22 @@ impl<O: Outlet, V: Drain> Output<'_, O, V> {
         requires header { HasHeader packet.now }
         ensures noted { NotesItem O.Outlet V.Drain self.old self.new (item_with packet.now) }
         ensures written { WritesItem O.Outlet V.Drain self.old self.new (item_with packet.now) result }
+        ensures counted { OnOk result (CountsItem O.Outlet V.Drain self.old self.new (item_with packet.now)) }
     {
-        if let Err(_) = note_packet(self.tracker, self.notes, packet) {
+        let Ok(lost) = note_packet(self.tracker, self.notes, packet) else {
             return Err(RunFault::NoMemory);
-        }
-        if let Err(_) = self.outlet.remark(self.notes, packet) {
+        };
+        let Ok(short) = self.outlet.remark(self.notes, packet) else {
             return Err(RunFault::NoMemory);
-        }
+        };
+        let given = self.outlet.gives(packet);
         if let Err(fault) = self.outlet.write(packet) {
             return Err(fault);
         }
         if let Err(_) = write_all(self.report, self.notes.as_slice()) {
             return Err(RunFault::Report);
         }
+        self.totals.add_packet(given, short, lost);
         Ok(())
     }
 
@@ -238,13 +267,16 @@ impl<O: Outlet, V: Drain> Output<'_, O, V> {
         requires header { HasHeader packet.now }
         ensures noted { NotesItem O.Outlet V.Drain self.old self.new (item_with packet.now) }
         ensures written { WritesItem O.Outlet V.Drain self.old self.new (item_with packet.now) result }
+        ensures counted { OnOk result (CountsItem O.Outlet V.Drain self.old self.new (item_with packet.now)) }
     {
         if !note_if_quiet(self.tracker, self.outlet, packet) {
             return self.write_reported(&copy_of(packet));
         }
+        let given = self.outlet.gives(packet);
         if let Err(fault) = self.outlet.write(packet) {
             return Err(fault);
         }
+        self.totals.add_quiet(given);
         Ok(())
     }
 
@@ -261,7 +293,13 @@ impl<O: Outlet, V: Drain> Output<'_, O, V> {
             (front_items limit span.entry) fault (output_state O.Outlet V.Drain self.new)) }
     {
         if self.outlet.can_join() {
-            let quiet = note_quiet(self.tracker, self.outlet, limit, span);
+            let quiet = note_quiet(
+                self.tracker,
+                &mut self.totals,
+                self.outlet,
+                limit,
+                span,
+            );
             if quiet > 0 {
                 let front = Span {
                     octets: &span.octets[..quiet],
@@ -289,12 +327,14 @@ impl<O: Outlet, V: Drain> Output<'_, O, V> {
         requires { HasLine (item_of item) }
         ensures noted { NotesItem O.Outlet V.Drain self.old self.new (item_of item.entry) }
         ensures written { WritesItem O.Outlet V.Drain self.old self.new (item_of item.entry) result }
+        ensures counted { OnOk result (CountsItem O.Outlet V.Drain self.old self.new (item_of item.entry)) }
     {
         let mut line = LineBuffer::new();
         make_line(&mut line, item);
         if let Err(_) = write_all(self.report, line.as_slice()) {
             return Err(RunFault::Report);
         }
+        self.totals.add_line(item);
         Ok(())
     }
 
@@ -307,6 +347,7 @@ impl<O: Outlet, V: Drain> Output<'_, O, V> {
         ensures written { Written O.grows O.buffering (output_both O.Outlet V.Drain self.old)
             (output_both O.Outlet V.Drain self.new)
             (unclosed_piece seen unclosed ∷ []) result }
+        ensures counted { OnOk result (self.new.totals ≡ with_loss self.old.totals) }
     {
         let pair = Pair::of_key(unclosed.key);
         let mut line = LineBuffer::new();
@@ -320,6 +361,7 @@ impl<O: Outlet, V: Drain> Output<'_, O, V> {
         if let Err(_) = write_all(self.report, line.as_slice()) {
             return Err(RunFault::Report);
         }
+        self.totals.add_loss();
         Ok(())
     }
 
@@ -329,6 +371,8 @@ impl<O: Outlet, V: Drain> Output<'_, O, V> {
         ensures written { Written O.grows O.buffering (output_both O.Outlet V.Drain self.old)
             (output_both O.Outlet V.Drain self.new)
             (unclosed_pieces seen (sequence.unclosed 0 self.old.tracker.now)) result }
+        ensures counted { OnOk result (self.new.totals
+            ≡ with_unclosed self.old.totals (sequence.unclosed 0 self.old.tracker.now)) }
     {
         let mut at = 0;
         while let Some(unclosed) = self.tracker.next_unclosed(at) {
@@ -344,6 +388,7 @@ impl<O: Outlet, V: Drain> Output<'_, O, V> {
     pub fn flush(&mut self) -> Result<(), RunFault>
         ensures same { fixture O.Outlet V.Drain self.new ≡ fixture O.Outlet V.Drain self.old }
         ensures tracker { self.new.tracker.now ≡ self.old.tracker.now }
+        ensures totals { self.new.totals ≡ self.old.totals }
         ensures flushed_out { OnOk result (O.passed self.new.outlet.now) }
         ensures flushed_report { OnOk result (Keeps (V.flushed self.new.report.now) (V.written self.new.report.now)) }
         ensures written { Written O.grows O.buffering (output_both O.Outlet V.Drain self.old)

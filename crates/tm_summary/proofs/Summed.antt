@@ -10,13 +10,13 @@ use Rattle.tm_packet.proofs.AfterValid.{header-range}
 use Rattle.tm_items.specs.declared.items.Reason.{Reason}
 use Rattle.tm_items.specs.declared.items.Reason.TheVariants as why
 use Rattle.tm_items.specs.Item.{Item, Bad, Dropped, Packet}
-use Rattle.tm_items.specs.Among.{is_of}
+use Rattle.tm_items.specs.Among.{is_packet_item, is_of}
 use Rattle.tm_summary.specs.declared.application.ApplicationCounts.{ApplicationCounts}
 use Rattle.tm_summary.specs.declared.channel.ChannelCounts.{ChannelCounts}
 use Rattle.tm_summary.specs.declared.channel.Loss.{Loss}
 use Rattle.tm_summary.specs.Adding.{no_application, no_channel, no_loss}
 use Rattle.tm_items.specs.Reasons.{reason_place}
-use Rattle.tm_summary.specs.Kinds.{drop_octets, has_fault, has_key, has_reason, is_bad, is_drop, is_packet_item, packet_item_length}
+use Rattle.tm_summary.specs.Kinds.{drop_octets, has_fault, has_key, has_reason, is_bad, is_drop, packet_item_length}
 use Rattle.tm_summary.specs.Lines.{application_keys, fault_places, loss_places, places_counted}
 use Rattle.tm_summary.specs.SummaryNumbers.{Tally, application_of, below, capped, channel_counts, count_capped, for_numbers, frames_of, how_many, in_all, items_on, loss_of, notes_at_key, numbers_of, packets_of}
 use Rattle.tm_summary.specs.Sums.{IsBelowGreatest, application_counts, counts_on, fault_counts, loss_counts}

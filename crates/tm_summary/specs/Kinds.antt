@@ -54,10 +54,6 @@ abbrev pub gap_missing : Item → ℕ
 gap_missing (Gap seen channel expected found missing) = missing
 gap_missing _ = 0
 
-abbrev pub is_packet_item : Item → Bool
-is_packet_item (Packet seen channel first place octets) = true
-is_packet_item _ = false
-
 abbrev pub packet_item_length : Item → ℕ
 packet_item_length (Packet seen channel first place octets) = length octets
 packet_item_length _ = 0

@@ -3,15 +3,12 @@ use Rattle.std.specs.Prelude.{ℕ, zero, suc, ◌+◌, ◌-◌, ◌^◌, ◌==�
 use Rattle.tm_frame.specs.Frame.{GoodFrame, is_vca_kind}
 use Rattle.tm_items.specs.Item.{Item, seen_of}
 use Rattle.tm_packet.specs.declared.notes.Note.{Note}
+pub use Rattle.tm_output.specs.Totals.{capped}
 use Rattle.tm_summary.specs.declared.application.ApplicationCounts.{ApplicationCounts}
 use Rattle.tm_summary.specs.declared.channel.ChannelCounts.{ChannelCounts}
 use Rattle.tm_summary.specs.declared.channel.Loss.{Loss}
-use Rattle.tm_summary.specs.Kinds.{Noted, is_idle_kind, is_joined_kind, is_bad, has_fault, master_missing, rest_octets, is_gap, gap_missing, is_packet_item, packet_item_length, is_drop, drop_octets, has_reason, has_key, is_sequence_gap, sequence_missing, is_whole_group, is_broken, is_stray}
-use Rattle.tm_items.specs.Among.{is_master_gap, is_of}
-
--- a number that would be over 2^64 - 1 stays there
-abbrev pub capped : ℕ → ℕ
-capped n = min n (2 ^ 64 - 1)
+use Rattle.tm_summary.specs.Kinds.{Noted, is_idle_kind, is_joined_kind, is_bad, has_fault, master_missing, rest_octets, is_gap, gap_missing, packet_item_length, is_drop, drop_octets, has_reason, has_key, is_sequence_gap, sequence_missing, is_whole_group, is_broken, is_stray}
+use Rattle.tm_items.specs.Among.{is_packet_item, is_master_gap, is_of}
 
 -- the sum of a part of each
 unfoldable pub in_all : {A : Type 0} → (A → ℕ) → List A → ℕ

@@ -1,5 +1,5 @@
 -- Where packets go: what is known of it, and how it grows.
-use Rattle.std.specs.Prelude.{◌≡◌, ◌≢◌, refl, ℕ, ◌+◌, true, List, [], ◌∷◌, ◌++◌, length, Option, None, Some}
+use Rattle.std.specs.Prelude.{◌≡◌, ◌≢◌, refl, ℕ, ◌+◌, true, false, List, [], ◌∷◌, ◌++◌, length, Option, None, Some}
 use Rattle.std.specs.Io.KnownBytes.{Appends}
 use Rattle.std.specs.List.{flat_map}
 use Rattle.std.proofs.Common.{sym, ap, ◌∙◌, append_assoc}
@@ -9,7 +9,8 @@ use Rattle.tm_items.specs.Fronts.{octets_of, placed}
 use Rattle.tm_devices.specs.Devices.{raised}
 use Rattle.tm_output.specs.declared.command.Command.{Command}
 use Rattle.tm_output.specs.declared.command.Command.TheVariants.{Extract, Packets, Fields}
-use Rattle.tm_output.specs.FieldRows.{tabled, too_short}
+use Rattle.tm_items.specs.Among.{is_packet_item}
+use Rattle.tm_output.specs.FieldRows.{has_row, tabled, too_short}
 use Rattle.tm_output.specs.Outputs.{PutsPart, Buffering}
 use Rattle.tm_output.specs.Pieces.{HasLine, Texts, listed, packet_octets, rows_text, text_of}
 use Rattle.tm_faults.specs.declared.run.RunFault.{RunFault}
@@ -25,9 +26,13 @@ PutStopped grows buffering old new failures_old failures_new text TooMany = ⊥
 PutStopped grows buffering old new failures_old failures_new text NoMemory =
     (buffering.memory ≡ true) × (text ≢ []) × (failures_new ≡ failures_old) × grows old new []
 
--- an item that has a line gives nothing to a drain, and nothing more to the report
+-- an item that has a line gives nothing to a drain, and nothing more to the report, and counts as no packet
 abbrev pub GivesNone : {A : Type 0} → Texts A → Item → Type 0
-GivesNone text x = (text.out x ≡ []) × (text.remark x ≡ [])
+GivesNone text x = (text.out x ≡ []) × (text.remark x ≡ []) × (text.given x ≡ false)
+
+pub packet_none : (x : Item) → HasLine x → is_packet_item x ≡ false
+packet_none (Packet seen channel first place octets) has = absurd has
+packet_none _ has = refl
 
 pub octets_none : (x : Item) → HasLine x → packet_octets x ≡ []
 unfolding packet_octets
@@ -69,12 +74,17 @@ too_short_none fields application (Dropped seen channel first place octets reaso
 too_short_none fields application (Packet seen channel first place octets) has = absurd has
 too_short_none fields application (Short seen octets) has = refl
 
+row_none : (fields : List Field) (application : ℕ) (x : Item) → HasLine x → has_row fields application x ≡ false
+unfolding has_row
+row_none fields application (Packet seen channel first place octets) has = absurd has
+row_none fields application _ has = refl
+
 pub no_row : (fields : List Field) (application : ℕ) (x : Item) → HasLine x → GivesNone (rows_text fields application) x
-no_row fields application x has = (tabled_none fields application x has, too_short_none fields application x has)
+no_row fields application x has = (tabled_none fields application x has, too_short_none fields application x has, row_none fields application x has)
 
 pub no_text : (command : Command) (x : Item) → HasLine x → GivesNone (text_of command) x
-no_text Extract x has = (octets_none x has, refl)
-no_text Packets x has = (listed_none x has, refl)
+no_text Extract x has = (octets_none x has, refl, packet_none x has)
+no_text Packets x has = (listed_none x has, refl, packet_none x has)
 no_text (Fields definition application) x has = no_row definition.now application x has
 
 -- packets that lie end to end give the octets in which they lie

@@ -8,7 +8,9 @@ use Rattle.tm_items.specs.Fronts.{front_packets, octets_of, placed}
 use Rattle.tm_lines.specs.declared.packet.Packet as lent
 use Rattle.tm_output.specs.Packets.{HasHeader, item_with}
 use Rattle.tm_packet.specs.Merge.{Entries}
+use Rattle.tm_output.specs.declared.totals.Totals.{Totals}
 use Rattle.tm_output.specs.Pieces.{Texts, noted, noted_all, report_of}
+use Rattle.tm_output.specs.Totals.{with_items}
 
 -- what of items belongs to `out`
 abbrev pub outs_of : {A : Type 0} → Texts A → List Item → List A
@@ -33,12 +35,13 @@ pub record AreFirst (limit : ℕ) (s : Span) (packets : List (List ℕ)) (many :
   pub octets : octets_of packets ≡ take many s.octets.now
   pub front : front_packets limit s.octets.now ≡ packets ++ front_packets limit (drop many s.octets.now)
 
--- so many octets of a span were noted: first packets that add nothing to the report
-pub record HasNoted {A : Type 0} (text : Texts A) (limit : ℕ) (old new : Entries) (s : Span) (many : ℕ) : Type 0 where
+-- so many octets of a span were noted and counted: first packets that add nothing to the report
+pub record HasNoted {A : Type 0} (text : Texts A) (limit : ℕ) (old new : Entries) (totals_old totals_new : Totals) (s : Span) (many : ℕ) : Type 0 where
   pub packets : List (List ℕ)
   pub first : AreFirst limit s packets many
   pub none : many ≡ 0 → packets ≡ []
   pub noted_is : new ≡ noted_all old (span_items s packets)
+  pub totals_is : totals_new ≡ with_items text old totals_old (span_items s packets)
   pub quiet : AreQuiet text old (span_items s packets)
 
 -- the packet is the first of a span

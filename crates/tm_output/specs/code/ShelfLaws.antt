@@ -2,7 +2,7 @@
 use Rattle.std.specs.Prelude.{◌≡◌, refl, ℕ, Bool, true, false, ◌==◌, List, [], ◌∷◌, ◌++◌, Option, None, Some, if◌then◌else◌}
 use Rattle.std.proofs.Common.{sym, ap, ◌∙◌, append_assoc, append-nil}
 use Rattle.tm_items.specs.Item.{Item, Bad, MasterGap, Gap, Vca, Dropped, Packet, Short}
-use Rattle.tm_output.specs.code.Outlets.{GivesNone}
+use Rattle.tm_output.specs.code.Outlets.{GivesNone, packet_none}
 use Rattle.tm_output.specs.Pieces.{HasLine}
 use Rattle.tm_devices.specs.Devices.{Puts}
 use Rattle.tm_output.specs.Shelves.{Shelved, shelved, of_application, Shelves, shelved_of, shelf_text}
@@ -61,4 +61,4 @@ shelved_none (Packet seen channel first place octets) has = absurd has
 shelved_none (Short seen octets) has = refl
 
 pub no_shelf : (x : Item) → HasLine x → GivesNone shelf_text x
-no_shelf x has = (shelved_none x has, refl)
+no_shelf x has = (shelved_none x has, refl, packet_none x has)

@@ -1,6 +1,8 @@
-use Rattle.std.proofs.Common.{◌++◌, ◌∷◌, [], drop, refl, sym, ◌∙◌, arith}
+use Rattle.std.proofs.Common.{◌++◌, ◌∷◌, [], drop, refl, sym, ap, ◌∙◌, arith}
 use Rattle.std.proofs.lemmas.List.{map-append}
 use Rattle.tm_output.proofs.PieceLemmas.{stopped_more, took_none, took_stopped, took_took}
+use Rattle.tm_output.specs.Totals.{with_loss}
+use Rattle.tm_output.proofs.TotalsLemmas.{unclosed_counted}
 use Rattle.tm_output.proofs.OpenGroups.{next_open, parted_more, parted_all}
 use Rattle.tm_output.proofs.output.Output.write_all_unclosed.Goals as goal
 
@@ -12,6 +14,7 @@ loop-unclosed-init g c = record {
   done = [];
   parted = record { parts = refl };
   took = took_none g.O.Outlet.grows g.met.O.Outlet.grows_nil g.met.O.Outlet.grows_trans _;
+  totals = refl;
 }
 
 pub loop-unclosed-smaller : goal.loop-unclosed-smaller
@@ -32,6 +35,7 @@ loop-unclosed-preserved g c =
       done = inv.done ++ c.in-Some.unclosed ∷ [];
       parted = rw ens.tracker more;
       took = rw map-append (took_took g.O.Outlet.grows g.met.O.Outlet.grows_nil g.met.O.Outlet.grows_trans _ _ _ _ _ inv.took ens.written);
+      totals = ens.counted ∙ ap with_loss inv.totals ∙ sym (unclosed_counted _ inv.done c.in-Some.unclosed);
     }
 
 pub returns-in-Err-clause-written : goal.returns-in-Err-clause-written
@@ -48,3 +52,9 @@ returns-clause-written g c =
     let inv = c.loop-unclosed.invariant in
     let all = parted_all c.loop-unclosed.self.tracker.now inv.done c.loop-unclosed.at inv.parted (sym c.in_default.ensures.value) in
     rw (← inv.tracker, ← all) inv.took
+
+pub returns-clause-counted : goal.returns-clause-counted
+returns-clause-counted g c =
+    let inv = c.loop-unclosed.invariant in
+    let all = parted_all c.loop-unclosed.self.tracker.now inv.done c.loop-unclosed.at inv.parted (sym c.in_default.ensures.value) in
+    rw (← inv.tracker, ← all) inv.totals

@@ -12,14 +12,15 @@ returns-in-Ok-clause-accepted g c =
     let same : output_state g.O.Outlet g.V.Drain c.if-can_join.self ≡ s =
     elim c.if-can_join.branch [
       | then-can_join+else-quiet-gt0 w ↦
-          rw (w.self-is, nothing_noted _ _ _ _ _ _ w.note_quiet-quiet.ensures (omega (arith, w.if-quiet-gt0.false))) refl
+          let none = nothing_noted _ _ _ _ _ _ _ _ w.note_quiet-quiet.ensures (omega (arith, w.if-quiet-gt0.false)) in
+          rw (w.self-is, none.0, none.1) refl
       | else-can_join w ↦ rw w.self-is refl
     ] in
     one_taken g.O.Outlet.grows g.met.O.Outlet.grows_nil g.met.O.Outlet.grows_trans g.met.O.Outlet.grows_split g.O.Outlet.text g.O.Outlet.buffering s _ _
     c.in-Some.ensures.some
     (subst (λ (x : OutputState g.O.Outlet.Held g.O.Outlet.Fixed). Takes g.O.Outlet.grows g.O.Outlet.text g.O.Outlet.buffering x
     (item_with c.in-Some.packet) (output_state g.O.Outlet g.V.Drain c.write_packet.new.self)) same
-    (record { same = c.in-Ok.ensures.noted.0; noted_is = c.in-Ok.ensures.noted.1; took = c.in-Ok.ensures.written }))
+    (record { same = c.in-Ok.ensures.noted.0; noted_is = c.in-Ok.ensures.noted.1; took = c.in-Ok.ensures.written; totals_is = c.in-Ok.ensures.counted }))
 
 pub returns-in-Ok-true-clause-accepted : goal.returns-in-Ok-true-clause-accepted
 returns-in-Ok-true-clause-accepted g c =

@@ -30,9 +30,9 @@ note_tells_loss _ = true
 abbrev pub notes_tell_loss : List Note → Bool
 notes_tell_loss notes = list_any note_tells_loss notes
 
--- with a good frame of a chosen channel more
-abbrev pub with_good : Totals → Totals
-with_good t = record t { good = capped (t.good + 1) }
+-- with a record more, which may be a good frame of a chosen channel
+abbrev pub with_record : Totals → Bool → Totals
+with_record t chosen = record t { good = if chosen then capped (t.good + 1) else t.good }
 
 -- with a line more that tells a loss
 abbrev pub with_loss : Totals → Totals

@@ -2,7 +2,7 @@
 
 ghost use Rattle.std.specs.Prelude.{◌≡◌, false};
 ghost use Rattle.tm_items.specs.Sinks.{item_of};
-ghost use Rattle.tm_output.specs.Totals.{no_totals, with_good, with_line, with_loss, with_packet};
+ghost use Rattle.tm_output.specs.Totals.{no_totals, with_record, with_line, with_loss, with_packet};
 
 use tm_items::Item;
 
@@ -41,11 +41,14 @@ impl Totals {
         }
     }
 
-    /// Counts a good frame of a chosen channel.
-    pub fn add_good(&mut self)
-        ensures { self.new ≡ with_good self.old }
+    /// Counts a record: whether it is a good frame of a chosen channel.
+    #[inline(always)]
+    pub fn add_record(&mut self, chosen: bool)
+        ensures { self.new ≡ with_record self.old chosen }
     {
-        self.good = self.good.saturating_add(1);
+        if chosen {
+            self.good = self.good.saturating_add(1);
+        }
     }
 
     // Counts a line that tells a loss.

@@ -26,7 +26,8 @@ use Rattle.tm_summary.specs.Sums.{IsBelowGreatest, counts_on}
 use Rattle.tm_summary.proofs.Summed.{counts_are}
 use Rattle.tm_checkpoint.specs.Works.{new_job}
 use Rattle.tm_tool.specs.SummaryNumbers.{summary_numbers}
-use Rattle.tm_tool.specs.Summaries.{closed_items, frames_in, good_frames, tally_of}
+use Rattle.tm_tool.specs.RunTotals.{frames_in, good_frames}
+use Rattle.tm_tool.specs.Summaries.{closed_items, tally_of}
 
 -- ---- the octets that items tell of
 

@@ -11,4 +11,5 @@ pub mod MixedStops
 pub mod NoteLemmas
 pub mod RecordCounted
 pub mod SummaryEnds
+pub mod Counted
 pub mod DataOctets

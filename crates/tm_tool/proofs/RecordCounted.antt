@@ -23,7 +23,8 @@ use Rattle.tm_summary.proofs.Tallied.{all_counted}
 use Rattle.tm_summary.proofs.WithOne.{frame_counted}
 use Rattle.tm_checkpoint.specs.Works.{Work, new_job}
 use Rattle.tm_tool.specs.RecordingPieces.{items_of}
-use Rattle.tm_tool.specs.Summaries.{frames_in, good_frames, closed_items}
+use Rattle.tm_tool.specs.RunTotals.{frames_in, good_frames}
+use Rattle.tm_tool.specs.Summaries.{closed_items}
 use Rattle.tm_tool.specs.code.Summing.{and_records}
 use Rattle.std.proofs.lemmas.List.Sums.{sum_by-append, sum_by-cons}
 use Rattle.tm_frame.specs.declared.layout.LayoutParts.{LayoutParts}

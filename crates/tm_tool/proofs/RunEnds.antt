@@ -10,6 +10,8 @@ use Rattle.tm_output.specs.Outputs.{Piece, View, Took, Stopped, Buffering, Writt
 use Rattle.tm_output.specs.Pieces.{Texts, noted_all, pieces_of, unclosed_pieces}
 use Rattle.tm_checkpoint.specs.Works.{Work}
 use Rattle.tm_tool.specs.RecordingPieces.{worked, record_pieces, closing_pieces, end_pieces}
+use Rattle.tm_output.specs.declared.totals.Totals.{Totals}
+use Rattle.tm_tool.specs.RunTotals.{run_totals}
 use Rattle.tm_tool.specs.Runs.{StopsAtEnd, IsStoppedAt, behind, devices_at, kept_of}
 use Rattle.tm_tool.specs.code.Stepping.{IsRun, TakesRecord, TookRecords}
 use Rattle.tm_tool.specs.code.RecordLoop.{HasStepped, TakesRecords}
@@ -43,7 +45,7 @@ module _ {A K : Type 0} (grows : K → K → List A → Type 0) (grows-nil : (k 
   module _ (buffering : Buffering) (text : Texts A) (ending : Ending) (w : Work) (valid : IsValid w) (first next : Option (List ℕ)) (old mid : View K)
       (work : Work) (n : ℕ) (taken : HasStepped (TakesRecords (TakesRecord grows text)) ending w first next old mid work n)
       (failures failures' : ℕ) (same : failures' ≡ failures) where
-    all : HasStepped (TookRecords grows text) ending w first next old mid work n
+    abbrev all : HasStepped (TookRecords grows text) ending w first next old mid work n
     all = stepped_records grows grows-nil grows-trans text ending w valid first next old mid work n taken
 
     abbrev last : List (Piece A)
@@ -77,12 +79,13 @@ module _ {A K : Type 0} (grows : K → K → List A → Type 0) (grows-nil : (k 
           end_stopped new fault (took_failed grows grows-nil grows-trans buffering mid ended new (end_pieces text ending work n) fault took_end h)
 
       -- all was written, and passed on
-      pub has_run : (new : View K) (done : ℕ) (kept : Option Work) → Took grows ended new [] → done ≡ work.state.records → kept ≡ kept_of ending work
-          → IsRun grows buffering text ending w (devices_at first failures old) (devices_at next failures' new) done kept
-      has_run new done kept h number is =
+      pub has_run : (new : View K) (done : ℕ) (kept : Option Work) (totals : Totals) → Took grows ended new [] → done ≡ work.state.records
+          → kept ≡ kept_of ending work → totals ≡ run_totals text ending w (behind w taken.read) (length taken.rest)
+          → IsRun grows buffering text ending w (devices_at first failures old) (devices_at next failures' new) done kept totals
+      has_run new done kept totals h number is totals_is =
           let took_end_all = took_took grows grows-nil grows-trans mid ended new (end_pieces text ending work n) [] took_end h in
           let took_last = subst (Took grows mid new) (append-nil (end_pieces text ending work n) ∙ end_same) took_end_all in
           let took = took_took grows grows-nil grows-trans old mid new (record_pieces text w (behind w all.read)) last all.took took_last in
           let count_is = number ∙ ap (λ (x : Work). x.state.records) all.work ∙ behind-counted w all.read all.passed in
           let kept_is = is ∙ ap (kept_of ending) all.work in
-          record { read = all.read; rest = all.rest; passed = all.passed; ended = all.ended; count_is = count_is; kept_is = kept_is; took = took }
+          record { read = all.read; rest = all.rest; passed = all.passed; ended = all.ended; count_is = count_is; kept_is = kept_is; took = took; totals_is = totals_is }

@@ -17,6 +17,8 @@ use Rattle.tm_output.specs.Pieces.{Texts}
 use Rattle.tm_checkpoint.specs.Works.{Work}
 use Rattle.tm_tool.specs.RecordingPieces.{records_for, further, worked, record_pieces, end_pieces, pieces_after, pieces}
 use Rattle.tm_output.specs.Records.{AreRecords, record_count, records, rest_of}
+use Rattle.tm_output.specs.declared.totals.Totals.{Totals}
+use Rattle.tm_tool.specs.RunTotals.{run_totals}
 use Rattle.tm_tool.specs.Runs.{HasRead, HasEnded, IsEnough, WantsFurther, Suffices, Outcome, Ran, devices_at, StopsWriting, IsStoppedAt, behind, kept_of, Devices}
 use Rattle.tm_output.proofs.PieceLemmas.{cut_all, cut_more, cut_none, took_took, took_stopped, stopped_more, took_none}
 use Rattle.tm_output.proofs.RecordLemmas.{AreRecords-append, always, concat-one, count_all, many_told, told, records_all, records_counted, records_front, records_sized, records_whole, rest_all}
@@ -61,6 +63,12 @@ end_none : {A : Type 0} (text : Texts A) (ending : Ending) (done count : ℕ) �
 end_none text (StopAfter n) done count h w rest = refl
 end_none text _ done count h w rest = absurd h
 
+-- and its numbers are the same, whatever is left
+end_totals : {A : Type 0} (text : Texts A) (ending : Ending) (done count : ℕ) → Suffices ending done count → (w : Work) (rs : List (List ℕ)) (m n : ℕ)
+    → run_totals text ending w rs m ≡ run_totals text ending w rs n
+end_totals text (StopAfter k) done count h w rs m n = refl
+end_totals text _ done count h w rs m n = absurd h
+
 enough_reached : (ending : Ending) (done count : ℕ) → Suffices ending done count → Reached ending done count
 enough_reached (StopAfter n) done count h = omega (arith, h)
 enough_reached _ done count h = absurd h
@@ -75,12 +83,14 @@ module _ {A K : Type 0} (grows : K → K → List A → Type 0) (grows-nil : (k 
   ended_read first next read rest (inl h) = (h.0.octets, h.0.short, wanted_reached ending w.state.records (length read) h.1)
   ended_read first next read rest (inr h) = rw h.1 (h.0, some, enough_reached ending w.state.records (length read) h.2)
 
-  -- octets that are enough for an ending: of all octets it takes the same records, and has the same pieces
+  -- octets that are enough for an ending: of all octets it takes the same records, and has the same pieces and numbers
   enough_more : (octets left : List ℕ) (next : Option (List ℕ)) → IsEnough ending w next octets → (IsAtEnd next → left ≡ [])
       → (records_for ending (further w (octets ++ left)) ≡ records_for ending (further w octets))
       × (pieces text ending w (octets ++ left) ≡ pieces text ending w octets)
+      × (run_totals text ending w (records_for ending (further w (octets ++ left))) (length (rest_of (record_length_of w.rules.layout) (octets ++ left)))
+      ≡ run_totals text ending w (records_for ending (further w octets)) (length (rest_of (record_length_of w.rules.layout) octets)))
   unfolding pieces
-  enough_more octets left next (passed, inl e) end = rw (end e.0, append-nil octets) (refl, refl)
+  enough_more octets left next (passed, inl e) end = rw (end e.0, append-nil octets) (refl, refl, refl)
   enough_more octets left next (passed, inr e) end =
       let n : ℕ = record_length_of w.rules.layout in
       let rs : List (List ℕ) = records n octets in
@@ -94,8 +104,11 @@ module _ {A K : Type 0} (grows : K → K → List A → Type 0) (grows-nil : (k 
       rw (front, drop-append-le w.state.records rs (records n left) within) (records_for_enough w rs within ending (records n left) suffices) in
       let same : records_for ending (further w (octets ++ left)) ≡ records_for ending (further w octets) =
       taken ∙ sym (records_for_all w rs within ending (enough_reached ending w.state.records (length rs) suffices)) in
-      let none = end_none text ending w.state.records (length rs) suffices (worked w (records_for ending (further w octets))) in
-      (same, rw (same, none (length (rest_of n (octets ++ left))), none (length (rest_of n octets))) refl)
+      let none = end_none text ending w.state.records (length rs) suffices (worked w (records_for ending (further w octets))) in (
+        same,
+        rw (same, none (length (rest_of n (octets ++ left))), none (length (rest_of n octets))) refl,
+        rw same (end_totals text ending w.state.records (length rs) suffices w (records_for ending (further w octets)) (length (rest_of n (octets ++ left))) (length (rest_of n octets))),
+      )
 
   -- the pieces of the records in front come first
   pieces_front : (read : List (List ℕ)) (more : List ℕ) → AreRecords (record_length_of w.rules.layout) read → w.state.records ≤ length read
@@ -151,11 +164,19 @@ module _ {A K : Type 0} (grows : K → K → List A → Type 0) (grows-nil : (k 
           let (has, short, reached) = ended_read first next read rest ended in
           rw (records_for_read passed ended, rest_all (record_length_of w.rules.layout) read rest has.sized short) refl
 
+      -- and the numbers of what it gave and lost
+      totals_read : w.state.records ≤ length read → HasEnded ending w first next read rest
+          → run_totals text ending w (records_for ending (further w (concat read ++ rest))) (length (rest_of (record_length_of w.rules.layout) (concat read ++ rest)))
+          ≡ run_totals text ending w (behind w read) (length rest)
+      totals_read passed ended =
+          let (has, short, reached) = ended_read first next read rest ended in
+          rw (records_for_read passed ended, rest_all (record_length_of w.rules.layout) read rest has.sized short) refl
+
     -- a run in records is one in octets
-    pub ran_behind : (failures failures' : ℕ) (head : List (Piece A)) (mid : View K) (count : ℕ) (kept : Option Work) → Took grows old mid head
-        → IsRun grows buffering text ending w (devices_at first failures mid) (devices_at next failures' new) count kept
-        → Ran grows buffering text ending w head (devices_at first failures old) (devices_at next failures' new) count kept
-    ran_behind failures failures' head mid count kept headed h =
+    pub ran_behind : (failures failures' : ℕ) (head : List (Piece A)) (mid : View K) (count : ℕ) (kept : Option Work) (totals : Totals) → Took grows old mid head
+        → IsRun grows buffering text ending w (devices_at first failures mid) (devices_at next failures' new) count kept totals
+        → Ran grows buffering text ending w head (devices_at first failures old) (devices_at next failures' new) count kept totals
+    ran_behind failures failures' head mid count kept totals headed h =
         let (has, short, reached) = ended_read first next h.read h.rest h.ended in
         let is : records_for ending (further w (concat h.read ++ h.rest)) ≡ behind w h.read = records_for_read h.read h.rest h.passed h.ended in
         record {
@@ -167,20 +188,22 @@ module _ {A K : Type 0} (grows : K → K → List A → Type 0) (grows-nil : (k 
                 (rw (pieces_read h.read h.rest h.passed h.ended) h.took);
             count_is = h.count_is ∙ omega (arith, ap (λ (rs : List (List ℕ)). length rs) is, size w h.read h.passed, h.passed);
             kept_is = h.kept_is ∙ ap (λ (rs : List (List ℕ)). kept_of ending (worked w rs)) (sym is);
+            totals_is = h.totals_is ∙ sym (totals_read h.read h.rest h.passed h.ended);
           };
         }
 
     -- and it says the same of a recording that tells its octets
-    pub ran_told : (failures failures' : ℕ) (head : List (Piece A)) (count : ℕ) (kept : Option Work)
-        → Ran grows buffering text ending w head (devices_at first failures old) (devices_at next failures' new) count kept
-        → IfSome first (λ octets. Outcome grows buffering text ending w head octets old new count kept)
-    ran_told failures failures' head count kept h =
+    pub ran_told : (failures failures' : ℕ) (head : List (Piece A)) (count : ℕ) (kept : Option Work) (totals : Totals)
+        → Ran grows buffering text ending w head (devices_at first failures old) (devices_at next failures' new) count kept totals
+        → IfSome first (λ octets. Outcome grows buffering text ending w head octets old new count kept totals)
+    ran_told failures failures' head count kept totals h =
         told _ h.read first next h.octets (λ left end.
         let same = enough_more h.read left next h.enough end in
         record {
           took = rw same.1 h.outcome.took;
           count_is = h.outcome.count_is ∙ ap (λ (rs : List (List ℕ)). w.state.records + length rs) (sym same.0);
           kept_is = h.outcome.kept_is ∙ ap (λ (rs : List (List ℕ)). kept_of ending (worked w rs)) (sym same.0);
+          totals_is = h.outcome.totals_is ∙ sym same.2;
         })
 
     -- ---- where writing stopped among all pieces
@@ -254,9 +277,10 @@ module _ {A K : Type 0} (grows : K → K → List A → Type 0) (grows-nil : (k 
 -- ---- a run into a shelf
 
 pub ran_split : (ending : Ending) (e : Extractor) (work : Work) (old new : Devices (Option (ℕ → List ℕ))) (count records : ℕ) (kept left : Option Work)
-    → IsReady e → work ≡ work_in e → records ≡ count → left ≡ kept
-    → IsRun Shelves shelf_buffering shelf_text ending (work_in e) old new count kept → Ran Shelves shelf_buffering shelf_text ending work [] old new records left
-ran_split ending e work old new count records kept left ready work_is records_are left_is run =
-    rw (work_is, records_are, left_is)
-    (ran_behind Shelves shelves_nil shelves_trans _ _ _ _ ready.going.1 (subst (λ (n : ℕ). 0 < n) ready.exact ready.some) _ _ _ _ _ _ _ _ _ _
+    (totals given : Totals) → IsReady e → work ≡ work_in e → records ≡ count → left ≡ kept → given ≡ totals
+    → IsRun Shelves shelf_buffering shelf_text ending (work_in e) old new count kept totals
+    → Ran Shelves shelf_buffering shelf_text ending work [] old new records left given
+ran_split ending e work old new count records kept left totals given ready work_is records_are left_is given_is run =
+    rw (work_is, records_are, left_is, given_is)
+    (ran_behind Shelves shelves_nil shelves_trans _ _ _ _ ready.going.1 (subst (λ (n : ℕ). 0 < n) ready.exact ready.some) _ _ _ _ _ _ _ _ _ _ _
     (took_none Shelves shelves_nil shelves_trans _) run)

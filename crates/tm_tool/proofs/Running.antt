@@ -297,7 +297,7 @@ module _ {A K : Type 0} (grows : K → K → List A → Type 0) (grows-nil : (k 
     records_stopped fault (inr (inr h)) = refused_stopped fault h.0 h.1
 
   -- all that a run reads was taken, so its records' pieces are written
-  pub stepped_records : (ending : Ending) (w : Work) → IsValid w → (first next : Option (List ℕ)) (old new : View K) (now : Work) (octets : ℕ)
+  abbrev pub stepped_records : (ending : Ending) (w : Work) → IsValid w → (first next : Option (List ℕ)) (old new : View K) (now : Work) (octets : ℕ)
       → HasStepped (TakesRecords (TakesRecord grows text)) ending w first next old new now octets → HasStepped (TookRecords grows text) ending w first next old new now octets
   stepped_records ending w valid first next old new now octets h =
       let took = took_records w valid (behind w h.read) old new h.took in

@@ -7,6 +7,7 @@ use Rattle.tm_output.specs.Outputs.{Took, Stopped, Buffering}
 use Rattle.tm_packet.specs.Merge.{Entries}
 use Rattle.tm_output.specs.Pieces.{Texts, piece_of, noted, noted_all, pieces_of}
 use Rattle.tm_output.specs.Seen.{Fixture, OutputState}
+use Rattle.tm_output.specs.Totals.{with_items}
 use Rattle.tm_output.specs.code.Sinking.{Takes, Refuses}
 use Rattle.tm_output.proofs.PieceLemmas.{took_none, took_took, took_stopped, stopped_more}
 
@@ -21,19 +22,21 @@ module _ {A K M : Type 0} (grows : K → K → List A → Type 0) (grows-nil : (
     pub same : t.fixture ≡ s.fixture
     pub noted_is : t.entries ≡ noted_all s.entries xs
     pub took : Took grows s.view t.view (pieces_of (text s.fixture.texts) s.entries xs)
+    pub totals_is : t.totals ≡ with_items (text s.fixture.texts) s.entries s.totals xs
 
   pub record StoppedAmong (s : OutputState K M) (xs : List Item) (fault : RunFault) (t : OutputState K M) : Type 0 where
     pub same : t.fixture ≡ s.fixture
     pub stopped : Stopped grows buffering s.view t.view (pieces_of (text s.fixture.texts) s.entries xs) fault
 
   pub took_all : (s : OutputState K M) (xs : List Item) (t : OutputState K M) → TakesAll (Takes grows text buffering) s xs t → TookAll s xs t
-  took_all s [] t h = subst (TookAll s []) (sym h) (record { same = refl; noted_is = refl; took = took_none grows grows-nil grows-trans s.view })
+  took_all s [] t h = subst (TookAll s []) (sym h) (record { same = refl; noted_is = refl; took = took_none grows grows-nil grows-trans s.view; totals_is = refl })
   took_all s (x ∷ xs) t (mid, one, h) =
       let more = took_all mid xs t h in
       let noted_is = more.noted_is ∙ ap (λ (e : Entries). noted_all e xs) one.noted_is in
       let took = took_took grows grows-nil grows-trans s.view mid.view t.view (piece_of (text s.fixture.texts) s.entries x ∷ [])
       (pieces_of (text s.fixture.texts) (noted s.entries x) xs) one.took (rw (one.same, one.noted_is) at more.took) in
-      record { same = more.same ∙ one.same; noted_is = noted_is; took = took }
+      let totals_is = more.totals_is ∙ rw (one.same, one.noted_is, one.totals_is) refl in
+      record { same = more.same ∙ one.same; noted_is = noted_is; took = took; totals_is = totals_is }
 
   pub stopped_among : (s : OutputState K M) (xs : List Item) (fault : RunFault) (t : OutputState K M)
       → RefusesOne (Takes grows text buffering) (Refuses grows text buffering) s xs fault t

@@ -16,7 +16,8 @@ use Rattle.tm_output.proofs.RecordLemmas.{always, count_all, many_told, records_
 use Rattle.tm_summary.specs.Lines.{summary_lines}
 use Rattle.tm_summary.specs.SummaryNumbers.{SummaryNumbers, Tally, nothing, numbers_of}
 use Rattle.tm_checkpoint.specs.Works.{new_job, Work}
-use Rattle.tm_tool.specs.Summaries.{IsSummarized, IsSummaryStop, StopsInLines, SummaryStopped, lines_after, summary, frames_in, good_frames, tally_of}
+use Rattle.tm_tool.specs.RunTotals.{frames_in, good_frames}
+use Rattle.tm_tool.specs.Summaries.{IsSummarized, IsSummaryStop, StopsInLines, SummaryStopped, lines_after, summary, tally_of}
 use Rattle.tm_tool.specs.code.Summing.{HasSummed, CountCaused, CountedRecords, CountingStopped, CountsEnd, CountsRecord, RefusesCount, and_end, and_records}
 use Rattle.std.proofs.lemmas.Grind.{flat_map-append}
 use Rattle.tm_frame.specs.Fault.{frame_reading_of}
@@ -42,7 +43,7 @@ use Rattle.tm_tool.specs.code.RecordLoop.{HasStepped, PassingStopped, TakesRecor
 use Rattle.tm_tool.proofs.NoteLemmas.{noted_all_is}
 use Rattle.tm_tool.proofs.Running.{IsValid, behind-counted, holds_of_all, noted-append, records-counted}
 
-notes_among-append : (e : sequence.Entries) (xs ys : List Item) → notes_among e (xs ++ ys) ≡ notes_among e xs ++ notes_among (noted_all e xs) ys
+pub notes_among-append : (e : sequence.Entries) (xs ys : List Item) → notes_among e (xs ++ ys) ≡ notes_among e xs ++ notes_among (noted_all e xs) ys
 notes_among-append e [] ys = refl
 notes_among-append e (x ∷ xs) ys =
     ap (λ (l : List Noted). notes_in e x ++ l) (notes_among-append (noted e x) xs ys) ∙ sym (append_assoc (notes_in e x) (notes_among (noted e x) xs) (notes_among (noted_all (noted e x) xs) ys))
@@ -67,9 +68,9 @@ end_counted w before mid now entries rest fit noted_is mid_is now_is t are most 
     ∙ ap (λ (e : sequence.Entries). numbers_of (and_notes first (open_notes (sequence.unclosed 0 e)))) noted_is
 
 -- no records count nothing
-counted_none : (w : Work) (n : SummaryNumbers) → CountedRecords w [] n n
+pub counted_none : {N : Type 0} (numbers : Tally → N) (w : Work) (n : N) → CountedRecords numbers w [] n n
 unfolding items
-counted_none w n t are = are ∙ ap numbers_of (sym (rw (append-nil t.frames, append-nil t.items, append-nil t.notes) refl))
+counted_none numbers w n t are = are ∙ ap numbers (sym (rw (append-nil t.frames, append-nil t.items, append-nil t.notes) refl))
 
 -- at a recording's end all was read
 ended_all : (w : Work) (first next : Option (List ℕ)) (read : List (List ℕ)) (rest : List ℕ) → HasEnded Close w first next read rest
@@ -107,8 +108,9 @@ module _ (w : Work) (valid : IsValid w) where
       (rw (notes_among-append w.entries (items_of w a) (items_of (worked w a) b)) refl))))
 
   -- so records that were counted are counted with more
-  counted_more : (rs : List (List ℕ)) (one : List ℕ) (h i j : SummaryNumbers) → CountedRecords w rs h i → CountsRecord (worked w rs) one i j → CountedRecords w (rs ++ one ∷ []) h j
-  counted_more rs one h i j a b t are = b (and_records w t rs) (a t are) ∙ ap numbers_of (records_joined t rs (one ∷ []))
+  pub counted_more : {N : Type 0} (numbers : Tally → N) (rs : List (List ℕ)) (one : List ℕ) (h i j : N)
+      → CountedRecords numbers w rs h i → CountedRecords numbers (worked w rs) (one ∷ []) i j → CountedRecords numbers w (rs ++ one ∷ []) h j
+  counted_more numbers rs one h i j a b t are = b (and_records w t rs) (a t are) ∙ ap numbers (records_joined t rs (one ∷ []))
 
   -- with the closed end all is counted
   end_joined : (rs : List (List ℕ)) (rest : ℕ) → and_end (worked w rs) (and_records w nothing rs) rest ≡ tally_of w rs rest
@@ -123,7 +125,7 @@ module _ (w : Work) (valid : IsValid w) where
       let from : behind w h.read ≡ h.read = ap (λ (d : ℕ). drop d h.read) none in
       let work : v ≡ worked w h.read = h.work ∙ ap (worked w) from in
       let sum : before ≡ numbers_of (and_records w nothing h.read) =
-      holds_of_all CountsRecord (CountedRecords w) w counted_more (counted_none w) (behind w h.read) old before h.took nothing are
+      holds_of_all CountsRecord (CountedRecords numbers_of w) w (counted_more numbers_of) (counted_none numbers_of w) (behind w h.read) old before h.took nothing are
       ∙ ap (λ (rs : List (List ℕ)). numbers_of (and_records w nothing rs)) from in
       let left : v.entries ≡ noted_all w.entries (items_of w h.read) = ap (λ (x : Work). x.entries) work in
       let size : length v.entries ≡ 16384 =

@@ -1,5 +1,6 @@
 pub mod RecordingPieces
 pub mod HeadPieces
+pub mod RunTotals
 pub mod Runs
 pub mod Resuming
 pub mod OlderVersions

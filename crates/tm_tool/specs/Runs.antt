@@ -15,6 +15,8 @@ use Rattle.tm_devices.specs.declared.device.Drain as drain
 use Rattle.tm_devices.specs.declared.device.Shelf as shelf
 use Rattle.tm_devices.specs.declared.device.BufferedSource as source
 use Rattle.tm_checkpoint.specs.Works.{Work}
+use Rattle.tm_output.specs.declared.totals.Totals.{Totals}
+use Rattle.tm_tool.specs.RunTotals.{run_totals}
 use Rattle.tm_tool.specs.RecordingPieces.{records_for, further, worked, record_pieces, end_pieces, pieces}
 use Rattle.tm_output.specs.Records.{record_count, rest_of}
 pub use Rattle.tm_output.specs.Records.{HasRead, HasReadAll}
@@ -84,18 +86,20 @@ DevicesCounted old new r = RunCounted old.failures new.failures old.outputs new.
 module _ {A K : Type 0} (grows : K → K → List A → Type 0) (buffering : Buffering) (text : Texts A) (ending : Ending) (w : Work) where
   -- ---- with Ok, of a run that writes this head before all else
 
-  -- what a run over these octets comes to: just their pieces were written; so many records are done; and this is kept
-  pub record Outcome (head : List (Piece A)) (octets : List ℕ) (old new : View K) (count : ℕ) (kept : Option Work) : Type 0 where
+  -- what a run over these octets comes to: just their pieces were written; this many records are done; this is kept; and this is what it
+  -- gave and lost, in numbers
+  pub record Outcome (head : List (Piece A)) (octets : List ℕ) (old new : View K) (count : ℕ) (kept : Option Work) (totals : Totals) : Type 0 where
     pub took : Took grows old new (head ++ pieces text ending w octets)
     pub count_is : count ≡ w.state.records + length (records_for ending (further w octets))
     pub kept_is : kept ≡ kept_of ending (worked w (records_for ending (further w octets)))
+    pub totals_is : totals ≡ run_totals text ending w (records_for ending (further w octets)) (length (rest_of (record_length_of w.rules.layout) octets))
 
   -- it ran over the octets that it read, and these are what the ending reads
-  pub record Ran (head : List (Piece A)) (old new : Devices K) (count : ℕ) (kept : Option Work) : Type 0 where
+  pub record Ran (head : List (Piece A)) (old new : Devices K) (count : ℕ) (kept : Option Work) (totals : Totals) : Type 0 where
     pub read : List ℕ
     pub octets : Consumes old.left new.left read
     pub enough : IsEnough ending w new.left read
-    pub outcome : Outcome head read old.outputs new.outputs count kept
+    pub outcome : Outcome head read old.outputs new.outputs count kept totals
 
   -- ---- after a fault
 

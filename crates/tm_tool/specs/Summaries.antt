@@ -1,48 +1,30 @@
 -- A summary of a recording: what it counts, its lines, and what was read and written when it ended.
-use Rattle.std.specs.Prelude.{◌≡◌, ◌<◌, ℕ, List, [], ◌∷◌, ◌++◌, length, Option, Result, Ok, Err}
-use Rattle.std.specs.List.{concat, flat_map}
+use Rattle.std.specs.Prelude.{◌≡◌, ◌<◌, ℕ, List, ◌++◌, length, Option}
+use Rattle.std.specs.List.{concat}
 use Rattle.std.specs.Io.KnownBytes.{Appends, Consumes, IsAtEnd}
-use Rattle.tm_frame.specs.declared.fault.FrameFault.{FrameFault}
-use Rattle.tm_frame.specs.declared.layout.LayoutParts.{LayoutParts}
-use Rattle.tm_frame.specs.Fault.{frame_reading_of}
-use Rattle.tm_frame.specs.Frame.{GoodFrame}
 use Rattle.tm_frame.specs.Layout.{most_records, record_length_of}
-use Rattle.tm_packet.specs.Merge as sequence
 use Rattle.tm_frame.specs.Rules.{Rules}
 use Rattle.tm_items.specs.Item.{Item}
 use Rattle.tm_reassembly.specs.Items.{closing}
 use Rattle.tm_faults.specs.declared.run.RunFault.{RunFault}
 use Rattle.tm_faults.specs.declared.run.RunFault.TheVariants.{Read, Write, Report, ShortRecording, TooMany, NoMemory}
 use Rattle.tm_output.specs.Outputs.{AppendsCut, Stopped, View, line_pieces, octets_buffering}
-use Rattle.tm_output.specs.Pieces.{noted_all}
 use Rattle.tm_output.specs.Records.{record_count, records, rest_of}
 use Rattle.tm_summary.specs.Lines.{summary_lines}
 use Rattle.tm_summary.specs.SummaryNumbers.{Tally, numbers_of}
-use Rattle.tm_summary.specs.Tallies.{notes_among, open_notes}
 use Rattle.tm_checkpoint.specs.Works.{new_job, Work}
+use Rattle.tm_output.specs.declared.command.Ending.TheVariants.{Close}
 use Rattle.tm_tool.specs.RecordingPieces.{items_of, worked}
+use Rattle.tm_tool.specs.RunTotals.{run_tally}
 use Rattle.tm_tool.specs.Runs.{HasRead, HasReadAll}
-
--- the good frame that a record reads as, if it is one
-abbrev pub frames_in : Result GoodFrame FrameFault → List GoodFrame
-frames_in (Ok frame) = frame ∷ []
-frames_in (Err fault) = []
-
--- the good frames of records, of all channels
-abbrev pub good_frames : LayoutParts → List (List ℕ) → List GoodFrame
-good_frames layout rs = flat_map (λ octets. frames_in (frame_reading_of layout octets)) rs
 
 -- the items of records and of the closed end behind them, where so many octets are left
 abbrev pub closed_items : Work → List (List ℕ) → ℕ → List Item
 closed_items w rs rest = items_of w rs ++ closing (worked w rs).state rest
 
--- what a summary counts: the good frames, the items, and the notes, of the packets and of the groups that are open at the closed end
+-- what a summary counts: what a run that closes the recording tells
 abbrev pub tally_of : Work → List (List ℕ) → ℕ → Tally
-tally_of w rs rest = record {
-  frames = good_frames w.rules.layout rs;
-  items = closed_items w rs rest;
-  notes = notes_among w.entries (closed_items w rs rest) ++ open_notes (sequence.unclosed 0 (noted_all w.entries (closed_items w rs rest)));
-}
+tally_of w rs rest = run_tally Close w rs rest
 
 -- the lines of a summary of records, as a new job sees them
 abbrev pub lines_after : Rules → List (List ℕ) → ℕ → List (List ℕ)

@@ -1,6 +1,6 @@
 //! What each command does with a recording.
 
-ghost use Rattle.std.specs.Prelude.{◌≡◌, ◌≢◌, [], true, IfErr, OnOk};
+ghost use Rattle.std.specs.Prelude.{◌≡◌, ◌≢◌, [], true, IfErr, IfOk, OnOk};
 ghost use Rattle.std.specs.Io.KnownBytes.{Appends, Keeps};
 ghost use Rattle.tm_output.specs.declared.command.Command.TheVariants.{Extract, Packets};
 ghost use Rattle.tm_tool.specs.HeadPieces.{head_pieces};
@@ -17,7 +17,7 @@ use std::alloc::Global;
 use tm_devices::write_all;
 use tm_fields::Rows;
 use tm_lines::LineBuffer;
-use tm_output::{PacketLines, PacketOctets, PacketRows, PacketTexts};
+use tm_output::{PacketLines, PacketOctets, PacketRows, PacketTexts, Totals};
 
 /// Writes the head of the command's rows, where that is due, and flushes it if the recording may wait.
 pub fn write_csv_head<W: Drain>(
@@ -57,7 +57,7 @@ pub fn write_csv_head<W: Drain>(
     }
 }
 
-/// Runs over the recording, and gives what the command gives of the packets to a drain.
+/// Runs over the recording, and gives what the command gives of the packets to a drain. Answers what was given and lost, in numbers.
 pub(crate) fn run_command<R: BufferedSource, W: Drain, V: Drain>(
     command: Command<'_>,
     extractor: &mut Extractor,
@@ -65,11 +65,11 @@ pub(crate) fn run_command<R: BufferedSource, W: Drain, V: Drain>(
     out: &mut W,
     report: &mut V,
     ending: Ending,
-) -> Result<(), RunFault>
+) -> Result<Totals, RunFault>
     requires ready { IsReady extractor.old }
     ensures same_out { W.fixed out.new ≡ W.fixed out.old }
     ensures same_report { V.fixed report.new ≡ V.fixed report.old }
-    ensures run { OnOk result (IsRun Appends (buffering_of command.entry) (text_of command.entry) ending (work_in extractor.old)
+    ensures run { IfOk result (IsRun Appends (buffering_of command.entry) (text_of command.entry) ending (work_in extractor.old)
         (devices R.BufferedSource W.Drain V.Drain recording.old out.old report.old)
         (devices R.BufferedSource W.Drain V.Drain recording.new out.new report.new)
         extractor.new.reassembly.state.records (kept_of ending (work_in extractor.new))) }

@@ -15,7 +15,7 @@ use crate::recording::run_into;
 use crate::{BufferedSource, Command, Drain, Ending, NoMemory, RunFault, Settings, Shelf};
 use std::alloc::Global;
 use std::marker::Model;
-use tm_output::PacketShelf;
+use tm_output::{PacketShelf, Totals};
 use tm_packet::Tracker;
 use tm_reassembly::Reassembly;
 
@@ -26,6 +26,8 @@ pub struct Done {
     pub records: u32,
     /// The job after them, unless the recording was closed.
     pub kept: Option<Job>,
+    /// What this run gave and lost, in numbers.
+    pub totals: Totals,
 }
 
 /// The packets of a recording, as far as it has been read.
@@ -86,8 +88,9 @@ impl Job {
 }
 
 // What was done: the job is kept, unless the ending closed the recording.
-fn make_done(extractor: Extractor, fresh: bool, ending: Ending) -> Done
+fn make_done(extractor: Extractor, fresh: bool, ending: Ending, totals: Totals) -> Done
     requires ready { IsReady extractor }
+    ensures totals { result.totals ≡ totals }
     ensures records { result.records ≡ extractor.reassembly.state.records }
     ensures kept { option_map (λ j. j.work) result.kept ≡ kept_of ending (work_in extractor) }
     ensures fresh { IfSome result.kept (λ j. j.fresh ≡ fresh) }
@@ -97,7 +100,11 @@ fn make_done(extractor: Extractor, fresh: bool, ending: Ending) -> Done
         Ending::Close => None,
         Ending::Keep | Ending::StopAfter(_) => Some(Job { extractor, fresh }),
     };
-    Done { records, kept }
+    Done {
+        records,
+        kept,
+        totals,
+    }
 }
 
 /// Reads the recording from its beginning, one record at a time, and passes over the records that are done. From those after
@@ -131,7 +138,7 @@ pub fn run<R: BufferedSource, W: Drain, V: Drain>(
         (head_pieces command.entry job.fresh)
         (devices R.BufferedSource W.Drain V.Drain recording.old out.old report.old)
         (devices R.BufferedSource W.Drain V.Drain recording.new out.new report.new) done.records
-        (option_map (λ j. j.work) done.kept)) }
+        (option_map (λ j. j.work) done.kept) done.totals) }
     ensures fresh { IfOk result (λ done. IfSome done.kept (λ j. j.fresh ≡ false)) }
     ensures flushed_out { OnOk result (Keeps (W.flushed out.new) (W.written out.new)) }
     ensures flushed_report { OnOk result (Keeps (V.flushed report.new) (V.written report.new)) }
@@ -156,7 +163,7 @@ pub fn run<R: BufferedSource, W: Drain, V: Drain>(
         return Err(fault);
     }
     match run_command(command, &mut extractor, recording, out, report, ending) {
-        Ok(()) => Ok(make_done(extractor, false, ending)),
+        Ok(totals) => Ok(make_done(extractor, false, ending, totals)),
         Err(fault) => Err(fault),
     }
 }
@@ -185,7 +192,7 @@ pub fn split<R: BufferedSource, H: Shelf, V: Drain>(
     ensures ran { IfOk result (λ done. Ran Shelves shelf_buffering shelf_text ending job.work []
         (shelf_devices R.BufferedSource H.Shelf V.Drain recording.old shelf.old report.old)
         (shelf_devices R.BufferedSource H.Shelf V.Drain recording.new shelf.new report.new) done.records
-        (option_map (λ j. j.work) done.kept)) }
+        (option_map (λ j. j.work) done.kept) done.totals) }
     ensures fresh { IfOk result (λ done. IfSome done.kept (λ j. j.fresh ≡ job.fresh)) }
     ensures flushed_report { OnOk result (Keeps (V.flushed report.new) (V.written report.new)) }
 
@@ -206,7 +213,7 @@ pub fn split<R: BufferedSource, H: Shelf, V: Drain>(
     } = job;
     let mut outlet = PacketShelf { shelf };
     match run_into(&mut extractor, recording, &mut outlet, report, ending) {
-        Ok(()) => Ok(make_done(extractor, fresh, ending)),
+        Ok(totals) => Ok(make_done(extractor, fresh, ending, totals)),
         Err(fault) => Err(fault),
     }
 }

@@ -29,6 +29,7 @@ ghost use Rattle.tm_summary.specs.Lines.{summary_lines};
 ghost use Rattle.tm_summary.specs.Sums.{IsBelowGreatest, counts_on};
 ghost use Rattle.tm_tool.specs.SummaryNumbers.{summary_numbers};
 ghost use Rattle.tm_tool.specs.Summaries.{IsSummarized, IsSummaryStop, SummaryStopped, summary};
+ghost use Rattle.tm_output.specs.declared.totals.Totals.{Totals};
 ghost use Rattle.tm_tool.specs.Runs.{Devices, IsHeadedStop, IsSoundWork, IsStop, Outcome, Ran, StoppedIn};
 
 /// Recordings that tell their octets: what `run` and `split` promise of the octets that were read holds for the whole recording.
@@ -37,11 +38,11 @@ ghost use Rattle.tm_tool.specs.Runs.{Devices, IsHeadedStop, IsSoundWork, IsStop,
 /// There are more records than can be counted, or fewer than are done.
 pub fn whole_recordings()
     ensures ran { (command : Command) (ending : Ending) (job : JobState) (old new : Devices (Option (List ℕ)))
-        (count : ℕ) (kept : Option Work) → IsSoundWork job.work →
-        Ran Appends (buffering_of command) (text_of command) ending job.work (head_pieces command job.fresh) old new count kept →
+        (count : ℕ) (kept : Option Work) (totals : Totals) → IsSoundWork job.work →
+        Ran Appends (buffering_of command) (text_of command) ending job.work (head_pieces command job.fresh) old new count kept totals →
         IfSome old.left (λ octets. Outcome Appends (buffering_of command) (text_of command) ending job.work
         (head_pieces command job.fresh) octets
-        old.outputs new.outputs count kept) }
+        old.outputs new.outputs count kept totals) }
     ensures stopped { (command : Command) (ending : Ending) (job : JobState) (old new : Devices (Option (List ℕ)))
         (fault : RunFault) → IsSoundWork job.work →
         IsHeadedStop Appends (buffering_of command) (text_of command) ending job.work
@@ -49,8 +50,10 @@ pub fn whole_recordings()
         IfSome old.left (StoppedIn Appends (buffering_of command) (text_of command) ending job.work (head_pieces command job.fresh) old.outputs
         new.outputs fault) }
     ensures split_ran { (ending : Ending) (w : Work) (old new : Devices (Option (ℕ → List ℕ)))
-        (count : ℕ) (kept : Option Work) → IsSoundWork w → Ran Shelves shelf_buffering shelf_text ending w [] old new count kept →
-        IfSome old.left (λ octets. Outcome Shelves shelf_buffering shelf_text ending w [] octets old.outputs new.outputs count kept) }
+        (count : ℕ) (kept : Option Work) (totals : Totals) → IsSoundWork w →
+        Ran Shelves shelf_buffering shelf_text ending w [] old new count kept totals →
+        IfSome old.left (λ octets. Outcome Shelves shelf_buffering shelf_text ending w [] octets old.outputs new.outputs
+        count kept totals) }
     ensures split_stopped { (ending : Ending) (w : Work) (old new : Devices (Option (ℕ → List ℕ)))
         (fault : RunFault) → IsSoundWork w → IsStop Shelves shelf_buffering shelf_text ending w old new fault →
         IfSome old.left (StoppedIn Shelves shelf_buffering shelf_text ending w [] old.outputs new.outputs fault) }

@@ -1,6 +1,6 @@
 //! A recording, record by record, into the outputs.
 
-ghost use Rattle.std.specs.Prelude.{◌≡◌, ◌<◌, false, length, IfErr, OnOk};
+ghost use Rattle.std.specs.Prelude.{◌≡◌, ◌<◌, false, length, IfErr, IfOk, OnOk};
 ghost use Rattle.std.specs.Io.KnownBytes.{Keeps};
 ghost use Rattle.tm_frame.specs.Layout.{record_length_of};
 ghost use Rattle.tm_reassembly.specs.Items.{closing};
@@ -10,33 +10,33 @@ ghost use Rattle.tm_output.specs.Pieces.{noted_all, pieces_of};
 ghost use Rattle.tm_tool.specs.Runs.{DevicesCounted, IsStop, kept_of};
 ghost use Rattle.tm_checkpoint.specs.Works.{IsGoing, work_of};
 ghost use Rattle.tm_tool.specs.code.Extractors.{IsReady, work_in};
-ghost use Rattle.tm_tool.specs.code.Stepping.{IsRun, outlet_devices, output_devices};
+ghost use Rattle.tm_tool.specs.code.Stepping.{IsRun, outlet_devices, output_devices, with_end};
+ghost use Rattle.tm_output.specs.Totals.{no_totals};
 ghost use Rattle.tm_output.specs.Seen.{fixture, output_both};
 
 use crate::extractor::Extractor;
 use crate::record_loop::{RecordHandler, handle_records};
 use crate::{BufferedSource, Drain, Ending, RunFault};
-use tm_output::{Outlet, Output};
+use tm_output::{Outlet, Output, Totals};
 use tm_reassembly::{Reassembly, StepFault};
 
 impl<O: Outlet, V: Drain> RecordHandler for Output<'_, O, V> {
-    ghost use Rattle.tm_output.specs.Outputs.{View};
     ghost use Rattle.tm_output.specs.Seen.{Fixture};
-    ghost use Rattle.tm_tool.specs.code.Stepping.{RefusesRecord, TakesRecord};
+    ghost use Rattle.tm_tool.specs.code.Stepping.{CountsTaken, RefusesCounted, RunState, run_state};
 
-    ghost Held = { View O.Held };
+    ghost Held = { RunState O.Held };
 
     ghost Fixed = { Fixture O.Fixed };
 
-    ghost held = { output_both O.Outlet V.Drain };
+    ghost held = { run_state O.Outlet V.Drain };
 
     ghost fixed = { fixture O.Outlet V.Drain };
 
     ghost entries = { λ output. output.tracker.now };
 
-    ghost takes = { λ f. TakesRecord O.grows (O.text f.texts) };
+    ghost takes = { λ f. CountsTaken O.grows (O.text f.texts) };
 
-    ghost refuses = { λ f. RefusesRecord O.grows (O.text f.texts) O.buffering };
+    ghost refuses = { λ f. RefusesCounted O.grows (O.text f.texts) O.buffering };
 
     ghost flushed = { λ output. O.passed output.outlet.now × Keeps (V.flushed output.report.now) (V.written output.report.now) };
 
@@ -45,8 +45,11 @@ impl<O: Outlet, V: Drain> RecordHandler for Output<'_, O, V> {
         reassembly: &mut Reassembly,
         octets: &[u8],
     ) -> Result<(), RunFault> {
-        match reassembly.step(octets, self) {
-            Ok(()) => Ok(()),
+        match reassembly.take_record(octets, self) {
+            Ok(chosen) => {
+                self.totals.add_record(chosen);
+                Ok(())
+            }
             Err(StepFault::Sink(fault)) => Err(fault),
             Err(StepFault::TooMany) => Err(RunFault::TooMany),
             Err(StepFault::Failed) => unreachable!(),
@@ -73,6 +76,8 @@ fn end<O: Outlet, V: Drain>(
     ensures written { Written O.grows O.buffering (output_both O.Outlet V.Drain output.old)
         (output_both O.Outlet V.Drain output.new)
         (end_pieces (O.text (O.fixed output.old.outlet.now)) ending (work_of reassembly.now output.old.tracker.now) rest) result }
+    ensures counted { OnOk result (output.new.totals ≡ with_end (O.text (O.fixed output.old.outlet.now)) ending
+        (work_of reassembly.now output.old.tracker.now) rest output.old.totals) }
 {
     let Ending::Close = ending else {
         return Ok(());
@@ -96,6 +101,7 @@ fn handle_recording<R: BufferedSource, O: Outlet, V: Drain>(
     requires exact { length buffer.old ≡ record_length_of reassembly.old.rules.layout }
     requires some { 0 < length buffer.old }
     requires going { IsGoing reassembly.old }
+    requires begun { output.old.totals ≡ no_totals }
     ensures same { fixture O.Outlet V.Drain output.new ≡ fixture O.Outlet V.Drain output.old }
     ensures exact { length buffer.new ≡ length buffer.old }
     ensures going_on { OnOk result (IsGoing reassembly.new × (reassembly.new.rules ≡ reassembly.old.rules)) }
@@ -103,7 +109,7 @@ fn handle_recording<R: BufferedSource, O: Outlet, V: Drain>(
         (work_of reassembly.old output.old.tracker.now)
         (output_devices R.BufferedSource O.Outlet V.Drain recording.old output.old)
         (output_devices R.BufferedSource O.Outlet V.Drain recording.new output.new)
-        reassembly.new.state.records (kept_of ending (work_of reassembly.new output.new.tracker.now))) }
+        reassembly.new.state.records (kept_of ending (work_of reassembly.new output.new.tracker.now)) output.new.totals) }
     ensures stopped { IfErr result (IsStop O.grows O.buffering (O.text (O.fixed output.old.outlet.now)) ending
         (work_of reassembly.old output.old.tracker.now)
         (output_devices R.BufferedSource O.Outlet V.Drain recording.old output.old)
@@ -127,17 +133,17 @@ fn handle_recording<R: BufferedSource, O: Outlet, V: Drain>(
     }
 }
 
-/// The same with a job's extractor, into an outlet and a report.
+/// The same with a job's extractor, into an outlet and a report. Answers what was given and lost, in numbers.
 pub(crate) fn run_into<R: BufferedSource, O: Outlet, V: Drain>(
     extractor: &mut Extractor,
     recording: &mut R,
     outlet: &mut O,
     report: &mut V,
     ending: Ending,
-) -> Result<(), RunFault>
+) -> Result<Totals, RunFault>
     requires ready { IsReady extractor.old }
     ensures ready { OnOk result (IsReady extractor.new) }
-    ensures run { OnOk result (IsRun O.grows O.buffering (O.text (O.fixed outlet.old)) ending (work_in extractor.old)
+    ensures run { IfOk result (IsRun O.grows O.buffering (O.text (O.fixed outlet.old)) ending (work_in extractor.old)
         (outlet_devices R.BufferedSource O.Outlet V.Drain recording.old outlet.old report.old)
         (outlet_devices R.BufferedSource O.Outlet V.Drain recording.new outlet.new report.new)
         extractor.new.reassembly.state.records (kept_of ending (work_in extractor.new))) }
@@ -164,12 +170,16 @@ pub(crate) fn run_into<R: BufferedSource, O: Outlet, V: Drain>(
         notes: lines,
         outlet,
         report,
+        totals: Totals::none(),
     };
-    handle_recording(
+    match handle_recording(
         reassembly,
         buffer.as_mut_slice(),
         recording,
         &mut output,
         ending,
-    )
+    ) {
+        Ok(()) => Ok(output.totals),
+        Err(fault) => Err(fault),
+    }
 }

@@ -13,7 +13,8 @@ use Rattle.tm_summary.specs.Tallies.{and_items, and_notes, notes_among, open_not
 use Rattle.tm_checkpoint.specs.Works.{Work}
 use Rattle.tm_tool.specs.RecordingPieces.{items_of}
 use Rattle.tm_tool.specs.Runs.{HasReadAll}
-use Rattle.tm_tool.specs.Summaries.{StopsAtMost, StopsInReading, good_frames, tally_of}
+use Rattle.tm_tool.specs.RunTotals.{good_frames}
+use Rattle.tm_tool.specs.Summaries.{StopsAtMost, StopsInReading, tally_of}
 
 -- with these records more
 abbrev pub and_records : Work → Tally → List (List ℕ) → Tally
@@ -28,13 +29,13 @@ abbrev pub and_end : Work → Tally → ℕ → Tally
 and_end w t rest =
     and_notes (and_items t w.entries (closing w.state rest)) (open_notes (sequence.unclosed 0 (noted_all w.entries (closing w.state rest))))
 
--- records were counted on top of all that was counted before
-abbrev pub CountedRecords : Work → List (List ℕ) → SummaryNumbers → SummaryNumbers → Type 0
-CountedRecords w rs before now = (t : Tally) → before ≡ numbers_of t → now ≡ numbers_of (and_records w t rs)
+-- records were counted on top of all that was counted before, in the numbers of a tally
+abbrev pub CountedRecords : {N : Type 0} → (Tally → N) → Work → List (List ℕ) → N → N → Type 0
+CountedRecords numbers w rs before now = (t : Tally) → before ≡ numbers t → now ≡ numbers (and_records w t rs)
 
 -- a record is counted, or refused because it is one too many
 abbrev pub CountsRecord : Work → List ℕ → SummaryNumbers → SummaryNumbers → Type 0
-CountsRecord w octets before now = CountedRecords w (octets ∷ []) before now
+CountsRecord w octets before now = CountedRecords numbers_of w (octets ∷ []) before now
 
 abbrev pub RefusesCount : Work → List ℕ → SummaryNumbers → SummaryNumbers → RunFault → Type 0
 RefusesCount w octets before now fault = (fault ≡ TooMany) × (w.state.records ≡ most_records)

@@ -3,5 +3,6 @@ pub mod SummaryNumbers
 pub mod Adding
 pub mod Lines
 pub mod Sums
+pub mod Losses
 pub mod Tallies
 pub mod code

@@ -5,6 +5,8 @@ ghost use Rattle.tm_packet.specs.Header.{packet_header_of};
 ghost use Rattle.tm_items.specs.Item as value;
 ghost use Rattle.tm_items.specs.Sinks.{item_of, ItemFits};
 ghost use Rattle.tm_summary.specs.Adding.{with_bad, with_frame, with_item, with_note, with_packet};
+ghost use Rattle.tm_summary.specs.Losses.{application_lost, channel_lost, has_good_frame, tells_loss};
+ghost use Rattle.std.specs.List.{list_any};
 ghost use Rattle.tm_summary.specs.code.Places.{no_applications};
 ghost use Rattle.tm_summary.specs.SummaryNumbers.{numbers_of, nothing};
 ghost use Rattle.tm_output.specs.Pieces.{HasLine};
@@ -13,7 +15,7 @@ use crate::application::ApplicationCounts;
 use crate::channel::ChannelCounts;
 use std::alloc::{AllocError, Global};
 use std::marker::Model;
-use tm_frame::{FrameFault, Kind};
+use tm_frame::{Channels, FrameFault, Kind};
 use tm_items::Item;
 use tm_packet::{Note, Pair};
 
@@ -61,6 +63,22 @@ fn empty_counts(alloc: Global) -> Result<Vec<ApplicationCounts>, AllocError>
     let mut empty_counts = Vec::with_capacity(alloc, PAIRS)?;
     empty_counts.resize(PAIRS, ApplicationCounts::none())?;
     Ok(empty_counts)
+}
+
+// One of the channels lost frames or octets.
+fn any_channel_lost(channels: &[ChannelCounts]) -> bool
+    ensures { result ≡ list_any channel_lost channels.now }
+{
+    channels.iter().any(|c| c.gaps > 0 || c.dropped > 0)
+}
+
+// The sequence counts of one of these tell a loss.
+fn any_application_lost(applications: &[ApplicationCounts]) -> bool
+    ensures { result ≡ list_any application_lost applications.now }
+{
+    applications
+        .iter()
+        .any(|a| a.gaps > 0 || a.broken > 0 || a.strays > 0)
 }
 
 impl Counts {
@@ -151,5 +169,25 @@ impl Counts {
         ensures { self.new ≡ with_note self.old key note }
     {
         self.applications[usize::from(key)].add_note(note);
+    }
+
+    /// Whether something was lost: a bad frame, a gap of the master channel or of a channel, a dropped part, a gap of sequence counts, a broken
+    /// group or a stray.
+    pub fn tells_loss(&self) -> bool
+        ensures { result ≡ tells_loss self.now }
+    {
+        let lost = any_channel_lost(&self.channels) || any_application_lost(&self.applications);
+        self.bad > 0 || self.master_gaps > 0 || lost
+    }
+
+    /// Whether one of these channels had a good frame.
+    pub fn has_good_frame(&self, chosen: &Channels) -> bool
+        ensures { result ≡ has_good_frame chosen.now self.now }
+    {
+        let mut came = false;
+        for channel in 0..8 {
+            came |= chosen.has(channel as u8) && self.channels[channel].frames > 0;
+        }
+        came
     }
 }

@@ -16,6 +16,8 @@ use Rattle.tm_output.proofs.RecordLemmas.{always, count_all, many_told, records_
 use Rattle.tm_summary.specs.Lines.{summary_lines}
 use Rattle.tm_summary.specs.SummaryNumbers.{SummaryNumbers, Tally, nothing, numbers_of}
 use Rattle.tm_checkpoint.specs.Works.{new_job, Work}
+use Rattle.tm_summary.specs.Losses.{has_good_frame, tells_loss}
+use Rattle.tm_tool.specs.SummaryNumbers.{IsSummed, summary_numbers}
 use Rattle.tm_tool.specs.RunTotals.{frames_in, good_frames}
 use Rattle.tm_tool.specs.Summaries.{IsSummarized, IsSummaryStop, StopsInLines, SummaryStopped, lines_after, summary, tally_of}
 use Rattle.tm_tool.specs.code.Summing.{HasSummed, CountCaused, CountedRecords, CountingStopped, CountsEnd, CountsRecord, RefusesCount, and_end, and_records}
@@ -159,6 +161,13 @@ module _ (rules : Rules) where
   summary_read read rest sized short =
       rw (records_all (record_length_of rules.layout) read rest sized short, rest_all (record_length_of rules.layout) read rest sized short) refl
 
+  -- and its numbers
+  numbers_read : (read : List (List ℕ)) (rest : List ℕ) → AreRecords (record_length_of rules.layout) read → length rest < record_length_of rules.layout
+      → numbers_of (tally_of (new_job rules).work read (length rest)) ≡ summary_numbers rules (concat read ++ rest)
+  unfolding summary_numbers
+  numbers_read read rest sized short =
+      rw (records_all (record_length_of rules.layout) read rest sized short, rest_all (record_length_of rules.layout) read rest sized short) refl
+
   module _ (first next : Option (List ℕ)) (w : Work) (is : w ≡ (new_job rules).work) (numbers : SummaryNumbers) (count : ℕ) (h : HasSummed w first next numbers count) where
     sums : HasSummed (new_job rules).work first next numbers count
     sums = subst (λ (x : Work). HasSummed x first next numbers count) is h
@@ -186,7 +195,7 @@ module _ (rules : Rules) where
     lines_stopped chosen same old new failures failures' _ stopped = absurd stopped.cause
 
     -- all lines were written
-    pub summarized : (chosen : List Bool) → chosen ≡ rules.channels → (old mid new : Option (List ℕ)) (failures failures' : ℕ)
+    abbrev summarized : (chosen : List Bool) → chosen ≡ rules.channels → (old mid new : Option (List ℕ)) (failures failures' : ℕ)
         → Took Appends (view old None failures 0) (view mid None failures' 0) (line_pieces (summary_lines chosen count numbers)) → Keeps mid new → IsSummarized rules first next old new count
     summarized chosen same old mid new failures failures' took kept =
         let text : outs (line_pieces (summary_lines chosen count numbers)) ≡ concat (summary rules (concat sums.read ++ sums.rest)) =
@@ -196,6 +205,20 @@ module _ (rules : Rules) where
         let count_is = counted ∙ sym (count_all (record_length_of rules.layout) sums.read sums.rest sums.all.octets.sized sums.all.short) in
         let all = sums.all in
         record { read = concat sums.read ++ sums.rest; octets = all.octets.octets; ended = all.ended; written = written; count_is = count_is }
+
+    -- and this is what their numbers tell
+    pub summed_up : (chosen : List Bool) → chosen ≡ rules.channels → (old mid new : Option (List ℕ)) (failures failures' : ℕ)
+        → Took Appends (view old None failures 0) (view mid None failures' 0) (line_pieces (summary_lines chosen count numbers)) → Keeps mid new
+        → (good lost : Bool) → good ≡ has_good_frame chosen numbers → lost ≡ tells_loss numbers
+        → IsSummed rules first next old new (record { records = count; has_good_frame = good; has_losses = lost })
+    summed_up chosen same old mid new failures failures' took kept good lost good_is lost_is =
+        let all : numbers ≡ summary_numbers rules (concat sums.read ++ sums.rest) =
+        sums.counted ∙ numbers_read sums.read sums.rest sums.all.octets.sized sums.all.short in
+        record {
+          lines = summarized chosen same old mid new failures failures' took kept;
+          good_is = good_is ∙ ap (λ (cs : List Bool). has_good_frame cs numbers) same ∙ ap (has_good_frame rules.channels) all;
+          losses_is = lost_is ∙ ap tells_loss all;
+        }
 
   -- ---- of a recording that tells its octets
 

@@ -11,7 +11,7 @@ mod recording;
 mod summary;
 
 pub use job::{Done, Job, run, split};
-pub use summary::summarize;
+pub use summary::{Summed, sum_up, summarize};
 pub use tm_bits::Octets;
 pub use tm_devices::{
     Buffered, BufferedSource, DeviceFailed, Drain, Reading, Seeking, Shelf, Source, Writing,

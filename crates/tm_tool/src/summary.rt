@@ -8,6 +8,7 @@ ghost use Rattle.tm_output.specs.Seen.{out_alone};
 ghost use Rattle.tm_summary.specs.SummaryNumbers.{nothing, numbers_of};
 ghost use Rattle.tm_summary.specs.Tallies.{SameReferences};
 ghost use Rattle.tm_tool.specs.Summaries.{IsSummarized, IsSummaryStop};
+ghost use Rattle.tm_tool.specs.SummaryNumbers.{IsSummed};
 ghost use Rattle.tm_checkpoint.specs.Works.{IsGoing, work_of};
 ghost use Rattle.tm_tool.specs.code.Extractors.{IsReady, work_in};
 ghost use Rattle.tm_tool.specs.code.Summing.{CountCounted, CountingStopped, CountsEnd, HasSummed};
@@ -126,23 +127,34 @@ fn count_into<R: BufferedSource>(
     Ok(records)
 }
 
+/// What a summary tells at once.
+#[derive(Clone, Copy, Debug, PartialEq, Eq)]
+pub struct Summed {
+    /// The number of records.
+    pub records: u32,
+    /// A chosen channel had a good frame.
+    pub has_good_frame: bool,
+    /// A number of bad frames, gaps, dropped parts, sequence gaps, broken groups or strays isn't 0.
+    pub has_losses: bool,
+}
+
 /// Writes the lines of a summary of the recording, closed at its end: its records, the faults of bad frames, and the gaps of the
-/// master channel. For each chosen channel and each application it says what came and what was lost. It flushes, and answers the
-/// number of records. One record is read at a time. All memory is taken before the first is read, and nothing is written before
-/// the last.
+/// master channel. For each chosen channel and each application it says what came and what was lost. It flushes, and answers what
+/// these numbers tell at once. One record is read at a time. All memory is taken before the first is read, and nothing is written
+/// before the last.
 ///
 /// # Errors
 ///
 /// `Read` or `Write` where a call of that device failed. `TooMany` where a whole record follows 2^32 - 1. `NoMemory` where memory for the
 /// numbers can't be had, and nothing was read or written then.
-pub fn summarize<R: BufferedSource, W: Drain>(
+pub fn sum_up<R: BufferedSource, W: Drain>(
     alloc: Global,
     settings: &Settings,
     recording: &mut R,
     out: &mut W,
-) -> Result<u32, RunFault>
+) -> Result<Summed, RunFault>
     // With Ok all was read, and just the lines of the summary of what was read were written, and passed on.
-    ensures summarized { IfOk result (IsSummarized settings.now (R.left recording.old) (R.left recording.new) (W.written out.old)
+    ensures summed { IfOk result (IsSummed settings.now (R.left recording.old) (R.left recording.new) (W.written out.old)
         (W.written out.new)) }
     ensures flushed { OnOk result (Keeps (W.flushed out.new) (W.written out.new)) }
 
@@ -167,11 +179,43 @@ pub fn summarize<R: BufferedSource, W: Drain>(
         Ok(records) => records,
         Err(fault) => return Err(fault),
     };
-    if let Err(fault) = write_summary(&settings.channels(), records, &counts, out) {
+    let channels = settings.channels();
+    if let Err(fault) = write_summary(&channels, records, &counts, out) {
         return Err(fault);
     }
+    let summed = Summed {
+        records,
+        has_good_frame: counts.has_good_frame(&channels),
+        has_losses: counts.tells_loss(),
+    };
     match out.flush() {
-        Ok(()) => Ok(records),
+        Ok(()) => Ok(summed),
         Err(_) => Err(RunFault::Write),
+    }
+}
+
+/// Writes the lines of a summary as `sum_up` does, and answers the number of records.
+///
+/// # Errors
+///
+/// As `sum_up`.
+pub fn summarize<R: BufferedSource, W: Drain>(
+    alloc: Global,
+    settings: &Settings,
+    recording: &mut R,
+    out: &mut W,
+) -> Result<u32, RunFault>
+    ensures summarized { IfOk result (IsSummarized settings.now (R.left recording.old) (R.left recording.new) (W.written out.old)
+        (W.written out.new)) }
+    ensures flushed { OnOk result (Keeps (W.flushed out.new) (W.written out.new)) }
+    ensures same { W.fixed out.new ≡ W.fixed out.old }
+    ensures stopped { IfErr result (IsSummaryStop settings.now (R.left recording.old) (R.left recording.new)
+        (out_alone W.Drain out.old) (out_alone W.Drain out.new)) }
+    ensures counts { FaultsCounted (R.failures recording.old) (R.failures recording.new) (W.failures out.old)
+        (W.failures out.new) result }
+{
+    match sum_up(alloc, settings, recording, out) {
+        Ok(summed) => Ok(summed.records),
+        Err(fault) => Err(fault),
     }
 }

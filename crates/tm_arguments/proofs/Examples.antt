@@ -1,7 +1,7 @@
 -- Worked examples: what the definitions say of known arguments.
-use Rattle.std.proofs.Common.{◌≡◌, true, List, [], ◌∷◌, Some, option_map, refl, codes}
+use Rattle.std.proofs.Common.{◌≡◌, true, false, List, [], ◌∷◌, Some, option_map, refl, codes}
 use Rattle.clap.specs.Words.{Text}
-use Rattle.clap.specs.declared.error.kind.ErrorKind.TheVariants.{DisplayHelp, DisplayVersion, MissingRequiredArgument, UnknownArgument, ValueValidation}
+use Rattle.clap.specs.declared.error.kind.ErrorKind.TheVariants.{ArgumentConflict, DisplayHelp, DisplayVersion, MissingRequiredArgument, TooManyValues, UnknownArgument, ValueValidation}
 use Rattle.clap.proofs.OnLiterals.{clap_on_literals}
 use Rattle.tm_arguments.specs.declared.request.Action.{Action}
 use Rattle.tm_arguments.specs.declared.request.Action.TheVariants.{Frames, Packets, Extract, Split, Fields, Summary}
@@ -38,6 +38,13 @@ stop_planned : plan_of (with_settings (codes "extract") (codes "--checkpoint" �
 unfolding clap_on_literals matches_of
 stop_planned = refl
 
+-- with the flag, and without
+strict_planned : (plan_of (with_settings (codes "packets") (codes "--strict" ∷ codes "r" ∷ [])) ≡ Some (record (only Packets) { recording = Some (codes "r"); strict = true }))
+    × (plan_of (codes "summary" ∷ codes "--strict" ∷ codes "--settings" ∷ codes "s" ∷ []) ≡ Some (record (only Summary) { strict = true }))
+    × (plan_of (with_settings (codes "packets") []) ≡ Some (record (only Packets) { strict = false }))
+unfolding clap_on_literals matches_of
+strict_planned = (refl, refl, refl)
+
 stop_alone : option_map lacks_checkpoint (plan_of (with_settings (codes "extract") (codes "--stop-after" ∷ codes "3" ∷ []))) ≡ Some true
 unfolding clap_on_literals matches_of
 stop_alone = refl
@@ -47,9 +54,16 @@ unknown : (faults_of (with_settings (codes "frames") (codes "r" ∷ codes "extra
     × (faults_of (with_settings (codes "frames") (codes "--report" ∷ codes "x" ∷ [])) ≡ UnknownArgument ∷ [])
     × (faults_of (with_settings (codes "summary") (codes "--report" ∷ codes "x" ∷ [])) ≡ UnknownArgument ∷ [])
     × (faults_of (with_settings (codes "frames") (codes "--stop-after" ∷ codes "3" ∷ [])) ≡ UnknownArgument ∷ [])
+    × (faults_of (with_settings (codes "frames") (codes "--strict" ∷ [])) ≡ UnknownArgument ∷ [])
     × (faults_of (codes "packets" ∷ codes "--version" ∷ []) ≡ UnknownArgument ∷ [])
 unfolding clap_on_literals faults_of
-unknown = (refl, refl, refl, refl, refl)
+unknown = (refl, refl, refl, refl, refl, refl)
+
+-- a value of the flag, and the flag twice
+flag_faults : (faults_of (with_settings (codes "packets") (codes "--strict=true" ∷ [])) ≡ TooManyValues ∷ [])
+    × (faults_of (with_settings (codes "packets") (codes "--strict" ∷ codes "--strict" ∷ [])) ≡ ArgumentConflict ∷ [])
+unfolding clap_on_literals faults_of
+flag_faults = (refl, refl)
 
 -- no settings, no folder, and no definition
 missing : (faults_of (codes "frames" ∷ codes "r" ∷ []) ≡ MissingRequiredArgument ∷ [])

@@ -15,9 +15,9 @@ use Rattle.clap.specs.Takes.{is_given}
 use Rattle.clap.specs.Kinds.{Kinds, or_else, range_kinds, request_kinds, value_kinds, values_kinds}
 use Rattle.clap.specs.Values.{reading_of}
 use Rattle.clap.specs.ValueTests.{accepts}
-use Rattle.clap.specs.Faults.{action_fault, bundle_fault, bundle_step_fault, check_fault, flag_word_fault, flags_fault, level_fault, long_fault, option_fault, other_fault, positional_fault, react_fault, repeat_fault, settle_fault, short_fault, step_fault, use_fault, values_fault, walk_fault, word_fault, defaults_fault}
+use Rattle.clap.specs.Faults.{action_fault, bundle_fault, bundle_step_fault, check_fault, flag_word_fault, flags_fault, level_fault, long_fault, option_fault, other_fault, positional_fault, react_fault, repeat_fault, set_fault, settle_fault, short_fault, step_fault, use_fault, values_fault, walk_fault, word_fault, defaults_fault}
 use Rattle.clap.specs.declared.builder.action.ArgAction.{ArgAction}
-use Rattle.clap.specs.declared.builder.action.ArgAction.TheVariants.{Set}
+use Rattle.clap.specs.declared.builder.action.ArgAction.TheVariants.{Set, SetTrue}
 use Rattle.clap.specs.declared.builder.value_parser.Reading.{Reading}
 use Rattle.clap.specs.declared.builder.value_parser.Reading.TheVariants.{WithoutMinus}
 use Rattle.clap.specs.declared.parser.matches.ValueSource.{ValueSource}
@@ -49,13 +49,14 @@ IsFilled r = (0 < length r.values) × ((p : Range) → range_of r.id ≡ Some p 
 abbrev pub Filled : List Row → Type 0
 Filled rows = AllByRecursion IsFilled rows
 
--- an option whose uses have a value, or a request for help or the version
-abbrev sized_as : ArgAction → Bool → Bool
-sized_as Set b = b
-sized_as x b = not (is_empty (request_kinds x))
+-- an option whose uses have a value, a flag, which has one of its own, or a request for help or the version
+abbrev sized_as : ArgAction → Rule → Bool
+sized_as Set a = nat_lt 0 (unwrap_or_range a.range).start_inclusive
+sized_as SetTrue a = not (is_empty a.missing)
+sized_as x a = not (is_empty (request_kinds x))
 
 abbrev is_sized : Rule → Bool
-is_sized a = sized_as (action_of a) (nat_lt 0 (unwrap_or_range a.range).start_inclusive)
+is_sized a = sized_as (action_of a) a
 
 -- the range is asked for, and nothing is given by default
 abbrev OfRange : Rule → Range → Type 0
@@ -112,23 +113,37 @@ all_accepted p (v ∷ vs) e =
 values_fit : (a : Rule) (vs : List Text) (p : Range) → OfRange a p → values_fault a vs ≡ [] → Fits (reading_by a) vs p
 values_fit a vs p (case_is, parser_is, defaults) e = (ap reading_of parser_is, all_accepted p vs (rw (case_is, parser_is) at e))
 
-Filled-used_as : (x : ArgAction) (b again : Bool) (a : Rule) (vs : List Text) (rows : List Row) → sized_as x b ≡ true → (b ≡ true → 0 < length vs)
-    → IfSome (range_of a.id) (OfRange a) → action_fault x again a vs rows ≡ [] → Filled rows → Filled (used_as x a.id (reading_by a) vs rows)
-Filled-used_as Set b again a vs rows sized some own e h =
-    Filled-with_values a.id (reading_by a) CommandLine vs (without a.id rows) (some sized)
+Filled-set : (again : Bool) (a : Rule) (vs : List Text) (rows : List Row) → 0 < length vs
+    → IfSome (range_of a.id) (OfRange a) → set_fault again a vs rows ≡ [] → Filled rows → Filled (with_values a.id (reading_by a) CommandLine vs (without a.id rows))
+Filled-set again a vs rows some own e h =
+    Filled-with_values a.id (reading_by a) CommandLine vs (without a.id rows) some
     (λ p is. values_fit a vs p (rw is at own) (neither (repeat_fault again a.id rows) (values_fault a vs) e).1)
     (Filled-at_row a.id (λ _. []) [] rows (λ r same here. tt) tt h)
-Filled-used_as _ b again a vs rows sized some own e h = first_of (cc, assumption)
 
--- a use with too few values has a fault
-values_there : (a : Rule) (least most : ℕ) (vs : List Text) → range_kinds least most (length vs) ≡ [] → nat_lt 0 least ≡ true → 0 < length (values_or_missing a vs)
-values_there a least most [] e some = let bad : range_kinds least most 0 ≡ [] = e in let one : ErrorKind.InvalidValue ∷ [] ≡ [] = rw some at bad in cc
-values_there a least most (v ∷ vs) e some = omega arith
+Filled-used_as : (x : ArgAction) (again : Bool) (a : Rule) (vs : List Text) (rows : List Row) → sized_as x a ≡ true
+    → (is_empty (request_kinds x) ≡ true → 0 < length vs) → IfSome (range_of a.id) (OfRange a) → action_fault x again a vs rows ≡ [] → Filled rows
+    → Filled (used_as x a.id (reading_by a) vs rows)
+Filled-used_as Set again a vs rows sized some own e h = Filled-set again a vs rows (some refl) own e h
+Filled-used_as SetTrue again a vs rows sized some own e h = Filled-set again a vs rows (some refl) own e h
+Filled-used_as _ again a vs rows sized some own e h = first_of (cc, assumption)
+
+not_empty : (vs : List Text) → not (is_empty vs) ≡ true → 0 < length vs
+not_empty [] e = cc
+not_empty (v ∷ vs) e = omega arith
+
+-- an option's use with too few values has a fault, and a flag has a value for a use without one
+values_there : (x : ArgAction) (a : Rule) (most : ℕ) (vs : List Text) → range_kinds (unwrap_or_range a.range).start_inclusive most (length vs) ≡ []
+    → sized_as x a ≡ true → is_empty (request_kinds x) ≡ true → 0 < length (values_or_missing a vs)
+values_there x a most (v ∷ vs) e sized kept = omega arith
+values_there Set a most [] e sized kept =
+    let bad : range_kinds (unwrap_or_range a.range).start_inclusive most 0 ≡ [] = e in let one : ErrorKind.InvalidValue ∷ [] ≡ [] = rw sized at bad in cc
+values_there SetTrue a most [] e sized kept = not_empty a.missing sized
+values_there _ a most [] e sized kept = cc
 
 Filled-used : (again : Bool) (a : Rule) (vs : List Text) (rows : List Row) → IsRuled a → use_fault again a vs rows ≡ [] → Filled rows → Filled (used a vs rows)
 Filled-used again a vs rows ruled e h =
     let (counted, passed) = neither _ (action_fault (action_of a) again a (values_or_missing a vs) rows) e in
-    Filled-used_as (action_of a) _ again a (values_or_missing a vs) rows ruled.0 (values_there a _ _ vs counted) ruled.1 passed h
+    Filled-used_as (action_of a) again a (values_or_missing a vs) rows ruled.0 (values_there (action_of a) a _ vs counted ruled.0) ruled.1 passed h
 
 -- ---- the rules
 

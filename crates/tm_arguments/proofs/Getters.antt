@@ -1,12 +1,15 @@
 -- What a getter's value is among the rows.
-use Rattle.std.proofs.Common.{◌≡◌, ◌^◌, ◌&&◌, ◌<◌, ℕ, Bool, true, false, nat_lt, List, [], ◌∷◌, length, Option, Some, None, option_map, option_and_then, Result, Ok, Err, refl, ap, arith, inl, inr}
-use Rattle.std.specs.Prelude.{slice_get}
+use Rattle.std.proofs.Common.{◌≡◌, ◌^◌, ◌&&◌, ◌<◌, ℕ, Bool, true, false, nat_lt, List, [], ◌∷◌, length, Option, Some, None, option_map, option_and_then, Result, Ok, Err, refl, ap, sym, codes, arith, inl, inr}
+use Rattle.std.specs.Prelude.{slice_get, unwrap_or}
 use Rattle.std.specs.Bool.{Decides}
 use Rattle.std.specs.List.{AllByRecursion, list_all}
+use Rattle.std.specs.Option.{option_map_or}
 use Rattle.std.specs.Char.{digit_value}
-use Rattle.std.specs.Str.Parse.{AllDigits, IsNumeral, ParsesUnsigned, digits_value, without_leading_plus}
+use Rattle.std.specs.Str.{bytes_eq}
+use Rattle.std.specs.Str.Parse.{AllDigits, IsNumeral, ParsesBool, ParsesUnsigned, digits_value, without_leading_plus}
 use Rattle.std.proofs.lemmas.Bool.{false_from_ne_true, cases_Bool}
 use Rattle.std.proofs.lemmas.Bool.Decides.{Decides-and, Decides-ltb, not_from_Decides}
+use Rattle.std.proofs.lemmas.Slice.Eq.{bytes_eq-Decides}
 use Rattle.clap.specs.Lexer.{without_minus}
 use Rattle.clap.specs.Matches.{ReadsOne}
 use Rattle.clap.specs.Values.{read_as}
@@ -21,6 +24,19 @@ use Rattle.tm_arguments.specs.CommandLine.{IsBetween, numbers, number_spelled}
 
 pub value_read : (f : Found) (id : Text) → first_value f id ≡ first_of id (rows_of f)
 value_read f id = first_value-rows f id
+
+-- ---- flags
+
+-- the value of a flag that `get_one` reads
+pub one_flag : (E : Type 0) (o : Option Text) (r : Option Bool) → (o ≡ None → r ≡ None) → ((t : Text) → o ≡ Some t → ReadsOne {E = E} ParsesBool t r)
+    → unwrap_or r false ≡ option_map_or (λ t. bytes_eq t (codes "true")) o false
+one_flag E None r none value = rw (none refl) refl
+one_flag E (Some t) r none value = go r (value t refl)
+  where
+    go : (q : Option Bool) → ReadsOne {E = E} ParsesBool t q → unwrap_or q false ≡ bytes_eq t (codes "true")
+    go (Some true) h = rw h refl
+    go (Some false) h = rw h refl
+    go None h = sym (false_from_ne_true _ (λ e. h.1.0 ((bytes_eq-Decides t (codes "true")).0 e)))
 
 -- ---- numbers
 

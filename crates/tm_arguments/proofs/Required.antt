@@ -108,7 +108,7 @@ fields_given rows f e =
 -- what every job takes behind its settings, and help
 job_ruled : AllByRecursion IsRuled (drop 1 (shape_at 1).rules)
 unfolding range_of
-job_ruled = ((refl, tt), ((refl, tt), ((refl, (refl, refl, refl)), ((refl, tt), ((refl, tt), ((refl, tt), tt))))))
+job_ruled = ((refl, tt), ((refl, tt), ((refl, (refl, refl, refl)), ((refl, tt), ((refl, tt), ((refl, tt), ((refl, tt), tt)))))))
 
 subcommands_ask : AllByRecursion IsAsking tmx_built.subs
 unfolding range_of
@@ -118,7 +118,7 @@ subcommands_ask =
     let extract : IsAsking (shape_at 2) = (((refl, tt), job_ruled), Extract, refl, λ rows f e. (settings_given rows f e, tt)) in
     let split : IsAsking (shape_at 3) = (((refl, tt), ((refl, tt), job_ruled)), Split, refl, split_given) in
     let fields : IsAsking (shape_at 4) = (((refl, tt), ((refl, tt), ((refl, (refl, refl, refl)), job_ruled))), Fields, refl, fields_given) in
-    let summary : IsAsking (shape_at 5) = (frames.0, Summary, refl, λ rows f e. (settings_given rows f e, tt)) in
+    let summary : IsAsking (shape_at 5) = (((refl, tt), ((refl, tt), ((refl, tt), ((refl, tt), tt)))), Summary, refl, λ rows f e. (settings_given rows f e, tt)) in
     (frames, (packets, (extract, (split, (fields, (summary, tt))))))
 
 -- ---- the matches

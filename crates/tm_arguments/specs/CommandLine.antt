@@ -1,7 +1,8 @@
 -- The command line: the command as `clap` reads it, and the plan that its matches of the arguments make.
-use Rattle.std.specs.Prelude.{⊤, ◌≡◌, ◌≤◌, ◌&&◌, ◌^◌, ℕ, Bool, List, [], ◌∷◌, fold, Option, Some, None, pos, true, not, codes, length, nat_lt, is_some, if◌then◌else◌, option_map, option_and_then, IfSome, IsSome}
+use Rattle.std.specs.Prelude.{⊤, ◌≡◌, ◌≤◌, ◌&&◌, ◌^◌, ℕ, Bool, List, [], ◌∷◌, fold, Option, Some, None, pos, true, false, not, codes, length, nat_lt, is_some, if◌then◌else◌, option_map, option_and_then, IfSome, IsSome}
 use Rattle.std.specs.Char.{digit_value}
 use Rattle.std.specs.List.{list_all}
+use Rattle.std.specs.Option.{option_map_or}
 use Rattle.std.specs.Str.{bytes_eq}
 use Rattle.std.specs.Str.Parse.{digits_value, without_leading_plus}
 use Rattle.clap.specs.Walk.{Row, Rule, Text, first_of, one_of}
@@ -9,6 +10,7 @@ use Rattle.clap.specs.Simple.{App, new_app, new_rule, on_top, with_rule, with_su
 use Rattle.clap.specs.Takes.{takes}
 use Rattle.clap.specs.Faults.{fault_of}
 use Rattle.clap.specs.Kinds.{Kinds}
+use Rattle.clap.specs.declared.builder.action.ArgAction.TheVariants.{SetTrue}
 use Rattle.clap.specs.declared.builder.ValueParser.{ValueParser}
 use Rattle.clap.specs.declared.builder.ValueParser.TheVariants as parser
 use Rattle.tm_arguments.specs.declared.request.Action.{Action}
@@ -24,6 +26,10 @@ option_rule name = record (new_rule name) { long = Some name; value_names = 1 }
 -- the same, which has to be there
 abbrev pub required_rule : Text → Rule
 required_rule name = record (option_rule name) { required = true }
+
+-- `--NAME`, without a value
+abbrev pub flag_rule : Text → Rule
+flag_rule name = record (new_rule name) { long = Some name; action = Some SetTrue }
 
 -- RECORDING
 abbrev pub recording_rule : Rule
@@ -45,9 +51,13 @@ apid_rule = record (required_rule (codes "apid")) { parser = Some (numbers 0 204
 abbrev pub settings_rule : Rule
 settings_rule = required_rule (codes "settings")
 
--- `[--report FILE] [--checkpoint FILE] [--stop-after N] [--resume FILE] [RECORDING]`: what a job takes
+-- `[--strict] [RECORDING]`: what all commands but `frames` take
+abbrev pub strict_rules : List Rule
+strict_rules = flag_rule (codes "strict") ∷ recording_rule ∷ []
+
+-- `[--report FILE] [--checkpoint FILE] [--stop-after N] [--resume FILE] [--strict] [RECORDING]`: what a job takes
 abbrev pub job_rules : List Rule
-job_rules = option_rule (codes "report") ∷ option_rule (codes "checkpoint") ∷ stop_rule ∷ option_rule (codes "resume") ∷ recording_rule ∷ []
+job_rules = option_rule (codes "report") ∷ option_rule (codes "checkpoint") ∷ stop_rule ∷ option_rule (codes "resume") ∷ strict_rules
 
 -- a subcommand of this name, with these rules
 abbrev pub app_with : Text → List Rule → App
@@ -61,7 +71,7 @@ subcommands =
     ∷ app_with (codes "extract") (settings_rule ∷ job_rules)
     ∷ app_with (codes "split") (settings_rule ∷ required_rule (codes "dir") ∷ job_rules)
     ∷ app_with (codes "fields") (settings_rule ∷ required_rule (codes "definition") ∷ apid_rule ∷ job_rules)
-    ∷ app_with (codes "summary") (settings_rule ∷ recording_rule ∷ [])
+    ∷ app_with (codes "summary") (settings_rule ∷ strict_rules)
     ∷ []
 
 -- without a subcommand, of the arguments after the program's name; it has a version
@@ -104,6 +114,10 @@ number_spelled bits text =
     if (nat_lt 0 (length digits) && list_all (λ d. nat_lt (digit_value d) 10) digits) && nat_lt (digits_value 10 digits) (2 ^ bits)
     then Some (digits_value 10 digits) else None
 
+-- the flag is there: `clap` gives it the value `true` where it is among the arguments, and else `false`
+abbrev pub has_flag : Text → List Row → Bool
+has_flag name rows = option_map_or (λ text. bytes_eq text (codes "true")) (one_of name rows) false
+
 -- the plan of an action and the matches of its subcommand
 abbrev pub plan_with : List Row → Action → Plan
 plan_with rows action = record {
@@ -117,6 +131,7 @@ plan_with rows action = record {
   dir = first_of (codes "dir") rows;
   definition = first_of (codes "definition") rows;
   apid = option_and_then (number_spelled 16) (one_of (codes "apid") rows);
+  strict = has_flag (codes "strict") rows;
 }
 
 -- the plan of a subcommand and its matches

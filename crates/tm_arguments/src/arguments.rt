@@ -3,7 +3,7 @@
 ghost use Rattle.std.specs.Prelude.{◌≡◌, ◌≢◌, ◌⊎◌, true, false, Err, Some, [], map, IfOk, IfErr, option_and_then, string_bytes};
 ghost use Rattle.clap.specs.Words.{HasKind, first_of, found_of, kind_of, one_of, rows_of, subcommand_rows_of};
 ghost use Rattle.tm_arguments.specs.Refusals.{IsOfKind, IsOfOneKind};
-ghost use Rattle.tm_arguments.specs.CommandLine.{HasRequired, HasStop, action_named, number_spelled, faults_of, is_accepted, lacks_checkpoint, matches_of, plan_in, plan_of};
+ghost use Rattle.tm_arguments.specs.CommandLine.{HasRequired, HasStop, action_named, has_flag, number_spelled, faults_of, is_accepted, lacks_checkpoint, matches_of, plan_in, plan_of};
 
 use crate::command::tmx_command;
 use crate::request::{Action, Plan};
@@ -45,6 +45,13 @@ fn number_of(matches: &ArgMatches<'_>, id: &str) -> Option<u32>
     matches.get_one::<u32>(id)
 }
 
+// The flag is among the matches.
+fn has_flag(matches: &ArgMatches<'_>, id: &str) -> bool
+    ensures { result ≡ has_flag id.now (rows_of (found_of matches.now)) }
+{
+    matches.get_one::<bool>(id).unwrap_or(false)
+}
+
 // The action of this name.
 fn action_named(name: &str) -> Option<Action>
     ensures { result ≡ action_named name.now }
@@ -80,6 +87,7 @@ fn plan_of_subcommand(
     let dir = value_of(alloc, matches, "dir")?;
     let definition = value_of(alloc, matches, "definition")?;
     let apid = short_number_of(matches, "apid");
+    let strict = has_flag(matches, "strict");
     Ok(Some(Plan {
         action,
         recording,
@@ -91,6 +99,7 @@ fn plan_of_subcommand(
         dir,
         definition,
         apid,
+        strict,
     }))
 }
 
@@ -167,11 +176,11 @@ fn lacks_checkpoint(plan: &Plan) -> bool
     plan.stop_after.is_some() && plan.checkpoint.is_none()
 }
 
-/// What the arguments after the program's name ask for. `frames` and `summary` take `--settings FILE [RECORDING]`. `packets` and
-/// `extract` take `[--report FILE] [--checkpoint FILE] [--stop-after N] [--resume FILE]` besides. `split` takes `--dir DIR` as
-/// well, and `fields` takes `--definition FILE --apid N` as well. The N of `--stop-after` is from 1 to 4294967295, that of
-/// `--apid` from 0 to 2047. `--stop-after` without `--checkpoint` is `StopAfter`. Other arguments are `Usage`, `--help` is `Help`,
-/// each with a text to print.
+/// What the arguments after the program's name ask for. `frames` takes `--settings FILE [RECORDING]`, and `summary` takes
+/// `[--strict]` besides. `packets` and `extract` take `[--report FILE] [--checkpoint FILE] [--stop-after N] [--resume FILE]` as
+/// well. `split` takes `--dir DIR` besides these, and `fields` takes `--definition FILE --apid N`. The N of `--stop-after` is from
+/// 1 to 4294967295, that of `--apid` from 0 to 2047. `--stop-after` without `--checkpoint` is `StopAfter`. Other arguments are
+/// `Usage`, `--help` is `Help`, each with a text to print.
 pub fn plan(alloc: Global, arguments: Vec<String>) -> Result<Plan, UsageFault>
     // A plan is what `clap`'s matches of the arguments say, with what its action needs, and comes only for arguments in
     // which `clap` finds nothing wrong. It stops after a number of records only where it has a file for the checkpoint.

@@ -8,7 +8,7 @@ ghost use Rattle.tm_arguments.specs.code.Table.{app_for, rule_for, with_describe
 
 use crate::table::{Argument, ArgumentForm, PAGES, SUBCOMMANDS, Subcommand, VERSION};
 use clap::builder::ValueParser;
-use clap::{Arg, Command};
+use clap::{Arg, ArgAction, Command};
 use std::alloc::{AllocError, Global};
 
 // `clap`'s argument for one of the table.
@@ -17,15 +17,16 @@ fn arg_of<'a>(alloc: Global, argument: &Argument) -> Arg<'a>
     ensures local { result.global ≡ false }
 {
     let arg = Arg::new(alloc, argument.name)
-        .value_name(argument.value)
         .help(argument.help)
         .required(argument.required);
     match argument.form {
-        ArgumentForm::Bare => arg,
-        ArgumentForm::Text => arg.long(argument.name),
+        ArgumentForm::Bare(value) => arg.value_name(value),
+        ArgumentForm::Text(value) => arg.long(argument.name).value_name(value),
         ArgumentForm::Number(least, most) => arg
             .long(argument.name)
+            .value_name("N")
             .value_parser(ValueParser::signed(least, most)),
+        ArgumentForm::Flag => arg.long(argument.name).action(ArgAction::SetTrue),
     }
 }
 

@@ -41,4 +41,6 @@ pub struct Plan {
     pub definition: Option<Octets>,
     /// The application whose packets' fields are read, which reading fields needs.
     pub apid: Option<u16>,
+    /// Whether the status of a run that is done says what was lost.
+    pub strict: bool,
 }

@@ -7,22 +7,23 @@ pub(crate) const VERSION: &str = "0.1.0\nlogic dac8208d650f15bf";
 pub(crate) const PAGES: &str =
     "tmx COMMAND --help says what a command takes, and has an example.\n\nPages, in the folder docs:\n  tmx.1       the manual page: man -l docs/tmx.1\n  FORMATS.md  settings, lines, definitions, faults and statuses\n  FRAMES.md   how frames are read\n  RUNS.md     which packets are whole, and what is lost\n  PACKETS.md  headers of packets, counts and groups\n  RECIPES.md  how other tools take over\n  PYTHON.md   the package for Python";
 
-/// What an argument is.
+/// What an argument is. Help calls its value as the text says.
 #[derive(Clone, Copy)]
 pub(crate) enum ArgumentForm {
     /// `VALUE`, with nothing before it.
-    Bare,
+    Bare(&'static str),
     /// `--NAME VALUE`, of any text.
-    Text,
-    /// `--NAME VALUE`, of a number from the first to the second.
+    Text(&'static str),
+    /// `--NAME N`, of a number from the first to the second.
     Number(i64, i64),
+    /// `--NAME`, without a value.
+    Flag,
 }
 
 /// An argument that a subcommand takes.
 #[derive(Clone, Copy)]
 pub(crate) struct Argument {
     pub(crate) name: &'static str,
-    pub(crate) value: &'static str,
     pub(crate) help: &'static str,
     pub(crate) required: bool,
     pub(crate) form: ArgumentForm,
@@ -39,39 +40,34 @@ pub(crate) struct Subcommand {
 
 const SETTINGS: Argument = Argument {
     name: "settings",
-    value: "FILE",
     help: "The settings of the recording: a TOML file",
     required: true,
-    form: ArgumentForm::Text,
+    form: ArgumentForm::Text("FILE"),
 };
 
 const RECORDING: Argument = Argument {
     name: "recording",
-    value: "RECORDING",
     help: "The recording; standard input if it is left out",
     required: false,
-    form: ArgumentForm::Bare,
+    form: ArgumentForm::Bare("RECORDING"),
 };
 
 const REPORT: Argument = Argument {
     name: "report",
-    value: "FILE",
     help: "The report of what is bad or lost; standard error if it is left out; - is a file of this name",
     required: false,
-    form: ArgumentForm::Text,
+    form: ArgumentForm::Text("FILE"),
 };
 
 const CHECKPOINT: Argument = Argument {
     name: "checkpoint",
-    value: "FILE",
     help: "The checkpoint written after the run; if left out the recording is closed",
     required: false,
-    form: ArgumentForm::Text,
+    form: ArgumentForm::Text("FILE"),
 };
 
 const STOP_AFTER: Argument = Argument {
     name: "stop-after",
-    value: "N",
     help: "Further records to stop after, 1 to 4294967295; needs --checkpoint; all if left out",
     required: false,
     form: ArgumentForm::Number(1, 4_294_967_295),
@@ -79,53 +75,60 @@ const STOP_AFTER: Argument = Argument {
 
 const RESUME: Argument = Argument {
     name: "resume",
-    value: "FILE",
     help: "The checkpoint to go on from; the recording's beginning if it is left out",
     required: false,
-    form: ArgumentForm::Text,
+    form: ArgumentForm::Text("FILE"),
+};
+
+const STRICT: Argument = Argument {
+    name: "strict",
+    help: "Status 5 without a good frame of a chosen channel, else 4 if anything is bad or lost",
+    required: false,
+    form: ArgumentForm::Flag,
 };
 
 const DIR: Argument = Argument {
     name: "dir",
-    value: "DIR",
     help: "The folder for the files, which has to be there; other files of an earlier run stay in it",
     required: true,
-    form: ArgumentForm::Text,
+    form: ArgumentForm::Text("DIR"),
 };
 
 const DEFINITION: Argument = Argument {
     name: "definition",
-    value: "FILE",
     help: "The definition of the fields: a CSV file",
     required: true,
-    form: ArgumentForm::Text,
+    form: ArgumentForm::Text("FILE"),
 };
 
 const APID: Argument = Argument {
     name: "apid",
-    value: "N",
     help: "The application whose packets are read: a number from 0 to 2047",
     required: true,
     form: ArgumentForm::Number(0, 2047),
 };
 
-const LISTING_ARGUMENTS: [Argument; 2] = [SETTINGS, RECORDING];
+const FRAMES_ARGUMENTS: [Argument; 2] = [SETTINGS, RECORDING];
 
-const JOB_ARGUMENTS: [Argument; 6] = [SETTINGS, REPORT, CHECKPOINT, STOP_AFTER, RESUME, RECORDING];
-
-const SPLIT_ARGUMENTS: [Argument; 7] = [
-    SETTINGS, DIR, REPORT, CHECKPOINT, STOP_AFTER, RESUME, RECORDING,
+const JOB_ARGUMENTS: [Argument; 7] = [
+    SETTINGS, REPORT, CHECKPOINT, STOP_AFTER, RESUME, STRICT, RECORDING,
 ];
 
-const FIELDS_ARGUMENTS: [Argument; 8] = [
-    SETTINGS, DEFINITION, APID, REPORT, CHECKPOINT, STOP_AFTER, RESUME, RECORDING,
+const SPLIT_ARGUMENTS: [Argument; 8] = [
+    SETTINGS, DIR, REPORT, CHECKPOINT, STOP_AFTER, RESUME, STRICT, RECORDING,
 ];
+
+const FIELDS_ARGUMENTS: [Argument; 9] = [
+    SETTINGS, DEFINITION, APID, REPORT, CHECKPOINT, STOP_AFTER, RESUME, STRICT, RECORDING,
+];
+
+const SUMMARY_ARGUMENTS: [Argument; 3] = [SETTINGS, STRICT, RECORDING];
 
 pub(crate) const SUBCOMMANDS: [Subcommand; 6] = [
     Subcommand {
         name: "frames",
         about: "Lists the frames: one line for each record of the recording",
-        arguments: &LISTING_ARGUMENTS,
+        arguments: &FRAMES_ARGUMENTS,
         example: "Example:\n  tmx frames --settings s.toml pass.rec",
     },
     Subcommand {
@@ -155,7 +158,7 @@ pub(crate) const SUBCOMMANDS: [Subcommand; 6] = [
     Subcommand {
         name: "summary",
         about: "Sums up the recording: what came of each channel and application, and what was lost",
-        arguments: &LISTING_ARGUMENTS,
+        arguments: &SUMMARY_ARGUMENTS,
         example: "Example:\n  tmx summary --settings s.toml pass.rec",
     },
 ];

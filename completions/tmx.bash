@@ -4,10 +4,11 @@
 # The options of a command, or those of tmx itself where the word is no command.
 _tmx_options() {
     case $1 in
-    frames | summary) echo "--settings -h --help" ;;
-    packets | extract) echo "--settings --report --checkpoint --stop-after --resume -h --help" ;;
-    split) echo "--settings --dir --report --checkpoint --stop-after --resume -h --help" ;;
-    fields) echo "--settings --definition --apid --report --checkpoint --stop-after --resume -h --help" ;;
+    frames) echo "--settings -h --help" ;;
+    summary) echo "--settings --strict -h --help" ;;
+    packets | extract) echo "--settings --report --checkpoint --stop-after --resume --strict -h --help" ;;
+    split) echo "--settings --dir --report --checkpoint --stop-after --resume --strict -h --help" ;;
+    fields) echo "--settings --definition --apid --report --checkpoint --stop-after --resume --strict -h --help" ;;
     *) echo "-h --help -V --version" ;;
     esac
 }

@@ -37,3 +37,6 @@ complete -c tmx -n $command -l report -r -F -d 'The file of the report'
 complete -c tmx -n $command -l checkpoint -r -F -d 'The checkpoint to write after the run'
 complete -c tmx -n $command -l stop-after -x -d 'How many records further to stop'
 complete -c tmx -n $command -l resume -r -F -d 'The checkpoint to go on from'
+
+set -l command '__tmx_command_is packets extract split fields summary'
+complete -c tmx -n $command -l strict -d 'Status 4 or 5 if anything is bad or lost'

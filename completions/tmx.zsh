@@ -40,6 +40,9 @@ _tmx() {
         options+=('--stop-after=[how many records further to stop]:N:')
         options+=('--resume=[the checkpoint to go on from]:FILE:_files')
         ;|
+    packets|extract|split|fields|summary)
+        options+=('--strict[status 4 or 5 if anything is bad or lost]')
+        ;|
     esac
     _arguments $options '1:RECORDING:_files'
 }

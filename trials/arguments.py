@@ -276,7 +276,7 @@ def compare_faults():
         first, *others = head.split(" , ")
         found |= {first} | {f"{first.rpartition(' ')[0]} {it}" for it in others}
     tell("lines of faults in the manual", faults_of_formats(), found)
-    rows = re.findall(r"\| (\d) \|", section_of_faults())
+    rows = re.findall(r"\| (\d) \|", FORMATS.split("\n## Fault lines and statuses\n")[1])
     tell("statuses of the manual", set(rows), {head for head, _ in items("EXIT STATUS")})
 
 

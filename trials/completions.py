@@ -58,9 +58,10 @@ def kind_of_bash(file, *words):
 def words_of_bash(file, command):
     """The options that bash completes, each with what its value is completed to."""
     before = ["tmx", command] if command else ["tmx"]
-    options = {}
-    for name in ask_bash(file, *before, "-"):
-        options[name] = "none" if name in ("-h", "--help", "-V", "--version") else kind_of_bash(file, *before, name)
+    options, names = {}, ask_bash(file, *before, "-")
+    for name in names:
+        is_flag = ask_bash(file, *before, name, "-") == names
+        options[name] = "none" if is_flag else kind_of_bash(file, *before, name)
         if options[name] == "files" and kind_of_bash(file, *before, name, "=") != "files":
             options[name] = "nothing behind ="
     return options
@@ -74,8 +75,9 @@ def words_of_zsh(text, command):
     options = {}
     for names, end in re.findall(r"\{([-\w,]+)\}'\[[^\]]*\]([^']*)'", part):
         options |= {name: "none" if not end else end for name in names.split(",")}
-    for name, end in re.findall(r"'(--[\w-]+)=\[[^\]]*\]([^']*)'", part):
-        options[name] = {":FILE:_files": "files", ":DIR:_files -/": "folders", ":N:": "nothing"}.get(end, end)
+    ends = {"": "none", "=:FILE:_files": "files", "=:DIR:_files -/": "folders", "=:N:": "nothing"}
+    for name, sign, end in re.findall(r"'(--[\w-]+)(=?)\[[^\]]*\]([^']*)'", part):
+        options[name] = ends.get(sign + end, sign + end)
     return options
 
 

@@ -107,6 +107,25 @@ fn words_of_split_and_fields(rt: HostRuntime) {
 }
 
 #[test]
+fn words_with_and_without_strict(rt: HostRuntime) {
+    let table = [
+        ["packets", "--settings=s"].as_slice(),
+        &["extract", "--settings=s"],
+        &["split", "--settings=s", "--dir=d"],
+        &["fields", "--settings=s", "--definition=d", "--apid=0"],
+        &["summary", "--settings=s"],
+    ];
+    for arguments in table {
+        let without = plan_of(rt.alloc(), arguments);
+        assert!(rt; without.is_ok_and(|plan| !plan.strict), "{arguments:?}");
+        let mut words = Vec::from_slice(rt.alloc(), arguments).expect(&rt, "memory");
+        words.push("--strict").expect(&rt, "memory");
+        let with = plan_of(rt.alloc(), words.as_slice());
+        assert!(rt; with.is_ok_and(|plan| plan.strict), "{arguments:?}");
+    }
+}
+
+#[test]
 fn stop_without_checkpoint(rt: HostRuntime) {
     let arguments = ["extract", "--settings", "s", "--stop-after", "3"];
     let found = plan_of(rt.alloc(), &arguments);
@@ -137,6 +156,9 @@ fn wrong_words(rt: HostRuntime) {
         &["frames", "--settings=s", "--checkpoint=c"],
         &["fields", "--settings=s", "--apid=200"],
         &["packets", "--version"],
+        &["frames", "--settings=s", "--strict"],
+        &["packets", "--settings=s", "--strict=true"],
+        &["packets", "--settings=s", "--strict", "--strict"],
     ];
     for arguments in table {
         assert!(rt; usage_of(rt.alloc(), arguments).is_some());
@@ -176,19 +198,19 @@ const HELP_OF_FRAMES: &str =
     "Lists the frames: one line for each record of the recording\n\nUsage: tmx frames --settings <FILE> [RECORDING]\n\nArguments:\n  [RECORDING]  The recording; standard input if it is left out\n\nOptions:\n      --settings <FILE>  The settings of the recording: a TOML file\n  -h, --help             Print help\n\nExample:\n  tmx frames --settings s.toml pass.rec\n";
 
 const HELP_OF_PACKETS: &str =
-    "Lists the packets of the chosen channels: one line for each\n\nUsage: tmx packets [OPTIONS] --settings <FILE> [RECORDING]\n\nArguments:\n  [RECORDING]  The recording; standard input if it is left out\n\nOptions:\n      --settings <FILE>    The settings of the recording: a TOML file\n      --report <FILE>      The report of what is bad or lost; standard error if it is left out; - is a file of this name\n      --checkpoint <FILE>  The checkpoint written after the run; if left out the recording is closed\n      --stop-after <N>     Further records to stop after, 1 to 4294967295; needs --checkpoint; all if left out\n      --resume <FILE>      The checkpoint to go on from; the recording's beginning if it is left out\n  -h, --help               Print help\n\nExample:\n  tmx packets --settings s.toml --report report.txt pass.rec\n";
+    "Lists the packets of the chosen channels: one line for each\n\nUsage: tmx packets [OPTIONS] --settings <FILE> [RECORDING]\n\nArguments:\n  [RECORDING]  The recording; standard input if it is left out\n\nOptions:\n      --settings <FILE>    The settings of the recording: a TOML file\n      --report <FILE>      The report of what is bad or lost; standard error if it is left out; - is a file of this name\n      --checkpoint <FILE>  The checkpoint written after the run; if left out the recording is closed\n      --stop-after <N>     Further records to stop after, 1 to 4294967295; needs --checkpoint; all if left out\n      --resume <FILE>      The checkpoint to go on from; the recording's beginning if it is left out\n      --strict             Status 5 without a good frame of a chosen channel, else 4 if anything is bad or lost\n  -h, --help               Print help\n\nExample:\n  tmx packets --settings s.toml --report report.txt pass.rec\n";
 
 const HELP_OF_EXTRACT: &str =
-    "Extracts the packets of the chosen channels: their octets, with nothing between them\n\nUsage: tmx extract [OPTIONS] --settings <FILE> [RECORDING]\n\nArguments:\n  [RECORDING]  The recording; standard input if it is left out\n\nOptions:\n      --settings <FILE>    The settings of the recording: a TOML file\n      --report <FILE>      The report of what is bad or lost; standard error if it is left out; - is a file of this name\n      --checkpoint <FILE>  The checkpoint written after the run; if left out the recording is closed\n      --stop-after <N>     Further records to stop after, 1 to 4294967295; needs --checkpoint; all if left out\n      --resume <FILE>      The checkpoint to go on from; the recording's beginning if it is left out\n  -h, --help               Print help\n\nExample:\n  zcat pass.rec.gz | tmx extract --settings s.toml --report report.txt > pass.pkt\n";
+    "Extracts the packets of the chosen channels: their octets, with nothing between them\n\nUsage: tmx extract [OPTIONS] --settings <FILE> [RECORDING]\n\nArguments:\n  [RECORDING]  The recording; standard input if it is left out\n\nOptions:\n      --settings <FILE>    The settings of the recording: a TOML file\n      --report <FILE>      The report of what is bad or lost; standard error if it is left out; - is a file of this name\n      --checkpoint <FILE>  The checkpoint written after the run; if left out the recording is closed\n      --stop-after <N>     Further records to stop after, 1 to 4294967295; needs --checkpoint; all if left out\n      --resume <FILE>      The checkpoint to go on from; the recording's beginning if it is left out\n      --strict             Status 5 without a good frame of a chosen channel, else 4 if anything is bad or lost\n  -h, --help               Print help\n\nExample:\n  zcat pass.rec.gz | tmx extract --settings s.toml --report report.txt > pass.pkt\n";
 
 const HELP_OF_SPLIT: &str =
-    "Extracts the packets of the chosen channels to a file for each application\n\nUsage: tmx split [OPTIONS] --settings <FILE> --dir <DIR> [RECORDING]\n\nArguments:\n  [RECORDING]  The recording; standard input if it is left out\n\nOptions:\n      --settings <FILE>    The settings of the recording: a TOML file\n      --dir <DIR>          The folder for the files, which has to be there; other files of an earlier run stay in it\n      --report <FILE>      The report of what is bad or lost; standard error if it is left out; - is a file of this name\n      --checkpoint <FILE>  The checkpoint written after the run; if left out the recording is closed\n      --stop-after <N>     Further records to stop after, 1 to 4294967295; needs --checkpoint; all if left out\n      --resume <FILE>      The checkpoint to go on from; the recording's beginning if it is left out\n  -h, --help               Print help\n\nExample:\n  tmx split --settings s.toml --dir packets --report report.txt pass.rec\n";
+    "Extracts the packets of the chosen channels to a file for each application\n\nUsage: tmx split [OPTIONS] --settings <FILE> --dir <DIR> [RECORDING]\n\nArguments:\n  [RECORDING]  The recording; standard input if it is left out\n\nOptions:\n      --settings <FILE>    The settings of the recording: a TOML file\n      --dir <DIR>          The folder for the files, which has to be there; other files of an earlier run stay in it\n      --report <FILE>      The report of what is bad or lost; standard error if it is left out; - is a file of this name\n      --checkpoint <FILE>  The checkpoint written after the run; if left out the recording is closed\n      --stop-after <N>     Further records to stop after, 1 to 4294967295; needs --checkpoint; all if left out\n      --resume <FILE>      The checkpoint to go on from; the recording's beginning if it is left out\n      --strict             Status 5 without a good frame of a chosen channel, else 4 if anything is bad or lost\n  -h, --help               Print help\n\nExample:\n  tmx split --settings s.toml --dir packets --report report.txt pass.rec\n";
 
 const HELP_OF_FIELDS: &str =
-    "Reads the fields of an application's packets: a row of CSV for each packet\n\nUsage: tmx fields [OPTIONS] --settings <FILE> --definition <FILE> --apid <N> [RECORDING]\n\nArguments:\n  [RECORDING]  The recording; standard input if it is left out\n\nOptions:\n      --settings <FILE>    The settings of the recording: a TOML file\n      --definition <FILE>  The definition of the fields: a CSV file\n      --apid <N>           The application whose packets are read: a number from 0 to 2047\n      --report <FILE>      The report of what is bad or lost; standard error if it is left out; - is a file of this name\n      --checkpoint <FILE>  The checkpoint written after the run; if left out the recording is closed\n      --stop-after <N>     Further records to stop after, 1 to 4294967295; needs --checkpoint; all if left out\n      --resume <FILE>      The checkpoint to go on from; the recording's beginning if it is left out\n  -h, --help               Print help\n\nExample:\n  tmx fields --settings s.toml --definition fields.csv --apid 101 pass.rec > rows.csv\n";
+    "Reads the fields of an application's packets: a row of CSV for each packet\n\nUsage: tmx fields [OPTIONS] --settings <FILE> --definition <FILE> --apid <N> [RECORDING]\n\nArguments:\n  [RECORDING]  The recording; standard input if it is left out\n\nOptions:\n      --settings <FILE>    The settings of the recording: a TOML file\n      --definition <FILE>  The definition of the fields: a CSV file\n      --apid <N>           The application whose packets are read: a number from 0 to 2047\n      --report <FILE>      The report of what is bad or lost; standard error if it is left out; - is a file of this name\n      --checkpoint <FILE>  The checkpoint written after the run; if left out the recording is closed\n      --stop-after <N>     Further records to stop after, 1 to 4294967295; needs --checkpoint; all if left out\n      --resume <FILE>      The checkpoint to go on from; the recording's beginning if it is left out\n      --strict             Status 5 without a good frame of a chosen channel, else 4 if anything is bad or lost\n  -h, --help               Print help\n\nExample:\n  tmx fields --settings s.toml --definition fields.csv --apid 101 pass.rec > rows.csv\n";
 
 const HELP_OF_SUMMARY: &str =
-    "Sums up the recording: what came of each channel and application, and what was lost\n\nUsage: tmx summary --settings <FILE> [RECORDING]\n\nArguments:\n  [RECORDING]  The recording; standard input if it is left out\n\nOptions:\n      --settings <FILE>  The settings of the recording: a TOML file\n  -h, --help             Print help\n\nExample:\n  tmx summary --settings s.toml pass.rec\n";
+    "Sums up the recording: what came of each channel and application, and what was lost\n\nUsage: tmx summary [OPTIONS] --settings <FILE> [RECORDING]\n\nArguments:\n  [RECORDING]  The recording; standard input if it is left out\n\nOptions:\n      --settings <FILE>  The settings of the recording: a TOML file\n      --strict           Status 5 without a good frame of a chosen channel, else 4 if anything is bad or lost\n  -h, --help             Print help\n\nExample:\n  tmx summary --settings s.toml pass.rec\n";
 
 // Words that ask for a text, and the text.
 const HELPS: [(&[&str], &str); 9] = [

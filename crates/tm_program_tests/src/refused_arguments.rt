@@ -6,13 +6,14 @@ use tm_arguments::{Action, Plan, plan};
 use tm_memory::{Answer, NOTHING_HELD, Turns, try_twice};
 use tm_program::UsageFault;
 
-const WORDS: [&str; 7] = [
+const WORDS: [&str; 8] = [
     "packets",
     "--settings=s",
     "--report=r",
     "--checkpoint=c",
     "--stop-after=3",
     "--resume=b",
+    "--strict",
     "x",
 ];
 
@@ -23,6 +24,7 @@ fn is_known(plan: &Plan) -> bool {
         && is_named(&plan.checkpoint, "c")
         && plan.stop_after == Some(3)
         && is_named(&plan.resume, "b")
+        && plan.strict
         && is_named(&plan.recording, "x")
 }
 

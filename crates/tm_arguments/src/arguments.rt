@@ -45,7 +45,7 @@ fn number_of(matches: &ArgMatches<'_>, id: &str) -> Option<u32>
     matches.get_one::<u32>(id)
 }
 
-// The flag is among the matches.
+// The flag is among the matches. The contract of `get_flag` leaves open what it answers for other texts than `true` and `false`.
 fn has_flag(matches: &ArgMatches<'_>, id: &str) -> bool
     ensures { result ≡ has_flag id.now (rows_of (found_of matches.now)) }
 {

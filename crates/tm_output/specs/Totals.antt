@@ -1,5 +1,5 @@
 -- What a run gave and lost, in numbers: with one item more, and with many.
-use Rattle.std.specs.Prelude.{ℕ, ◌+◌, ◌-◌, ◌%◌, ◌^◌, ◌||◌, min, Bool, true, false, List, [], ◌∷◌, if◌then◌else◌}
+use Rattle.std.specs.Prelude.{ℕ, ◌+◌, ◌-◌, ◌%◌, ◌^◌, ◌||◌, min, Bool, true, false, List, [], ◌∷◌, replicate, if◌then◌else◌}
 use Rattle.std.specs.List.{list_any}
 use Rattle.tm_packet.specs.declared.notes.Note.{Note}
 use Rattle.tm_packet.specs.declared.notes.Note.TheVariants as note
@@ -15,7 +15,7 @@ capped n = min n (2 ^ 64 - 1)
 
 -- nothing yet
 abbrev pub no_totals : Totals
-no_totals = record { good = 0; bad = 0; missing = 0; dropped = 0; packets = 0; short = 0; has_losses = false }
+no_totals = record { good = 0; bad = 0; missing = 0; dropped = 0; packets = 0; short = 0; has_losses = false; absent = replicate 8 false }
 
 -- there is something of a text
 abbrev pub is_some_text : List ℕ → Bool

@@ -23,6 +23,8 @@ pub struct Totals {
     pub short: u64,
     /// The report has a line that tells a loss: any but `vca`, `group` and `short`.
     pub has_losses: bool,
+    /// Of each channel, whether it is chosen and no good frame of it came by now, in earlier runs of the job either.
+    pub absent: [bool; 8],
 }
 
 impl Totals {
@@ -38,6 +40,7 @@ impl Totals {
             packets: 0,
             short: 0,
             has_losses: false,
+            absent: [false; 8],
         }
     }
 

@@ -1,5 +1,5 @@
 -- What a run gave and lost, in numbers: of one item, one record, and all that it read.
-use Rattle.std.proofs.Common.{◌≡◌, ◌<◌, ◌+◌, ◌%◌, ◌^◌, ◌||◌, ℕ, Bool, true, false, List, [], ◌∷◌, ◌++◌, length, refl, sym, ap, subst, ◌∙◌, append-nil, append_assoc, arith, inl, inr, Option, Some, None, Result, Ok, Err, OnOk, IfErr, map, if◌then◌else◌, sum_by}
+use Rattle.std.proofs.Common.{◌≡◌, ◌<◌, ◌+◌, ◌%◌, ◌^◌, ◌||◌, ℕ, Bool, true, false, List, [], ◌∷◌, ◌++◌, length, refl, sym, ap, subst, ◌∙◌, append-nil, append_assoc, arith, inl, inr, Option, Some, None, Result, Ok, Err, OnOk, IfErr, map, replicate, if◌then◌else◌, sum_by}
 use Rattle.std.specs.List.{AllByRecursion, list_any}
 use Rattle.std.proofs.lemmas.List.Folds.{list_any-append}
 use Rattle.std.proofs.lemmas.List.Sums.{sum_by_push}
@@ -31,7 +31,7 @@ use Rattle.tm_summary.proofs.OneMore.{how_many_more, in_all_more}
 use Rattle.tm_checkpoint.specs.Works.{Work}
 use Rattle.tm_tool.specs.RecordingPieces.{items_of, worked}
 use Rattle.tm_tool.specs.Runs.{behind}
-use Rattle.tm_tool.specs.RunTotals.{end_items, end_notes, frames_in, good_frames, is_remarked, item_tells_loss, run_items, run_tally, run_totals, totals_of}
+use Rattle.tm_tool.specs.RunTotals.{absent_channels, end_items, end_notes, frames_in, good_frames, is_remarked, item_tells_loss, run_items, run_tally, run_totals, totals_of}
 use Rattle.tm_tool.specs.code.RecordLoop.{HasStepped, StillTakes, TakesBehind, TakesRecords, TakingStopped, ThenRefuses}
 use Rattle.tm_tool.specs.code.Stepping.{CountsTaken, RefusesCounted, RefusesRecord, RunState, TakesRecord, with_end}
 use Rattle.tm_tool.specs.code.Summing.{CountedRecords, and_records}
@@ -150,6 +150,7 @@ module _ {A : Type 0} (text : Texts A) (rules : Rules) where
         short = if is_remarked text x then capped ((numbers t).short + 1) else (numbers t).short;
         has_losses = (list_any item_tells_loss t.items || item_tells_loss x)
             || ((note_losses t.notes || note_losses ns) || (remarks t.items || is_remarked text x));
+        absent = replicate 8 false;
       }
   item_more t x ns =
       rw (
@@ -281,10 +282,13 @@ module _ {A : Type 0} (text : Texts A) (none : (x : Item) → HasLine x → Give
   abbrev so_far : Totals
   so_far = totals_of text w.rules (and_records w nothing rs)
 
-  kept_end : (rest : ℕ) → so_far ≡ run_totals text Keep w rs rest
+  abbrev told : Ending → ℕ → Totals
+  told ending rest = totals_of text w.rules (run_tally ending w rs rest)
+
+  kept_end : (rest : ℕ) → so_far ≡ told Keep rest
   kept_end rest = rw (append-nil (items_of w rs)) (rw (append-nil (notes_among w.entries (items_of w rs))) refl)
 
-  pub ended : (ending : Ending) (rest : ℕ) → with_end text ending (worked w rs) rest so_far ≡ run_totals text ending w rs rest
+  pub ended : (ending : Ending) (rest : ℕ) → with_end text ending (worked w rs) rest so_far ≡ told ending rest
   ended Keep rest = kept_end rest
   ended (StopAfter n) rest = kept_end rest
   ended Close rest =
@@ -313,8 +317,9 @@ module _ {A K : Type 0} (grows : K → K → List A → Type 0) (text : Texts A)
   -- so a run over records that were taken, and their ending, counts them
   pub run_counted : (ending : Ending) (w : Work) → IsValid w → (first next : Option (List ℕ)) (old mid : RunState K) (v : Work) (n : ℕ) (now : Totals)
       → old.totals ≡ no_totals → (h : HasStepped (TakesRecords (CountsTaken grows text)) ending w first next old mid v n)
-      → now ≡ with_end text ending v n mid.totals → now ≡ run_totals text ending w (behind w h.read) (length h.rest)
-  run_counted ending w valid first next old mid v n now begun h now_is =
+      → now ≡ with_end text ending v n mid.totals → (absent : List Bool) → absent ≡ absent_channels v
+      → record now { absent = absent } ≡ run_totals text ending w (behind w h.read) (length h.rest)
+  run_counted ending w valid first next old mid v n now begun h now_is absent absent_is =
       let of_run : Tally → Totals = totals_of text w.rules in
       let counts = part_behind (λ (s : RunState K). s.totals) (CountsTaken grows text)
       (λ (x : Work) (one : List ℕ). CountedRecords (totals_of text x.rules) x (one ∷ [])) (λ x one before after took. took.1)
@@ -323,11 +328,14 @@ module _ {A K : Type 0} (grows : K → K → List A → Type 0) (text : Texts A)
       let sum : mid.totals ≡ of_run (and_records w nothing (behind w h.read)) =
       holds_of_all (λ (x : Work) (one : List ℕ). CountedRecords (totals_of text x.rules) x (one ∷ [])) (CountedRecords of_run w) w
       (counted_more w valid of_run) (counted_none of_run w) (behind w h.read) old.totals mid.totals counts nothing begun_is in
-      now_is
+      let all = now_is
       ∙ ap (λ (t : Totals). with_end text ending v n t) sum
       ∙ ap (λ (x : Work). with_end text ending x n (of_run (and_records w nothing (behind w h.read)))) h.work
       ∙ ap (λ (m : ℕ). with_end text ending (worked w (behind w h.read)) m (of_run (and_records w nothing (behind w h.read)))) (sym h.left)
-      ∙ ended text none w (behind w h.read) ending (length h.rest)
+      ∙ ended text none w (behind w h.read) ending (length h.rest) in
+      ap (λ (t : Totals). record t { absent = absent }) all
+      ∙ ap (λ (l : List Bool). record (totals_of text w.rules (run_tally ending w (behind w h.read) (length h.rest))) { absent = l })
+      (absent_is ∙ ap absent_channels h.work)
 
 -- ---- a flush behind a record
 

@@ -1,5 +1,5 @@
 -- What a run gave and lost, in numbers, each of whole lists.
-use Rattle.std.specs.Prelude.{ℕ, ◌%◌, ◌^◌, ◌||◌, Bool, true, false, List, [], ◌∷◌, ◌++◌, Result, Ok, Err, sum_by, if◌then◌else◌}
+use Rattle.std.specs.Prelude.{ℕ, ◌%◌, ◌^◌, ◌||◌, ◌&&◌, Bool, true, false, is_none, map, replicate, List, [], ◌∷◌, ◌++◌, Result, Ok, Err, sum_by, if◌then◌else◌}
 use Rattle.std.specs.List.{flat_map, list_any}
 use Rattle.tm_frame.specs.declared.fault.FrameFault.{FrameFault}
 use Rattle.tm_frame.specs.declared.layout.LayoutParts.{LayoutParts}
@@ -15,7 +15,8 @@ use Rattle.tm_output.specs.declared.totals.Totals.{Totals}
 use Rattle.tm_output.specs.Pieces.{Texts, noted_all}
 use Rattle.tm_output.specs.Totals.{is_some_text, note_tells_loss}
 use Rattle.tm_summary.specs.Kinds.{Noted, is_bad, drop_octets, master_missing}
-use Rattle.tm_summary.specs.SummaryNumbers.{Tally, how_many, in_all}
+use Rattle.tm_reassembly.specs.Steps.{last_count_of}
+use Rattle.tm_summary.specs.SummaryNumbers.{Tally, below, how_many, in_all}
 use Rattle.tm_summary.specs.Tallies.{notes_among, open_notes}
 use Rattle.tm_checkpoint.specs.Works.{Work}
 use Rattle.tm_tool.specs.RecordingPieces.{items_of, worked}
@@ -56,6 +57,13 @@ run_tally ending w rs rest = record {
 
 -- ---- in numbers
 
+-- the channel is chosen, and no good frame of it came by now
+abbrev pub is_absent : Work → ℕ → Bool
+is_absent w channel = chooses w.rules channel && is_none (last_count_of w.state channel)
+
+abbrev pub absent_channels : Work → List Bool
+absent_channels w = map (is_absent w) (below 8)
+
 -- the report has a line of the item, and it tells a loss: all but those of a VCA frame and of a rest do
 abbrev pub item_tells_loss : Item → Bool
 item_tells_loss (Vca seen channel) = false
@@ -77,8 +85,9 @@ module _ {A : Type 0} (text : Texts A) where
     packets = sum_by (λ x. if text.given x then 1 else 0) t.items % 2 ^ 64;
     short = how_many is_remarked t.items;
     has_losses = list_any item_tells_loss t.items || (list_any (λ n. note_tells_loss n.note) t.notes || list_any is_remarked t.items);
+    absent = replicate 8 false;
   }
 
-  -- those of a run over these records, where the ending leaves this many octets
+  -- those of a run over these records, where the ending leaves this many octets; behind them it is known which channels didn't come
   abbrev pub run_totals : Ending → Work → List (List ℕ) → ℕ → Totals
-  run_totals ending w rs rest = totals_of w.rules (run_tally ending w rs rest)
+  run_totals ending w rs rest = record (totals_of w.rules (run_tally ending w rs rest)) { absent = absent_channels (worked w rs) }

@@ -1,6 +1,6 @@
 //! A recording, record by record, into the outputs.
 
-ghost use Rattle.std.specs.Prelude.{◌≡◌, ◌<◌, false, length, IfErr, IfOk, OnOk};
+ghost use Rattle.std.specs.Prelude.{◌≡◌, ◌<◌, [], false, length, IfErr, IfOk, OnOk};
 ghost use Rattle.std.specs.Io.KnownBytes.{Keeps};
 ghost use Rattle.tm_frame.specs.Layout.{record_length_of};
 ghost use Rattle.tm_reassembly.specs.Items.{closing};
@@ -12,6 +12,7 @@ ghost use Rattle.tm_checkpoint.specs.Works.{IsGoing, work_of};
 ghost use Rattle.tm_tool.specs.code.Extractors.{IsReady, work_in};
 ghost use Rattle.tm_tool.specs.code.Stepping.{IsRun, outlet_devices, output_devices, with_end};
 ghost use Rattle.tm_output.specs.Totals.{no_totals};
+ghost use Rattle.tm_tool.specs.RunTotals.{absent_channels, is_absent};
 ghost use Rattle.tm_output.specs.Seen.{fixture, output_both};
 
 use crate::extractor::Extractor;
@@ -90,6 +91,32 @@ fn end<O: Outlet, V: Drain>(
     }
 }
 
+// The channel is chosen, and no good frame of it came by now.
+fn is_absent(reassembly: &Reassembly, channel: u8) -> bool
+    requires going { reassembly.now.failed ≡ false }
+    requires channel { channel < 8 }
+    ensures { result ≡ is_absent (work_of reassembly.now []) channel }
+{
+    reassembly.channels().has(channel) && reassembly.last_count(channel).is_none()
+}
+
+// The same of each channel.
+fn absent_channels(reassembly: &Reassembly) -> [bool; 8]
+    requires going { reassembly.now.failed ≡ false }
+    ensures { result ≡ absent_channels (work_of reassembly.now []) }
+{
+    [
+        is_absent(reassembly, 0),
+        is_absent(reassembly, 1),
+        is_absent(reassembly, 2),
+        is_absent(reassembly, 3),
+        is_absent(reassembly, 4),
+        is_absent(reassembly, 5),
+        is_absent(reassembly, 6),
+        is_absent(reassembly, 7),
+    ]
+}
+
 // Takes what the ending reads of the recording, ends it, and flushes.
 fn handle_recording<R: BufferedSource, O: Outlet, V: Drain>(
     reassembly: &mut Reassembly,
@@ -127,10 +154,11 @@ fn handle_recording<R: BufferedSource, O: Outlet, V: Drain>(
     if let Err(fault) = end(reassembly, rest, output, ending) {
         return Err(fault);
     }
-    match output.flush() {
-        Ok(()) => Ok(()),
-        Err(fault) => Err(fault),
+    if let Err(fault) = output.flush() {
+        return Err(fault);
     }
+    output.totals.absent = absent_channels(reassembly);
+    Ok(())
 }
 
 /// The same with a job's extractor, into an outlet and a report. Answers what was given and lost, in numbers.

@@ -44,15 +44,16 @@ returns-in-Err-flush-clause-counts g c =
     (views_stepped g.O.Outlet.grows text _ _ _ _ _ _ _ _ c.in-Ok.ensures.stepped) _ _ c.in-Ok.ensures.counts _ (rw (same_texts c.in-Ok.ensures.same) at c.in_default.ensures.written)
     _ _ c.in-Err-flush.ensures.written).1
 
-pub returns-in-Ok-flush-clause-run : goal.returns-in-Ok-flush-clause-run
-returns-in-Ok-flush-clause-run g c =
+pub returns-clause-run : goal.returns-clause-run
+returns-clause-run g c =
     let text = g.O.Outlet.text (g.O.Outlet.fixed c.args.output.now.outlet.now) in
     has_run g.O.Outlet.grows g.met.O.Outlet.grows_nil g.met.O.Outlet.grows_trans g.O.Outlet.buffering text _ _ c.requires.going.1 _ _ _ _ _ _
     (views_stepped g.O.Outlet.grows text _ _ _ _ _ _ _ _ c.in-Ok.ensures.stepped) _ _ c.in-Ok.ensures.counts _ (rw (same_texts c.in-Ok.ensures.same) at c.in_default.ensures.written)
-    _ _ _ _ c.in-Ok-flush.ensures.written refl
-    (ap (λ (e : Entries). kept_of c.args.ending (work_of c.handle_records.new.reassembly e)) c.in-Ok-flush.ensures.tracker ∙ c.in_default.ensures.kept)
+    _ _ _ _ c.in_default-flush.ensures.written refl
+    (ap (λ (e : Entries). kept_of c.args.ending (work_of c.handle_records.new.reassembly e)) c.in_default-flush.ensures.tracker ∙ c.in_default.ensures.kept)
     (run_counted g.O.Outlet.grows text (g.met.O.Outlet.text_none (g.O.Outlet.fixed c.args.output.now.outlet.now)) c.args.ending _ c.requires.going.1 _ _ _ _ _ _ _
-    c.requires.begun c.in-Ok.ensures.stepped (c.in-Ok-flush.ensures.totals ∙ rw (same_texts c.in-Ok.ensures.same) at c.in_default.ensures.counted))
+    c.requires.begun c.in-Ok.ensures.stepped (c.in_default-flush.ensures.totals ∙ rw (same_texts c.in-Ok.ensures.same) at c.in_default.ensures.counted)
+    _ c.absent_channels-output.ensures)
 
-pub returns-in-Ok-flush-clause-counts : goal.returns-in-Ok-flush-clause-counts
-returns-in-Ok-flush-clause-counts g c = (c.in-Ok.ensures.counts, (returns-in-Ok-flush-clause-run g c).took.counts)
+pub returns-clause-counts : goal.returns-clause-counts
+returns-clause-counts g c = (c.in-Ok.ensures.counts, (returns-clause-run g c).took.counts)

@@ -133,6 +133,7 @@ class Reader:
         self.master = None  # the last master count
         self.sequences = {}  # channel and application: last count, first count of the open group
         self.frames, self.packets, self.report = [], [], []
+        self.came = Counter()  # the good frames of each chosen channel
 
     def take(self, number, frame):
         found = read_frame(frame, self.settings)
@@ -142,6 +143,7 @@ class Reader:
             return
         self.take_master(number, found["master"])
         if found["channel"] in self.channels:
+            self.came[found["channel"]] += 1
             self.take_good(number, found["channel"], found)
 
     def take_master(self, number, count):
@@ -487,6 +489,54 @@ def application_summary(numbers, seen, *key):
     )
 
 
+# What was lost, in a status and in a line.
+
+
+def status_of(reader, report):
+    """The status of a run with this report, where it is to say what was lost."""
+    if not reader.came:
+        return 5
+    return 4 if any(not it.startswith(("vca ", "group ", "short ")) for it in report) else 0
+
+
+def said_of_rows(reader, report, wanted):
+    """What is said where `fields` gives no row of this application."""
+    if wanted is None or not reader.came or any(it[0] == wanted and 8 * len(it[1]) >= NEEDED for it in reader.packets):
+        return []
+    short = sum(it.startswith("shortpacket ") for it in report)
+    return [f"all {short} packets of application {wanted} are too short" if short else f"no packet of application {wanted}"]
+
+
+def said_of(settings, reader, records, wanted=None):
+    """The line that says what was lost, and what to do; an empty one where nothing was."""
+    report, numbers = list(reader.report_of(wanted)), totals(reader)[0]
+    said, status = said_of_rows(reader, report, wanted), status_of(reader, report)
+    absent = [str(it) for it in settings.channels if not reader.came[it]]
+    if len(settings.channels) < 8 and absent and reader.came:
+        said.append(f"no good frame of channel {', '.join(absent)}")
+    if status:
+        said.append(
+            f"{records} records, {sum(reader.came.values())} good, {numbers['bad']} bad, {numbers['missing']} frames missing,"
+            f" {sum(numbers['lost', str(it)] for it in range(8))} octets dropped"
+        )
+    probe = ", or python3 -m tmx probe" if 2 * numbers["bad"] > records else ""
+    return f"  {'; '.join(said)}: see tmx summary{probe}" if said else ""
+
+
+def strict(settings, recording, *applications):
+    """For each command its status and what is said; of `fields` for each of these applications."""
+    settings = Settings(settings)
+    with open(recording, "rb") as file:
+        octets = file.read()
+    reader, _ = read_recording(settings, octets)
+    records, status = len(octets) // settings.record, status_of(reader, reader.report_of(None))
+    for command in ("packets", "extract", "split"):
+        print(command, status, said_of(settings, reader, records))
+    for wanted in map(int, applications):
+        print("fields", status_of(reader, reader.report_of(wanted)), said_of(settings, reader, records, wanted))
+    print("summary", status)
+
+
 # What is written.
 
 
@@ -640,6 +690,8 @@ def main(words):
         make(*words)
     elif what == "expect":
         expect(*words)
+    elif what == "strict":
+        strict(*words)
     elif what == "keep":
         keep(*words)
     elif what == "tiles":

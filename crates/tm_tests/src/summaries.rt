@@ -1,9 +1,9 @@
 //! Summaries of the worked recordings, by devices over memory, also by ones that fail.
 
-use crate::bench::{Bench, Device};
+use crate::bench::{Bench, By, Device};
 use crate::runs::{POINTER_DROP_AND_SEQUENCE_GAP, Row, rows};
 use std::alloc::Global;
-use tm_tool::RunFault;
+use tm_tool::{Command, Ending, Job, RunFault, sum_up};
 
 // All was read, just the lines of the row's summary were written, and its records were told.
 fn is_summed(alloc: Global, bench: &mut Bench, row: &Row) -> bool {
@@ -24,6 +24,48 @@ fn summaries_of_worked_rows(rt: HostRuntime) {
     let alloc = rt.alloc();
     for row in rows() {
         assert!(rt; row_is_summed(alloc, row) == Some(true), "{}", row.name);
+    }
+}
+
+// How many lines begin with this.
+fn count_lines(text: &str, word: &str) -> u64 {
+    text.lines().filter(|line| line.starts_with(word)).count() as u64
+}
+
+// A line of the report tells a loss.
+fn is_lost(line: &str) -> bool {
+    !line.starts_with("vca ") && !line.starts_with("group ") && !line.starts_with("short ")
+}
+
+// A run and a summary tell of losses what the lines of the row's report do.
+fn row_is_told(alloc: Global, row: &Row) -> Option<bool> {
+    let mut bench = Bench::new(alloc, row.settings, row.recording, 65_536)?;
+    let job = Job::new(alloc, &bench.settings).ok()?;
+    let by = By::Run(Command::Packets);
+    let totals = bench.run(alloc, job, by, Ending::Close).ok()?.totals;
+    bench.begin(Device::Recording, 0);
+    let Bench {
+        settings,
+        source,
+        out,
+        ..
+    } = &mut bench;
+    let summed = sum_up(alloc, settings, source, out).ok()?;
+    let lost = row.report.lines().any(is_lost);
+    Some(
+        totals.has_losses == lost
+            && summed.has_losses == lost
+            && summed.has_good_frame == (totals.good > 0)
+            && totals.bad == count_lines(row.report, "bad ")
+            && totals.packets == count_lines(row.lines, "packet "),
+    )
+}
+
+#[test]
+fn losses_of_worked_rows(rt: HostRuntime) {
+    let alloc = rt.alloc();
+    for row in rows() {
+        assert!(rt; row_is_told(alloc, row) == Some(true), "{}", row.name);
     }
 }
 

@@ -114,7 +114,7 @@ def of_files():
             "frames --settings s.toml pass.rec/x",
             1,
             "pass.rec/x: failed",
-            "the recording pass.rec/x: Not a directory (os error 20); mend this, or name another file",
+            "the recording pass.rec/x: Not a directory (os error 20); mend this, or name another",
         ),
         Case(SETTINGS.format("long.toml"), 2, "long.toml: too long"),
         Case(FIELDS.format("long.toml"), 2, "long.toml: too long"),
@@ -178,7 +178,7 @@ def of_pipes():
             SETTINGS.format("pipe"),
             "missing.toml",
             "settings: missing spacecraft",
-            "the settings pipe: spacecraft is not there; add it with a value that is an integer from 0 to 1023",
+            "the settings pipe: the value of spacecraft has to be an integer from 0 to 1023",
         ),
         piped(FIELDS.format("pipe"), "kind.csv", "definition: kind row 1"),
         Case(FIELDS.format("/dev/stdin"), 2, "definition: kind row 1", fed="kind.csv"),
@@ -209,7 +209,7 @@ def of_settings():
             "settings: toml",
             "the settings letter.toml, line 3, column 20: unexpected key or value, expected newline, `#`; write lines key = value, each key once",
         ),
-        Case(SETTINGS.format("latin.toml"), 2, "settings: toml", "the settings latin.toml, line 2, column 6: not UTF-8; save it as UTF-8"),
+        Case(SETTINGS.format("latin.toml"), 2, "settings: toml", "the settings latin.toml, line 2, column 6: not UTF-8; write lines key = value, each key once"),
         Case(
             SETTINGS.format("typo.toml"),
             2,
@@ -221,7 +221,7 @@ def of_settings():
             SETTINGS.format("missing.toml"),
             2,
             "settings: missing spacecraft",
-            "the settings missing.toml: spacecraft is not there; add it with a value that is an integer from 0 to 1023",
+            "the settings missing.toml: " + number.format("spacecraft", 0, 1023),
         ),
         Case(
             SETTINGS.format("kind-spacecraft.toml"),
@@ -269,16 +269,16 @@ def of_definitions():
         refused("columns", "column name"),
         refused("kind", "kind row 1"),
         refused("array", "array row 1"),
-        refused("uint", "bits row 2", ", field b: bit_length is 70; of type uint it is 1 to 64, in one to nine digits"),
-        refused("feed", "bits row 1", r", field \x0ca: bit_length is 70; of type uint it is 1 to 64, in one to nine digits"),
-        refused("latin", "bits row 1", ", field : bit_length is 70; of type uint it is 1 to 64, in one to nine digits"),
-        refused("float", "bits row 1", ", field a: bit_length is 8; of type float it is 16, 32 or 64, in one to nine digits"),
-        refused("str", "bits row 1", ", field a: bit_length is 9; of type str it is a multiple of 8 from 8 to 524336, in one to nine digits"),
-        refused("fill", "bits row 1", ", field a: bit_length is 0; of type fill it is 1 to 524336, in one to nine digits"),
+        refused("uint", "bits row 2", ", field b of type uint: bit_length is 70; it has to be 1 to 64, in one to nine digits"),
+        refused("feed", "bits row 1", r", field \x0ca of type uint: bit_length is 70; it has to be 1 to 64, in one to nine digits"),
+        refused("latin", "bits row 1", ", field  of type uint: bit_length is 70; it has to be 1 to 64, in one to nine digits"),
+        refused("float", "bits row 1", ", field a of type float: bit_length is 8; it has to be 16, 32 or 64, in one to nine digits"),
+        refused("str", "bits row 1", ", field a of type str: bit_length is 9; it has to be a multiple of 8 from 8 to 524336, in one to nine digits"),
+        refused("fill", "bits row 1", ", field a of type fill: bit_length is 0; it has to be 1 to 524336, in one to nine digits"),
         refused(
             "offset",
             "offset row 1",
-            ", field a: bit_offset 0000000008 is not one to nine digits, or the 8 bits end behind bit 524336; correct it, or leave it out",
+            ", field a of type uint: bit_offset is 0000000008; it has to be at most 524336 less the length, in one to nine digits",
         ),
         refused("names", "name row 3"),
         refused("filler", "name row 3"),
@@ -343,20 +343,20 @@ DIFFERENT = (
 
 def of_runs():
     """Cases of runs that end early, and of words."""
-    full = "No space left on device (os error 28); make room, or write to another file"
+    full = "No space left on device (os error 28); mend this, or name another"
     extract = "extract --settings s.toml --report /dev/null pass.rec"
     return [
         Case("frames --settings s.toml dir", 1, "read failed", "the recording dir: a folder; name a file"),
         Case("frames --settings s.toml < dir", 1, "read failed", "standard input: a folder; name a file"),
-        Case("frames --settings s.toml <&-", 1, "read failed", "standard input is closed; open it, or name a file"),
+        Case("frames --settings s.toml <&-", 1, "read failed", "standard input: closed; open it, or name a file"),
         Case(
             "frames --settings s.toml /proc/self/mem",
             1,
             "read failed",
-            "the recording /proc/self/mem: Input/output error (os error 5); see that it can be read to its end",
+            "the recording /proc/self/mem: Input/output error (os error 5); mend this, or name another",
         ),
         Case(f"{extract} > /dev/full", 1, "write failed", f"standard output: {full}"),
-        Case(f"{extract} >&-", 1, "write failed", "standard output is closed; open it, or name a file"),
+        Case(f"{extract} >&-", 1, "write failed", "standard output: closed; open it, or name a file"),
         Case(extract, 1, "write failed", "standard output: the program that reads it has ended; see why", unread=True),
         Case("--help > /dev/full", 1, "write failed", f"standard output: {full}"),
         Case(PACKETS.format("--report /dev/full"), 1, "report failed", f"the report /dev/full: {full}"),
@@ -367,13 +367,13 @@ def of_runs():
             "split --settings s.toml --dir blocked --report /dev/null pass.rec",
             1,
             "write failed",
-            "a file of packets blocked/apid-0100.pkt: Is a directory (os error 21); take it away, or name another folder",
+            "a file of packets blocked/apid-0100.pkt: Is a directory (os error 21); mend this, or name another",
         ),
         Case(
             "split --settings s.toml --dir shut --report /dev/null pass.rec",
             1,
             "write failed",
-            "a file of packets shut/apid-0100.pkt: Permission denied (os error 13); take it away, or name another folder",
+            "a file of packets shut/apid-0100.pkt: no permission; see with ls -l who may do it",
             True,
         ),
         Case(
@@ -713,16 +713,16 @@ def pattern(text):
 
 
 def texts():
-    """The texts of the code, with values in braces."""
+    """The texts of the code that have a value, in braces, or an advice."""
     sources = [*(CRATES / "tm_explanations" / "src").glob("*.rt"), CRATES / "tm_faults" / "src" / "explanation.rt"]
-    found = [re.findall(r'format!\(\s*in alloc;\s*"((?:[^"\\]|\\.)*)"', path.read_text(encoding="utf-8")) for path in sources]
-    return [text for several in found for text in several]
+    found = [text for path in sources for text in re.findall(r'"((?:[^"\\]|\\.)*)"', path.read_text(encoding="utf-8"), re.S)]
+    return [re.sub(r"\\\n\s*", "", text) for text in found if "; " in text or "{" in text]
 
 
 def texts_mistake(cases):
     """Which texts of the code no case has."""
-    patterns = {text: ".*".join(re.escape(part) for part in re.split(r"\{\w+\}", text)) for text in texts()}
-    unseen = [text for text, form in patterns.items() if not any(re.match(form, one) for one in said_in(cases))]
+    patterns = {text: ".*".join(re.escape(part) for part in re.split(r"\{[^}]*\}", text)) for text in texts()}
+    unseen = [text for text, form in patterns.items() if not any(re.search(form, one) for one in said_in(cases))]
     return f"no case: {unseen}" if unseen or len(patterns) < 20 else ""
 
 

@@ -7,8 +7,8 @@ ghost use Rattle.tm_explanations.specs.Wanted.{is_wanted};
 #[derive(Clone, Copy)]
 pub struct Asked(());
 
-/// Whether an explanation is wanted, by the value of `TMX_EXPLAIN`, which is empty where there is none, and by whether standard error is a
-/// terminal. By `1` it is wanted, by `0` it is not, and by all else at a terminal alone.
+/// Whether an explanation is wanted, by the value of `TMX_EXPLAIN`, which is empty where there is none, and by whether
+/// standard error is a terminal. By `1` it is wanted, by `0` it is not, and by all else at a terminal alone.
 pub fn ask(value: &[u8], is_terminal: bool) -> Option<Asked>
     ensures { is_some result ≡ is_wanted value.now is_terminal }
 {

@@ -1,153 +1,163 @@
-//! Why a file can't be opened, made, read or written.
+//! Why a file can't be opened, made, read or written, or holds no good frame.
+
+ghost use Rattle.std.specs.Prelude.{◌≡◌, true, is_some, IfErr};
 
 use crate::explanation::EndedRun;
-use crate::phrases::{Phrase, Said, phrase_at, place_of, said, text_of, word_of};
+use crate::phrases::{Said, Untold, phrase, text_of};
 use std::alloc::{AllocError, Global};
-use std::fs;
-use std::io::{self, ErrorKind};
+use std::fs::{self, File, OpenOptions};
+use std::io::{self, ErrorKind, Read};
 use std::rt::Files;
+use tm_arguments::Plan;
 use tm_bits::Octets;
-use tm_file_identity::{FileIdentities, Place, identity_of};
-use tm_files::{Clash, find_clash, identify_files, is_named, read_file};
+use tm_file_identity::{Place, identity_of};
+use tm_files::{find_clash, identify_files, name_at, read_file};
 
-// The system's numbers of two errors: a file isn't open, and nobody reads a pipe.
-pub(crate) const CLOSED: i32 = 9;
+// The system's numbers of two errors: a file isn't open, and it is a folder.
+const CLOSED: i32 = 9;
 
-const PIPE: i32 = 32;
+const FOLDER: i32 = 21;
 
-/// The file of this path is a regular one.
-pub(crate) fn is_regular<R: Files>(rt: &R, path: &str) -> bool {
-    match fs::metadata(rt, path) {
-        Ok(metadata) => metadata.is_file(),
-        Err(_) => false,
+// The file of this path is a regular one.
+fn is_regular<R: Files>(rt: &R, path: &str) -> bool {
+    fs::metadata(rt, path).is_ok_and(|metadata| metadata.is_file())
+}
+
+// It is a folder.
+fn is_folder<R: Files>(rt: &R, path: &str) -> bool {
+    fs::metadata(rt, path).is_ok_and(|metadata| metadata.is_dir())
+}
+
+// The system refuses by this error to write to the file of this path. A pipe or a device isn't asked.
+fn is_refused<R: Files>(rt: &R, path: &str, number: i32) -> bool {
+    if !is_regular(rt, path) && !is_folder(rt, path) {
+        return false;
+    }
+    let opened = OpenOptions::new().append(true).open(rt, path);
+    opened.is_err_and(|error| error.raw_os_error() == Some(number))
+}
+
+// What a line calls a file of packets.
+fn packets_phrase(alloc: Global, name: &str) -> Result<String, AllocError> {
+    format!(in alloc; "a file of packets {name}")
+}
+
+// What is missing: a file that is read, or the folder of another.
+fn missing(place: Option<Place>, file: &str) -> &'static str {
+    match (place, file) {
+        (_, "the recording -") => "no such file; leave RECORDING out to read standard input",
+        (Some(Place::Settings | Place::Definition | Place::Resumed | Place::Recording), _) => {
+            "no such file; see that the name and the folder are right"
+        }
+        _ => "no such folder; make it, or name another",
     }
 }
 
-/// Why a call for a file or a stream failed, by the system's error: what is known of it, else the system's words and an advice.
-pub(crate) fn error_text(alloc: Global, file: Phrase<'_>, number: i32, advice: &str) -> Said {
+/// Why a call failed, by the system's error: it was for the file or the stream at a place, which a line calls so.
+pub(crate) fn error_text(alloc: Global, place: Option<Place>, file: &str, number: i32) -> Said
+    ensures { IfErr result (λ e. e ≡ Untold.NoMemory) }
+{
     let error = io::Error::from_raw_os_error(number);
-    said(match (number, error.kind()) {
-        (CLOSED, _) => format!(in alloc; "{file} is closed; open it, or name a file"),
-        (PIPE, _) => format!(in alloc; "{file}: the program that reads it has ended; see why"),
-        (_, ErrorKind::IsADirectory) => format!(in alloc; "{file}: a folder; name a file"),
-        (_, ErrorKind::PermissionDenied) => {
-            format!(in alloc; "{file}: no permission; see with ls -l who may do it")
-        }
-        _ => format!(in alloc; "{file}: {error}; {advice}"),
-    })
-}
-
-// The same of a file that can't be opened or made.
-fn opening_text(alloc: Global, place: Option<Place>, file: Phrase<'_>, number: i32) -> Said {
-    let is_missing = io::Error::from_raw_os_error(number).kind() == ErrorKind::NotFound;
-    if !is_missing {
-        return error_text(alloc, file, number, "mend this, or name another file");
-    }
-    said(match place {
-        Some(Place::Recording) if file.name == "-" => {
-            format!(in alloc; "{file}: no such file; leave RECORDING out to read standard input")
-        }
-        Some(Place::Settings | Place::Definition | Place::Resumed | Place::Recording) => {
-            format!(in alloc; "{file}: no such file; see that the name and the folder are right")
-        }
-        _ => format!(in alloc; "{file}: no such folder; make it, or name another"),
-    })
+    let what = match error.kind() {
+        _ if number == CLOSED => "closed; open it, or name a file",
+        ErrorKind::BrokenPipe => "the program that reads it has ended; see why",
+        ErrorKind::NotFound => missing(place, file),
+        ErrorKind::IsADirectory if place.is_some() => "a folder; name a file",
+        ErrorKind::PermissionDenied => "no permission; see with ls -l who may do it",
+        _ => return Ok(format!(in alloc; "{file}: {error}; mend this, or name another")?),
+    };
+    Ok(format!(in alloc; "{file}: {what}")?)
 }
 
 impl<R: Files + AllocGlobal> EndedRun<'_, R> {
-    /// The octets of a file that the plan names, as they are now; none if it is no regular file, is too long, or can't be read.
-    pub(crate) fn octets_in(&self, name: &Option<Octets>) -> Option<Vec<u8>> {
-        let name = name.as_ref()?;
-        if !is_regular(self.rt, text_of(name.as_slice())) {
-            return None;
-        }
-        read_file(self.rt, name).ok()
-    }
-
-    // What the file of this name failed as. The checkpoint failed as the one that is written if, as the one to go on from, it can be read.
-    fn failed_place(&self, name: &Octets) -> Option<Place> {
-        match place_of(self.plan, name) {
-            Some(Place::Resumed)
-                if is_named(self.plan, Place::Checkpoint, name)
-                    && self.octets_in(&self.plan.resume).is_some() => { Some(Place::Checkpoint) }
-            place => place,
+    /// The octets of the file at a place as they are now, if it is a regular one, isn't too long, and can be read.
+    pub(crate) fn octets_at(&self, place: Place) -> Result<Vec<u8>, Untold> {
+        match name_at(&self.plan, place) {
+            Some(name) if is_regular(self.rt, text_of(name.as_slice())) => {
+                read_file(self.rt, name).map_err(|_| Untold::Unknown)
+            }
+            _ => Err(Untold::Unknown),
         }
     }
 
-    // What a file and one over which it would be written are called.
-    fn over_text(&self, file: Phrase<'_>, over: Place) -> Said {
-        let (alloc, over) = (self.rt.alloc(), phrase_at(self.plan, over));
-        said(format!(in alloc; "{file} would be written over {over}; name another file"))
-    }
-
-    /// Which file would be written over which.
-    pub(crate) fn clash_text(&self, clash: Clash) -> Said {
-        self.over_text(phrase_at(self.plan, clash.written), clash.over)
-    }
-
-    // What the names of the run's files stand for now.
-    fn identities(&self) -> Result<FileIdentities, AllocError> {
-        identify_files(self.rt, self.plan).map_err(|_| AllocError)
-    }
-
-    /// The first clash of the run's files, as they are now.
-    pub(crate) fn first_clash(&self) -> Result<Option<Clash>, AllocError> {
-        let identities = self.identities()?;
-        find_clash(self.rt.alloc(), self.plan, &identities).map_err(|_| AllocError)
-    }
-
-    // Why a file failed without an error of the system: it is in the way of another file of the run, or a folder. A file that is read fails so
-    // only where one of packets has its name.
-    fn place_text(&self, place: Option<Place>, file: Phrase<'_>) -> Said {
-        let alloc = self.rt.alloc();
-        if let Some(clash) = self.first_clash()? {
-            return self.clash_text(clash);
-        }
-        if let Ok(metadata) = fs::metadata(self.rt, file.name)
-            && metadata.is_dir()
-        {
-            return said(format!(in alloc; "{file}: a folder; name a file"));
-        }
-        let identity = identity_of(self.rt, file.name)?;
-        let identities = self.identities()?;
-        match (
-            place,
-            &self.plan.dir,
-            identities.find(&identity, &Place::ALL),
-        ) {
-            (Some(Place::Report | Place::Checkpoint), _, _) => Ok(None),
-            (_, Some(_), Some(over)) => self.over_text(
-                Phrase::new("a file of packets", file.name),
-                over,
-            ),
-            _ => Ok(None),
-        }
-    }
-
-    // What a line calls the file of this name.
-    fn phrase_named<'p>(&self, place: Option<Place>, name: &'p Octets) -> Phrase<'p> {
-        let word = match (place, &self.plan.dir) {
-            (Some(place), _) => word_of(place),
-            (None, Some(dir)) if dir.as_slice() == name.as_slice() => "the folder",
-            (None, _) => "a file of packets",
+    // Which file would be written over which. In `split` it may be a file of packets, of this name.
+    fn clash_text(&self, name: &str) -> Said {
+        let (alloc, plan) = (self.rt.alloc(), &self.plan);
+        let identities = identify_files(self.rt, plan).map_err(|_| Untold::NoMemory)?;
+        let clash = find_clash(alloc, plan, &identities).map_err(|_| Untold::NoMemory)?;
+        let same = identities.find(&identity_of(self.rt, name)?, &Place::ALL);
+        let (file, over) = match (clash, same) {
+            (Some(clash), _) => (phrase(alloc, plan, Some(clash.written))?, clash.over),
+            (None, Some(same)) if plan.dir.is_some() => (packets_phrase(alloc, name)?, same),
+            (None, _) => return Err(Untold::Unknown),
         };
-        Phrase::new(word, text_of(name.as_slice()))
+        let over = phrase(alloc, plan, Some(over))?;
+        Ok(format!(in alloc; "{file} would be written over {over}; name another file")?)
     }
 
-    /// Why the file of this name failed.
-    pub(crate) fn file_text(&self, name: &Octets) -> Said {
-        let place = self.failed_place(name);
-        let (alloc, file) = (self.rt.alloc(), self.phrase_named(place, name));
-        match (self.number, place) {
-            _ if file.name.is_empty() => {
-                said(format!(in alloc; "{file}: an empty name; name a file"))
-            }
-            (Some(number), Some(Place::Checkpoint)) => {
-                let file = phrase_at(self.plan, Place::TemporaryCheckpoint);
-                opening_text(alloc, None, file, number)
-            }
-            (Some(number), _) => opening_text(alloc, place, file, number),
-            (None, _) => self.place_text(place, file),
-        }
+    /// Why the file of this name failed, or standard output, as what is at a place. Without an error of the system it
+    /// would be written over another file, is a folder, or is closed.
+    pub(crate) fn file_text(&self, place: Option<Place>, name: &str) -> Said
+        ensures { is_some self.now.number ≡ true → IfErr result (λ e. e ≡ Untold.NoMemory) }
+    {
+        let number = match self.number {
+            Some(number) => number,
+            None => match self.clash_text(name) {
+                Err(Untold::Unknown) if is_folder(self.rt, name) => FOLDER,
+                Err(Untold::Unknown) if place == Some(Place::Output) => CLOSED,
+                text => return text,
+            },
+        };
+        let place = match place {
+            Some(Place::Checkpoint) if self.number.is_some() => Some(Place::TemporaryCheckpoint),
+            place => place,
+        };
+        let (alloc, file) = (self.rt.alloc(), phrase(self.rt.alloc(), &self.plan, place)?);
+        error_text(alloc, place, file.as_str(), number)
     }
+
+    /// Why packets can't be written to a folder: it is none, or the system refuses one of the 2048 files in it, or all.
+    pub(crate) fn folder_text(&self, file: &str, folder: &Octets) -> Said
+        ensures { is_some self.now.number ≡ true → IfErr result (λ e. e ≡ Untold.NoMemory) }
+    {
+        let (alloc, folder) = (self.rt.alloc(), text_of(folder.as_slice()));
+        let Some(number) = self.number else {
+            let what = match fs::metadata(self.rt, folder) {
+                Ok(metadata) if metadata.is_dir() => return Err(Untold::Unknown),
+                Ok(_) => "not a folder; name one that is there",
+                Err(_) => missing(None, file),
+            };
+            return Ok(format!(in alloc; "{file}: {what}")?);
+        };
+        for application in 0..2048 {
+            let name = tm_split_files::name_in(alloc, folder, application)?;
+            if is_refused(self.rt, name.as_str(), number) {
+                let file = packets_phrase(alloc, name.as_str())?;
+                return error_text(alloc, None, file.as_str(), number);
+            }
+        }
+        error_text(alloc, None, file, number)
+    }
+}
+
+/// By what the recording of a plan is packed, as its first octets say, if it is a regular file.
+pub(crate) fn packed_text<R: Files + AllocGlobal>(rt: &R, plan: &Plan) -> Said {
+    let path = match &plan.recording {
+        Some(name) => text_of(name.as_slice()),
+        None => "/proc/self/fd/0",
+    };
+    let mut octets = [0u8; 4];
+    if is_regular(rt, path)
+        && let Ok(mut recording) = File::open(rt, path)
+    {
+        let _ = recording.read_exact(&mut octets);
+    }
+    let packer = match octets {
+        [0x1F, 0x8B, 0x08, _] => "gzip",
+        [0x28, 0xB5, 0x2F, 0xFD] => "zstd",
+        _ => return Err(Untold::Unknown),
+    };
+    let alloc = rt.alloc();
+    let file = phrase(alloc, plan, Some(Place::Recording))?;
+    Ok(format!(in alloc; "{file}: packed by {packer}; unpack it first")?)
 }

@@ -1,102 +1,120 @@
-//! What a line calls the files and streams of a run.
+//! Which faults are explained, what is blamed for one, and what a line calls that.
 
-ghost use Rattle.std.specs.Prelude.{◌≡◌};
-ghost use Rattle.tm_explanations.specs.Blame.{place_named};
+ghost use Rattle.std.specs.Prelude.{◌≡◌, IfErr};
+ghost use Rattle.tm_explanations.specs.Blame.{is_explained, place_blamed, place_named};
 
-use std::alloc::AllocError;
-use std::fmt::{self, Display, Formatter};
+use std::alloc::{AllocError, Global};
 use tm_arguments::Plan;
 use tm_bits::Octets;
+use tm_faults::{CheckpointFault, DefinitionFault, RunFault, SettingsFault, ToolFault, UsageFault};
 use tm_file_identity::Place;
 use tm_files::{TEMPORARY_ENDING, find_place, name_at};
 
-/// A text, where there is one.
-pub(crate) type Said = Result<Option<String>, AllocError>;
-
-/// A text that there is, unless memory ran out.
-pub(crate) fn said(text: Result<String, AllocError>) -> Said {
-    Ok(Some(text?))
+/// Why nothing is said.
+#[derive(Clone, Copy)]
+pub(crate) enum Untold {
+    /// It can't be told why the fault came.
+    Unknown,
+    /// Memory ran out.
+    NoMemory,
 }
+
+impl From<AllocError> for Untold {
+    ghost use Rattle.tm_explanations.specs.declared.phrases.Untold.TheVariants.{NoMemory};
+
+    ghost from_gives = { λ _ e. e ≡ NoMemory };
+
+    fn from(_: AllocError) -> Untold {
+        Untold::NoMemory
+    }
+}
+
+/// What is said of a fault.
+pub(crate) type Said = Result<String, Untold>;
 
 /// Octets as text; an empty one where they are not UTF-8.
 pub(crate) fn text_of(octets: &[u8]) -> &str {
     std::str::from_utf8(octets).unwrap_or("")
 }
 
-/// What a line calls a file or a stream: what it is for, and its name, which may be empty, with an ending.
-#[derive(Clone, Copy)]
-pub(crate) struct Phrase<'p> {
-    word: &'static str,
-    pub(crate) name: &'p str,
-    ending: &'static str,
-}
-
-impl Display for Phrase<'_> {
-    fn fmt<W: fmt::Write>(&self, f: &mut Formatter<W>) -> fmt::Result {
-        f.write_str(self.word)?;
-        if self.name.is_empty() {
-            return Ok(());
-        }
-        f.write_str(" ")?;
-        f.write_str(self.name)?;
-        f.write_str(self.ending)
-    }
-}
-
-impl<'p> Phrase<'p> {
-    /// What a line calls a file of this name, or a stream.
-    pub(crate) fn new(word: &'static str, name: &'p str) -> Phrase<'p> {
-        Phrase {
-            word,
-            name,
-            ending: "",
-        }
-    }
-}
-
-// The places of files that a plan names, in the order in which a run opens them.
-const NAMED: [Place; 6] = [
-    Place::Settings,
-    Place::Definition,
-    Place::Resumed,
-    Place::Recording,
-    Place::Report,
-    Place::Checkpoint,
-];
-
-/// What a line calls what is at a place.
-pub(crate) fn word_of(place: Place) -> &'static str {
-    match place {
-        Place::Settings => "the settings",
-        Place::Definition => "the definition",
-        Place::Resumed => "the checkpoint to go on from",
-        Place::Recording => "the recording",
-        Place::Report => "the report",
-        Place::Checkpoint => "the checkpoint",
-        Place::TemporaryCheckpoint => "the file beside the checkpoint",
-        Place::Output => "standard output",
-        Place::Errors | Place::Faults => "standard error",
-    }
-}
-
-/// What the file of this name is for: the first that a run opens. A file of packets and the folder for them have no place.
-pub(crate) fn place_of(plan: &Plan, name: &Octets) -> Option<Place>
-    ensures { result ≡ place_named plan.now name.now }
+/// There may be more to say of the fault than its line does.
+pub(crate) fn is_explained(fault: &ToolFault) -> bool
+    ensures { result ≡ is_explained fault.now }
 {
-    find_place(plan, name, &NAMED)
+    match fault {
+        ToolFault::Usage(fault) => matches!(fault, UsageFault::Usage(_)),
+        ToolFault::Settings(fault) => !matches!(fault, SettingsFault::NoMemory),
+        ToolFault::Definition(
+            DefinitionFault::Csv | DefinitionFault::Bits { .. } | DefinitionFault::Offset { .. },
+        ) => true,
+        ToolFault::Checkpoint(CheckpointFault::Version | CheckpointFault::Settings) => true,
+        ToolFault::File(_) => true,
+        ToolFault::Run(fault) => !matches!(fault, RunFault::TooMany | RunFault::NoMemory),
+        _ => false,
+    }
 }
 
-/// What a plan has at a place. A recording without a name is standard input.
-pub(crate) fn phrase_at(plan: &Plan, place: Place) -> Phrase<'_> {
-    let word = word_of(place);
-    match (name_at(plan, place), place, &plan.checkpoint) {
-        (Some(name), _, _) => Phrase::new(word, text_of(name.as_slice())),
-        (None, Place::Recording, _) => Phrase::new("standard input", ""),
-        (None, Place::TemporaryCheckpoint, Some(name)) => Phrase {
-            word,
-            name: text_of(name.as_slice()),
-            ending: TEMPORARY_ENDING,
-        },
-        _ => Phrase::new(word, ""),
+// What the file of this name is for: the first that a run opens. The checkpoint to go on from, if it can be read, is last.
+fn place_named(plan: &Plan, name: &Octets, can_resume: bool) -> Option<Place>
+    ensures { result ≡ place_named plan.now name.now can_resume }
+{
+    let resumed = if can_resume {
+        Place::Checkpoint
+    } else {
+        Place::Resumed
+    };
+    let places = [
+        Place::Settings,
+        Place::Definition,
+        resumed,
+        Place::Recording,
+        Place::Report,
+        Place::Checkpoint,
+        Place::Resumed,
+    ];
+    find_place(plan, name, &places)
+}
+
+/// What is blamed for a fault. The checkpoint to go on from can be read, or not. The folder for packets has no place.
+pub(crate) fn place_blamed(plan: &Plan, fault: &ToolFault, can_resume: bool) -> Option<Place>
+    ensures { result ≡ place_blamed plan.now fault.now can_resume }
+{
+    match fault {
+        ToolFault::Settings(_) => Some(Place::Settings),
+        ToolFault::Definition(_) => Some(Place::Definition),
+        ToolFault::Checkpoint(_) => Some(Place::Resumed),
+        ToolFault::File(name) => place_named(plan, name, can_resume),
+        ToolFault::Run(RunFault::Read | RunFault::ShortRecording) => Some(Place::Recording),
+        ToolFault::Run(RunFault::Report) => Some(Place::Report),
+        ToolFault::Run(RunFault::Write) if plan.dir.is_none() => Some(Place::Output),
+        _ => None,
     }
+}
+
+/// What a line calls what a plan has at a place: what it is for, and its name. Without a place it is the folder.
+pub(crate) fn phrase(alloc: Global, plan: &Plan, place: Option<Place>) -> Said
+    ensures { IfErr result (λ e. e ≡ Untold.NoMemory) }
+{
+    let (name, ending) = match place {
+        Some(Place::TemporaryCheckpoint) => (plan.checkpoint.as_ref(), TEMPORARY_ENDING),
+        Some(place) => (name_at(plan, place), ""),
+        None => (plan.dir.as_ref(), ""),
+    };
+    let word = match place {
+        None => "the folder",
+        Some(Place::Settings) => "the settings",
+        Some(Place::Definition) => "the definition",
+        Some(Place::Resumed) => "the checkpoint to go on from",
+        Some(Place::Recording) if name.is_none() => "standard input",
+        Some(Place::Recording) => "the recording",
+        Some(Place::Report) => "the report",
+        Some(Place::Checkpoint) => "the checkpoint",
+        Some(Place::TemporaryCheckpoint) => "the file beside the checkpoint",
+        Some(Place::Output) => "standard output",
+        Some(Place::Errors | Place::Faults) => "standard error",
+    };
+    Ok(match name.map_or("", |name| text_of(name.as_slice())) {
+        "" => String::from_str(alloc, word)?,
+        name => format!(in alloc; "{word} {name}{ending}")?,
+    })
 }

@@ -1,96 +1,123 @@
-//! Why a file is no settings.
+//! Why a file is no settings, or no checkpoint of a job with them.
+
+ghost use Rattle.std.specs.Prelude.{◌≡◌, true, IfErr};
+ghost use Rattle.tm_explanations.specs.Blame.{is_of_value};
 
 use crate::explanation::EndedRun;
-use crate::phrases::{Phrase, Said, phrase_at, said, text_of};
-use std::alloc::Global;
+use crate::phrases::{Said, Untold, phrase, text_of};
+use std::alloc::{AllocError, Global};
 use std::rt::Files;
+use tm_checkpoint::{find_other_setting, records_told};
+use tm_faults::CheckpointFault;
 use tm_file_identity::Place;
-use tm_settings::{Key, SettingsFault, nearest_key, wanted_value};
+use tm_settings::{Key, Settings, SettingsFault, nearest_key, wanted_value};
 
-// The place of the octet that comes behind these, as an editor counts: the line from 1, and in it the character from 1.
-fn position_behind(octets: &[u8]) -> (u64, u64) {
-    let (mut line, mut column) = (1u64, 1u64);
-    for octet in octets {
-        if *octet == b'\n' {
-            line = line.saturating_add(1);
-            column = 1;
-        } else if *octet & 0xC0 != 0x80 {
-            column = column.saturating_add(1);
+// Where the file of the settings, which has these octets, is no TOML document, and why. The place is as an editor
+// counts: the line from 1, and in it the character from 1.
+fn toml_text(alloc: Global, file: &str, octets: &[u8]) -> Said {
+    let (at, why) = match std::str::from_utf8(octets) {
+        Ok(text) => {
+            let error = toml::table_from_str(alloc, text)
+                .err()
+                .ok_or(Untold::Unknown)?;
+            let span = error.span().ok_or(Untold::Unknown)?;
+            (span.start, String::from_str(alloc, error.message())?)
         }
-    }
-    (line, column)
+        Err(error) => (error.valid_up_to(), String::from_str(alloc, "not UTF-8")?),
+    };
+    let before = text_of(&octets[..at]);
+    let begun = before.rsplit_once("\n").map_or(before, |(_, begun)| begun);
+    let line = before.split("\n").count();
+    let column = begun.chars().count().saturating_add(1);
+    Ok(format!(in alloc;
+        "{file}, line {line}, column {column}: {why}; write lines key = value, each key once"
+    )?)
 }
 
-// The key that a word of the field stands for. By its letters such a word is near none, or near another.
-fn key_of_word(word: &str) -> Option<Key> {
-    match word {
+// The key for which another word was written. By its letters a word of the field is near none, or near another key.
+fn key_text(alloc: Global, file: &str, word: &str) -> Said {
+    let near = match word {
         "scid" => Some(Key::Spacecraft),
         "vcid" => Some(Key::Channels),
         "fecf" | "crc" => Some(Key::ErrorControl),
         "asm" => Some(Key::SkipBefore),
         "rs" => Some(Key::SkipAfter),
-        _ => None,
-    }
+        _ => nearest_key(alloc, word)?,
+    };
+    let key = near.ok_or(Untold::Unknown)?.word();
+    Ok(format!(in alloc; "{file}: the key may be meant for {key}; correct it, or take it out")?)
 }
 
-// Where the file of the settings, which has these octets, is no TOML document, and why; none if it is one.
-fn toml_text(alloc: Global, file: Phrase<'_>, octets: &[u8]) -> Said {
-    let text = match std::str::from_utf8(octets) {
-        Ok(text) => text,
-        Err(error) => {
-            let (line, column) = position_behind(&octets[..error.valid_up_to()]);
-            return said(format!(in alloc;
-                "{file}, line {line}, column {column}: not UTF-8; save it as UTF-8"
-            ));
+// The value of a key, as the settings have it, by its number. That of the channels has a bit for each.
+fn value_text(alloc: Global, key: Key, number: u32) -> Result<String, AllocError> {
+    match (key, number) {
+        (Key::Secondary | Key::Ocf, 0) => String::from_str(alloc, "\"flag\""),
+        (Key::Secondary | Key::Ocf, 1) => String::from_str(alloc, "\"always\""),
+        (Key::Secondary | Key::Ocf, _) => String::from_str(alloc, "\"never\""),
+        (Key::ErrorControl, number) => format!(in alloc; "{}", number == 1),
+        (Key::Channels, mask) => {
+            let channels = (0..8u32).filter(|channel| mask >> *channel & 1 == 1);
+            format!(in alloc; "{:?}", channels.collect::<Vec<u32>>(alloc)?)
         }
-    };
-    let Err(error) = toml::table_from_str(alloc, text) else {
-        return Ok(None);
-    };
-    let Some(span) = error.span() else {
-        return Ok(None);
-    };
-    let ((line, column), why) = (position_behind(&octets[..span.start]), error.message());
-    said(format!(in alloc;
-        "{file}, line {line}, column {column}: {why}; write lines key = value, each key once"
-    ))
+        (_, number) => format!(in alloc; "{number}"),
+    }
 }
 
 impl<R: Files + AllocGlobal> EndedRun<'_, R> {
     /// Why the file of the settings is refused.
-    pub(crate) fn settings_text(&self, fault: &SettingsFault) -> Said {
-        let (alloc, file) = (self.rt.alloc(), phrase_at(self.plan, Place::Settings));
-        let (key, is_missing) = match fault {
-            SettingsFault::Toml => {
-                return match self.octets_in(&self.plan.settings) {
-                    Some(octets) => toml_text(alloc, file, octets.as_slice()),
-                    None => Ok(None),
-                };
+    pub(crate) fn settings_text(&self, file: &str, fault: &SettingsFault) -> Said
+        ensures { is_of_value fault.now ≡ true → IfErr result (λ e. e ≡ Untold.NoMemory) }
+    {
+        let alloc = self.rt.alloc();
+        match fault {
+            SettingsFault::Toml => toml_text(alloc, file, &self.octets_at(Place::Settings)?),
+            SettingsFault::Unknown(word) => key_text(alloc, file, text_of(word.as_slice())),
+            SettingsFault::Missing(key) | SettingsFault::Kind(key) | SettingsFault::Range(key) => {
+                let values = wanted_value(alloc, *key)?;
+                let (key, values) = (key.word(), text_of(values.as_slice()));
+                Ok(format!(in alloc; "{file}: the value of {key} has to be {values}")?)
             }
-            SettingsFault::NoMemory => return Ok(None),
-            SettingsFault::Unknown(word) => {
-                let word = text_of(word.as_slice());
-                let near = match key_of_word(word) {
-                    None => nearest_key(alloc, word)?,
-                    found => found,
-                };
-                let Some(key) = near else {
-                    return Ok(None);
-                };
-                let key = key.word();
-                return said(format!(in alloc;
-                    "{file}: the key may be meant for {key}; correct it, or take it out"
-                ));
-            }
-            SettingsFault::Missing(key) => (*key, true),
-            SettingsFault::Kind(key) | SettingsFault::Range(key) => (*key, false),
-        };
-        let values = wanted_value(alloc, key)?;
-        let (key, values) = (key.word(), text_of(values.as_slice()));
-        said(if is_missing {
-            format!(in alloc; "{file}: {key} is not there; add it with a value that is {values}")
-        } else {
-            format!(in alloc; "{file}: the value of {key} has to be {values}")
-        })
+            SettingsFault::NoMemory => Err(Untold::NoMemory),
+        }
+    }
+
+    // Which setting differs, and how.
+    fn other_setting_text(&self, file: &str, octets: &[u8]) -> Said {
+        let alloc = self.rt.alloc();
+        let text = self.octets_at(Place::Settings)?;
+        let settings = Settings::read(alloc, text.as_slice()).map_err(|_| Untold::Unknown)?;
+        let other = find_other_setting(&settings, octets).ok_or(Untold::Unknown)?;
+        let there = value_text(alloc, other.key, other.there)?;
+        let here = value_text(alloc, other.key, other.here)?;
+        let settings = phrase(alloc, &self.plan, Some(Place::Settings))?;
+        let key = other.key.word();
+        Ok(format!(in alloc;
+            "{file}: {key} is {there} there, and {here} in {settings}; take the settings that it was written with"
+        )?)
+    }
+
+    /// Why the file of the checkpoint is refused: by its version, or by its settings.
+    pub(crate) fn checkpoint_text(&self, file: &str, fault: CheckpointFault) -> Said {
+        let alloc = self.rt.alloc();
+        let octets = self.octets_at(Place::Resumed)?;
+        if fault == CheckpointFault::Settings {
+            return self.other_setting_text(file, octets.as_slice());
+        }
+        let version = octets.get(4).ok_or(Untold::Unknown)?;
+        Ok(format!(in alloc;
+            "{file}: version {version}, and 1 to 3 are read; take a newer tmx, or begin anew"
+        )?)
+    }
+
+    /// How many records are done in the checkpoint: the recording has fewer.
+    pub(crate) fn shorter_text(&self, file: &str) -> Said {
+        let alloc = self.rt.alloc();
+        let checkpoint = phrase(alloc, &self.plan, Some(Place::Resumed))?;
+        let octets = self.octets_at(Place::Resumed)?;
+        let done = records_told(octets.as_slice()).ok_or(Untold::Unknown)?;
+        Ok(format!(in alloc;
+            "{file}: fewer than the {done} records that are done in {checkpoint}; \
+            give the recording of the checkpoint, from its beginning"
+        )?)
     }
 }

@@ -50,72 +50,75 @@ class Case:
 
 
 SETTINGS = "frames --settings {} pass.rec"
+RECORDING = "frames --settings s.toml {}"
 PACKETS = "packets --settings s.toml {} pass.rec"
+EXTRACT = "extract --settings s.toml --report /dev/null pass.rec"
+SPLIT = "split --settings s.toml --dir {} --report /dev/null pass.rec"
 FIELDS = "fields --settings s.toml --definition {} --apid 1 pass.rec"
 RESUMED = "packets --settings s.toml --resume {} pass.rec"
-RIGHT = "see that the name and the folder are right"
+
+
+def failed(words, name, said, as_nobody=False):
+    """The case of a file that fails: its name, as the line of the fault has it, and what is said of it."""
+    return Case(words, 1, f"{name}: failed", said, as_nobody)
+
+
+def of_missing():
+    """Cases of files that aren't there, or whose folder isn't."""
+
+    def missing(words, file, name=None):
+        said = f"the {file}: no such file; see that the name and the folder are right"
+        return failed(words, name or file.split()[-1], said)
+
+    return [
+        missing(SETTINGS.format("none.toml"), "settings none.toml"),
+        missing(SETTINGS.format("-"), "settings -"),
+        missing(f"{SETTINGS.format('none.toml')} > /dev/full", "settings none.toml"),
+        missing(FIELDS.format("none.csv"), "definition none.csv"),
+        missing(RESUMED.format("none.chk"), "checkpoint to go on from none.chk"),
+        missing(RECORDING.format("none.rec"), "recording none.rec"),
+        missing(RECORDING.format(r"'\033[31m'"), r"recording \x5c033[31m"),
+        missing(RECORDING.format("\"$(printf 'a\\033[31m')\""), r"recording a\x1b[31m"),
+        missing(
+            RECORDING.format("\"$(printf 'gr\\303\\266\\303\\237e-\\357\\274\\222.rec')\""),
+            "recording größe-２.rec",
+            r"gr\xc3\xb6\xc3\x9fe-\xef\xbc\x92.rec",
+        ),
+        missing(
+            RECORDING.format("\"$(printf '\\303\\266\\302\\233\\342\\200\\256.rec')\""),
+            r"recording ö\xc2\x9b\xe2\x80\xae.rec",
+            r"\xc3\xb6\xc2\x9b\xe2\x80\xae.rec",
+        ),
+        failed(RECORDING.format("-"), "-", "the recording -: no such file; leave RECORDING out to read standard input"),
+        failed(PACKETS.format("--report no/-"), "no/-", "the report no/-: no such folder; make it, or name another"),
+        failed(PACKETS.format("--checkpoint no/c"), "no/c", "the file beside the checkpoint no/c.new: no such folder; make it, or name another"),
+        Case(SPLIT.format("no"), 1, "write failed", "the folder no: no such folder; make it, or name another"),
+        Case(SPLIT.format("s.toml"), 1, "write failed", "the folder s.toml: not a folder; name one that is there"),
+    ]
 
 
 def of_files():
-    """Cases of files that can't be opened, made, read or written."""
+    """Cases of files that can't be opened, made or read."""
+
+    def folder(words, file):
+        return failed(words, "dir", f"the {file} dir: a folder; name a file")
+
+    def shut(words, file, name):
+        return failed(words, name, f"the {file}: no permission; see with ls -l who may do it", True)
+
     return [
-        Case(SETTINGS.format("none.toml"), 1, "none.toml: failed", f"the settings none.toml: no such file; {RIGHT}"),
-        Case("frames --settings s.toml none.rec", 1, "none.rec: failed", f"the recording none.rec: no such file; {RIGHT}"),
-        Case(f"{SETTINGS.format('none.toml')} > /dev/full", 1, "none.toml: failed", f"the settings none.toml: no such file; {RIGHT}"),
-        Case(FIELDS.format("none.csv"), 1, "none.csv: failed", f"the definition none.csv: no such file; {RIGHT}"),
-        Case(RESUMED.format("none.chk"), 1, "none.chk: failed", f"the checkpoint to go on from none.chk: no such file; {RIGHT}"),
-        Case("frames --settings s.toml -", 1, "-: failed", "the recording -: no such file; leave RECORDING out to read standard input"),
-        Case(PACKETS.format("--report no/-"), 1, "no/-: failed", "the report no/-: no such folder; make it, or name another"),
-        Case(SETTINGS.format("-"), 1, "-: failed", f"the settings -: no such file; {RIGHT}"),
-        Case(r"frames --settings s.toml '\033[31m'", 1, r"\x5c033[31m: failed", rf"the recording \x5c033[31m: no such file; {RIGHT}"),
-        Case("frames --settings s.toml \"$(printf 'a\\033[31m')\"", 1, r"a\x1b[31m: failed", rf"the recording a\x1b[31m: no such file; {RIGHT}"),
-        Case(
-            "frames --settings s.toml \"$(printf 'gr\\303\\266\\303\\237e-\\357\\274\\222.rec')\"",
-            1,
-            r"gr\xc3\xb6\xc3\x9fe-\xef\xbc\x92.rec: failed",
-            f"the recording größe-２.rec: no such file; {RIGHT}",
-        ),
-        Case(
-            "frames --settings s.toml \"$(printf '\\303\\266\\302\\233\\342\\200\\256.rec')\"",
-            1,
-            r"\xc3\xb6\xc2\x9b\xe2\x80\xae.rec: failed",
-            rf"the recording ö\xc2\x9b\xe2\x80\xae.rec: no such file; {RIGHT}",
-        ),
-        Case(SETTINGS.format("dir"), 1, "dir: failed", "the settings dir: a folder; name a file"),
-        Case(PACKETS.format("--report dir"), 1, "dir: failed", "the report dir: a folder; name a file"),
-        Case("split --settings s.toml --dir dir --report dir pass.rec", 1, "dir: failed", "the report dir: a folder; name a file"),
-        Case(PACKETS.format("--checkpoint dir"), 1, "dir: failed", "the checkpoint dir: a folder; name a file"),
-        Case("frames --settings s.toml ''", 1, ": failed", "the recording: an empty name; name a file"),
-        Case("split --settings s.toml --dir '' pass.rec", 1, ": failed", "the folder: an empty name; name a file"),
-        Case(PACKETS.format("--report no/r"), 1, "no/r: failed", "the report no/r: no such folder; make it, or name another"),
-        Case(
-            PACKETS.format("--checkpoint no/c"),
-            1,
-            "no/c: failed",
-            "the file beside the checkpoint no/c.new: no such folder; make it, or name another",
-        ),
-        Case(
-            PACKETS.format("--resume c.chk --checkpoint c.chk"),
-            1,
-            "c.chk: failed",
-            "the file beside the checkpoint c.chk.new: no permission; see with ls -l who may do it",
-            True,
-        ),
-        Case(
-            PACKETS.format("--resume shut.chk --checkpoint shut.chk"),
-            1,
-            "shut.chk: failed",
-            "the checkpoint to go on from shut.chk: no permission; see with ls -l who may do it",
-            True,
-        ),
-        Case("frames --settings shut.toml pass.rec", 1, "shut.toml: failed", "the settings shut.toml: no permission; see with ls -l who may do it", True),
-        Case(PACKETS.format("--report r.txt"), 1, "r.txt: failed", "the report r.txt: no permission; see with ls -l who may do it", True),
-        Case(
-            "frames --settings s.toml pass.rec/x",
-            1,
-            "pass.rec/x: failed",
-            "the recording pass.rec/x: Not a directory (os error 20); mend this, or name another",
-        ),
+        folder(SETTINGS.format("dir"), "settings"),
+        folder(PACKETS.format("--report dir"), "report"),
+        folder("split --settings s.toml --dir dir --report dir pass.rec", "report"),
+        folder(PACKETS.format("--checkpoint dir"), "checkpoint"),
+        failed(PACKETS.format("--checkpoint beside"), "beside", "the file beside the checkpoint beside.new: a folder; name a file"),
+        failed(RECORDING.format("''"), "", "the recording: an empty name; name a file"),
+        failed("split --settings s.toml --dir '' pass.rec", "", "the folder: an empty name; name a file"),
+        shut(PACKETS.format("--resume c.chk --checkpoint c.chk"), "file beside the checkpoint c.chk.new", "c.chk"),
+        shut(PACKETS.format("--resume shut.chk --checkpoint shut.chk"), "checkpoint to go on from shut.chk", "shut.chk"),
+        shut(SETTINGS.format("shut.toml"), "settings shut.toml", "shut.toml"),
+        shut(PACKETS.format("--report r.txt"), "report r.txt", "r.txt"),
+        failed(RECORDING.format("pass.rec/x"), "pass.rec/x", "the recording pass.rec/x: Not a directory (os error 20); mend this, or name another"),
         Case(SETTINGS.format("long.toml"), 2, "long.toml: too long"),
         Case(FIELDS.format("long.toml"), 2, "long.toml: too long"),
         Case(SETTINGS.format("large.toml"), 2, "large.toml: too long"),
@@ -126,9 +129,14 @@ def of_files():
 def of_clashes():
     """Cases of files that would be written over other files of the run."""
 
-    def clash(words, name, written, read):
-        return Case(PACKETS.format(words), 1, f"{name}: failed", f"the {written} would be written over the {read}; name another file")
+    def over(written, read):
+        return f"{written} would be written over the {read}; name another file"
 
+    def clash(words, name, written, read):
+        return failed(PACKETS.format(words), name, over(f"the {written}", read))
+
+    packets = "packets/apid-0100.pkt"
+    fields = "fields --settings s.toml --definition f.csv --apid 1 --report {} pass.rec"
     return [
         clash("--report pass.rec", "pass.rec", "report pass.rec", "recording pass.rec"),
         clash("--report link.rec", "link.rec", "report link.rec", "recording pass.rec"),
@@ -139,30 +147,11 @@ def of_clashes():
         clash("--report pass.rec --checkpoint pass.rec", "pass.rec", "checkpoint pass.rec", "recording pass.rec"),
         clash("--report r.new --checkpoint r", "r", "file beside the checkpoint r.new", "report r.new"),
         clash("--resume c.chk --report c.chk", "c.chk", "report c.chk", "checkpoint to go on from c.chk"),
-        Case(
-            "fields --settings s.toml --definition f.csv --apid 1 --report f.csv pass.rec",
-            1,
-            "f.csv: failed",
-            "the report f.csv would be written over the definition f.csv; name another file",
-        ),
-        Case(
-            "split --settings s.toml --dir packets --report /dev/null packets/apid-0100.pkt",
-            1,
-            "packets/apid-0100.pkt: failed",
-            "a file of packets packets/apid-0100.pkt would be written over the recording packets/apid-0100.pkt; name another file",
-        ),
-        Case(
-            "frames --settings s.toml pass.rec >> s.toml",
-            1,
-            "write failed",
-            "standard output would be written over the settings s.toml; name another file",
-        ),
-        Case(
-            "fields --settings s.toml --definition f.csv --apid 1 --report r pass.rec >> f.csv",
-            1,
-            "write failed",
-            "standard output would be written over the definition f.csv; name another file",
-        ),
+        failed(fields.format("f.csv"), "f.csv", over("the report f.csv", "definition f.csv")),
+        failed(f"split --settings s.toml --dir packets --report /dev/null {packets}", packets, over(f"a file of packets {packets}", f"recording {packets}")),
+        failed(f"split --settings s.toml --dir packets --report {packets} pass.rec", packets, over(f"a file of packets {packets}", f"report {packets}")),
+        Case(f"{RECORDING.format('pass.rec')} >> s.toml", 1, "write failed", over("standard output", "settings s.toml")),
+        Case(f"{fields.format('r')} >> f.csv", 1, "write failed", over("standard output", "definition f.csv")),
     ]
 
 
@@ -188,70 +177,42 @@ def of_pipes():
 
 def of_settings():
     """Cases of settings that are refused."""
-    number = "the value of {} has to be an integer from {} to {}"
-    cases = [
-        Case(
-            SETTINGS.format("bad.toml"),
-            2,
-            "settings: toml",
-            "the settings bad.toml, line 2, column 15: invalid value, expected a string, number, boolean, date-time, array or inline table;"
-            " write lines key = value, each key once",
-        ),
-        Case(
-            SETTINGS.format("twice.toml"),
-            2,
-            "settings: toml",
-            "the settings twice.toml, line 5, column 1: duplicate key; write lines key = value, each key once",
-        ),
-        Case(
-            SETTINGS.format("letter.toml"),
-            2,
-            "settings: toml",
-            "the settings letter.toml, line 3, column 20: unexpected key or value, expected newline, `#`; write lines key = value, each key once",
-        ),
-        Case(SETTINGS.format("latin.toml"), 2, "settings: toml", "the settings latin.toml, line 2, column 6: not UTF-8; write lines key = value, each key once"),
-        Case(
-            SETTINGS.format("typo.toml"),
-            2,
-            "settings: unknown frame_lenght",
-            "the settings typo.toml: the key may be meant for frame_length; correct it, or take it out",
-        ),
-        Case(SETTINGS.format("unknown.toml"), 2, "settings: unknown bananas"),
-        Case(
-            SETTINGS.format("missing.toml"),
-            2,
-            "settings: missing spacecraft",
-            "the settings missing.toml: " + number.format("spacecraft", 0, 1023),
-        ),
-        Case(
-            SETTINGS.format("kind-spacecraft.toml"),
-            2,
-            "settings: kind spacecraft",
-            "the settings kind-spacecraft.toml: " + number.format("spacecraft", 0, 1023),
-        ),
-    ]
-    wanted = {key: number.format(key, low, high) for key, low, high in NUMBERS}
-    wanted |= {key: f"the value of {key} has to be {values}" for key, values in OTHERS.items()}
-    cases += [
-        Case(
-            SETTINGS.format(f"word-{word}.toml"),
-            2,
-            f"settings: unknown {word}",
-            f"the settings word-{word}.toml: the key may be meant for {key}; correct it, or take it out",
-        )
-        for word, key in MEANT.items()
-    ]
-    return cases + [
-        Case(SETTINGS.format(f"range-{key}.toml"), 2, f"settings: {'kind' if key == TRUTH else 'range'} {key}", f"the settings range-{key}.toml: {said}")
-        for key, said in wanted.items()
+
+    def refused(name, line, said=""):
+        return Case(SETTINGS.format(f"{name}.toml"), 2, f"settings: {line}", said and f"the settings {name}.toml{said}")
+
+    def toml(name, line, column, why):
+        return refused(name, "toml", f", line {line}, column {column}: {why}; write lines key = value, each key once")
+
+    def unknown(name, word, key):
+        return refused(name, f"unknown {word}", f": the key may be meant for {key}; correct it, or take it out")
+
+    def value(name, line, key):
+        return refused(name, f"{line} {key}", f": the value of {key} has to be {VALUES[key]}")
+
+    return [
+        toml("bad", 2, 15, "invalid value, expected a string, number, boolean, date-time, array or inline table"),
+        toml("twice", 5, 1, "duplicate key"),
+        toml("letter", 3, 20, "unexpected key or value, expected newline, `#`"),
+        toml("latin", 2, 6, "not UTF-8"),
+        unknown("typo", "frame_lenght", "frame_length"),
+        *[unknown(f"word-{word}", word, key) for word, key in MEANT.items()],
+        refused("unknown", "unknown bananas"),
+        value("missing", "missing", "spacecraft"),
+        value("kind-spacecraft", "kind", "spacecraft"),
+        *[value(f"range-{key}", "kind" if key == "error_control" else "range", key) for key in VALUES],
     ]
 
 
-NUMBERS = (("spacecraft", 0, 1023), ("frame_length", 9, 2048), ("skip_before", 0, 1024), ("skip_after", 0, 1024), ("max_packet", 7, 65542))
 MEANT = {"scid": "spacecraft", "vcid": "channels", "fecf": "error_control", "crc": "error_control", "asm": "skip_before", "rs": "skip_after"}
-WORDS = '"flag", "always" or "never"'
-TRUTH = "error_control"
-OTHERS = {"secondary": WORDS, "ocf": WORDS, TRUTH: "true or false", "channels": "an array of distinct integers from 0 to 7, at least one"}
+MOST = {"spacecraft": 1023, "frame_length": 2048, "skip_before": 1024, "skip_after": 1024, "max_packet": 65542}
+LEAST = {"frame_length": 9, "max_packet": 7}
+VALUES = {key: f"an integer from {LEAST.get(key, 0)} to {most}" for key, most in MOST.items()} | {
+    "secondary": '"flag", "always" or "never"',
+    "ocf": '"flag", "always" or "never"',
+    "error_control": "true or false",
+    "channels": "an array of distinct integers from 0 to 7, at least one",
+}
 
 
 def of_definitions():
@@ -260,21 +221,28 @@ def of_definitions():
     def refused(name, line, said=""):
         return Case(FIELDS.format(f"{name}.csv"), 2, f"definition: {line}", said and f"the definition {name}.csv{said}")
 
+    def lengths(name, row):
+        return refused(name, "csv", f": row {row} has 2 values, and the heading 3; give each line as many, and quote a value with a comma")
+
+    def length(name, value, values, row=1, field="a", data_type=None):
+        said = f", field {field} of type {data_type or name}: bit_length is {value}; it has to be {values}, in one to nine digits"
+        return refused(name, f"bits row {row}", said)
+
     return [
-        refused("lengths", "csv", ": row 2 has 2 values, and the heading 3; give each line as many, and quote a value with a comma"),
-        refused("short-rows", "csv", ": row 1 has 2 values, and the heading 3; give each line as many, and quote a value with a comma"),
+        lengths("lengths", 2),
+        lengths("short-rows", 1),
         refused("empty", "column name"),
         refused("semicolons", "column name"),
         refused("column", "column bit_length"),
         refused("columns", "column name"),
         refused("kind", "kind row 1"),
         refused("array", "array row 1"),
-        refused("uint", "bits row 2", ", field b of type uint: bit_length is 70; it has to be 1 to 64, in one to nine digits"),
-        refused("feed", "bits row 1", r", field \x0ca of type uint: bit_length is 70; it has to be 1 to 64, in one to nine digits"),
-        refused("latin", "bits row 1", ", field  of type uint: bit_length is 70; it has to be 1 to 64, in one to nine digits"),
-        refused("float", "bits row 1", ", field a of type float: bit_length is 8; it has to be 16, 32 or 64, in one to nine digits"),
-        refused("str", "bits row 1", ", field a of type str: bit_length is 9; it has to be a multiple of 8 from 8 to 524336, in one to nine digits"),
-        refused("fill", "bits row 1", ", field a of type fill: bit_length is 0; it has to be 1 to 524336, in one to nine digits"),
+        length("uint", 70, "1 to 64", 2, "b"),
+        length("feed", 70, "1 to 64", 1, r"\x0ca", "uint"),
+        length("latin", 70, "1 to 64", 1, "", "uint"),
+        length("float", 8, "16, 32 or 64"),
+        length("str", 9, "a multiple of 8 from 8 to 524336"),
+        length("fill", 0, "1 to 524336"),
         refused(
             "offset",
             "offset row 1",
@@ -293,38 +261,26 @@ def of_checkpoints():
     def refused(word, said=""):
         return Case(RESUMED.format(f"{word}.chk"), 2, f"checkpoint: {word}", said and f"the checkpoint to go on from {word}.chk: {said}")
 
-    cases = [refused(word) for word in ("short", "magic", "check", "state", "trailing")]
-    cases.append(refused("version", "version 9, and 1 to 3 are read; take a newer tmx, or begin anew"))
-    for key, there, here in DIFFERENT:
-        cases.append(
-            Case(
-                f"packets --settings other-{key}.toml --resume c.chk pass.rec",
-                2,
-                "checkpoint: settings",
-                f"the checkpoint to go on from c.chk: {key} is {there} there, and {here} in the settings other-{key}.toml;"
-                " take the settings that it was written with",
-            )
-        )
-    resume, done = "packets --settings s.toml --resume c.chk", "the checkpoint to go on from c.chk"
-    give = "give the recording of the checkpoint, from its beginning"
-    shorter = "recording is shorter than the checkpoint"
-    return cases + [
-        Case(
-            "packets --settings s.toml --resume oldest.chk short.rec",
-            2,
-            shorter,
-            f"the recording short.rec: fewer than the 100 records that are done in the checkpoint to go on from oldest.chk; {give}",
-        ),
-        Case(
-            "packets --settings other-max_packet.toml --resume oldest.chk pass.rec",
-            2,
-            "checkpoint: settings",
-            "the checkpoint to go on from oldest.chk: max_packet is 65542 there, and 100 in the settings other-max_packet.toml;"
-            " take the settings that it was written with",
-        ),
-        Case(f"{resume} short.rec", 2, shorter, f"the recording short.rec: fewer than the 100 records that are done in {done}; {give}"),
-        Case(f"{resume} < short.rec", 2, shorter, f"standard input: fewer than the 100 records that are done in {done}; {give}"),
-        Case(resume, 2, shorter, f"standard input: fewer than the 100 records that are done in {done}; {give}", fed="short.rec"),
+    def differs(settings, name, key, there, here):
+        said = f"{key} is {there} there, and {here} in the settings {settings}.toml; take the settings that it was written with"
+        words = f"packets --settings {settings}.toml --resume {name}.chk pass.rec"
+        return Case(words, 2, "checkpoint: settings", f"the checkpoint to go on from {name}.chk: {said}")
+
+    def shorter(words, file, name="c", fed=""):
+        said = f"{file}: fewer than the 100 records that are done in the checkpoint to go on from {name}.chk;"
+        said += " give the recording of the checkpoint, from its beginning"
+        line = "recording is shorter than the checkpoint"
+        return Case(f"packets --settings s.toml --resume {name}.chk {words}", 2, line, said, fed=fed)
+
+    return [
+        *[refused(word) for word in ("short", "magic", "check", "state", "trailing")],
+        refused("version", "version 9, and 1 to 3 are read; take a newer tmx, or begin anew"),
+        *[differs(f"other-{key}", "c", key, there, here) for key, there, here in DIFFERENT],
+        differs("other-max_packet", "oldest", "max_packet", "65542", "100"),
+        shorter("short.rec", "the recording short.rec", "oldest"),
+        shorter("short.rec", "the recording short.rec"),
+        shorter("< short.rec", "standard input"),
+        shorter("", "standard input", fed="short.rec"),
     ]
 
 
@@ -344,45 +300,30 @@ DIFFERENT = (
 def of_runs():
     """Cases of runs that end early, and of words."""
     full = "No space left on device (os error 28); mend this, or name another"
-    extract = "extract --settings s.toml --report /dev/null pass.rec"
     return [
-        Case("frames --settings s.toml dir", 1, "read failed", "the recording dir: a folder; name a file"),
-        Case("frames --settings s.toml < dir", 1, "read failed", "standard input: a folder; name a file"),
-        Case("frames --settings s.toml <&-", 1, "read failed", "standard input: closed; open it, or name a file"),
+        Case(RECORDING.format("dir"), 1, "read failed", "the recording dir: a folder; name a file"),
+        Case(RECORDING.format("< dir"), 1, "read failed", "standard input: a folder; name a file"),
+        Case(RECORDING.format("<&-"), 1, "read failed", "standard input: closed; open it, or name a file"),
         Case(
-            "frames --settings s.toml /proc/self/mem",
+            RECORDING.format("/proc/self/mem"),
             1,
             "read failed",
             "the recording /proc/self/mem: Input/output error (os error 5); mend this, or name another",
         ),
-        Case(f"{extract} > /dev/full", 1, "write failed", f"standard output: {full}"),
-        Case(f"{extract} >&-", 1, "write failed", "standard output: closed; open it, or name a file"),
-        Case(extract, 1, "write failed", "standard output: the program that reads it has ended; see why", unread=True),
+        Case(f"{EXTRACT} > /dev/full", 1, "write failed", f"standard output: {full}"),
+        Case(f"{EXTRACT} >&-", 1, "write failed", "standard output: closed; open it, or name a file"),
+        Case(EXTRACT, 1, "write failed", "standard output: the program that reads it has ended; see why", unread=True),
         Case("--help > /dev/full", 1, "write failed", f"standard output: {full}"),
         Case(PACKETS.format("--report /dev/full"), 1, "report failed", f"the report /dev/full: {full}"),
-        Case("split --settings s.toml --dir no pass.rec", 1, "write failed", "the folder no: no such folder; make it, or name another"),
-        Case("split --settings s.toml --dir s.toml pass.rec", 1, "write failed", "the folder s.toml: not a folder; name one that is there"),
-        Case("split --settings s.toml --dir full --report /dev/null pass.rec", 1, "write failed", f"the folder full: {full}"),
+        Case(SPLIT.format("full"), 1, "write failed", f"the folder full: {full}"),
         Case(
-            "split --settings s.toml --dir blocked --report /dev/null pass.rec",
+            SPLIT.format("blocked"),
             1,
             "write failed",
             "a file of packets blocked/apid-0100.pkt: Is a directory (os error 21); mend this, or name another",
         ),
-        Case(
-            "split --settings s.toml --dir shut --report /dev/null pass.rec",
-            1,
-            "write failed",
-            "a file of packets shut/apid-0100.pkt: no permission; see with ls -l who may do it",
-            True,
-        ),
-        Case(
-            "split --settings s.toml --dir dir --report /dev/null pass.rec",
-            1,
-            "write failed",
-            "the folder dir: no permission; see with ls -l who may do it",
-            True,
-        ),
+        Case(SPLIT.format("shut"), 1, "write failed", "a file of packets shut/apid-0100.pkt: no permission; see with ls -l who may do it", True),
+        Case(SPLIT.format("dir"), 1, "write failed", "the folder dir: no permission; see with ls -l who may do it", True),
         Case("packets --settings tiny.toml --resume last.chk many.rec", 1, "too many records"),
         Case("packets --settings s.toml --stop-after 3 pass.rec", 2, "--stop-after needs --checkpoint"),
     ]
@@ -402,7 +343,7 @@ def of_bad_frames():
         Case(f"packets {quiet} --resume bad.chk pass.rec", 0, said=said.format(293)),
         Case(f"summary {wrong} pass.rec", 0),
         Case("frames --settings s.toml pass.rec", 0),
-        Case("extract --settings s.toml --report /dev/null pass.rec", 0),
+        Case(EXTRACT, 0),
         Case(f"extract {quiet}", 0),
         Case("frames --settings s.toml pass.rec.gz", 0, said="the recording pass.rec.gz: packed by gzip; unpack it first"),
         Case("frames --settings s.toml pass.rec.zst", 0, said="the recording pass.rec.zst: packed by zstd; unpack it first"),
@@ -439,7 +380,7 @@ def make_settings():
     write("missing", spacecraft="")
     write("tiny", frame_length="9", error_control="false")
     write("kind-spacecraft", spacecraft='"42"')
-    for key, _, most in NUMBERS:
+    for key, most in MOST.items():
         write(f"range-{key}", **{key: str(most + 1)})
     for key, value in (("secondary", '"yes"'), ("ocf", '"yes"'), ("error_control", '"yes"'), ("channels", "[8]")):
         write(f"range-{key}", **{key: value})
@@ -514,7 +455,7 @@ def make_folder(tmx):
     Path("pass.rec.zst").write_bytes(bytes.fromhex("28b52ffd") + Path("pass.rec").read_bytes())
     Path("head.gz").write_bytes(bytes.fromhex("1f8b08000000000000") * 3)
     os.mkfifo("pipe")
-    for name in ("dir", "packets", "full", "blocked", "shut"):
+    for name in ("dir", "beside.new", "packets", "full", "blocked", "shut"):
         os.mkdir(name)
     os.mkfifo("blocked/apid-0000.pkt")
     os.mkdir("blocked/apid-0100.pkt")
@@ -692,8 +633,7 @@ def memory_mistake():
     """What is wrong where memory runs out, if anything: the line stands alone."""
     found = set()
     for limit in range(2000, 40000, 500):
-        words = "extract --settings s.toml --report /dev/null pass.rec"
-        found.add(at_terminal(Case(words, 3, "", before=f"ulimit -v {limit};")))
+        found.add(at_terminal(Case(EXTRACT, 3, before=f"ulimit -v {limit};")))
     wrong = {one for one in found if one[0] == 3} - {(3, b"tmx: out of memory\n")}
     return str(wrong) if wrong else "" if (3, b"tmx: out of memory\n") in found else "memory never ran out"
 
@@ -749,7 +689,8 @@ def main():
     os.mkdir("terminal")
     os.chdir("terminal")
     make_folder(tmx)
-    cases = of_files() + of_clashes() + of_pipes() + of_settings() + of_definitions() + of_checkpoints() + of_runs() + of_bad_frames()
+    kinds = of_missing, of_files, of_clashes, of_pipes, of_settings, of_definitions, of_checkpoints, of_runs, of_bad_frames
+    cases = [case for kind in kinds for case in kind()]
     print(f"plan {len(cases) + len(WRONG_WORDS) + 7}", flush=True)
     for case in cases:
         tell(f"terminal: {case.words}", mistake(case))

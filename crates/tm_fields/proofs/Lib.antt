@@ -8,6 +8,7 @@ pub mod LineLemmas
 pub mod Names
 pub mod NumberLemmas
 pub mod Places
+pub mod PlainLemmas
 pub mod Records
 pub mod RowLemmas
 pub mod Trim

@@ -1,12 +1,13 @@
 -- Lines, value by value.
-use Rattle.std.proofs.Common.{◌≡◌, ℕ, zero, suc, ◌-◌, ◌^◌, ◌≤◌, min, Bool, true, false, List, [], ◌∷◌, ◌++◌, length, drop, refl, sym, ap, ◌∙◌, append_assoc, arith, None, Some}
-use Rattle.std.specs.Prelude.{◌≢◌, Option}
+use Rattle.std.proofs.Common.{◌≡◌, ℕ, zero, suc, ◌-◌, ◌^◌, ◌≤◌, min, Bool, true, false, List, [], ◌∷◌, ◌++◌, length, refl, sym, ap, ◌∙◌, append_assoc, arith, length-append, slice_range, None, Some}
+use Rattle.std.specs.Prelude.{◌≢◌, Option, Result, Ok, Err, OnOk, if◌then◌else◌}
+use Rattle.std.specs.Result.{is_ok}
 use Rattle.std.specs.Io.KnownBytes.{Appends, Keeps, append_known}
 use Rattle.std.proofs.lemmas.List.{append-nil}
-use Rattle.std.proofs.Math.Seq.{drop-append_seam}
+use Rattle.std.proofs.Math.Seq.{drop-append_seam, take-append_seam}
 use Rattle.std.proofs.lemmas.Option.{none-some, same_Some}
 use Rattle.std.proofs.lemmas.Bool.{ne_eqb}
-use Rattle.csv.specs.Writing.{default_writer, end_text, field_text, is_blank, next_sep, row_body, row_text, tail_text}
+use Rattle.csv.specs.Writing.{default_writer, end_text, field_text, fields_text, is_blank, next_sep, row_body, row_text, tail_text}
 use Rattle.csv.proofs.WriteFacts.{row-more}
 
 -- what stands before the next value
@@ -34,6 +35,24 @@ unfolding is_blank
 row_is (x ∷ y ∷ more) h = refl
 row_is _ h = absurd (omega arith)
 
+-- values behind commas, in two parts
+pub fields_of_both : (xs ys : List (List ℕ)) → fields_text default_writer (xs ++ ys) ≡ fields_text default_writer xs ++ fields_text default_writer ys
+unfolding fields_text
+fields_of_both [] ys = refl
+fields_of_both (x ∷ xs) ys = rw (fields_of_both xs ys, append_assoc (field_text default_writer x) (fields_text default_writer xs) (fields_text default_writer ys)) refl
+
+-- a line of two values or more, and values behind them
+pub line_whole : (x y : List ℕ) (more rest : List (List ℕ))
+    → (row_body default_writer (x ∷ y ∷ more) ++ fields_text default_writer rest) ++ 10 ∷ [] ≡ row_text default_writer ((x ∷ y ∷ more) ++ rest)
+line_whole x y more rest =
+    let parts = ap (λ t. field_text default_writer x ++ t) (fields_of_both (y ∷ more) rest) in
+    let whole = append_assoc (field_text default_writer x) (fields_text default_writer (y ∷ more)) (fields_text default_writer rest) in
+    ap (λ t. t ++ 10 ∷ []) (whole ∙ sym parts) ∙ sym (row_is (x ∷ y ∷ (more ++ rest)) (omega arith))
+
+-- the line of an empty value and another
+pub blank_line : (value : List ℕ) → row_text default_writer ([] ∷ value ∷ []) ≡ fields_text default_writer (value ∷ []) ++ 10 ∷ []
+blank_line value = row_is ([] ∷ value ∷ []) (omega arith)
+
 pub line_end : (old new : Option (List ℕ)) (lines : List ℕ) (values : List (List ℕ)) (wrote : Bool) (written : ℕ) → 2 ≤ length values
     → old ≡ Some (lines ++ row_body default_writer values) → written ≡ min (length values) (2 ^ 64 - 1)
     → Appends old new (tail_text default_writer wrote written) → new ≡ Some ((lines ++ row_text default_writer values) ++ [])
@@ -53,12 +72,20 @@ pub lines_kept : (old new : Option (List ℕ)) (lines : List ℕ) → old ≡ So
 lines_kept old None lines e k = absurd (rw e at k)
 lines_kept old (Some ys) lines e k = ap Some (rw e at k)
 
--- what stands behind the lines before it
-pub line_behind : (old new lines line : List ℕ) (before : ℕ) → Some old ≡ Some lines → Some new ≡ Some (lines ++ line) → before ≡ length old → drop before new ≡ line
+-- what a text has become, if it was appended to
+pub appended : {A E : Type 0} (result : Result A E) (new grown old : List ℕ) → new ≡ (if is_ok result then grown else old) → OnOk result (new ≡ grown)
+appended (Ok x) new grown old e = e
+appended (Err x) new grown old e = tt
+
+-- what stands between the lines before it and its line feed
+pub line_behind : (old new lines line : List ℕ) (before : ℕ) → Some old ≡ Some lines → Some new ≡ Some (lines ++ (line ++ 10 ∷ [])) → before ≡ length old
+    → slice_range new before (length new - 1) ≡ line
 line_behind old new lines line before is grown e =
-    let whole : new ≡ lines ++ line = same_Some _ _ grown in
+    let whole : new ≡ lines ++ (line ++ 10 ∷ []) = same_Some _ _ grown in
     let front : before ≡ length lines = e ∙ ap length (same_Some _ _ is) in
-    rw (whole, front) (drop-append_seam lines line)
+    let size : length (lines ++ (line ++ 10 ∷ [])) - 1 - length lines ≡ length line =
+    omega (arith, length-append lines (line ++ 10 ∷ []), length-append line (10 ∷ [])) in
+    rw (whole, front, drop-append_seam lines (line ++ 10 ∷ []), size) (take-append_seam line (10 ∷ []))
 
 behind : (xs ys : List ℕ) → ys ≢ [] → xs ++ ys ≢ []
 behind [] ys some e = some e

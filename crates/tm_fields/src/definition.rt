@@ -1,23 +1,23 @@
 //! A whole definition, and the head and rows that it gives.
 
-ghost use Rattle.std.specs.Prelude.{◌≡◌, ◌≢◌, ◌<◌, ◌≤◌, ◌++◌, ℕ, [], Ok, Err, Some, true, length, List, IfOk, IfErr, OnOk, map};
+ghost use Rattle.std.specs.Prelude.{◌≡◌, ◌≢◌, ◌<◌, ◌≤◌, ◌++◌, [], Ok, Err, true, length, List, IfOk, IfErr, OnOk, map};
 ghost use Rattle.std.specs.List.{list_all};
 ghost use Rattle.csv.specs.Records.{fields_of};
 ghost use Rattle.tm_fields.specs.Numbers.{bits_in};
 ghost use Rattle.tm_fields.specs.Reading.{definition_of, fields_from, fields_in, is_sound};
 ghost use Rattle.tm_fields.specs.Rows.{IsRow, RefusesRow, RefusesShort, bits_needed, head_of, row_of};
-ghost use Rattle.tm_fields.specs.code.Line.{HasPassedOn};
 ghost use Rattle.tm_fields.specs.declared.field.Field.{Field};
 
+use crate::cells::Cells;
 use crate::columns::{Columns, find_columns};
 use crate::faults::RowFault;
 use crate::field::Field;
-use crate::lead::{Lead, write_lead, write_lead_names};
-use crate::line::{begin, end, into_text, pass};
+use crate::lead::{Lead, push_lead, write_lead_names};
+use crate::line::{begin, end, into_text};
 use crate::reading::read_field;
 use crate::table::read_table;
-use crate::values::{write_field_name, write_field_value};
-use csv::{ByteRecord, Writer};
+use crate::values::{push_field_value, write_field_name};
+use csv::ByteRecord;
 use std::alloc::{AllocError, Global};
 use std::collections::BTreeSet;
 use std::marker::Model;
@@ -149,37 +149,24 @@ impl Definition {
         Ok(())
     }
 
-    /// Writes the row of a packet that is long enough after whole lines, and passes it on. The text of each value is made in `text`, whatever that holds.
+    /// Writes the row of a packet that is long enough at the end of a text.
     #[tactic(auto, using(crate::proofs::RowLemmas::fits_needed))]
-    pub(crate) fn write_row(
+    pub(crate) fn push_row(
         &self,
-        alloc: Global,
-        writer: &mut Writer<Vec<u8>>,
-        text: &mut Vec<u8>,
+        row: &mut Vec<u8>,
+        cells: &mut Cells,
         lead: Lead,
         packet: &[u8],
     ) -> Result<(), AllocError>
         requires { bits_needed self.now ≤ bits_in packet.now }
-        ensures { OnOk result ((lines : List ℕ) → HasPassedOn (λ v. Some v.items) writer.old lines
-            → HasPassedOn (λ v. Some v.items) writer.new (lines ++ row_of self.now lead packet.now)) }
+        ensures { OnOk result (row.new.items ≡ row.old.items ++ row_of self.now lead packet.now) }
     {
-        write_lead(writer, lead)?;
+        push_lead(row, lead)?;
         for field in &self.fields {
-            write_field_value(alloc, writer, text, field, packet)?;
+            push_field_value(row, cells, field, packet)?;
         }
-        end(writer)?;
-        pass(writer)
-    }
-
-    // The row of a packet that is long enough.
-    fn whole_row(&self, alloc: Global, lead: Lead, packet: &[u8]) -> Result<Vec<u8>, AllocError>
-        requires { bits_needed self.now ≤ bits_in packet.now }
-        ensures { IfOk result (λ text. text.items ≡ row_of self.now lead packet.now) }
-    {
-        let mut writer = begin(alloc);
-        let mut text = Vec::new(alloc);
-        self.write_row(alloc, &mut writer, &mut text, lead, packet)?;
-        into_text(writer)
+        row.push(b'\n')?;
+        Ok(())
     }
 
     /// The row of a packet, a line of comma-separated values: the lead's numbers, and the values of all fields but those of type
@@ -197,6 +184,8 @@ impl Definition {
         if let Err(fault) = self.check_length(packet) {
             return Err(fault);
         }
-        Ok(self.whole_row(alloc, lead, packet)?)
+        let mut row = Vec::new(alloc);
+        self.push_row(&mut row, &mut Cells::new(alloc), lead, packet)?;
+        Ok(row)
     }
 }

@@ -1,12 +1,13 @@
 //! What every head and every row begins with.
 
-ghost use Rattle.std.specs.Prelude.{◌++◌, ◌∷◌, [], ℕ, List, OnOk};
+ghost use Rattle.std.specs.Prelude.{◌≡◌, ◌++◌, [], ℕ, List, OnOk};
+ghost use Rattle.csv.specs.Writing.{default_writer, row_body};
 ghost use Rattle.tm_fields.specs.code.Line.{HasValues};
 ghost use Rattle.tm_fields.specs.Rows.{lead_names, lead_texts};
 
 use crate::line::write_value;
+use crate::values::{push_number, push_uint};
 use csv::Writer;
-use itoa::{Buffer, Integer};
 use std::alloc::AllocError;
 use std::io::Write;
 
@@ -23,17 +24,6 @@ pub struct Lead {
     pub count: u16,
 }
 
-// Writes a number as a further value.
-fn write_number<W: Write + Drop, I: Integer>(
-    writer: &mut Writer<W>,
-    number: I,
-) -> Result<(), AllocError>
-    ensures { OnOk result ((lines : List ℕ) (values : List (List ℕ)) → HasValues W.contents writer.old lines values
-        → HasValues W.contents writer.new lines (values ++ I.text number ∷ [])) }
-{
-    write_value(writer, Buffer::new().format(number).as_bytes())
-}
-
 /// Writes the names that a head begins with.
 pub(crate) fn write_lead_names<W: Write + Drop>(writer: &mut Writer<W>) -> Result<(), AllocError>
     ensures { OnOk result ((lines : List ℕ) → HasValues W.contents writer.old lines []
@@ -46,17 +36,13 @@ pub(crate) fn write_lead_names<W: Write + Drop>(writer: &mut Writer<W>) -> Resul
     Ok(())
 }
 
-/// Writes the numbers that a row begins with.
-pub(crate) fn write_lead<W: Write + Drop>(
-    writer: &mut Writer<W>,
-    lead: Lead,
-) -> Result<(), AllocError>
-    ensures { OnOk result ((lines : List ℕ) → HasValues W.contents writer.old lines []
-        → HasValues W.contents writer.new lines (lead_texts lead)) }
+/// Writes the numbers that a row begins with at the end of a text.
+#[tactic(auto, using(crate::proofs::PlainLemmas::lead_made))]
+pub(crate) fn push_lead(row: &mut Vec<u8>, lead: Lead) -> Result<(), AllocError>
+    ensures { OnOk result (row.new.items ≡ row.old.items ++ row_body default_writer (lead_texts lead)) }
 {
-    write_number(writer, lead.seen)?;
-    write_number(writer, lead.channel)?;
-    write_number(writer, lead.application)?;
-    write_number(writer, lead.count)?;
-    Ok(())
+    push_number(row, lead.seen)?;
+    push_uint(row, u64::from(lead.channel))?;
+    push_uint(row, u64::from(lead.application))?;
+    push_uint(row, u64::from(lead.count))
 }

@@ -5,6 +5,7 @@
 //! 133.0-B-2 numbers the bits of a packet (section 4.1).
 #![tactic(auto)]
 
+mod cells;
 mod columns;
 mod definition;
 mod faults;

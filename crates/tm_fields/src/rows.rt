@@ -1,44 +1,31 @@
-//! The rows of a definition, written one after another by one writer.
+//! The rows of a definition, written one after another.
 
 ghost use Rattle.std.specs.Prelude.{◌≡◌, [], IfErr, OnErr, OnOk};
 ghost use Rattle.tm_fields.specs.Rows.{IsRow, RefusesRow, RefusesShort, bits_needed};
 
+use crate::cells::Cells;
 use crate::definition::Definition;
 use crate::faults::RowFault;
 use crate::lead::Lead;
-use crate::line::{begin, begin_again};
-use csv::Writer;
 use std::alloc::Global;
 use std::marker::Model;
-
-// Behind rows of more octets than this the next row begins a new text.
-const ENOUGH: usize = 32768;
 
 /// The rows of a definition, and the last of them. What they are made in is kept from row to row, so a row takes less time than by
 /// `Definition::row`.
 #[derive(Drop)]
 pub struct Rows<'a> {
-    alloc: Global,
     definition: &'a Definition,
-    // All rows since it was made are in the text underneath.
-    writer: Writer<Vec<u8>>,
-    // Where the last row begins.
-    before: usize,
-    // The text of a value is made here.
-    text: Vec<u8>,
+    cells: Cells,
+    // The last row.
+    row: Vec<u8>,
 }
 
 impl<'a> Model for Rows<'a> {
-    ghost use Rattle.std.specs.Prelude.{◌≤◌, ℕ, List, Some, drop, length};
-    ghost use Rattle.csv.specs.Writing.{writer_under};
     ghost use Rattle.tm_fields.specs.Rows.{RowsState};
-    ghost use Rattle.tm_fields.specs.code.Line.{HasPassedOn};
 
     ghost Value = { RowsState };
 
-    ghost view = { λ r. record { fields = r.definition.now; row = drop r.before (writer_under r.writer).items } };
-
-    ghost invariant = { λ r. (lines : List ℕ) × HasPassedOn (λ v. Some v.items) r.writer lines × (r.before ≤ length lines) };
+    ghost view = { λ r. record { fields = r.definition.now; row = r.row.items } };
 }
 
 impl<'a> Rows<'a> {
@@ -48,11 +35,9 @@ impl<'a> Rows<'a> {
         ensures none { result.row ≡ [] }
     {
         Rows {
-            alloc,
             definition,
-            writer: begin(alloc),
-            before: 0,
-            text: Vec::new(alloc),
+            cells: Cells::new(alloc),
+            row: Vec::new(alloc),
         }
     }
 
@@ -67,7 +52,7 @@ impl<'a> Rows<'a> {
     pub fn row(&self) -> &[u8]
         ensures { result.now ≡ self.now.row }
     {
-        &self.writer.get_ref().as_slice()[self.before..]
+        self.row.as_slice()
     }
 
     /// Writes the row of a packet, the same that `Definition::row` gives.
@@ -83,21 +68,14 @@ impl<'a> Rows<'a> {
         ensures refused { IfErr result (RefusesRow self.old.fields lead packet.now) }
         ensures short { RefusesShort self.old.fields packet.now result }
     {
-        if self.writer.get_ref().len() > ENOUGH {
-            begin_again(self.alloc, &mut self.writer);
-        }
-        self.before = self.writer.get_ref().len();
-        if let Err(fault) = self.definition.check_length(packet) {
-            return Err(fault);
-        }
-        let (writer, text) = (&mut self.writer, &mut self.text);
-        let write_value = self
+        self.row.clear();
+        self.definition.check_length(packet)?;
+        let pushed = self
             .definition
-            .write_row(self.alloc, writer, text, lead, packet);
-        if write_value.is_err() {
+            .push_row(&mut self.row, &mut self.cells, lead, packet);
+        if pushed.is_err() {
             // The beginning of a row is dropped.
-            begin_again(self.alloc, &mut self.writer);
-            self.before = 0;
+            self.row.clear();
             return Err(RowFault::NoMemory);
         }
         Ok(())

@@ -1,24 +1,26 @@
 //! The texts of a packet's values.
 
-ghost use Rattle.std.specs.Prelude.{◌≡◌, ◌+◌, ◌*◌, ◌^◌, ◌<◌, ◌≤◌, ◌%◌, ◌++◌, ℕ, List, true, length, IfOk, OnOk, decimal};
+ghost use Rattle.std.specs.Prelude.{◌≡◌, ◌+◌, ◌*◌, ◌^◌, ◌<◌, ◌≤◌, ◌%◌, ◌++◌, ◌∷◌, [], ℕ, List, true, length, IfOk, OnOk, decimal};
+ghost use Rattle.csv.specs.Writing.{default_writer, fields_text};
 ghost use Rattle.tm_fields.specs.code.Line.{HasValues};
 ghost use Rattle.tm_fields.specs.Numbers.{bits_in, octets_at};
-ghost use Rattle.tm_fields.specs.Reading.{end_of, greatest_end, has_length, is_sound};
-ghost use Rattle.tm_fields.specs.Rows.{named, printed, signed, typed_text};
+ghost use Rattle.tm_fields.specs.Reading.{end_of, greatest_end, is_sound};
+ghost use Rattle.tm_fields.specs.Rows.{named, printed, signed};
 
+use crate::cells::Cells;
 use crate::field::{DataType, Field};
 use crate::line::write_value;
 use crate::numbers::number_from;
 use crate::raw::push_raw;
 use csv::Writer;
-use itoa::Buffer;
+use itoa::{Buffer, Integer};
 use std::alloc::{AllocError, Global};
 use std::io::Write;
 use tm_bits::push_escaped;
 
-// Writes a number at the end of a text.
-fn push_number(text: &mut Vec<u8>, number: u64) -> Result<(), AllocError>
-    ensures { OnOk result (text.new.items ≡ text.old.items ++ decimal number) }
+/// Writes a number at the end of a text.
+pub(crate) fn push_number<I: Integer>(text: &mut Vec<u8>, number: I) -> Result<(), AllocError>
+    ensures { OnOk result (text.new.items ≡ text.old.items ++ I.text number) }
 {
     text.extend_from_slice(Buffer::new().format(number).as_bytes())
 }
@@ -29,6 +31,14 @@ fn power(bits: u32) -> u128
     ensures { result ≡ 2 ^ bits }
 {
     1 << bits
+}
+
+/// Writes a comma and a number at the end of a row.
+pub(crate) fn push_uint(row: &mut Vec<u8>, number: u64) -> Result<(), AllocError>
+    ensures { OnOk result (row.new.items ≡ row.old.items ++ fields_text default_writer (decimal number ∷ [])) }
+{
+    row.push(b',')?;
+    push_number(row, number)
 }
 
 // Writes a number of so many bits in two's complement at the end of a text.
@@ -45,6 +55,17 @@ fn push_signed(text: &mut Vec<u8>, bits: u32, number: u64) -> Result<(), AllocEr
         text.push(b'-')?;
         push_number(text, distance as u64)
     }
+}
+
+// Writes a comma and such a number at the end of a row.
+fn push_int(row: &mut Vec<u8>, bits: u32, number: u64) -> Result<(), AllocError>
+    requires some { 1 ≤ bits }
+    requires few { bits ≤ 64 }
+    requires bound { number < 2 ^ bits }
+    ensures { OnOk result (row.new.items ≡ row.old.items ++ fields_text default_writer (signed bits number ∷ [])) }
+{
+    row.push(b',')?;
+    push_signed(row, bits, number)
 }
 
 // So many octets from a bit on, of a field that doesn't begin on an octet's border.
@@ -77,63 +98,33 @@ fn aligned_octets(packet: &[u8], at: u32, count: u32) -> &[u8]
     &packet[first..first + count as usize]
 }
 
-// Writes the text of a field of this type, place and length at the end of a text.
-fn push_typed(
-    alloc: Global,
-    text: &mut Vec<u8>,
-    packet: &[u8],
-    data_type: DataType,
-    at: u32,
-    bits: u32,
-) -> Result<(), AllocError>
-    requires sound { has_length data_type bits ≡ true }
-    requires within { at + bits ≤ bits_in packet.now }
-    requires small { at + bits ≤ greatest_end }
-    ensures { OnOk result (text.new.items ≡ text.old.items ++ typed_text packet.now data_type at bits) }
-{
-    match data_type {
-        DataType::Uint => push_number(text, number_from(packet, at, bits)),
-        DataType::Int => push_signed(text, bits, number_from(packet, at, bits)),
-        DataType::Float if at % 8 == 0 => push_raw(text, aligned_octets(packet, at, bits / 8)),
-        DataType::Float => push_raw(
-            text,
-            unaligned_octets(alloc, packet, at, bits / 8)?.as_slice(),
-        ),
-        DataType::Str if at % 8 == 0 => push_escaped(text, aligned_octets(packet, at, bits / 8)),
-        DataType::Str => push_escaped(
-            text,
-            unaligned_octets(alloc, packet, at, bits / 8)?.as_slice(),
-        ),
-        DataType::Fill => Ok(()),
-    }
-}
-
-/// Writes a field's value in a line, if it has a column. Its text is made in `text`, whatever that holds.
-pub(crate) fn write_field_value<W: Write + Drop>(
-    alloc: Global,
-    writer: &mut Writer<W>,
-    text: &mut Vec<u8>,
+/// Writes a comma and a field's value at the end of a row, if the field has a column.
+pub(crate) fn push_field_value(
+    row: &mut Vec<u8>,
+    cells: &mut Cells,
     field: &Field,
     packet: &[u8],
 ) -> Result<(), AllocError>
     requires sound { is_sound field.now ≡ true }
     requires within { end_of field.now ≤ bits_in packet.now }
-    ensures { OnOk result ((lines : List ℕ) (values : List (List ℕ)) → HasValues W.contents writer.old lines values
-        → HasValues W.contents writer.new lines (values ++ printed packet.now field.now)) }
+    ensures { OnOk result (row.new.items ≡ row.old.items ++ fields_text default_writer (printed packet.now field.now)) }
 {
-    if field.data_type.has_column() {
-        text.clear();
-        push_typed(
-            alloc,
-            text,
-            packet,
-            field.data_type,
-            field.begin,
-            field.length,
-        )?;
-        write_value(writer, text.as_slice())?;
+    let (at, bits) = (field.begin, field.length);
+    match field.data_type {
+        DataType::Uint => push_uint(row, number_from(packet, at, bits)),
+        DataType::Int => push_int(row, bits, number_from(packet, at, bits)),
+        DataType::Float if at % 8 == 0 => push_raw(row, aligned_octets(packet, at, bits / 8)),
+        DataType::Float => push_raw(
+            row,
+            unaligned_octets(cells.alloc(), packet, at, bits / 8)?.as_slice(),
+        ),
+        DataType::Str if at % 8 == 0 => cells.push_text(row, aligned_octets(packet, at, bits / 8)),
+        DataType::Str => {
+            let octets = unaligned_octets(cells.alloc(), packet, at, bits / 8)?;
+            cells.push_text(row, octets.as_slice())
+        }
+        DataType::Fill => Ok(()),
     }
-    Ok(())
 }
 
 /// Writes a field's name in a line, if it has a column.

@@ -1,0 +1,85 @@
+-- Values that CSV writes as they are: numbers and raw digits.
+use Rattle.std.proofs.Common.{◌≡◌, ℕ, zero, suc, ◌-◌, ◌^◌, ◌<◌, ◌≤◌, Bool, true, false, ◌||◌, ◌/◌, ◌%◌, List, [], ◌∷◌, ◌++◌, refl, ap, sym, ◌∙◌, append_assoc, inl, inr, arith, slice_index}
+use Rattle.std.specs.List.{list_any}
+use Rattle.std.specs.Char.{digit_value}
+use Rattle.std.specs.Fmt.{decimal}
+use Rattle.std.specs.Str.Parse.{AllDigits}
+use Rattle.std.proofs.lemmas.Bool.{cases_lt, lt-ltb, le-ltb, ne_eqb}
+use Rattle.std.proofs.lemmas.Fmt.{decimal_is_IsNumeral}
+use Rattle.std.proofs.lemmas.List.{append-nil}
+use Rattle.std.proofs.Math.Nat.{pow-le-pow_right, pow-succ'}
+use Rattle.csv.specs.Writing.{default_writer, fields_text, needs_byte, row_body}
+use Rattle.hex.specs.Hex.{encode_lower, encode_with, lower_digits}
+use Rattle.tm_fields.specs.Rows.{raw, signed}
+use Rattle.tm_fields.proofs.LineLemmas.{fields_of_both}
+
+-- an octet that CSV writes as it is
+abbrev is_set_apart : ℕ → Bool
+is_set_apart octet = needs_byte default_writer octet
+
+column : (value : List ℕ) → list_any is_set_apart value ≡ false → fields_text default_writer (value ∷ []) ≡ 44 ∷ value
+unfolding fields_text
+column value plain = rw (plain, append-nil value) refl
+
+digit_plain : (c : ℕ) → digit_value c < 10 → is_set_apart c ≡ false
+digit_plain c digit =
+    let comma = ne_eqb c 44 (λ e. let d = rw e at digit in omega (arith, d)) in
+    let quote = ne_eqb c 34 (λ e. let d = rw e at digit in omega (arith, d)) in
+    let return = ne_eqb c 13 (λ e. let d = rw e at digit in omega (arith, d)) in
+    let feed = ne_eqb c 10 (λ e. let d = rw e at digit in omega (arith, d)) in
+    rw (comma, quote, return, feed) refl
+
+digits_plain : (digits : List ℕ) → AllDigits 10 digits → list_any is_set_apart digits ≡ false
+digits_plain [] all = refl
+digits_plain (c ∷ digits) all = rw (digit_plain c all.0, digits_plain digits all.1) refl
+
+decimal_plain : (n : ℕ) → n < 2 ^ 64 → list_any is_set_apart (decimal n) ≡ false
+decimal_plain n small = digits_plain (decimal n) (decimal_is_IsNumeral n small).0.1
+
+pub number_made : (row : List ℕ) (n : ℕ) → n < 2 ^ 64 → (row ++ 44 ∷ []) ++ decimal n ≡ row ++ fields_text default_writer (decimal n ∷ [])
+number_made row n small = append_assoc row (44 ∷ []) (decimal n) ∙ ap (λ value. row ++ value) (sym (column (decimal n) (decimal_plain n small)))
+
+-- a number, and then values behind commas
+pub lead_made : (row : List ℕ) (n : ℕ) (a b c : List ℕ) → n < 2 ^ 64
+    → (((row ++ decimal n) ++ fields_text default_writer (a ∷ [])) ++ fields_text default_writer (b ∷ [])) ++ fields_text default_writer (c ∷ [])
+    ≡ row ++ row_body default_writer (decimal n ∷ a ∷ b ∷ c ∷ [])
+lead_made row n a b c small =
+    let first = fields_text default_writer (a ∷ []) in
+    let second = fields_text default_writer (b ∷ []) in
+    let third = fields_text default_writer (c ∷ []) in
+    rw (fields_of_both (a ∷ []) (b ∷ c ∷ []), fields_of_both (b ∷ []) (c ∷ []), decimal_plain n small)
+    (append_assoc ((row ++ decimal n) ++ first) second third ∙ append_assoc (row ++ decimal n) first (second ++ third) ∙ append_assoc row (decimal n) (first ++ (second ++ third)))
+
+signed_plain : (bits number : ℕ) → 1 ≤ bits → bits ≤ 64 → number < 2 ^ bits → list_any is_set_apart (signed bits number) ≡ false
+signed_plain bits number some few bound =
+    let most = pow-le-pow_right {n = 2} (omega arith) few in
+    let half = pow-succ' 2 (bits - 1) in
+    let next : suc (bits - 1) ≡ bits = omega arith in
+    let whole = rw next at half in
+    elim (cases_lt number (2 ^ (bits - 1))) [
+      | inl below ↦ rw (lt-ltb number (2 ^ (bits - 1)) below) (decimal_plain number (omega (arith, most)))
+      | inr above ↦ rw (le-ltb number (2 ^ (bits - 1)) above) (decimal_plain (2 ^ bits - number) (omega (arith, whole, most)))
+    ]
+
+pub signed_made : (row : List ℕ) (bits number : ℕ) → 1 ≤ bits → bits ≤ 64 → number < 2 ^ bits
+    → (row ++ 44 ∷ []) ++ signed bits number ≡ row ++ fields_text default_writer (signed bits number ∷ [])
+signed_made row bits number some few bound =
+    append_assoc row (44 ∷ []) (signed bits number) ∙ ap (λ value. row ++ value) (sym (column (signed bits number) (signed_plain bits number some few bound)))
+
+or_parts : (a b : Bool) → (a || b) ≡ false → (a ≡ false) × (b ≡ false)
+or_parts false b none = (refl, none)
+or_parts true b none = absurd (cc none)
+
+-- each digit of a table in which none is set apart
+digit_of : (table : List ℕ) (k : ℕ) → list_any is_set_apart table ≡ false → is_set_apart (slice_index table k) ≡ false
+digit_of [] k plain = refl
+digit_of (x ∷ table) zero plain = (or_parts (is_set_apart x) (list_any is_set_apart table) plain).0
+digit_of (x ∷ table) (suc k) plain = digit_of table k (or_parts (is_set_apart x) (list_any is_set_apart table) plain).1
+
+hex_plain : (octets : List ℕ) → list_any is_set_apart (encode_with lower_digits octets) ≡ false
+unfolding encode_with
+hex_plain [] = refl
+hex_plain (octet ∷ octets) = rw (digit_of lower_digits (octet / 16) refl, digit_of lower_digits (octet % 16) refl, hex_plain octets) refl
+
+pub raw_made : (row octets : List ℕ) → (row ++ (44 ∷ 48 ∷ 120 ∷ [])) ++ encode_lower octets ≡ row ++ fields_text default_writer (raw octets ∷ [])
+raw_made row octets = append_assoc row (44 ∷ 48 ∷ 120 ∷ []) (encode_lower octets) ∙ ap (λ value. row ++ value) (sym (column (raw octets) (hex_plain octets)))

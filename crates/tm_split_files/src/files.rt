@@ -131,7 +131,8 @@ impl<R: Files + AllocGlobal> Folder<'_, R> {
         }
     }
 
-    // Makes the file of an application, and remembers its identity.
+    // Makes the file of an application, and remembers its identity. It stands apart, since most files were begun.
+    #[inline(never)]
     fn begin(&self, application: usize, made: &mut Vec<FileIdentity>) -> Result<(), ShelfFault>
         ensures made { OnOk result (vec_len made.new ≡ vec_len made.old + 1) }
         ensures unmade { OnErr result (made.new.items ≡ made.old.items) }
@@ -145,6 +146,7 @@ impl<R: Files + AllocGlobal> Folder<'_, R> {
     }
 
     // Likewise, unless it was begun.
+    #[inline(always)]
     fn begin_once(
         &self,
         application: usize,
@@ -172,7 +174,9 @@ impl<R: Files + AllocGlobal> Folder<'_, R> {
         }
     }
 
-    // Writes what is held of an application behind what its file has, and then these octets. None is held any more.
+    // Writes what is held of an application behind what its file has, and then these octets. None is held any more. It stands apart,
+    // since most octets are held.
+    #[inline(never)]
     fn write_one(
         &self,
         application: usize,
@@ -199,6 +203,7 @@ impl<R: Files + AllocGlobal> Folder<'_, R> {
     }
 
     // Holds octets of an application behind those that are held of it, or writes all of these where they are many.
+    #[inline(always)]
     fn add(&self, application: usize, held: &mut Vec<u8>, octets: &[u8]) -> Result<(), ShelfFault>
         ensures held { OnOk result ((held.new.items ≡ held.old.items ++ octets.now) ⊎ (held.new.items ≡ [])) }
         ensures kept { IfErr result (λ fault. is_out_of_memory fault ≡ true → held.new.items ≡ held.old.items) }
@@ -288,6 +293,7 @@ impl<'a, R: Files + AllocGlobal> HeldFiles<'a, R> {
     }
 
     /// Writes all that is held. If a file can't be written, the others still are. A fault that is to be told is told first.
+    #[inline(never)]
     pub fn write_held(&mut self) -> Result<(), ShelfFault>
         ensures held { OnOk result (AreEmpty self.new.held.items) }
         ensures told { IfSome self.old.unwritten (λ fault. result ≡ Err fault) }
@@ -317,6 +323,7 @@ impl<'a, R: Files + AllocGlobal> HeldFiles<'a, R> {
     }
 
     // Makes the file of an application, unless it was made, and holds octets of it or writes them.
+    #[inline(always)]
     fn begin_and_add(&mut self, application: usize, octets: &[u8]) -> Result<(), ShelfFault>
         requires { application < 2048 }
         ensures begun { OnOk result (slice_get self.new.begun.items application ≡ Some true) }
@@ -339,6 +346,7 @@ impl<'a, R: Files + AllocGlobal> HeldFiles<'a, R> {
 
     /// Holds octets of an application, or writes them. Its file is made at the first. All that is held is written where much
     /// came since it last was.
+    #[inline(always)]
     pub fn hold(&mut self, application: usize, octets: &[u8]) -> Result<(), ShelfFault>
         ensures begun { OnOk result (slice_get self.new.begun.items application ≡ Some true) }
         ensures others { (other : ℕ) → other ≢ application

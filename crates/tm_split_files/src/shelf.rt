@@ -111,6 +111,7 @@ impl<R: Files + AllocGlobal> Shelf for FileShelf<'_, R> {
     ghost refusals = { λ s. s.refused };
 
     // Its files don't tell what they have: so the first two clauses say nothing of them. What is held before it is written is said by those behind.
+    #[inline(always)]
     #[tactic(auto, using(crate::proofs::ShelfLemmas::after_a_put))]
     fn put(&mut self, application: u16, octets: &[u8]) -> Result<(), ShelfFault>
         ensures whole { OnOk result (Puts None None application octets.now) }

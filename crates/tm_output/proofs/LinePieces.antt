@@ -22,12 +22,6 @@ pub line_stopped : {before after : Option (List ℕ)} {failures failures' : ℕ}
 line_stopped line {buffering} prefix counts =
     stopped_put Appends Appends-nil Appends-trans buffering _ _ (line_piece line) Write (counts, prefix) tt refl
 
-pub line_stopped_by : {T E : Type 0} (before after : Option (List ℕ)) (failures failures' : ℕ) (line : List ℕ) (buffering : Buffering) (r : Result T E)
-    → OnErr r (AppendsPrefix before after line) → Counts failures failures' r
-    → OnErr r (Stopped Appends buffering (view before None failures 0) (view after None failures' 0) (line_piece line ∷ []) Write)
-line_stopped_by before after failures failures' line buffering (Ok x) prefix counts = tt
-line_stopped_by before after failures failures' line buffering (Err e) prefix counts = line_stopped line prefix counts
-
 -- pieces were written, and then a flush failed
 pub flush_stopped : {old : View (Option (List ℕ))} {mid new : Option (List ℕ)} {failures failures' : ℕ} {ps : List (Piece ℕ)}
     → Took Appends old (view mid None failures 0) ps → Keeps mid new → (buffering : Buffering) → buffering.flush ≡ true → failures' ≡ raised failures

@@ -1,8 +1,10 @@
 -- How a listing stands while it goes on, what follows at its end, and how it ended in the words of the whole recording.
-use Rattle.std.proofs.Common.{◌≡◌, ◌<◌, ◌+◌, ℕ, List, [], ◌∷◌, ◌++◌, length, refl, sym, ap, ◌∙◌, append_assoc, append-nil, length-append, add-zero, arith, inl, inr, Option, None, Some, IfSome}
-use Rattle.std.specs.List.{concat}
+use Rattle.std.proofs.Common.{◌≡◌, ◌<◌, ◌+◌, ℕ, Bool, true, false, cond, List, [], ◌∷◌, ◌++◌, length, refl, sym, ap, ◌∙◌, append_assoc, append-nil, length-append, add-zero, arith, inl, inr, Option, None, Some, IfSome}
+use Rattle.std.specs.Int.{from_bool}
+use Rattle.std.specs.List.{concat, count_by}
 use Rattle.std.specs.Io.KnownBytes.{Appends, Consumes, IsAtEnd}
 use Rattle.std.proofs.KnownBytes.{Consumes-trans}
+use Rattle.std.proofs.lemmas.List.Sums.{sum_by_push}
 use Rattle.tm_frame.specs.declared.layout.LayoutParts.{LayoutParts}
 use Rattle.tm_frame.specs.Layout.{record_length_of}
 use Rattle.tm_faults.specs.declared.run.RunFault.{RunFault}
@@ -10,7 +12,7 @@ use Rattle.tm_faults.specs.declared.run.RunFault.TheVariants.{Read, Write, TooMa
 use Rattle.tm_output.specs.Outputs.{AppendsCut, Took, View, line_piece, line_pieces, outs}
 use Rattle.tm_output.specs.Records.{AreRecords, HasRead, record_count, records, rest_of}
 use Rattle.tm_output.specs.code.Listed.{NextListingStop}
-use Rattle.tm_output.specs.Listing.{IsListed, IsListingStop, ListingStopped, StopsInRecordLine, StopsInRestLine, lines_of, listing, record_line, record_lines, rest_lines}
+use Rattle.tm_output.specs.Listing.{IsListed, IsListing, IsListingStop, ListingStopped, StopsInRecordLine, StopsInRestLine, is_good_record, lines_of, listing, record_line, record_lines, rest_lines}
 use Rattle.tm_output.proofs.LinePieces.{cut_before, lines_lines, lines_out, lines_stopped, same_cut, took_cut}
 use Rattle.tm_output.proofs.RecordLemmas.{AreRecords-append, always, concat-one, count_all, many_told, records_all, records_front, rest_all, told}
 
@@ -20,6 +22,11 @@ record_lines-append layout seen [] b = ap (λ (n : ℕ). record_lines layout n b
 record_lines-append layout seen (r ∷ a) b =
     let count : seen + 1 + length a ≡ seen + length (r ∷ a) = omega arith in
     rw (record_lines-append layout (seen + 1) a b, count) refl
+
+-- a good frame counts one
+counted : (good : Bool) → from_bool good ≡ cond good 1 0
+counted true = refl
+counted false = refl
 
 module _ (layout : LayoutParts) where
   -- the lines of records and one more
@@ -36,32 +43,35 @@ module _ (layout : LayoutParts) where
   listing_all read rest sized short =
       rw (records_all (record_length_of layout) read rest sized short, rest_all (record_length_of layout) read rest sized short) refl
 
-  -- these records were read, and their lines written
-  pub record Stands (first left : Option (List ℕ)) (old now : View (Option (List ℕ))) (seen : ℕ) : Type 0 where
+  -- these records were read, and their lines written; these are their number and that of the good frames among them
+  pub record Stands (first left : Option (List ℕ)) (old now : View (Option (List ℕ))) (seen good : ℕ) : Type 0 where
     pub read : List (List ℕ)
     pub sized : AreRecords (record_length_of layout) read
     pub octets : Consumes first left (concat read)
     pub count_is : seen ≡ length read
+    pub good_is : good ≡ count_by (is_good_record layout) read
     pub took : Took Appends old now (line_pieces (record_lines layout 0 read))
 
-  module _ {first left next : Option (List ℕ)} {old now : View (Option (List ℕ))} {seen : ℕ} (octets : List ℕ) (stands : Stands first left old now seen) (got : Consumes left next octets) where
+  module _ {first left next : Option (List ℕ)} {old now : View (Option (List ℕ))} {seen good : ℕ} (octets : List ℕ) (stands : Stands first left old now seen good) (got : Consumes left next octets) where
     has_read : HasRead (record_length_of layout) first next stands.read octets
     has_read = record { sized = stands.sized; octets = Consumes-trans first left next (concat stands.read) octets stands.octets got }
 
     -- a record was read, and its line written
     pub stands_more : length octets ≡ record_length_of layout → {new : View (Option (List ℕ))}
-        → Took Appends now new (line_piece (record_line layout seen octets) ∷ []) → Stands first next old new (seen + 1)
-    stands_more exact {new} line = record {
+        → Took Appends now new (line_piece (record_line layout seen octets) ∷ []) → (more : ℕ) → more ≡ from_bool (is_good_record layout octets)
+        → Stands first next old new (seen + 1) (good + more)
+    stands_more exact {new} line more more_is = record {
       read = stands.read ++ octets ∷ [];
       sized = AreRecords-append (record_length_of layout) stands.read (octets ∷ []) stands.sized (exact, tt);
       octets = rw (concat-one stands.read octets) has_read.octets;
       count_is = omega (arith, stands.count_is, length-append stands.read (octets ∷ []));
+      good_is = rw (more_is, stands.good_is, counted (is_good_record layout octets)) (sym (sum_by_push (λ one. cond (is_good_record layout one) 1 0) stands.read octets));
       took = rw (one_line_more stands.read octets seen stands.count_is)
           (lines_lines old now new (record_lines layout 0 stands.read) (record_line layout seen octets ∷ []) stands.took line);
     }
 
     -- all was read, and the line of the rest written
-    pub stands_end : (rest : ℕ) → length octets ≡ rest → rest < record_length_of layout → IsAtEnd next → {new : View (Option (List ℕ))}
+    abbrev stands_end : (rest : ℕ) → length octets ≡ rest → rest < record_length_of layout → IsAtEnd next → {new : View (Option (List ℕ))}
         → Took Appends now new (line_pieces (rest_lines seen rest)) → IsListed layout first next old.out new.out seen
     stands_end rest size less end {new} line =
         let read : List (List ℕ) = stands.read in
@@ -77,9 +87,19 @@ module _ (layout : LayoutParts) where
           count_is = stands.count_is ∙ sym (count_all (record_length_of layout) read octets stands.sized short);
         }
 
+    -- and these are the numbers
+    pub stands_listing : (rest : ℕ) → length octets ≡ rest → rest < record_length_of layout → IsAtEnd next → {new : View (Option (List ℕ))}
+        → Took Appends now new (line_pieces (rest_lines seen rest)) → IsListing layout first next old.out new.out (record { records = seen; good = good })
+    stands_listing rest size less end {new} line =
+        let short : length octets < record_length_of layout = omega (arith, size, less) in
+        record {
+          lines = stands_end rest size less end line;
+          good_is = stands.good_is ∙ ap (count_by (is_good_record layout)) (sym (records_all (record_length_of layout) stands.read octets stands.sized short));
+        }
+
   -- where listing the next record stops, the listing stops
-  pub stands_stopped : {first left : Option (List ℕ)} {old now : View (Option (List ℕ))} {seen : ℕ} (next : Option (List ℕ)) (new : View (Option (List ℕ))) (fault : RunFault)
-      → Stands first left old now seen → NextListingStop layout seen left next now new fault → IsListingStop layout first next old new fault
+  pub stands_stopped : {first left : Option (List ℕ)} {old now : View (Option (List ℕ))} {seen good : ℕ} (next : Option (List ℕ)) (new : View (Option (List ℕ))) (fault : RunFault)
+      → Stands first left old now seen good → NextListingStop layout seen left next now new fault → IsListingStop layout first next old new fault
   stands_stopped next new Read stands (fails, same) =
       record { read = stands.read; part = fails.part; octets = has_read fails.part stands fails.octets; short = fails.short; took = rw same stands.took }
   stands_stopped next new TooMany stands (reads, same) = record {

@@ -1,6 +1,6 @@
 -- The listing of a recording: a line for each record, and one for a rest.
-use Rattle.std.specs.Prelude.{◌≡◌, ◌⊎◌, ◌==◌, if◌then◌else◌, ℕ, ◌+◌, ◌<◌, List, [], ◌∷◌, ◌++◌, length, Option, Result, Ok, Err}
-use Rattle.std.specs.List.{concat}
+use Rattle.std.specs.Prelude.{◌≡◌, ◌⊎◌, ◌==◌, if◌then◌else◌, ℕ, ◌+◌, ◌<◌, Bool, List, [], ◌∷◌, ◌++◌, length, Option, Result, Ok, Err, is_ok}
+use Rattle.std.specs.List.{concat, count_by}
 use Rattle.std.specs.Io.KnownBytes.{Appends, Consumes, IsAtEnd}
 use Rattle.tm_frame.specs.declared.fault.FrameFault.{FrameFault}
 use Rattle.tm_frame.specs.declared.layout.LayoutParts.{LayoutParts}
@@ -10,6 +10,7 @@ use Rattle.tm_frame.specs.Layout.{most_records, record_length_of}
 use Rattle.tm_faults.specs.declared.run.RunFault.{RunFault}
 use Rattle.tm_faults.specs.declared.run.RunFault.TheVariants.{Read, Write, Report, ShortRecording, TooMany, NoMemory}
 use Rattle.tm_lines.specs.Lines.{bad_line, frame_line, short_line}
+use Rattle.tm_output.specs.declared.listing.Listed.{Listed}
 use Rattle.tm_output.specs.Outputs.{AppendsCut, Stopped, Took, View, line_piece, line_pieces, octets_buffering}
 use Rattle.tm_output.specs.Records.{HasRead, HasReadAll, record_count, records, rest_of}
 
@@ -20,6 +21,10 @@ reading_line seen (Err fault) = bad_line seen fault
 
 unfoldable pub record_line : LayoutParts → ℕ → List ℕ → List ℕ
 record_line layout seen octets = reading_line seen (frame_reading_of layout octets)
+
+-- whether a record is a good frame, of any channel
+unfoldable pub is_good_record : LayoutParts → List ℕ → Bool
+is_good_record layout octets = is_ok (frame_reading_of layout octets)
 
 -- the lines of records, the first being record `seen`
 abbrev pub record_lines : LayoutParts → ℕ → List (List ℕ) → List (List ℕ)
@@ -49,6 +54,11 @@ module _ (layout : LayoutParts) (left_old left_new : Option (List ℕ)) where
     pub ended : IsAtEnd left_new
     pub written : Appends out_old out_new (concat (listing layout read))
     pub count_is : count ≡ record_count (record_length_of layout) read
+
+  -- the lines were written, and these are the numbers of the records and of the good frames among them
+  pub record IsListing (out_old out_new : Option (List ℕ)) (listed : Listed) : Type 0 where
+    pub lines : IsListed out_old out_new listed.records
+    pub good_is : listed.good ≡ count_by (is_good_record layout) (records (record_length_of layout) lines.read)
 
   -- a read failed in a record: the lines of every whole record before it are written
   pub record StopsAtFailedRead (old new : View (Option (List ℕ))) : Type 0 where

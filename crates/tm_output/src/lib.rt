@@ -9,7 +9,7 @@ mod output;
 mod totals;
 
 pub use command::{Command, Ending};
-pub use listing::{list_frames, write_record_line, write_rest_line};
+pub use listing::{Listed, list_frames, list_recording, write_record_line, write_rest_line};
 pub use outlet::{
     Outlet, PacketLines, PacketOctets, PacketRows, PacketShelf, PacketText, PacketTexts,
 };

@@ -17,5 +17,5 @@ pub use tm_devices::{
     Buffered, BufferedSource, DeviceFailed, Drain, Reading, Seeking, Shelf, Source, Writing,
 };
 pub use tm_faults::{CheckpointFault, NoMemory, RunFault};
-pub use tm_output::{Command, Ending, Totals, list_frames};
+pub use tm_output::{Command, Ending, Listed, Totals, list_frames, list_recording};
 pub use tm_settings::{Key, Settings, SettingsFault};

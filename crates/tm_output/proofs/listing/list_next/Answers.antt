@@ -10,9 +10,9 @@ filled_next : {left_old left_new : Option (List ℕ)} {Holds : List ℕ → Type
 filled_next {left_old} {left_new} size many buffer exact whole octets holds =
     record { one = buffer; exact = exact; octets = subst (Consumes left_old left_new) (take_all many buffer (omega arith)) octets; holds = holds }
 
-pub returns-in-Err-write_record_line-clause-stopped : goal.returns-in-Err-write_record_line-clause-stopped
-returns-in-Err-write_record_line-clause-stopped g c =
-    filled_next _ _ _ (c.fill.auto.buffer ∙ c.requires) (omega (arith, c.if-octets-size.false)) c.in-Ok-fill.ensures.octets c.in-Err-write_record_line.ensures.stopped
+pub returns-in_default-write_record_line-clause-stopped : goal.returns-in_default-write_record_line-clause-stopped
+returns-in_default-write_record_line-clause-stopped g c =
+    filled_next _ _ _ (c.fill.auto.buffer ∙ c.requires) (omega (arith, c.if-octets-size.false)) c.in-Ok-fill.ensures.octets c.in_default-write_record_line.ensures.stopped
 
 pub returns-then-seen-eq4294967295-clause-stopped : goal.returns-then-seen-eq4294967295-clause-stopped
 returns-then-seen-eq4294967295-clause-stopped g c =

@@ -1,4 +1,4 @@
-use Rattle.tm_output.proofs.listing.list_frames.Goals as goal
+use Rattle.tm_output.proofs.listing.list_recording.Goals as goal
 
 pub returns-clause-listed : goal.returns-clause-listed
 returns-clause-listed g c = rw (← c.layout-layout.ensures) c.list_records.ensures.listed

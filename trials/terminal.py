@@ -329,26 +329,51 @@ def of_runs():
     ]
 
 
-def of_bad_frames():
-    """Cases of runs that end with status 0, with no good frame or with some."""
-    said, wrong = "no good frame in {} records: see tmx summary", "--settings other-spacecraft.toml"
-    quiet = f"{wrong} --report /dev/null"
+# What was lost: records, good and bad ones, missing frames, dropped octets.
+COUNTS = "{} records, {} good, {} bad, {} frames missing, {} octets dropped: see tmx summary"
+
+
+def of_losses():
+    """Cases of runs that are done, and of what they have lost."""
+    wrong = "--settings other-spacecraft.toml"
+    quiet, rows = f"{wrong} --report /dev/null", "--settings s.toml --report /dev/null --definition"
+    some, chosen = COUNTS.format(300, 299, 1, 2, 738), "--settings chosen.toml --report /dev/null"
+
+    def bad(records):
+        return f"{COUNTS.format(records, 0, records, 0, 0)}, or python3 -m tmx probe"
+
     return [
-        Case(f"frames {wrong} pass.rec", 0, said=said.format(300)),
-        Case(f"frames {wrong}", 0, said=said.format(300), fed="pass.rec"),
-        Case(f"extract {quiet} pass.rec", 0, said=said.format(300)),
-        Case(f"extract {quiet}", 0, said=said.format(300), fed="pass.rec"),
-        Case(f"split {quiet} --dir packets pass.rec", 0, said=said.format(300)),
-        Case(f"packets {quiet} --checkpoint bad.chk --stop-after 7 pass.rec", 0, said=said.format(7)),
-        Case(f"packets {quiet} --resume bad.chk pass.rec", 0, said=said.format(293)),
+        Case(f"frames {wrong} pass.rec", 0, said=bad(300)),
+        Case(f"frames {wrong}", 0, said=bad(300), fed="pass.rec"),
+        Case(f"extract {quiet} pass.rec", 0, said=bad(300)),
+        Case(f"extract {quiet}", 0, said=bad(300), fed="pass.rec"),
+        Case(f"split {quiet} --dir packets pass.rec", 0, said=bad(300)),
+        Case(f"packets {quiet} --checkpoint bad.chk --stop-after 7 pass.rec", 0, said=bad(7)),
+        Case(f"packets {quiet} --resume bad.chk pass.rec", 0, said=bad(293)),
+        Case(f"packets --strict {quiet} pass.rec", 5, said=bad(300)),
         Case(f"summary {wrong} pass.rec", 0),
+        Case(f"summary --strict {wrong} pass.rec", 5),
+        Case("summary --strict --settings s.toml pass.rec", 4),
         Case("frames --settings s.toml pass.rec", 0),
-        Case(EXTRACT, 0),
-        Case(f"extract {quiet}", 0),
+        Case(EXTRACT, 0, said=some),
+        Case(f"{EXTRACT} --strict", 4, said=some),
+        Case(f"extract {quiet}", 0, said=COUNTS.format(*[0] * 5)),
+        Case(f"extract --strict {quiet}", 5, said=COUNTS.format(*[0] * 5)),
+        Case(f"fields {rows} f.csv --apid 101 pass.rec", 0, said=some),
+        Case(f"fields {rows} f.csv --apid 999 pass.rec", 0, said=f"no packet of application 999; {some}"),
+        Case(f"fields {rows} f.csv --apid 999 --checkpoint good.chk good.rec", 0, said="no packet of application 999: see tmx summary"),
+        Case(
+            f"fields {rows} wide.csv --apid 101 pass.rec",
+            0,
+            said=f"all 503 packets of application 101 are too short; {some}",
+        ),
+        Case(f"packets {chosen} --checkpoint good.chk good.rec", 0, said="no good frame of channel 5, 7: see tmx summary"),
+        Case("packets --settings s.toml --report /dev/null --checkpoint good.chk good.rec", 0),
+        Case("packets --strict --settings s.toml --report /dev/null --checkpoint good.chk good.rec", 0),
         Case("frames --settings s.toml pass.rec.gz", 0, said="the recording pass.rec.gz: packed by gzip; unpack it first"),
         Case("frames --settings s.toml pass.rec.zst", 0, said="the recording pass.rec.zst: packed by zstd; unpack it first"),
         Case("frames --settings s.toml < pass.rec.gz", 0, said="standard input: packed by gzip; unpack it first"),
-        Case("frames --settings tiny.toml pipe", 0, said=said.format(3), before="cat head.gz > pipe &"),
+        Case("frames --settings tiny.toml pipe", 0, said=bad(3), before="cat head.gz > pipe &"),
     ]
 
 
@@ -379,6 +404,7 @@ def make_settings():
     write("unknown", bananas="3")
     write("missing", spacecraft="")
     write("tiny", frame_length="9", error_control="false")
+    write("chosen", channels="[0, 1, 3, 5, 7]")
     write("kind-spacecraft", spacecraft='"42"')
     for key, most in MOST.items():
         write(f"range-{key}", **{key: str(most + 1)})
@@ -401,6 +427,7 @@ def make_definitions():
         "semicolons": "name;data_type;bit_length\na;uint;8\n",
         "column": "name,data_type,bits\na,uint,8\n",
         "columns": "name,name,data_type,bit_length\na,b,uint,8\n",
+        "wide": f"{heading}\na,str,80000\n",
         "kind": f"{heading}\na,uint8,8\n",
         "array": f"{heading}\na,uint(4),8\n",
         "uint": f"{heading}\na,uint,8\n b ,uint, 70\n",
@@ -451,6 +478,7 @@ def make_folder(tmx):
     shutil.copy(tmx, "tmx")
     os.chmod("tmx", 0o755)  # so that nobody can run it, too
     Path("short.rec").write_bytes(Path("pass.rec").read_bytes()[: 78 * 256 + 32])
+    Path("good.rec").write_bytes(Path("pass.rec").read_bytes()[: 20 * 256])
     Path("pass.rec.gz").write_bytes(gzip.compress(Path("pass.rec").read_bytes()))
     Path("pass.rec.zst").write_bytes(bytes.fromhex("28b52ffd") + Path("pass.rec").read_bytes())
     Path("head.gz").write_bytes(bytes.fromhex("1f8b08000000000000") * 3)
@@ -689,7 +717,7 @@ def main():
     os.mkdir("terminal")
     os.chdir("terminal")
     make_folder(tmx)
-    kinds = of_missing, of_files, of_clashes, of_pipes, of_settings, of_definitions, of_checkpoints, of_runs, of_bad_frames
+    kinds = of_missing, of_files, of_clashes, of_pipes, of_settings, of_definitions, of_checkpoints, of_runs, of_losses
     cases = [case for kind in kinds for case in kind()]
     print(f"plan {len(cases) + len(WRONG_WORDS) + 7}", flush=True)
     for case in cases:

@@ -50,11 +50,15 @@ strict() {
             done
         done
     done
+    # One frame with two packets.
+    settings whole 42 24 false
+    printf '\2\240\0\0\30\0\0d\300\0\0\0U\0d\300\1\0\4UUUUU' >recording
+    strict_trial "a recording without a loss" whole 999 100
     cp "$example/pass.rec" recording
     strict_trial "the example" "$example/settings.toml" 999 101
     tell "each status is wanted of some run: ${counted[0]:-0}, ${counted[4]:-0} and ${counted[5]:-0}" \
         "$([ "${#counted[@]}" = 3 ] || echo "${#counted[@]} statuses")"
-    plan 114
+    plan 115
 }
 
 # The application of most packets of the recording; 0 where it has none.

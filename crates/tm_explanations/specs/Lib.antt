@@ -1,2 +1,3 @@
 pub mod Blame
 pub mod Wanted
+pub mod Losses

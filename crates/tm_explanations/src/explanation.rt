@@ -5,13 +5,13 @@ ghost use Rattle.tm_explanations.specs.Blame.{HasPlan, is_explained, is_told};
 ghost use Rattle.tm_faults.specs.Explanations.{IsLine};
 
 use crate::asked::Asked;
-use crate::files::{error_text, packed_text};
+use crate::files::error_text;
 use crate::phrases::{Said, Untold, is_explained, phrase, place_blamed, text_of};
 use crate::usage::usage_text;
 use std::alloc::Global;
 use std::rt::Files;
 use tm_arguments::{Plan, plan};
-use tm_faults::{Explanation, NoMemory, RunFault, ToolFault, UsageFault, explain_bad_frames};
+use tm_faults::{Explanation, NoMemory, RunFault, ToolFault, UsageFault};
 use tm_file_identity::Place;
 
 /// A run that ended: its system, its plan, and the number of the system's first error.
@@ -66,8 +66,8 @@ fn run_text<R: Files + AllocGlobal>(
     }
 }
 
-// The line of a text, where there is one.
-fn line_of(alloc: Global, text: Said) -> Result<Option<Explanation>, NoMemory>
+/// The line of a text, where there is one.
+pub(crate) fn line_of(alloc: Global, text: Said) -> Result<Option<Explanation>, NoMemory>
     ensures line { IfOk result (λ found. IfSome found IsLine) }
     ensures told { IfErr text (λ e. e ≡ Untold.NoMemory) → IfOk result IsSome }
 {
@@ -101,26 +101,4 @@ pub fn explain<R: Files + AllocGlobal>(
         _ => run_text(rt, words, fault, number),
     };
     line_of(rt.alloc(), text)
-}
-
-/// What to say of a run by these words that had no good frame in this many records, one at least: one line. If its
-/// report says that frames are bad, it is told only that a recording is packed. `NoMemory` is as above.
-pub fn explain_no_good_frame<R: Files + AllocGlobal>(
-    rt: &R,
-    _: Asked,
-    words: Vec<String>,
-    records: u32,
-    is_told: bool,
-) -> Result<Option<Explanation>, NoMemory>
-    ensures { IfOk result (λ found. IfSome found IsLine) }
-{
-    let alloc = rt.alloc();
-    let text = match plan(alloc, words) {
-        Ok(plan) => packed_text(rt, &plan),
-        Err(_) => Err(Untold::Unknown),
-    };
-    match line_of(alloc, text)? {
-        None if !is_told => Ok(Some(explain_bad_frames(alloc, records)?)),
-        line => Ok(line),
-    }
 }

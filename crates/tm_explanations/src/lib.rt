@@ -9,11 +9,13 @@ mod asked;
 mod definition;
 mod explanation;
 mod files;
+mod losses;
 mod phrases;
 mod settings;
 mod usage;
 
 pub use asked::{Asked, ask};
-pub use explanation::{explain, explain_no_good_frame};
+pub use explanation::explain;
+pub use losses::{DoneRun, explain_losses};
 pub use tm_faults::{Explanation, NoMemory};
 pub use usage::explain_words;

@@ -23,7 +23,3 @@ line_of text = codes "  " ++ (shown_text text ++ codes "\n")
 -- the octets are the line of some text: so they are one line of visible characters and spaces, whatever files and words hold
 abbrev pub IsLine : List ℕ → Type 0
 IsLine octets = (text : List ℕ) × (octets ≡ line_of text)
-
--- what is said of a run of so many records, none of them a good frame
-abbrev pub bad_frames_text : ℕ → List ℕ
-bad_frames_text records = codes "no good frame in " ++ (decimal records ++ codes " records: see tmx summary")

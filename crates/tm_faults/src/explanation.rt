@@ -3,7 +3,7 @@
 ghost use Rattle.std.specs.Prelude.{◌≡◌, ◌++◌, ℕ, List, IfOk, OnOk};
 ghost use Rattle.std.specs.List.{flat_map};
 ghost use Rattle.std.specs.Str.{chars};
-ghost use Rattle.tm_faults.specs.Explanations.{IsLine, bad_frames_text, line_of, shown, shown_text};
+ghost use Rattle.tm_faults.specs.Explanations.{IsLine, line_of, shown, shown_text};
 
 use crate::NoMemory;
 use std::alloc::{AllocError, Global};
@@ -79,16 +79,4 @@ impl Explanation {
     {
         self.line.as_slice()
     }
-}
-
-/// Says that a run of this many records had no good frame, and what to do.
-///
-/// # Errors
-///
-/// `NoMemory` where there is no room for the line.
-pub fn explain_bad_frames(alloc: Global, records: u32) -> Result<Explanation, NoMemory>
-    ensures { IfOk result (λ e. e ≡ line_of (bad_frames_text records)) }
-{
-    let text = format!(in alloc; "no good frame in {records} records: see tmx summary")?;
-    Explanation::new(alloc, text.as_bytes())
 }

@@ -9,7 +9,7 @@ mod run;
 mod settings;
 
 pub use definition::{Column, DefinitionFault};
-pub use explanation::{Explanation, explain_bad_frames};
+pub use explanation::Explanation;
 pub use lines::{fault_line, status};
 pub use program::{ToolFault, UsageFault};
 pub use run::{CheckpointFault, NoMemory, RunFault};

@@ -1,2 +1,4 @@
 pub mod Program
+pub mod Statuses
+pub mod Found
 pub mod code

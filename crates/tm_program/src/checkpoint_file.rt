@@ -2,11 +2,12 @@
 
 ghost use Rattle.std.specs.Prelude.{◌≡◌, ◌⊎◌, Err, Ok, IfErr, IfOk, IfSome, MatchOption, option_map};
 ghost use Rattle.tm_checkpoint.specs.Works.{new_job};
-ghost use Rattle.tm_program.specs.code.Endings.{HasCheckpoint, ending_of, requested_checkpoint, work_from};
+ghost use Rattle.tm_program.specs.code.Endings.{FindsDone, HasCheckpoint, requested_checkpoint};
+ghost use Rattle.tm_program.specs.Found.{ending_of, work_from};
 ghost use Rattle.tm_files.specs.code.Files.{HasFault, IsNoMemory};
 ghost use Rattle.tm_files.specs.code.Replacements.{replaced_name, replacement_name};
 
-use crate::outcome::{Finished, Outcome};
+use crate::outcome::{Finished, Found};
 use std::rt::Files;
 use tm_arguments::Plan;
 use tm_faults::ToolFault;
@@ -93,25 +94,37 @@ fn store_checkpoint<'p, R: Files + AllocGlobal>(
     }
 }
 
+// What a job has found that did this, where so many records were done before.
+fn found_by(done: &Done, before: u32) -> Found
+    ensures { FindsDone done.now result }
+{
+    Found::Packets {
+        records: done.records.saturating_sub(before),
+        totals: done.totals,
+    }
+}
+
 /// Ends what was begun for the checkpoint, once the job has run: its file takes the checkpoint, or is removed again. Answers what the run did.
+/// This many records were done before it.
 pub(crate) fn end_checkpoint<'p, R: Files + AllocGlobal>(
     rt: &R,
     replacement: Option<Replacement<'p, R::File>>,
     done: Result<Done, ToolFault>,
-    outcome: Outcome,
+    before: u32,
 ) -> Result<Finished<'p>, ToolFault>
     ensures done { IfOk result (λ finished. MatchOption finished.done ⊥ (λ it. done ≡ Ok it)) }
     ensures replaced { IfOk result (λ finished. IfSome finished.done (λ it. option_map replaced_name finished.replaced
         ≡ requested_checkpoint (option_map replacement_name replacement.entry) it.kept)) }
     ensures octets { IfOk result (λ finished. IfSome finished.done (λ it. IfSome finished.replaced (HasCheckpoint it))) }
+    ensures found { IfOk result (λ finished. MatchOption finished.done ⊥ (λ it. FindsDone it finished.found)) }
     ensures refused { IfErr result (λ fault. HasFault (option_map replacement_name replacement.entry) fault ⊎ (done ≡ Err fault)) }
 {
     match done {
         Ok(done) => match store_checkpoint(rt, replacement, &done) {
             Ok(replaced) => Ok(Finished {
+                found: found_by(&done, before),
                 done: Some(done),
                 replaced,
-                outcome,
             }),
             Err(fault) => {
                 drop(done);

@@ -124,7 +124,8 @@ pub(crate) fn split_packets<R: Files + AllocGlobal, S: BufferedSource, V: Drain>
     source: &mut S,
     report: &mut V,
 ) -> Result<Done, ToolFault>
-    ensures done { IfOk result (HasDone plan.now inputs.old.settings inputs.old.resumed) }
+    requires { plan.now.action ≡ Split }
+    ensures done { IfOk result (HasDone plan.now inputs.old.settings inputs.old.definition inputs.old.resumed) }
     ensures written { OnOk result (HoldsNone shelf.new.held) }
     ensures blamed { IfErr result (IsBlamedBeside (S.failures source.old) (S.failures source.new) (V.failures report.old)
         (V.failures report.new)) }

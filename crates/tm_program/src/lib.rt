@@ -7,7 +7,7 @@ mod inputs;
 mod outcome;
 mod steps;
 
-pub use outcome::Outcome;
+pub use outcome::{Found, Outcome};
 pub use steps::run;
 pub use tm_faults::{NoMemory, ToolFault, UsageFault, fault_line, status};
-pub use tm_tool::{Octets, RunFault};
+pub use tm_tool::{Listed, Octets, RunFault, Summed, Totals};

@@ -1,28 +1,69 @@
-//! What a run that ended has done and seen.
+//! What a run that ended has found, and the status that says so.
 
-ghost use Rattle.std.specs.Prelude.{◌≡◌, ◌<◌, ◌≤◌, ◌↔◌, IsTrue};
+ghost use Rattle.std.specs.Prelude.{◌≡◌, ◌||◌, nat_lt, false};
+ghost use Rattle.tm_program.specs.Statuses.{done_status, found_good_frame, found_losses};
 
-use tm_devices::{DeviceFailed, Drain};
 use tm_files::Replaced;
-use tm_tool::Done;
+use tm_tool::{Done, Listed, Summed, Totals};
 
-/// What a run that ended has seen of its recording.
+/// What a run that is done has found of its recording.
+#[derive(Clone, Copy, Debug, PartialEq, Eq)]
+pub enum Found {
+    /// A list of frames: its records, and how many are good frames.
+    Frames(Listed),
+    /// A summary: what its numbers tell at once.
+    Summary(Summed),
+    /// A job: the records that it took, and what it gave and lost.
+    Packets { records: u32, totals: Totals },
+}
+
+/// What came of a run that is done.
 #[derive(Clone, Copy, Debug, PartialEq, Eq)]
 pub struct Outcome {
-    /// The records that it took.
-    pub records: u32,
-    /// How many of them have the line of a bad frame. A summary has none.
-    pub bad: u64,
+    /// What it found.
+    pub found: Found,
+    /// The status says what was lost.
+    pub strict: bool,
     /// The report went to standard error.
     pub reports_to_errors: bool,
+    /// The settings choose all channels.
+    pub has_all_channels: bool,
 }
 
 impl Outcome {
-    /// There were records, and all are bad frames.
-    pub fn has_no_good_frame(self) -> bool
-        ensures { IsTrue result ↔ ((0 < self.records) × (self.records ≤ self.bad)) }
+    // It had a good frame, of a chosen channel if it is no list.
+    fn has_good_frame(self) -> bool
+        ensures { result ≡ found_good_frame self.found }
     {
-        0 < self.records && u64::from(self.records) <= self.bad
+        match self.found {
+            Found::Frames(listed) => listed.good > 0,
+            Found::Summary(summed) => summed.has_good_frame,
+            Found::Packets { totals, .. } => totals.good > 0,
+        }
+    }
+
+    // Something was lost. A list tells it by its lines alone.
+    fn has_losses(self) -> bool
+        ensures { result ≡ found_losses self.found }
+    {
+        match self.found {
+            Found::Frames(_) => false,
+            Found::Summary(summed) => summed.has_losses,
+            Found::Packets { totals, .. } => totals.has_losses,
+        }
+    }
+
+    /// The status of the run: 0, or if it is to say what was lost, 5 without a good frame of a chosen channel, and else 4 with losses.
+    pub fn status(self) -> u8
+        ensures { result ≡ done_status self.strict (found_good_frame self.found) (found_losses self.found) }
+    {
+        if self.strict && !self.has_good_frame() {
+            5
+        } else if self.strict && self.has_losses() {
+            4
+        } else {
+            0
+        }
     }
 }
 
@@ -31,55 +72,14 @@ impl Outcome {
 pub(crate) struct Finished<'p> {
     pub(crate) done: Option<Done>,
     pub(crate) replaced: Option<Replaced<'p>>,
-    pub(crate) outcome: Outcome,
+    pub(crate) found: Found,
 }
 
 impl Finished<'_> {
-    /// What the run has seen.
-    pub(crate) fn into_outcome(self) -> Outcome
-        ensures { result ≡ self.entry.outcome }
+    /// What the run has found.
+    pub(crate) fn into_found(self) -> Found
+        ensures { result ≡ self.entry.found }
     {
-        self.outcome
-    }
-}
-
-/// A drain that passes all on, and counts the lines of bad frames. Each line is written by a call of its own.
-#[derive(Drop)]
-pub(crate) struct Counted<W> {
-    drain: W,
-    bad: u64,
-}
-
-impl<W: Drain> Counted<W> {
-    pub(crate) fn new(drain: W) -> Self
-        ensures { result.drain ≡ drain }
-    {
-        Counted { drain, bad: 0 }
-    }
-
-    /// How many lines of bad frames there were.
-    pub(crate) fn bad(&self) -> u64 {
-        self.bad
-    }
-}
-
-impl<W: Drain> Drain for Counted<W> {
-    ghost failures = { λ s. W.failures s.drain };
-
-    ghost written = { λ s. W.written s.drain };
-
-    ghost flushed = { λ s. W.flushed s.drain };
-
-    ghost fixed = { λ s. W.fixed s.drain };
-
-    fn write(&mut self, octets: &[u8]) -> Result<usize, DeviceFailed> {
-        if octets.starts_with(b"bad ") {
-            self.bad = self.bad.saturating_add(1);
-        }
-        self.drain.write(octets)
-    }
-
-    fn flush(&mut self) -> Result<(), DeviceFailed> {
-        self.drain.flush()
+        self.found
     }
 }

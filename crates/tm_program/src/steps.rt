@@ -6,14 +6,16 @@ ghost use Rattle.tm_files.specs.code.Files.{IsRunFault};
 ghost use Rattle.tm_files.specs.code.Replacements.{replaced_name};
 ghost use Rattle.tm_files.specs.Names.{AreClear};
 ghost use Rattle.tm_program.specs.code.Blames.{IsBlamed, IsBlamedBeside};
-ghost use Rattle.tm_program.specs.code.Endings.{HasCheckpoint, HasDone, HasShown};
+ghost use Rattle.tm_program.specs.code.Endings.{HasCheckpoint, HasDone, HasShown, IsListFound};
+ghost use Rattle.tm_program.specs.Found.{Finds, HasFound, texts_for};
+ghost use Rattle.tm_output.specs.Pieces.{text_of};
 ghost use Rattle.tm_program.specs.Program.{IsAsked, MayCome, MayEnd};
 ghost use Rattle.tm_program.specs.code.Faults.{HasFolderFault, IsOfOutputs};
 
 use crate::checkpoint_file::{begin_checkpoint, choose_ending, end_checkpoint, make_job};
 use crate::folder::{make_shelf, split_packets};
 use crate::inputs::{Inputs, prepare_inputs};
-use crate::outcome::{Counted, Finished, Outcome};
+use crate::outcome::{Finished, Found, Outcome};
 use std::alloc::Global;
 use std::io::{self, BufWriter, Write};
 use std::rt::Files;
@@ -25,7 +27,7 @@ use tm_files::{
     is_job, make_drain, open_recording, open_report, source_of_input, writes_errors,
 };
 use tm_tool::{
-    BufferedSource, Command, Done, Drain, Job, Settings, Writing, list_frames, summarize,
+    BufferedSource, Command, Done, Drain, Job, Settings, Writing, list_recording, sum_up,
 };
 
 // The plan of the arguments.
@@ -39,26 +41,28 @@ fn read_arguments(alloc: Global, arguments: Vec<String>) -> Result<Plan, ToolFau
     }
 }
 
-// Lists the frames of a recording, or sums it up, and answers the number of records.
+// Lists the frames of a recording, or sums it up, and answers what was found.
 fn list_to<S: BufferedSource, W: Drain>(
     alloc: Global,
     action: Action,
     settings: &Settings,
     source: &mut S,
     out: &mut W,
-) -> Result<u32, ToolFault>
-    ensures listed { OnOk result (HasShown action settings.now (S.left source.old) (S.left source.new) (W.written out.old)
+) -> Result<Found, ToolFault>
+    ensures listed { IfOk result (HasShown action settings.now (S.left source.old) (S.left source.new) (W.written out.old)
         (W.written out.new)) }
     ensures blamed { IfErr result (IsBlamed (S.failures source.old) (S.failures source.new) (W.failures out.old)
         (W.failures out.new)) }
     ensures refused { IfErr result IsRunFault }
 {
-    let listed = match action {
-        Action::Summary => summarize(alloc, settings, source, out),
-        _ => list_frames(alloc, settings, source, out),
-    };
-    match listed {
-        Ok(records) => Ok(records),
+    if let Action::Summary = action {
+        return match sum_up(alloc, settings, source, out) {
+            Ok(summed) => Ok(Found::Summary(summed)),
+            Err(fault) => Err(ToolFault::Run(fault)),
+        };
+    }
+    match list_recording(alloc, settings, source, out) {
+        Ok(listed) => Ok(Found::Frames(listed)),
         Err(fault) => Err(ToolFault::Run(fault)),
     }
 }
@@ -70,29 +74,21 @@ fn list<R: Print + AllocGlobal, S: BufferedSource>(
     action: Action,
     settings: &Settings,
     source: &mut S,
-) -> Result<Outcome, ToolFault>
-    ensures { IfErr result IsRunFault }
+) -> Result<Found, ToolFault>
+    ensures found { IfOk result (IsListFound action) }
+    ensures refused { IfErr result IsRunFault }
 {
     let alloc = rt.alloc();
-    let mut out = Counted::new(make_drain(alloc, io::writer(rt))?);
-    let listed = list_to(alloc, action, settings, source, &mut out);
-    let bad = out.bad();
-    match listed {
-        Ok(records) => Ok(Outcome {
-            records,
-            bad,
-            reports_to_errors: false,
-        }),
+    let mut out = make_drain(alloc, io::writer(rt))?;
+    match list_to(alloc, action, settings, source, &mut out) {
+        Ok(found) => Ok(found),
         Err(fault) => Err(fault),
     }
 }
 
 // What the plan wants of the packets on standard output.
 fn choose_command<'a>(plan: &Plan, definition: Option<&'a Definition>) -> Command<'a>
-    ensures extract { plan.now.action ≡ Action.Extract → result ≡ Command.Extract }
-    ensures packets { plan.now.action ≡ Action.Packets → result ≡ Command.Packets }
-    ensures fields { plan.now.action ≡ Action.Fields
-        → IfSome definition.entry (λ d. IfSome plan.now.apid (λ application. result ≡ Command.Fields d application)) }
+    ensures { text_of result ≡ texts_for plan.now.action (option_map (λ d. d.now) definition.entry) plan.now.apid }
 {
     match (plan.action, definition, plan.apid) {
         (Action::Packets, _, _) => Command::Packets,
@@ -110,7 +106,7 @@ fn give_packets<R: Print + AllocGlobal, S: BufferedSource, V: Drain>(
     source: &mut S,
     report: &mut V,
 ) -> Result<Done, ToolFault>
-    ensures done { IfOk result (HasDone plan.now inputs.old.settings inputs.old.resumed) }
+    ensures done { IfOk result (HasDone plan.now inputs.old.settings inputs.old.definition inputs.old.resumed) }
     ensures blamed { IfErr result (IsBlamedBeside (S.failures source.old) (S.failures source.new) (V.failures report.old)
         (V.failures report.new)) }
     ensures refused { IfErr result IsRunFault }
@@ -135,7 +131,7 @@ fn run_to_destination<R: Files + Print + AllocGlobal, S: BufferedSource, V: Drai
     source: &mut S,
     report: &mut V,
 ) -> Result<Done, ToolFault>
-    ensures done { IfOk result (HasDone plan.now inputs.old.settings inputs.old.resumed) }
+    ensures done { IfOk result (HasDone plan.now inputs.old.settings inputs.old.definition inputs.old.resumed) }
     ensures refused { IfErr result (λ fault. IsRunFault fault ⊎ HasFolderFault plan.now.dir fault) }
 {
     let identities = identify_files(rt, plan)?;
@@ -156,26 +152,18 @@ fn records_before(resumed: &Option<Job>) -> u32 {
     }
 }
 
-// The number of records that the run took, where so many were done before it.
-fn records_taken(done: &Result<Done, ToolFault>, before: u32) -> u32 {
-    match done {
-        Ok(done) => done.records.saturating_sub(before),
-        Err(_) => 0,
-    }
-}
-
-// The report of the plan, once its names were checked, with the lines of bad frames counted.
+// The report of the plan, once its names were checked.
 #[tactic(auto, using(tm_files::proofs::FaultLemmas::no_memory_run))]
 fn make_report<R: Files + AllocGlobal, E: Write + Drop>(
     rt: &R,
     plan: &Plan,
     checked: Checked,
     errors: E,
-) -> Result<Counted<Writing<BufWriter<Report<R::File, E>>>>, ToolFault>
+) -> Result<Writing<BufWriter<Report<R::File, E>>>, ToolFault>
     ensures { IfErr result (IsOfOutputs plan.now) }
 {
     let report = open_report(rt, plan, checked, errors)?;
-    Ok(Counted::new(make_drain(rt.alloc(), report)?))
+    make_drain(rt.alloc(), report)
 }
 
 // Does what the plan wants of the job over the recording, once the names of its files were checked, and answers what is done. The file of the
@@ -190,9 +178,10 @@ fn run_job<'p, R: Files + Print + AllocGlobal, S: BufferedSource, E: Write + Dro
     checked: Checked,
 ) -> Result<Finished<'p>, ToolFault>
     ensures done { IfOk result (λ finished. MatchOption finished.done ⊥
-        (HasDone plan.now inputs.old.settings inputs.old.resumed)) }
+        (HasDone plan.now inputs.old.settings inputs.old.definition inputs.old.resumed)) }
     ensures checkpoint { IfOk result (λ finished. option_map replaced_name finished.replaced ≡ plan.now.checkpoint) }
     ensures octets { IfOk result (λ finished. IfSome finished.done (λ done. IfSome finished.replaced (HasCheckpoint done))) }
+    ensures found { IfOk result (λ finished. Finds plan.now finished.found) }
     ensures refused { IfErr result (IsOfOutputs plan.now) }
 {
     check_folder(rt, plan)?;
@@ -201,12 +190,7 @@ fn run_job<'p, R: Files + Print + AllocGlobal, S: BufferedSource, E: Write + Dro
     match begin_checkpoint(rt, plan) {
         Ok(replacement) => {
             let done = run_to_destination(rt, plan, inputs, source, &mut report);
-            let outcome = Outcome {
-                records: records_taken(&done, before),
-                bad: report.bad(),
-                reports_to_errors: writes_errors(plan),
-            };
-            end_checkpoint(rt, replacement, done, outcome)
+            end_checkpoint(rt, replacement, done, before)
         }
         Err(fault) => Err(fault),
     }
@@ -223,10 +207,11 @@ fn run_on_recording<'p, R: Files + Print + AllocGlobal, S: BufferedSource, E: Wr
 ) -> Result<Finished<'p>, ToolFault>
     ensures ok { OnOk result (AreClear plan.now) }
     ensures done { IfOk result (λ finished. MatchOption finished.done (is_job plan.now.action ≡ false)
-        (HasDone plan.now inputs.old.settings inputs.old.resumed)) }
+        (HasDone plan.now inputs.old.settings inputs.old.definition inputs.old.resumed)) }
     ensures checkpoint { IfOk result (λ finished. IfSome finished.done
         (λ done. option_map replaced_name finished.replaced ≡ plan.now.checkpoint)) }
     ensures octets { IfOk result (λ finished. IfSome finished.done (λ done. IfSome finished.replaced (HasCheckpoint done))) }
+    ensures found { IfOk result (λ finished. Finds plan.now finished.found) }
     ensures refused { IfErr result (IsOfOutputs plan.now) }
 {
     let checked = check_file_names(rt, plan)?;
@@ -234,16 +219,16 @@ fn run_on_recording<'p, R: Files + Print + AllocGlobal, S: BufferedSource, E: Wr
         return run_job(rt, plan, inputs, source, errors, checked);
     }
     match list(rt, plan.action, &inputs.settings, source) {
-        Ok(outcome) => Ok(Finished {
+        Ok(found) => Ok(Finished {
             done: None,
             replaced: None,
-            outcome,
+            found,
         }),
         Err(fault) => Err(fault),
     }
 }
 
-// Reads the files of the plan, does what it asks for, and answers what the run has seen.
+// Reads the files of the plan, does what it asks for, and answers what came of the run.
 #[tactic(auto, using(tm_files::proofs::FaultLemmas::no_memory_run, crate::proofs::ProgramLemmas::file_comes, crate::proofs::ProgramLemmas::outputs_come, crate::proofs::ProgramLemmas::run_comes))]
 fn run_plan<R: Files + Input + Print + AllocGlobal, E: Write + Drop>(
     rt: &R,
@@ -251,7 +236,7 @@ fn run_plan<R: Files + Input + Print + AllocGlobal, E: Write + Drop>(
     errors: &mut E,
 ) -> Result<Outcome, ToolFault>
     requires { IsSome plan.now.settings }
-    ensures ok { OnOk result (AreClear plan.now) }
+    ensures ok { IfOk result (λ outcome. AreClear plan.now × HasFound plan.now outcome) }
     ensures refused { IfErr result (MayCome plan.now) }
 {
     let mut inputs = prepare_inputs(rt, plan, errors)?;
@@ -265,15 +250,21 @@ fn run_plan<R: Files + Input + Print + AllocGlobal, E: Write + Drop>(
             Err(fault) => Err(fault),
         },
     };
+    let has_all_channels = inputs.settings.channels().mask() == u8::MAX;
     drop(inputs);
     match finished {
-        Ok(finished) => Ok(finished.into_outcome()),
+        Ok(finished) => Ok(Outcome {
+            found: finished.into_found(),
+            strict: plan.strict,
+            reports_to_errors: writes_errors(plan),
+            has_all_channels,
+        }),
         Err(fault) => Err(fault),
     }
 }
 
-/// Does what these arguments of the command line ask for, and answers what the run has seen. A report that has no file goes to `errors`, all of it
-/// before this returns.
+/// Does what these arguments of the command line ask for, and answers what came of the run: what it found, and whether its status is to say so.
+/// A report that has no file goes to `errors`, all of it before this returns.
 ///
 /// # Errors
 ///
@@ -284,7 +275,8 @@ pub fn run<R: Files + Input + Print + AllocGlobal, E: Write + Drop>(
     arguments: Vec<String>,
     mut errors: E,
 ) -> Result<Outcome, ToolFault>
-    ensures ok { OnOk result ((p : Plan) × IsAsked (map string_bytes arguments.items) p × AreClear p) }
+    ensures ok { IfOk result (λ outcome. (p : Plan) × IsAsked (map string_bytes arguments.items) p × AreClear p
+        × HasFound p outcome) }
     ensures refused { IfErr result (MayEnd (map string_bytes arguments.items)) }
 {
     let plan = read_arguments(rt.alloc(), arguments)?;

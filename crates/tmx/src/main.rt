@@ -7,8 +7,12 @@ use std::io::{ErrorKind, IsTerminal, Write};
 use std::process::ExitCode;
 use std::rt::Env;
 use tm_devices::Watched;
-use tm_explanations::{Asked, Explanation, ask, explain, explain_no_good_frame, explain_words};
-use tm_program::{Octets, Outcome, RunFault, ToolFault, UsageFault, fault_line, run, status};
+use tm_explanations::{
+    Asked, DoneRun, Explanation, ask, explain, explain_losses, explain_words,
+};
+use tm_program::{
+    Found, Octets, Outcome, RunFault, ToolFault, Totals, UsageFault, fault_line, run, status,
+};
 
 const NOT_TEXT: &str =
     "error: the arguments are not UTF-8\n\nFor more information, try '--help'.\n";
@@ -90,19 +94,41 @@ fn refuse(rt: &HostRuntime, fault: &ToolFault, number: Option<i32>) -> ExitCode 
     code
 }
 
-// Says, where a second line is wanted, that a run had no good frame. Where its report, which says so, went to standard error, it is only said
-// that a recording is packed.
+// What is known of a run that is done. A summary has told all by its lines.
+fn done_run(outcome: Outcome) -> DoneRun {
+    let mut totals = Totals::none();
+    let (records, is_told) = match outcome.found {
+        Found::Frames(listed) => {
+            totals.good = u64::from(listed.good);
+            totals.bad = u64::from(listed.records.saturating_sub(listed.good));
+            (listed.records, false)
+        }
+        Found::Summary(summed) => {
+            totals.good = u64::from(summed.has_good_frame);
+            totals.has_losses = true;
+            (summed.records, true)
+        }
+        Found::Packets {
+            records,
+            totals: found,
+        } => {
+            totals = found;
+            (records, outcome.reports_to_errors)
+        }
+    };
+    DoneRun {
+        records,
+        totals,
+        has_all_channels: outcome.has_all_channels,
+        is_told,
+    }
+}
+
+// Says, where a second line is wanted, what a run that is done has lost.
 fn remark(rt: &HostRuntime, outcome: Outcome) {
-    if outcome.has_no_good_frame()
-        && let Some(wanted) = ask_for_explanation(rt)
+    if let Some(wanted) = ask_for_explanation(rt)
         && let Ok(words) = all_words(rt)
-        && let Ok(Some(line)) = explain_no_good_frame(
-            rt,
-            wanted,
-            words,
-            outcome.records,
-            outcome.reports_to_errors,
-        )
+        && let Ok(Some(line)) = explain_losses(rt, wanted, words, &done_run(outcome))
     {
         let _ = rt.stderr().write_all(line.as_slice());
     }
@@ -128,7 +154,7 @@ fn main(rt: HostRuntime) -> ExitCode {
     match done {
         Ok(outcome) => {
             remark(&rt, outcome);
-            ExitCode::SUCCESS
+            ExitCode::from(outcome.status())
         }
         Err(fault) if matches!(&fault, ToolFault::Usage(UsageFault::Help(_))) => help(&rt, &fault),
         Err(fault) => refuse(&rt, &fault, first.get()),

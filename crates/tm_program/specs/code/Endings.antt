@@ -3,43 +3,40 @@ use Rattle.std.specs.Prelude.{◌≡◌, ◌+◌, ℕ, List, length, Option, Som
 use Rattle.tm_checkpoint.specs.Checkpoints.{checkpoint_of}
 use Rattle.tm_files.specs.declared.files.Replaced.{Replaced}
 use Rattle.tm_files.specs.code.Replacements.{replaced_octets}
-use Rattle.tm_checkpoint.specs.Works.{JobState, new_job, Work}
+use Rattle.tm_checkpoint.specs.Works.{JobState, Work}
+use Rattle.tm_fields.specs.declared.field.Field.{Field}
+use Rattle.tm_output.specs.Pieces.{Texts}
+use Rattle.tm_program.specs.Found.{ending_of, texts_for, totals_over, work_from}
+use Rattle.tm_program.specs.declared.outcome.Found.{Found}
+use Rattle.tm_program.specs.declared.outcome.Found.TheVariants as found
 use Rattle.tm_tool.specs.RecordingPieces.{records_for, further, worked}
 use Rattle.tm_tool.specs.Runs.{IsEnough, kept_of}
 use Rattle.tm_tool.specs.declared.job.Done.{Done}
 use Rattle.tm_settings.specs.Settings.{Rules}
 use Rattle.tm_output.specs.declared.command.Ending.{Ending}
-use Rattle.tm_output.specs.declared.command.Ending.TheVariants.{Close, Keep, StopAfter}
-use Rattle.tm_output.specs.Listing.{IsListed}
-use Rattle.tm_tool.specs.Summaries.{IsSummarized}
+use Rattle.tm_output.specs.Listing.{IsListing}
+use Rattle.tm_tool.specs.SummaryNumbers.{IsSummed}
 use Rattle.tm_arguments.specs.declared.request.Action.{Action}
 use Rattle.tm_arguments.specs.declared.request.Action.TheVariants.{Summary}
 use Rattle.tm_arguments.specs.declared.request.Plan.{Plan}
 
--- with a file for the checkpoint or none, and a number of records or none
-abbrev pub ending_with : Option (List ℕ) → Option ℕ → Ending
-ending_with None stop = Close
-ending_with (Some name) None = Keep
-ending_with (Some name) (Some records) = StopAfter records
-
-abbrev pub ending_of : Plan → Ending
-ending_of p = ending_with p.checkpoint p.stop_after
-
--- So many records are done by a run from this work, whatever its source tells. There are octets that the ending reads, the
--- records that are done among them. Where the ending keeps a job, it is the one after those of their records that it takes.
-abbrev pub IsDone : Ending → Work → Done → Type 0
-IsDone ending w done = (read : List ℕ) × IsEnough ending w None read
+-- So much is done by a run from this work, whatever its source tells. There are octets that the ending reads, the records that are
+-- done among them. Where the ending keeps a job, it is the one after those of their records that it takes. And this is what the run
+-- gave and lost, in numbers.
+abbrev pub IsDone : Texts ℕ → Ending → Work → Done → Type 0
+IsDone text ending w done = (read : List ℕ) × IsEnough ending w None read
     × (done.records ≡ w.state.records + length (records_for ending (further w read)))
     × (option_map (λ job. job.work) done.kept ≡ kept_of ending (worked w (records_for ending (further w read))))
+    × (done.totals ≡ totals_over text ending w read)
 
--- the work of the job that is resumed, or else of a new one
-abbrev pub work_from : Rules → Option JobState → Work
-work_from settings None = (new_job settings).work
-work_from settings (Some job) = job.work
+-- So much is done by a run of the plan with these settings and this definition, from this job where there is one.
+abbrev pub HasDone : Plan → Rules → Option (List Field) → Option JobState → Done → Type 0
+HasDone p settings fields resumed done = IsDone (texts_for p.action fields p.apid) (ending_of p) (work_from settings resumed) done
 
--- So much is done by a run of the plan with these settings, from this job where there is one.
-abbrev pub HasDone : Plan → Rules → Option JobState → Done → Type 0
-HasDone p settings resumed done = IsDone (ending_of p) (work_from settings resumed) done
+-- what is found is what the run gave and lost
+abbrev pub FindsDone : Done → Found → Type 0
+FindsDone done (found.Packets records totals) = totals ≡ done.totals
+FindsDone done _ = ⊥
 
 -- the file that takes the checkpoint: that of the plan, where a job was kept
 abbrev pub requested_checkpoint : {J : Type 0} → Option (List ℕ) → Option J → Option (List ℕ)
@@ -50,7 +47,19 @@ requested_checkpoint name (Some job) = name
 abbrev pub HasCheckpoint : Done → Replaced → Type 0
 HasCheckpoint done replaced = IfSome done.kept (λ job. replaced_octets replaced ≡ checkpoint_of job.work)
 
--- a summary of what was read was written, or a list of its frames
-abbrev pub HasShown : Action → Rules → (left_old left_new out_old out_new : Option (List ℕ)) → Type 0
-HasShown Summary rules left_old left_new out_old out_new = (count : ℕ) × IsSummarized rules left_old left_new out_old out_new count
-HasShown _ rules left_old left_new out_old out_new = (count : ℕ) × IsListed rules.layout left_old left_new out_old out_new count
+-- a summary of what was read was written, or a list of its frames, and this was found
+abbrev pub HasShown : Action → Rules → (left_old left_new out_old out_new : Option (List ℕ)) → Found → Type 0
+HasShown Summary rules left_old left_new out_old out_new (found.Summary summed) = IsSummed rules left_old left_new out_old out_new summed
+HasShown Summary rules left_old left_new out_old out_new _ = ⊥
+HasShown _ rules left_old left_new out_old out_new (found.Frames listed) = IsListing rules.layout left_old left_new out_old out_new listed
+HasShown _ rules left_old left_new out_old out_new _ = ⊥
+
+-- what a list or a summary of some recording finds
+abbrev pub IsListFound : Action → Found → Type 0
+IsListFound Summary (found.Summary summed) = (rules : Rules) × (read : List ℕ)
+    × (summed.has_good_frame ≡ has_good_frame rules.channels (summary_numbers rules read))
+    × (summed.has_losses ≡ tells_loss (summary_numbers rules read))
+IsListFound Summary _ = ⊥
+IsListFound _ (found.Frames listed) = (layout : LayoutParts) × (read : List ℕ)
+    × (listed.good ≡ count_by (is_good_record layout) (records (record_length_of layout) read))
+IsListFound _ _ = ⊥

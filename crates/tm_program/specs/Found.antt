@@ -1,0 +1,77 @@
+-- What a run that is done has found of its recording, whatever its source tells.
+use Rattle.std.specs.Prelude.{◌≡◌, ◌+◌, ℕ, List, length, Option, None, Some, option_map}
+use Rattle.std.specs.List.{count_by}
+use Rattle.tm_frame.specs.declared.layout.LayoutParts.{LayoutParts}
+use Rattle.tm_frame.specs.Layout.{record_length_of}
+use Rattle.tm_fields.specs.declared.field.Field.{Field}
+use Rattle.tm_settings.specs.Settings.{Rules}
+use Rattle.tm_checkpoint.specs.Works.{JobState, new_job, Work}
+use Rattle.tm_output.specs.declared.command.Command.TheVariants.{Extract, Packets as Lines}
+use Rattle.tm_output.specs.declared.command.Ending.{Ending}
+use Rattle.tm_output.specs.declared.command.Ending.TheVariants.{Close, Keep, StopAfter}
+use Rattle.tm_output.specs.declared.totals.Totals.{Totals}
+use Rattle.tm_output.specs.Listing.{is_good_record}
+use Rattle.tm_output.specs.Pieces.{Texts, rows_text, text_of}
+use Rattle.tm_output.specs.Records.{records, rest_of}
+use Rattle.tm_summary.specs.Losses.{has_good_frame, tells_loss}
+use Rattle.tm_tool.specs.RecordingPieces.{further, records_for}
+use Rattle.tm_tool.specs.Runs.{IsEnough}
+use Rattle.tm_tool.specs.RunTotals.{run_totals}
+use Rattle.tm_tool.specs.SummaryNumbers.{summary_numbers}
+use Rattle.tm_arguments.specs.declared.request.Action.{Action}
+use Rattle.tm_arguments.specs.declared.request.Action.TheVariants.{Frames, Packets, Summary, Fields}
+use Rattle.tm_arguments.specs.declared.request.Plan.{Plan}
+use Rattle.tm_program.specs.declared.outcome.Found.{Found}
+use Rattle.tm_program.specs.declared.outcome.Found.TheVariants as found
+use Rattle.tm_program.specs.declared.outcome.Outcome.{Outcome}
+
+-- ---- where the run of a plan begins and ends
+
+-- with a file for the checkpoint or none, and a number of records or none
+abbrev pub ending_with : Option (List ℕ) → Option ℕ → Ending
+ending_with None stop = Close
+ending_with (Some name) None = Keep
+ending_with (Some name) (Some records) = StopAfter records
+
+abbrev pub ending_of : Plan → Ending
+ending_of p = ending_with p.checkpoint p.stop_after
+
+-- the work of the job that is resumed, or else of a new one
+abbrev pub work_from : Rules → Option JobState → Work
+work_from settings None = (new_job settings).work
+work_from settings (Some job) = job.work
+
+-- ---- what it gives
+
+-- the texts of a packet, by the action, the definition of fields and the application: octets are given where there are no lines and no rows
+abbrev pub texts_for : Action → Option (List Field) → Option ℕ → Texts ℕ
+texts_for Fields (Some fields) (Some application) = rows_text fields application
+texts_for Packets fields application = text_of Lines
+texts_for _ fields application = text_of Extract
+
+-- what a run gave and lost, from this work, where it read these octets
+abbrev pub totals_over : Texts ℕ → Ending → Work → List ℕ → Totals
+totals_over text ending w read =
+    run_totals text ending w (records_for ending (further w read)) (length (rest_of (record_length_of w.rules.layout) read))
+
+-- There are octets that the run of the plan reads, with some settings and definition, from some job or none: this is what it gave and lost.
+abbrev pub HasTotals : Plan → Totals → Type 0
+HasTotals p totals = (settings : Rules) × (fields : Option (List Field)) × (resumed : Option JobState) × (read : List ℕ)
+    × IsEnough (ending_of p) (work_from settings resumed) None read
+    × (totals ≡ totals_over (texts_for p.action fields p.apid) (ending_of p) (work_from settings resumed) read)
+
+-- ---- what it found
+
+-- a list knows how many of the recording's records are good frames, a summary what its numbers tell, and a job what it gave and lost
+abbrev pub Finds : Plan → Found → Type 0
+Finds p (found.Frames listed) = (p.action ≡ Frames)
+    × (layout : LayoutParts) × (read : List ℕ) × (listed.good ≡ count_by (is_good_record layout) (records (record_length_of layout) read))
+Finds p (found.Summary summed) = (p.action ≡ Summary)
+    × (settings : Rules) × (read : List ℕ)
+    × (summed.has_good_frame ≡ has_good_frame settings.channels (summary_numbers settings read))
+    × (summed.has_losses ≡ tells_loss (summary_numbers settings read))
+Finds p (found.Packets records totals) = HasTotals p totals
+
+-- so of a plan whose status may say what was lost
+abbrev pub HasFound : Plan → Outcome → Type 0
+HasFound p outcome = (outcome.strict ≡ p.strict) × Finds p outcome.found

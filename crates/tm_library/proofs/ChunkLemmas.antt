@@ -17,6 +17,7 @@ use Rattle.tm_faults.specs.declared.run.RunFault.TheVariants.{ShortRecording, To
 use Rattle.tm_output.specs.Outputs.{AppendsPieces, Piece, View, line_pieces, reports}
 use Rattle.tm_output.specs.Pieces.{text_of, buffering_of}
 use Rattle.tm_output.specs.Records.{AreRecords, record_count, records, rest_of}
+use Rattle.tm_output.specs.declared.totals.Totals.{Totals}
 use Rattle.tm_output.proofs.RecordLemmas.{count_front, records_counted, records_front, rest_front}
 use Rattle.tm_tool.specs.HeadPieces.{head_pieces}
 use Rattle.tm_tool.specs.RecordingPieces.{further, pieces, records_for, worked}
@@ -24,7 +25,7 @@ use Rattle.tm_tool.specs.Runs.{IsHeadedStop, IsSoundWork, Outcome, Ran, StoppedI
 use Rattle.tm_tool.proofs.HeadedRuns.{stop_told}
 use Rattle.tm_tool.proofs.Passing.{cut_records}
 use Rattle.tm_tool.proofs.RunPieces.{ran_told}
-use Rattle.tm_library.specs.Chunks.{Holds, chunk_ending, chunk_pieces, job_in, size_of}
+use Rattle.tm_library.specs.Chunks.{Holds, chunk_ending, chunk_pieces, job_in, size_of, totals_by}
 
 -- ---- a job has the settings that it was resumed with
 
@@ -84,19 +85,21 @@ module _ (command : Command) (last : Bool) (job : JobState) (octets : List ℕ) 
   pieces_are some = rw (taken_is job.work octets done is some last, rest_is job.work octets done is some) refl
 
   module _ (sound : IsSoundWork job.work) (left : Option (List ℕ)) (old new : View (Option (List ℕ))) (ending : Ending) where
-    -- just the pieces of the chunk were written; so many records are done; and this is kept
-    pub gave : (count : ℕ) (kept : Option Work) → ending ≡ chunk_ending last
+    -- just the pieces of the chunk were written; so many records are done; this is kept; and this was given and lost
+    pub gave : (count : ℕ) (kept : Option Work) (totals : Totals) → ending ≡ chunk_ending last
         → Ran Appends (buffering_of command) (text_of command) ending job.work (head_pieces command job.fresh)
-        (devices_at (Some (replicate done 0 ++ octets)) 0 old) (devices_at left 0 new) count kept
+        (devices_at (Some (replicate done 0 ++ octets)) 0 old) (devices_at left 0 new) count kept totals
         → AppendsPieces Appends old new (chunk_pieces command last job octets)
         × (count ≡ job.work.state.records + length (records (size_of job.work) octets))
         × (kept ≡ kept_of (chunk_ending last) (worked job.work (records (size_of job.work) octets)))
-    gave count kept ends h =
+        × (totals ≡ totals_by command last job octets)
+    gave count kept totals ends h =
         let outcome : Outcome Appends (buffering_of command) (text_of command) (chunk_ending last) job.work (head_pieces command job.fresh)
-        (replicate done 0 ++ octets) old new count kept =
-        ran_told Appends Appends-nil Appends-trans _ _ (chunk_ending last) job.work sound.0 sound.1 _ left old new 0 0 _ count kept (rw ends at h) in
+        (replicate done 0 ++ octets) old new count kept totals =
+        ran_told Appends Appends-nil Appends-trans _ _ (chunk_ending last) job.work sound.0 sound.1 _ left old new 0 0 _ count kept totals (rw ends at h) in
         let taken = taken_is job.work octets done is sound.1 last in
-        (rw (pieces_are sound.1) at outcome.took.whole, rw taken at outcome.count_is, rw taken at outcome.kept_is)
+        let rest = rest_is job.work octets done is sound.1 in
+        (rw (pieces_are sound.1) at outcome.took.whole, rw taken at outcome.count_is, rw taken at outcome.kept_is, rw (taken, rest) at outcome.totals_is)
 
     module _ (fault : RunFault) (h : IsHeadedStop Appends (buffering_of command) (text_of command) ending job.work (head_pieces command job.fresh)
         (devices_at (Some (replicate done 0 ++ octets)) 0 old) (devices_at left 0 new) fault) where

@@ -1,5 +1,5 @@
 -- What a call gives of a chunk of a recording: of the octets that follow the records that its job has done.
-use Rattle.std.specs.Prelude.{◌≡◌, ◌≤◌, ◌+◌, ◌*◌, ◌/◌, ℕ, Bool, true, false, List, [], ◌∷◌, ◌++◌, length, take, Option, None, Some, Result, Ok, IsUtf8}
+use Rattle.std.specs.Prelude.{◌≡◌, ◌≤◌, ◌+◌, ◌*◌, ◌/◌, nat_lt, ℕ, Bool, true, false, List, [], ◌∷◌, ◌++◌, length, take, Option, None, Some, Result, Ok, IsUtf8}
 use Rattle.toml.specs.Parse.{parse_document}
 use Rattle.std.specs.List.{concat}
 use Rattle.tm_frame.specs.declared.layout.LayoutParts.{LayoutParts}
@@ -12,16 +12,21 @@ use Rattle.tm_faults.specs.declared.run.CheckpointFault.{CheckpointFault}
 use Rattle.tm_checkpoint.specs.Checkpoints.{checkpoint_of, resumed}
 use Rattle.tm_checkpoint.specs.Works.{JobState, Work, new_job}
 use Rattle.tm_output.specs.declared.command.Command.{Command}
+use Rattle.tm_output.specs.declared.command.Command.TheVariants.{Extract}
 use Rattle.tm_output.specs.declared.command.Ending.{Ending}
 use Rattle.tm_output.specs.declared.command.Ending.TheVariants.{Close, Keep}
 use Rattle.tm_output.specs.Listing.{record_lines, rest_lines}
 use Rattle.tm_output.specs.Outputs.{Piece, line_pieces, outs, reports}
 use Rattle.tm_output.specs.Pieces.{text_of}
 use Rattle.tm_output.specs.Records.{record_count, records, rest_of}
+use Rattle.tm_output.specs.declared.totals.Totals.{Totals}
+use Rattle.tm_summary.specs.Losses.{has_good_frame, tells_loss}
 use Rattle.tm_tool.specs.HeadPieces.{head_pieces}
 use Rattle.tm_tool.specs.RecordingPieces.{pieces_after, worked}
 use Rattle.tm_tool.specs.Runs.{kept_of}
+use Rattle.tm_tool.specs.RunTotals.{run_totals}
 use Rattle.tm_tool.specs.Summaries.{summary}
+use Rattle.tm_tool.specs.SummaryNumbers.{summary_numbers}
 use Rattle.tm_library.specs.declared.request.Answer.{Answer}
 use Rattle.tm_library.specs.declared.request.Wanted.{Wanted}
 use Rattle.tm_library.specs.declared.request.Wanted.TheVariants.{Packets, Frames}
@@ -85,6 +90,16 @@ abbrev pub given_pieces : Wanted → Bool → JobState → List ℕ → List (Pi
 given_pieces (Packets command) last job octets = chunk_pieces command last job octets
 given_pieces Frames last job octets = line_pieces (frame_lines last job octets)
 
+-- what a chunk gives and loses by a command, in numbers
+abbrev pub totals_by : Command → Bool → JobState → List ℕ → Totals
+totals_by command last job octets =
+    run_totals (text_of command) (chunk_ending last) job.work (records (size_of job.work) octets) (length (rest_of (size_of job.work) octets))
+
+-- likewise by what is wanted: a list tells what `Extract` does
+abbrev pub chunk_totals : Wanted → Bool → JobState → List ℕ → Totals
+chunk_totals (Packets command) last job octets = totals_by command last job octets
+chunk_totals Frames last job octets = totals_by Extract last job octets
+
 -- the job behind the whole records of a chunk
 abbrev pub job_behind : JobState → List ℕ → JobState
 job_behind job octets = record { work = worked job.work (records (size_of job.work) octets); fresh = false }
@@ -114,6 +129,8 @@ pub record IsAnswer (wanted : Wanted) (last : Bool) (job : JobState) (octets : L
   pub checkpoint_holds : Holds checkpoint answer.checkpoint (checkpoint_behind last job octets)
   pub records_are : answer.records ≡ job.work.state.records + length (records (size_of job.work) octets)
   pub used_are : answer.used ≡ used_octets last (size_of job.work) (length octets)
+  pub good_is : answer.has_good_frame ≡ nat_lt 0 (chunk_totals wanted last job octets).good
+  pub losses_is : answer.has_losses ≡ (chunk_totals wanted last job octets).has_losses
 
 -- what a call gives of the summary of a whole recording
 pub record IsSummary (rules : Rules) (octets : List ℕ) (answer : Answer) (out : List ℕ) : Type 0 where
@@ -122,3 +139,5 @@ pub record IsSummary (rules : Rules) (octets : List ℕ) (answer : Answer) (out 
   pub checkpoint_is : answer.checkpoint ≡ 0
   pub records_are : answer.records ≡ record_count (record_length_of rules.layout) octets
   pub used_are : answer.used ≡ length octets
+  pub good_is : answer.has_good_frame ≡ has_good_frame rules.channels (summary_numbers rules octets)
+  pub losses_is : answer.has_losses ≡ tells_loss (summary_numbers rules octets)

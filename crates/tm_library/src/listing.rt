@@ -4,10 +4,11 @@ ghost use Rattle.std.specs.Prelude.{◌≡◌, ◌<◌, ◌+◌, ◌*◌, ◌^�
 ghost use Rattle.std.specs.List.{concat};
 ghost use Rattle.std.specs.Io.KnownBytes.{Appends};
 ghost use Rattle.tm_frame.specs.Layout.{record_length_of};
+ghost use Rattle.tm_output.specs.declared.command.Command.TheVariants.{Extract};
 ghost use Rattle.tm_output.specs.Records.{records};
 ghost use Rattle.tm_tool.specs.RecordingPieces.{worked};
 ghost use Rattle.tm_tool.specs.Runs.{kept_of};
-ghost use Rattle.tm_library.specs.Chunks.{Holds, chunk_ending, frame_lines, lines_from, size_of};
+ghost use Rattle.tm_library.specs.Chunks.{Holds, chunk_ending, frame_lines, lines_from, size_of, totals_by};
 ghost use Rattle.tm_library.specs.Refusals.{IsRunRefused};
 
 use crate::Refusal;
@@ -28,6 +29,7 @@ fn pass_chunk(alloc: Global, job: Job, chunk: Chunk<'_>) -> Result<Done, Refusal
         ≡ job.work.state.records + length (records (size_of job.work) chunk.entry.octets.now)) }
     ensures kept { IfOk result (λ done. option_map (λ j. j.work) done.kept
         ≡ kept_of (chunk_ending chunk.entry.last) (worked job.work (records (size_of job.work) chunk.entry.octets.now))) }
+    ensures totals { IfOk result (λ done. done.totals ≡ totals_by Extract chunk.entry.last job chunk.entry.octets.now) }
     ensures refused { IfErr result (IsRunRefused job chunk.entry.octets.now) }
 {
     let ending = chunk_ending(chunk.last);
@@ -99,6 +101,7 @@ pub fn list_into_room(
         ≡ job.work.state.records + length (records (size_of job.work) chunk.entry.octets.now)) }
     ensures kept { IfOk result (λ given. option_map (λ j. j.work) given.kept
         ≡ kept_of (chunk_ending chunk.entry.last) (worked job.work (records (size_of job.work) chunk.entry.octets.now))) }
+    ensures totals { IfOk result (λ given. given.totals ≡ totals_by Extract chunk.entry.last job chunk.entry.octets.now) }
 
     // Else there are too many records, or memory ran out.
     ensures refused { IfErr result (IsRunRefused job chunk.entry.octets.now) }
@@ -117,6 +120,7 @@ pub fn list_into_room(
             kept: done.kept,
             out: room.length(),
             report: 0,
+            totals: done.totals,
         }),
         Err(_) => Err(Refusal::NoMemory),
     }

@@ -6,7 +6,7 @@ ghost use Rattle.tm_output.specs.Outputs.{outs, reports};
 ghost use Rattle.tm_output.specs.Records.{records};
 ghost use Rattle.tm_tool.specs.RecordingPieces.{worked};
 ghost use Rattle.tm_tool.specs.Runs.{kept_of};
-ghost use Rattle.tm_library.specs.Chunks.{Begins, Holds, IsAnswer, chunk_ending, given_pieces, kept_octets, size_of, used_octets};
+ghost use Rattle.tm_library.specs.Chunks.{Begins, Holds, IsAnswer, chunk_ending, chunk_totals, given_pieces, kept_octets, size_of, used_octets};
 ghost use Rattle.tm_library.specs.Refusals.{IsChunkRefused, IsRunRefused};
 
 use crate::Refusal;
@@ -53,6 +53,10 @@ pub struct Answer {
     pub checkpoint: usize,
     /// How many of the octets were used: those of whole records, or all if the recording ends after them.
     pub used: usize,
+    /// The records of the call had a good frame of a chosen channel.
+    pub has_good_frame: bool,
+    /// Their report has a line that tells a loss: any but `vca`, `group` and `short`. Of a summary: its numbers tell one.
+    pub has_losses: bool,
 }
 
 // Writes the checkpoint of a job into a room, if it is large enough, and answers how many octets it has.
@@ -101,6 +105,8 @@ fn give(
         ≡ job.work.state.records + length (records (size_of job.work) request.entry.octets.now)) }
     ensures kept { IfOk result (λ given. option_map (λ j. j.work) given.kept
         ≡ kept_of (chunk_ending request.entry.last) (worked job.work (records (size_of job.work) request.entry.octets.now))) }
+    ensures totals { IfOk result (λ given. given.totals
+        ≡ chunk_totals request.entry.wanted request.entry.last job request.entry.octets.now) }
     ensures refused { IfErr result (IsRunRefused job request.entry.octets.now) }
 {
     let size = layout.record_length();
@@ -156,5 +162,7 @@ pub fn run_chunk(
         report: given.report,
         checkpoint: keep(alloc, given.kept, checkpoint)?,
         used: used_octets(request.last, size, request.octets.len()),
+        has_good_frame: given.totals.good > 0,
+        has_losses: given.totals.has_losses,
     })
 }

@@ -5,14 +5,14 @@ ghost use Rattle.tm_output.specs.Outputs.{outs, reports};
 ghost use Rattle.tm_output.specs.Records.{records};
 ghost use Rattle.tm_tool.specs.RecordingPieces.{worked};
 ghost use Rattle.tm_tool.specs.Runs.{kept_of};
-ghost use Rattle.tm_library.specs.Chunks.{Holds, chunk_pieces, chunk_ending, size_of};
+ghost use Rattle.tm_library.specs.Chunks.{Holds, chunk_pieces, chunk_ending, size_of, totals_by};
 ghost use Rattle.tm_library.specs.Refusals.{IsRunRefused};
 
 use crate::Refusal;
 use crate::chunk::Chunk;
 use std::alloc::Global;
 use tm_devices::Room;
-use tm_tool::{Command, Ending, Job, RunFault, run};
+use tm_tool::{Command, Ending, Job, RunFault, Totals, run};
 
 /// The last chunk closes the recording.
 pub fn chunk_ending(last: bool) -> Ending
@@ -21,13 +21,14 @@ pub fn chunk_ending(last: bool) -> Ending
     if last { Ending::Close } else { Ending::Keep }
 }
 
-/// What a run gave: how many octets for each room, and the job that is kept.
+/// What a run gave: how many octets for each room, the job that is kept, and what it gave and lost, in numbers.
 #[derive(Drop)]
 pub struct Given {
     pub records: u32,
     pub kept: Option<Job>,
     pub out: usize,
     pub report: usize,
+    pub totals: Totals,
 }
 
 /// Runs over a chunk that follows what the job has done.
@@ -50,6 +51,7 @@ pub fn run_into_rooms(
         ≡ job.work.state.records + length (records (size_of job.work) chunk.entry.octets.now)) }
     ensures kept { IfOk result (λ given. option_map (λ j. j.work) given.kept
         ≡ kept_of (chunk_ending chunk.entry.last) (worked job.work (records (size_of job.work) chunk.entry.octets.now))) }
+    ensures totals { IfOk result (λ given. given.totals ≡ totals_by command.entry chunk.entry.last job chunk.entry.octets.now) }
 
     // Else there are too many records, or memory ran out.
     ensures refused { IfErr result (IsRunRefused job chunk.entry.octets.now) }
@@ -73,6 +75,7 @@ pub fn run_into_rooms(
             kept: done.kept,
             out: out.length(),
             report: report.length(),
+            totals: done.totals,
         }),
         Err(RunFault::TooMany) => Err(Refusal::TooMany),
         Err(RunFault::Write | RunFault::Report | RunFault::NoMemory) => Err(Refusal::NoMemory),

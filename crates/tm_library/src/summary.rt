@@ -8,21 +8,24 @@ use crate::chunk::Chunk;
 use crate::{Answer, Refusal};
 use std::alloc::Global;
 use tm_devices::Room;
-use tm_tool::{RunFault, Settings, summarize};
+use tm_tool::{RunFault, Settings, Summed, sum_up};
 
 // What a summary answers: there is no report and no checkpoint, and all octets are used.
-fn whole_answer(records: u32, out: usize, octets: &[u8]) -> Answer
-    ensures records { result.records ≡ records }
+fn whole_answer(summed: Summed, out: usize, octets: &[u8]) -> Answer
+    ensures records { result.records ≡ summed.records }
     ensures out { result.out ≡ out }
     ensures others { (result.report ≡ 0) × (result.checkpoint ≡ 0) }
     ensures used { result.used ≡ length octets.now }
+    ensures told { (result.has_good_frame ≡ summed.has_good_frame) × (result.has_losses ≡ summed.has_losses) }
 {
     Answer {
-        records,
+        records: summed.records,
         out,
         report: 0,
         checkpoint: 0,
         used: octets.len(),
+        has_good_frame: summed.has_good_frame,
+        has_losses: summed.has_losses,
     }
 }
 
@@ -55,8 +58,8 @@ pub fn summarize_recording(
     };
     let mut more = Vec::new(alloc);
     let mut room = Room::new(out, &mut more);
-    match summarize(alloc, settings, &mut recording, &mut room) {
-        Ok(records) => Ok(whole_answer(records, room.length(), octets)),
+    match sum_up(alloc, settings, &mut recording, &mut room) {
+        Ok(summed) => Ok(whole_answer(summed, room.length(), octets)),
         Err(RunFault::TooMany) => Err(Refusal::TooMany),
         Err(RunFault::Write | RunFault::NoMemory) => Err(Refusal::NoMemory),
         Err(RunFault::Read) => unreachable!(),

@@ -5,8 +5,8 @@ use Rattle.tm_library.proofs.listing.pass_chunk.Goals as goal
 pub returns-in-Ok : goal.returns-in-Ok
 returns-in-Ok c =
     let ok = c.in-Ok.ensures in
-    let (took, count, kept) = gave Extract c.args.chunk.last c.args.job _ _ c.requires ok.sound _ _ _ _ _ _ c.chunk_ending-ending.ensures ok.ran in
-    record { records = count; kept = kept; refused = tt }
+    let (took, count, kept, totals) = gave Extract c.args.chunk.last c.args.job _ _ c.requires ok.sound _ _ _ _ _ _ _ c.chunk_ending-ending.ensures ok.ran in
+    record { records = count; kept = kept; totals = totals; refused = tt }
 
 pub returns-in-Err-TooMany-clause-refused : goal.returns-in-Err-TooMany-clause-refused
 returns-in-Err-TooMany-clause-refused c =

@@ -1,5 +1,6 @@
-use Rattle.std.proofs.Common.{◌≡◌}
+use Rattle.std.proofs.Common.{◌≡◌, ap, nat_lt}
 use Rattle.std.proofs.lemmas.Result.{err_from_is_err_and}
+use Rattle.tm_output.specs.declared.totals.Totals.{Totals}
 use Rattle.tm_library.specs.Chunks.{size_of}
 use Rattle.tm_library.proofs.ChunkLemmas.{has_rules}
 use Rattle.tm_library.proofs.RefusalLemmas.{run_told}
@@ -21,7 +22,9 @@ returns-clause-answer c =
     let size : c.record_length-size.result ≡ size_of job.job.work = rw (rules, ← c.layout-layout.ensures) c.record_length-size.ensures.value in
     let kept = rw c.in-Ok.ensures.kept at c.in_ok-keep.ensures.octets in
     let used = rw size at c.used_octets.ensures.value in
-    (job.job, job.ensures.ok, assumption (kept, used, c.in-Ok.ensures))
+    let good = ap (λ (t : Totals). nat_lt 0 t.good) c.in-Ok.ensures.totals in
+    let lost = ap (λ (t : Totals). t.has_losses) c.in-Ok.ensures.totals in
+    (job.job, job.ensures.ok, assumption (kept, used, good, lost, c.in-Ok.ensures))
 
 pub returns-in_err-job-clause-refused : goal.returns-in_err-job-clause-refused
 returns-in_err-job-clause-refused c =

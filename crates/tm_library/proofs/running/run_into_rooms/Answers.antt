@@ -5,7 +5,7 @@ use Rattle.tm_library.proofs.running.run_into_rooms.Goals as goal
 pub returns-in-Ok : goal.returns-in-Ok
 returns-in-Ok c =
     let ok = c.in-Ok.ensures in
-    let (took, count, kept) = gave c.args.command c.args.chunk.last c.args.job _ _ c.requires ok.sound _ _ _ _ _ _ c.chunk_ending-ending.ensures ok.ran in
+    let (took, count, kept, totals) = gave c.args.command c.args.chunk.last c.args.job _ _ c.requires ok.sound _ _ _ _ _ _ _ c.chunk_ending-ending.ensures ok.ran in
     let rooms = c.run.new in
     record {
       out = rw (c.out-in-Ok-2-1.given.1.1 (sym (ok.same_out ∙ c.new-out.ensures.same_octets)), c.length.ensures)
@@ -14,6 +14,7 @@ returns-in-Ok c =
           (holds rooms.report.octets.now rooms.report.overflow.now.items _ rooms.report.filled rooms.report.within rooms.report.full (written_first _ _ _ _ _ c.new-report.ensures.filled c.new-report.ensures.overflow took.1));
       records = count;
       kept = kept;
+      totals = totals;
       refused = tt;
     }
 

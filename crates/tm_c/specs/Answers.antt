@@ -30,7 +30,12 @@ refused_with n = record {
   report_length = 0;
   checkpoint_length = 0;
   used = 0;
+  strict = 0;
 }
+
+-- what `tmx --strict` ends with: 5 without a good frame of a chosen channel, else 4 where something is lost, else 0
+abbrev pub strict_status : Answer → ℕ
+strict_status answer = if answer.has_good_frame then (if answer.has_losses then 4 else 0) else 5
 
 -- what a call gave; the status is 1 where a room is too small
 abbrev pub done_with : Answer → Bool → TmxAnswer
@@ -45,6 +50,7 @@ done_with answer fits = record {
   report_length = answer.report;
   checkpoint_length = answer.checkpoint;
   used = answer.used;
+  strict = strict_status answer;
 }
 
 -- each room is large enough

@@ -3,7 +3,7 @@
 ghost use Rattle.std.specs.Prelude.{◌≡◌, ◌≢◌, ◌⊎◌, ◌<◌, ◌≤◌, ◌==◌, Some, None, [], true, false, nat_le, not};
 ghost use Rattle.tm_output.specs.declared.command.Command.TheVariants as command;
 ghost use Rattle.tm_library.specs.declared.request.Wanted.TheVariants.{Frames, Packets};
-ghost use Rattle.tm_c.specs.Answers.{AreRowsGiven, IsFieldsAnswer, IsGiven, IsGivenBy, IsSummarizedBy, IsSummaryAnswer, done_with, fit, refused_with};
+ghost use Rattle.tm_c.specs.Answers.{AreRowsGiven, IsFieldsAnswer, IsGiven, IsGivenBy, IsSummarizedBy, IsSummaryAnswer, done_with, fit, refused_with, strict_status};
 ghost use Rattle.tm_c.specs.Numbers.{with_status};
 
 use crate::numbers::{refusal_numbers, with_status};
@@ -29,7 +29,18 @@ fn refused_with(numbers: Numbers) -> TmxAnswer
         report_length: 0,
         checkpoint_length: 0,
         used: 0,
+        strict: 0,
     }
+}
+
+// What `tmx --strict` ends with.
+fn strict_status(answer: Answer) -> u32
+    ensures { result ≡ strict_status answer }
+{
+    if !answer.has_good_frame {
+        return 5;
+    }
+    if answer.has_losses { 4 } else { 0 }
 }
 
 // The status is 1 where a room is too small.
@@ -47,6 +58,7 @@ fn done_with(answer: Answer, fits: bool) -> TmxAnswer
         report_length: answer.report,
         checkpoint_length: answer.checkpoint,
         used: answer.used,
+        strict: strict_status(answer),
     }
 }
 

@@ -33,6 +33,8 @@ impl std::error::Error for Refused {}
 pub struct Given {
     pub out: Vec<u8>,
     pub report: Vec<u8>,
+    /// What `tmx --strict` ends with, for the records of this chunk.
+    pub strict: u32,
 }
 
 /// The settings, the checkpoint of the call before, and the octets that it left.
@@ -58,6 +60,7 @@ struct Answer {
     report: usize,
     checkpoint: usize,
     used: usize,
+    strict: u32,
 }
 
 unsafe extern "C" {
@@ -123,7 +126,7 @@ impl Job {
             if status == 0 {
                 self.left.drain(..answer.used);
                 self.checkpoint = next;
-                return Ok(Given { out, report });
+                return Ok(Given { out, report, strict: answer.strict });
             }
         }
     }

@@ -93,6 +93,7 @@ static struct given served(struct octets settings, struct octets checkpoint, con
     if (answer.status != needs) exit((int)(10 + answer.status));
     told = call(settings, checkpoint, at, length, command, last, rooms);
     if (told.answer.status != TMX_DONE || told.answer.used != answer.used || told.answer.records != answer.records) exit(5);
+    if (told.answer.strict != answer.strict) exit(5);
     return told;
 }
 
@@ -120,7 +121,7 @@ static int chunks(struct octets settings, struct octets recording, size_t size) 
 /* The call has to be refused so, with nothing but the reason. */
 static void refused(const char *what, struct given given, uint32_t status) {
     const struct tmx_answer it = given.answer;
-    if (it.status != status || it.records + it.out_length + it.report_length + it.checkpoint_length + it.used != 0)
+    if (it.status != status || it.records + it.out_length + it.report_length + it.checkpoint_length + it.used + it.strict != 0)
         printf("%s: status %u fault %u, not %u\n", what, it.status, it.fault, status);
     drop(&given);
 }

@@ -1,5 +1,6 @@
 #!/usr/bin/env python3
-"""The library libtmx beside the program: random recordings in random chunks give just what one run of the program gives.
+"""The library libtmx beside the program: random recordings in random chunks give just what one run of the program gives, and each call's number
+`strict` is what its frames and its report tell.
 
     library.py TMX LIBRARY ROUNDS
 
@@ -11,6 +12,7 @@ import pathlib
 import random
 import subprocess
 import sys
+import tomllib
 
 HERE = pathlib.Path(__file__).resolve().parent
 sys.path[:0] = [str(HERE), str(HERE.parent / "python")]
@@ -20,27 +22,47 @@ import anything  # noqa: E402
 from tmx import engine  # noqa: E402
 
 COMMANDS = {engine.EXTRACT: "extract", engine.PACKETS: "packets", engine.FIELDS: "fields", engine.FRAMES: "frames", engine.SUMMARY: "summary"}
+QUIET = (b"vca", b"group", b"short")
 DEFINITION = b"name,data_type,bit_length\nfirst,uint,5\nsecond,int,11\n"
+
+
+def call(run, texts, command, application, last):
+    """One call, made again with just enough room: its answer, and what belongs to `out`, the report and the checkpoint."""
+    read = [engine.Octets(it, len(it)) for it in texts]
+    request, answer, lengths = engine.Request(*read, command, application, last), engine.Answer(), [0, 0, 0]
+    while True:
+        rooms = [ctypes.create_string_buffer(it) for it in lengths]
+        words = [word for it in zip(rooms, lengths) for word in it]
+        status = run(ctypes.byref(request), *words, ctypes.byref(answer))
+        lengths = [answer.out_length, answer.report_length, answer.checkpoint_length]
+        if status != engine.ROOM:
+            return answer, [it.raw[:length] for it, length in zip(rooms, lengths)]
+
+
+def strict_of(frames, report, channels):
+    """What `tmx --strict` ends with, by the lines of the frames and of their report."""
+    came = [int(line.split()[2][8:]) for line in frames.splitlines() if line.startswith(b"frame ")]
+    if not set(came) & set(channels):
+        return 5
+    return 4 if any(line.split()[0] not in QUIET for line in report.splitlines()) else 0
 
 
 def in_chunks(run, settings, recording, sizes, command, application):
     """What the calls give in all: what belongs to `out`, the report, and the checkpoint before the last one. Each size is asked for in turn."""
     out, report, checkpoint, kept, at, end = [], [], b"", b"", 0, 0
+    channels = tomllib.loads(settings.decode()).get("channels", range(8))
     while True:
         end = min(len(recording), end + sizes())
         last = end == len(recording)
-        read = [engine.Octets(it, len(it)) for it in (settings, checkpoint, recording[at:end], DEFINITION)]
-        request, answer, lengths = engine.Request(*read, command, application, last), engine.Answer(), [0, 0, 0]
-        while True:
-            rooms = [ctypes.create_string_buffer(it) for it in lengths]
-            words = [word for it in zip(rooms, lengths) for word in it]
-            status = run(ctypes.byref(request), *words, ctypes.byref(answer))
-            lengths = [answer.out_length, answer.report_length, answer.checkpoint_length]
-            if status != engine.ROOM:
-                break
-        if status != engine.DONE:
-            return f"status {status} fault {answer.fault} key {answer.key}", b"", b""
-        given = [it.raw[:length] for it, length in zip(rooms, lengths)]
+        texts = (settings, checkpoint, recording[at:end], DEFINITION)
+        answer, given = call(run, texts, command, application, last)
+        if answer.status != engine.DONE:
+            return f"status {answer.status} fault {answer.fault} key {answer.key}", b"", b""
+        # A list and a summary have no report. That of the packets says the same, but for `shortpacket`.
+        frames, packets = (call(run, texts, it, 0, last)[1] for it in (engine.FRAMES, engine.EXTRACT))
+        strict = strict_of(frames[0], given[1] + packets[1], channels)
+        if answer.strict != strict:
+            return f"strict {answer.strict}, not {strict}", b"", b""
         out.append(given[0])
         report.append(given[1])
         kept, checkpoint = checkpoint, given[2]

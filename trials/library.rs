@@ -33,6 +33,13 @@ fn commands(settings: &[u8], recording: &[u8], definition: Vec<u8>) {
     }
 }
 
+/// The example recording loses something, and no frame follows it.
+fn strict(settings: &[u8], recording: &[u8]) {
+    let mut job = Job::new(settings, Command::Extract);
+    let numbers = (job.feed(recording).expect("a chunk").strict, job.close().expect("the end").strict);
+    assert!(numbers == (4, 5), "strict: {numbers:?}");
+}
+
 fn refusals(settings: &[u8], recording: &[u8]) {
     let mut job = Job::new(b"frame_length = 256\n", Command::Extract);
     let it = job.feed(recording).expect_err("no spacecraft");
@@ -52,5 +59,6 @@ fn main() {
     let read = |at: usize| std::fs::read(&words[at]).expect(&words[at]);
     let (settings, recording) = (read(1), read(2));
     commands(&settings, &recording, read(3));
+    strict(&settings, &recording);
     refusals(&settings, &recording);
 }

@@ -51,6 +51,7 @@ class Answer(ctypes.Structure):
         ("report_length", ctypes.c_size_t),
         ("checkpoint_length", ctypes.c_size_t),
         ("used", ctypes.c_size_t),
+        ("strict", ctypes.c_uint32),
     ]
 
 

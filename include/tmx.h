@@ -138,8 +138,8 @@ struct tmx_answer {
     size_t report_length;     /* the lines of the report; 0 for TMX_FRAMES and TMX_SUMMARY */
     size_t checkpoint_length; /* the checkpoint for the next call; 0 where `last` was not 0 */
     size_t used;              /* so many octets of the chunk were used: all of its whole records, or all octets where `last` was not 0 */
-    uint32_t strict;          /* what `tmx --strict` ends with, for the records of this call: 5 where none is a good frame of a chosen channel,
-                                 else 4 where something is bad or lost, else 0. For TMX_FRAMES it is what TMX_EXTRACT has */
+    uint32_t strict;          /* the status that `tmx --strict` ends with (docs/FORMATS.md), for the records of this call: 5 where none is a good
+                                 frame of a chosen channel, else 4 where anything is bad or lost, else 0. TMX_FRAMES has that of TMX_EXTRACT */
 };
 
 /* Runs over a chunk of a recording, and returns the status.

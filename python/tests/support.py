@@ -42,9 +42,9 @@ class TestCase(unittest.TestCase):
         os.chdir(self.folder)
 
     def program(self, script: str) -> None:
-        """Has a shell script stand for the program, for the rest of the test.  `$real` is the program."""
+        """Has a shell script stand for the program, for the rest of the test.  `$real` is the program, which says the version."""
         path = self.folder / "program"
-        path.write_text(f"#!/bin/sh\nreal={PROGRAM}\n{script}\n")
+        path.write_text(f'#!/bin/sh\nreal={PROGRAM}\n[ "$1" != --version ] || exec "$real" --version\n{script}\n')
         path.chmod(0o755)
         self.addCleanup(os.environ.__setitem__, "TMX", PROGRAM)
         os.environ["TMX"] = str(path)

@@ -10,9 +10,10 @@ from itertools import accumulate, product
 from pathlib import Path
 from unittest import mock
 
-from support import ATTITUDE, RECORDING, SETTINGS, TestCase, command, example, tmx
+from support import ATTITUDE, PROGRAM, RECORDING, SETTINGS, TestCase, command, example, tmx
 
 from tmx import __main__ as commands
+from tmx import programs
 from tmx.following import Wanted, next_step
 
 SETTINGS_42 = tmx.Settings(spacecraft=42, frame_length=256, error_control=True)
@@ -178,13 +179,43 @@ class Programs(TestCase):
         with mock.patch.dict(os.environ, {"PATH": "/nowhere"}):
             del os.environ["TMX"]
             self.raises(tmx.ProgramMissingError, None, lambda: list(example().packets()))
+            self.assertTrue(repr(example()).endswith(", no program>"))
 
-    def test_on_the_path(self) -> None:
-        self.folder.joinpath("tmx").symlink_to(os.environ["TMX"])
-        with mock.patch.dict(os.environ, {"PATH": str(self.folder), "TMX": ""}):
+    def test_where_it_is_looked_for(self) -> None:
+        for name in ("path", "package"):
+            Path(name).mkdir()
+            Path(name, "tmx").symlink_to(PROGRAM)
+        path, beside = self.folder / "path", self.folder / "package" / "tmx"
+        with mock.patch.dict(os.environ, {"PATH": str(path)}), mock.patch.object(programs, "BESIDE", beside):
+            self.assertEqual(tmx.program(), tmx.Program(PROGRAM, "TMX"))
+            for _ in range(2):
+                os.environ["TMX"] = ""
+                self.assertEqual(tmx.program(), tmx.Program(str(beside), "package"))
+                del os.environ["TMX"]
+            beside.unlink()
+            self.assertEqual(tmx.program(), tmx.Program(str(path / "tmx"), "PATH"))
+            self.assertEqual(repr(example()), f"<Recording {str(RECORDING)!r}, settings {SETTINGS!r}, program {path / 'tmx'}>")
             self.assertEqual(example().summary().recording.records, 300)
-            del os.environ["TMX"]
-            self.assertEqual(example().summary().recording.records, 300)
+
+    def test_another_version(self) -> None:
+        self.program("")
+        for told in ("echo tmx 0.1.1", "echo tmx 0.1.0; exit 1", "echo", "exit 3"):
+            Path("program").write_text(f"#!/bin/sh\n{told}\n")
+            for call in (example().summary, lambda: list(example().packets()), lambda: example().fields(ATTITUDE, 101)):
+                error = self.raises(tmx.VersionError, None, call)
+                self.assertIn(f"{self.folder / 'program'} is not tmx {tmx.__version__}", str(error))
+            os.utime("program", ns=(0, len(told)))
+        with mock.patch.dict(os.environ, {"TMX": "/bin/true"}):
+            self.raises(tmx.VersionError, None, lambda: list(example().packets()))
+        Path("program").write_text("#!/bin/sh\nkill -KILL $$\n")
+        self.raises(tmx.KilledError, "SIGKILL", example().summary)
+
+    def test_the_version_is_asked_once(self) -> None:
+        self.program("")
+        Path("program").write_text(f'#!/bin/sh\necho "$1" >>asked\nexec {PROGRAM} "$@"\n')
+        example().summary()
+        example().report()
+        self.assertEqual(Path("asked").read_text().split(), ["--version", "summary", "extract"])
 
     def test_too_old(self) -> None:
         for what in ("unrecognized subcommand 'summary'", "unexpected argument '--settings' found"):

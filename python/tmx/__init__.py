@@ -5,7 +5,8 @@
     for packet in recording.packets():
         print(packet.record, packet.channel, packet.apid, packet.count, packet.octets)
 
-The program `tmx` does the work: the environment variable TMX names it, else it is on the PATH.  docs/PYTHON.md is the guide.
+The program `tmx` does the work: the one that the environment variable TMX names, else the one beside this package, else the
+one on the PATH.  docs/PYTHON.md is the guide.
 """
 
 from .checkpoints import CutBackError, cut_back, records_done
@@ -54,11 +55,11 @@ from .lines import (
 from .loss_map import LossMap, LossMapError
 from .markers import Cut, Slip, cut
 from .probing import Fit, Probe, probe
+from .programs import VERSION as __version__
+from .programs import Program, program
 from .recording import Item, Recording
 from .settings import Settings
 from .summary import Summary
-
-__version__ = "0.1.0"
 
 __all__ = [
     "ApplicationCounts",
@@ -95,6 +96,7 @@ __all__ = [
     "OutOfMemoryError",
     "Packet",
     "Probe",
+    "Program",
     "ProgramError",
     "ProgramMissingError",
     "Recording",
@@ -114,5 +116,6 @@ __all__ = [
     "cut",
     "cut_back",
     "probe",
+    "program",
     "records_done",
 ]

@@ -4,6 +4,7 @@ import ctypes
 import os
 from ctypes.util import find_library
 from functools import cache
+from pathlib import Path
 from typing import Any, NamedTuple
 
 from .checkpoints import Name
@@ -55,6 +56,9 @@ class Answer(ctypes.Structure):
     ]
 
 
+BESIDE = Path(__file__).resolve().parent / "lib" / "libtmx.so"
+
+
 @cache
 def load_library(name: str) -> Any:
     """The function of the library that does the work.  Raises LibraryMissingError where the library isn't there."""
@@ -66,6 +70,11 @@ def load_library(name: str) -> Any:
     run.argtypes = [ctypes.POINTER(Request), *room, *room, *room, ctypes.POINTER(Answer)]
     run.restype = ctypes.c_uint32
     return run
+
+
+def library_beside() -> Path | None:
+    """Where a wheel with the library has it."""
+    return BESIDE if BESIDE.exists() else None
 
 
 class Given(NamedTuple):
@@ -90,7 +99,8 @@ class Engine:
 
     settings    the name of a settings file, or Settings
     checkpoint  the octets of a checkpoint to go on from; without them the job begins anew
-    library     the file of the library; without it the one that TMX_LIBRARY names, else libtmx.so where the system looks
+    library     the file of the library; without it the one that TMX_LIBRARY names, else the one beside this package, else
+                libtmx.so where the system looks
 
     A thread that calls it needs 3 MiB of stack: `threading.stack_size(4 << 20)` before the thread starts.
 
@@ -99,7 +109,7 @@ class Engine:
     """
 
     def __init__(self, settings: Name | Settings, checkpoint: bytes = b"", library: Name | None = None) -> None:
-        named = library or os.environ.get("TMX_LIBRARY") or find_library("tmx") or "libtmx.so"
+        named = library or os.environ.get("TMX_LIBRARY") or library_beside() or find_library("tmx") or "libtmx.so"
         self.run = load_library(os.fspath(named))
         if isinstance(settings, Settings):
             self.settings = settings.toml().encode()

@@ -12,15 +12,15 @@ class Error(Exception):
 
 
 class ProgramMissingError(Error):
-    """The program `tmx` is not there: TMX doesn't name it, and it isn't on the PATH."""
+    """The program `tmx` is not there: neither TMX nor this package nor the PATH has it."""
 
 
 class LibraryMissingError(Error):
-    """The library `libtmx` is not there: TMX_LIBRARY doesn't name it, and the system doesn't find it."""
+    """The library `libtmx` is not there: neither TMX_LIBRARY nor this package nor the system has it."""
 
 
 class VersionError(Error):
-    """The program is another one than this package needs: it refuses its words, or prints lines that it doesn't know."""
+    """The program is another one than this package needs: another version, or one that refuses its words or prints other lines."""
 
 
 class DisagreementError(Error):

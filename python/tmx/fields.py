@@ -12,7 +12,7 @@ from typing import Any
 from .definition import Column, column_named, long_values, read_definition
 from .errors import ColumnError, DisagreementError
 from .lines import ShortPacket, read_lines
-from .program import Command, line_blocks, running
+from .runs import Command, line_blocks, running
 from .settings import Settings
 from .source import Source
 from .tables import html_table, text_table

@@ -11,7 +11,7 @@ from pathlib import Path
 
 from .checkpoints import Name, records_done
 from .errors import Error
-from .program import Command, running
+from .runs import Command, running
 from .settings import Settings
 from .source import Source
 from .steps import record_length, step_words

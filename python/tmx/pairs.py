@@ -5,7 +5,7 @@ from dataclasses import dataclass
 
 from .errors import DisagreementError
 from .lines import Packet, PacketValues, packet, read_packet_lines
-from .program import Runs, whole_lines
+from .runs import Runs, whole_lines
 
 LISTED, EXTRACTED = 0, 1  # the numbers of the two runs
 

@@ -5,7 +5,7 @@ from collections.abc import Iterator, Sequence
 from typing import IO
 
 from .checkpoints import Name
-from .errors import ColumnError
+from .errors import ColumnError, ProgramMissingError
 from .fields import Epoch, Fields, read_fields, time_of
 from .lines import (
     FRAMES,
@@ -28,7 +28,8 @@ from .lines import (
 )
 from .loss_map import Lines, LossMap, drawing
 from .pairs import Chosen, Numbers, spelled
-from .program import Command, running, single_lines, whole_lines
+from .programs import find_program
+from .runs import Command, running, single_lines, whole_lines
 from .settings import Settings
 from .source import Source, refuse_to_overwrite
 from .steps import Job, follow, report_words, step_words
@@ -53,7 +54,11 @@ class Recording:
         self.settings = settings
 
     def __repr__(self) -> str:
-        return f"Recording({self.source!r}, {self.settings!r})"
+        try:
+            said = f"program {find_program().path}"
+        except ProgramMissingError:
+            said = "no program"
+        return f"<Recording {self.source!r}, settings {self.settings!r}, {said}>"
 
     def frames(self) -> Iterator[Frame | Bad | Short]:
         """Each record of any channel, as a frame or as a bad one, and last the octets that are left, if there are any."""

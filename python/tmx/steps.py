@@ -11,7 +11,7 @@ from .checkpoints import CutBackError, Name, NewCheckpoint, records_done
 from .errors import DisagreementError, RunError
 from .lines import Packet
 from .pairs import Chosen
-from .program import Command, running
+from .runs import Command, running
 from .settings import Settings
 from .source import Source, refuse_to_overwrite
 

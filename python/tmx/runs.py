@@ -1,9 +1,8 @@
-"""The program `tmx`: where it is, and how runs of it over one recording are started, fed, read and ended."""
+"""Runs of the program over one recording: how they are started, fed, read and ended."""
 
 import fcntl
 import os
 import selectors
-import shutil
 import subprocess
 import tempfile
 from collections import deque
@@ -14,24 +13,12 @@ from types import TracebackType
 from typing import IO, Literal, Self
 
 from .errors import DisagreementError, Error, ProgramMissingError, error_of
+from .programs import program
 from .settings import Settings, settings_file
 from .source import Source
 
 BLOCK = 1 << 16  # octets that are read at once
 PIPE = 1 << 20  # octets that a pipe holds, where the system lets it
-
-
-def find_program() -> str:
-    """The path of the program: what the environment variable TMX names, else `tmx` on the PATH.
-
-    Raises ProgramMissingError where it isn't there.
-    """
-    named = os.environ.get("TMX")
-    found = shutil.which(named or "tmx")
-    if found is None:
-        where = f"TMX names {named!r}, which is no program" if named else "tmx is not on the PATH, and TMX doesn't name it"
-        raise ProgramMissingError(f"the program is missing: {where}")
-    return found
 
 
 @dataclass(frozen=True)
@@ -60,8 +47,8 @@ class Run:
     """One run of the program.  It has a pipe, of which what it gives is read; the pipe ends when the program does."""
 
     def __init__(self, command: Command, source: Source) -> None:
-        """Starts it.  Raises ProgramMissingError where it can't be started."""
-        line = [find_program(), *command.words]
+        """Starts it.  Raises ProgramMissingError where it can't be started, and VersionError where it is another one."""
+        line = [program().path, *command.words]
         self.at_end = False
         self.errors = tempfile.TemporaryFile()
         self.output, written = wide_pipe()

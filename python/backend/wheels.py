@@ -1,4 +1,17 @@
-"""Builds the package's wheel with the standard library alone, by the hooks of PEP 517, so that `pip install` needs no network."""
+"""Builds the package's wheels with the standard library alone.
+
+`pip install` calls the hooks of PEP 517, and needs no network.  Their wheel has no program.
+
+    wheels.py FOLDER [PLATFORM PROGRAM [LIBRARY]]
+
+writes that wheel to the folder, or one with the program, and prints its name.  PLATFORM is what the program and the library need,
+as `manylinux_2_34_x86_64`.
+"""
+
+import sys
+
+if sys.version_info < (3, 11):
+    raise SystemExit(f"tmx needs Python 3.11 or later, and this is {sys.version.split()[0]}")
 
 import base64
 import hashlib
@@ -11,6 +24,7 @@ from typing import Any
 
 HERE = Path(__file__).resolve().parent.parent
 EPOCH = (1980, 1, 1, 0, 0, 0)  # the time of all files, so that the same files give the same wheel
+REGULAR, PROGRAM = 0o100644 << 16, 0o100755 << 16  # attributes of files; without the file's type pip makes no program of it
 
 with open(HERE / "pyproject.toml", "rb") as _file:
     PROJECT: dict[str, Any] = tomllib.load(_file)["project"]
@@ -24,7 +38,18 @@ METADATA = (
     f"Summary: {PROJECT['description']}\n"
     f"Requires-Python: {PROJECT['requires-python']}\n"
 )
-WHEEL = "Wheel-Version: 1.0\nGenerator: tmx\nRoot-Is-Purelib: true\nTag: py3-none-any\n"
+
+# The command `tmx`.  Where pip has put all below one folder (--target), Python doesn't look for packages there by itself.
+COMMAND = b"""#!python
+import os.path
+import sys
+
+sys.path.append(os.path.dirname(os.path.dirname(os.path.abspath(__file__))))
+
+from tmx.programs import become
+
+become()
+"""
 
 
 def package_files() -> dict[str, bytes]:
@@ -33,16 +58,18 @@ def package_files() -> dict[str, bytes]:
     return {f"tmx/{it.name}": it.read_bytes() for it in files}
 
 
-def write_wheel(folder: str, files: dict[str, bytes]) -> str:
-    """Writes a wheel with these files and what says so.  Answers its name."""
-    files = files | {f"{INFO}/METADATA": METADATA.encode(), f"{INFO}/WHEEL": WHEEL.encode()}
+def write_wheel(folder: str, files: dict[str, bytes], platform: str = "any", programs: tuple[str, ...] = ()) -> str:
+    """Writes a wheel with these files, and what says so.  Those that are named as programs can be run.  Answers its name."""
+    tag, pure = f"py3-none-{platform}", "true" if platform == "any" else "false"
+    about = f"Wheel-Version: 1.0\nGenerator: tmx\nRoot-Is-Purelib: {pure}\nTag: {tag}\n"
+    files = files | {f"{INFO}/METADATA": METADATA.encode(), f"{INFO}/WHEEL": about.encode()}
     record = "".join(f"{name},sha256={digest(octets)},{len(octets)}\n" for name, octets in files.items())
     files[f"{INFO}/RECORD"] = f"{record}{INFO}/RECORD,,\n".encode()
-    wheel = f"{NAME}-py3-none-any.whl"
+    wheel = f"{NAME}-{tag}.whl"
     with zipfile.ZipFile(Path(folder, wheel), "w", zipfile.ZIP_DEFLATED) as archive:
         for name, octets in files.items():
             info = zipfile.ZipInfo(name, EPOCH)
-            info.external_attr = 0o644 << 16
+            info.external_attr = PROGRAM if name in programs else REGULAR
             archive.writestr(info, octets, zipfile.ZIP_DEFLATED)
     return wheel
 
@@ -73,3 +100,16 @@ def build_sdist(sdist_directory: str, config_settings: Any = None) -> str:
             info.size = len(octets)
             archive.addfile(info, io.BytesIO(octets))
     return f"{NAME}.tar.gz"
+
+
+def build_with_program(folder: str, platform: str, program: str, library: str | None = None) -> str:
+    """The wheel with the program in it, and with the library where one is named."""
+    command = f"{NAME}.data/scripts/tmx"
+    files = package_files() | {"tmx/bin/tmx": Path(program).read_bytes(), command: COMMAND}
+    if library is not None:
+        files["tmx/lib/libtmx.so"] = Path(library).read_bytes()
+    return write_wheel(folder, files, platform, ("tmx/bin/tmx", command))
+
+
+if __name__ == "__main__":
+    print(build_wheel(sys.argv[1]) if len(sys.argv) == 2 else build_with_program(*sys.argv[1:]))

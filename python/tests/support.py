@@ -10,6 +10,7 @@ import subprocess
 import sys
 import tempfile
 import unittest
+import warnings
 from pathlib import Path
 
 TESTS = Path(__file__).resolve().parent
@@ -29,6 +30,8 @@ import anything  # noqa: E402
 import reference  # noqa: E402
 
 import tmx  # noqa: E402
+
+warnings.simplefilter("ignore", tmx.TmxWarning)  # many damaged recordings have nothing good; some tests look at the warnings
 
 
 class TestCase(unittest.TestCase):

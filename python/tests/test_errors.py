@@ -6,6 +6,7 @@ import os
 import pickle
 import threading
 import unittest
+import warnings
 from itertools import accumulate, product
 from pathlib import Path
 from unittest import mock
@@ -13,7 +14,7 @@ from unittest import mock
 from support import ATTITUDE, PROGRAM, RECORDING, SETTINGS, TestCase, command, example, tmx
 
 from tmx import __main__ as commands
-from tmx import programs
+from tmx import errors, programs
 from tmx.following import Wanted, next_step
 
 SETTINGS_42 = tmx.Settings(spacecraft=42, frame_length=256, error_control=True)
@@ -21,9 +22,11 @@ SETTINGS_42 = tmx.Settings(spacecraft=42, frame_length=256, error_control=True)
 
 class Refused(TestCase):
     def test_settings(self) -> None:
+        Path("range").write_text("spacecraft = 1024\nframe_length = 256\nerror_control = true\n")
+        Path("kind").write_text('spacecraft = 42\nframe_length = "256"\nerror_control = true\n')
         for settings, word, line in (
-            (tmx.Settings(1024, 256, True), "range", "range spacecraft"),
-            (tmx.Settings(42, "256", True), "kind", "kind frame_length"),  # type: ignore[arg-type]
+            ("range", "range", "range spacecraft"),
+            ("kind", "kind", "kind frame_length"),
             (tmx.Settings(42, 256, None), "missing", "missing error_control"),  # type: ignore[arg-type]
             (tmx.Settings(42, 256, True, channels=[]), "range", "range channels"),
             (RECORDING, "toml", "toml"),
@@ -72,7 +75,6 @@ class Refused(TestCase):
         self.raises(tmx.FileError, "failed", tmx.Recording(RECORDING, "none").summary)
         self.raises(tmx.FileError, "failed", example().fields, "none", 101)
         self.raises(tmx.FileError, "failed", lambda: list(example().packets(report=self.folder)))
-        self.raises(tmx.UsageError, "usage", example().fields, ATTITUDE, 2048)
         for name in ("long", "settings"):
             with open(name, "wb") as file:
                 file.truncate(1048577)
@@ -118,7 +120,10 @@ class Commands(TestCase):
         for words, says in (
             (["cut", "--length", "5", "none"], "tmx cut: none: No such file or directory"),
             (["probe", "folder"], "tmx probe: folder: Is a directory"),
-            (["map", "--settings", "none", str(RECORDING)], "tmx: none: failed"),
+            (
+                ["map", "--settings", "none", str(RECORDING)],
+                "tmx: none: failed\n  the settings none: no such file; see that the name and the folder are right",
+            ),
             (["cut-back", str(RECORDING)], f"tmx cut-back: {RECORDING}: no checkpoint"),
         ):
             with contextlib.redirect_stderr(io.StringIO()) as said:
@@ -126,6 +131,74 @@ class Commands(TestCase):
             self.assertEqual(said.getvalue(), f"{says}\n")
         found = command("map", "--settings", SETTINGS, RECORDING, out="/dev/full")
         self.assertEqual(found, (1, "tmx map: standard output: No space left on device\n"))
+
+
+class Reasons(TestCase):
+    """Each error has its line, why it came, and the file that it is about."""
+
+    def says(self, error: tmx.ProgramError, line: str, explanation: str, file: str | None) -> None:
+        self.assertEqual((error.line, error.explanation, error.file), (line, explanation, file))
+        self.assertEqual(str(error), f"{line}\n  {explanation}" if explanation else line)
+        self.assertEqual(str(pickle.loads(pickle.dumps(error))), str(error))
+
+    def test_files(self) -> None:
+        right = "no such file; see that the name and the folder are right"
+        for explain in ("0", "1", "other"):
+            with mock.patch.dict(os.environ, {"TMX_EXPLAIN": explain}):
+                error = self.raises(tmx.FileError, "failed", tmx.Recording(RECORDING, "none").summary)
+                self.says(error, "tmx: none: failed", f"the settings none: {right}", "none")
+        name = "a \\ \N{GREEK SMALL LETTER ALPHA}"
+        error = self.raises(tmx.FileError, "failed", tmx.Recording(name, SETTINGS).summary)
+        self.assertEqual((error.line, error.file), ("tmx: a \\x5c \\xce\\xb1: failed", name))
+        error = self.raises(tmx.FileError, "failed", lambda: list(example().packets(report=self.folder)))
+        self.assertEqual((error.file, error.explanation), (str(self.folder), f"the report {self.folder}: a folder; name a file"))
+        error = self.raises(tmx.FileError, "failed", example().extract, SETTINGS)
+        over = f"{SETTINGS} would be written over {SETTINGS}; name another file"
+        self.says(error, f"tmx: {SETTINGS}: failed", over, str(SETTINGS))
+
+    def test_refused_files(self) -> None:
+        Path("s.toml").write_text("spacecraft = 42\nframe_length = 5\nerror_control = true\n")
+        error = self.raises(tmx.SettingsError, "range", tmx.Recording(RECORDING, "s.toml").summary)
+        why = "the value of frame_length has to be an integer from 9 to 2048"
+        self.says(error, "tmx: settings: range frame_length", f"the settings s.toml: {why}", "s.toml")
+        error = self.raises(tmx.SettingsError, "range", tmx.Recording(RECORDING, tmx.Settings(42, 256, True, ocf="x")).summary)
+        self.says(error, "tmx: settings: range ocf", 'the settings: the value of ocf has to be "flag", "always" or "never"', None)
+        Path("d.csv").write_text("name,data_type,bit_length\nA,uint,65\n")
+        error = self.raises(tmx.DefinitionError, "bits", example().fields, "d.csv", 101)
+        self.assertEqual((error.line, error.file), ("tmx: definition: bits row 1", "d.csv"))
+        self.assertIn("field A: bit_length is 65", error.explanation)
+        list(example().packets(checkpoint="chk", stop_after=9))
+        Path("short.rec").write_bytes(RECORDING.read_bytes()[:256])
+        error = self.raises(tmx.RunError, None, lambda: list(tmx.Recording("short.rec", SETTINGS).packets(resume="chk")))
+        self.assertEqual((error.word, error.file), ("recording is shorter than the checkpoint", "short.rec"))
+        error = self.raises(tmx.CheckpointError, "magic", lambda: list(example().packets(resume=SETTINGS)))
+        self.says(error, "tmx: checkpoint: magic", "", str(SETTINGS))
+
+    def test_what_a_program_prints_of_a_good_run(self) -> None:
+        self.program('"$real" "$@"; status=$?; echo "  300 records, 299 good, 1 bad: see tmx summary" >&2; exit $status')
+        with warnings.catch_warnings():
+            warnings.simplefilter("error")
+            self.assertEqual(len(example().report()), 23)
+            self.assertEqual((len(list(example().packets())), example().fields(ATTITUDE, 101).rows), (848, 503))
+        for said, line, explanation in (
+            ("tmx: read failed\n  one\n  two\n", "tmx: read failed", "one\ntwo"),
+            ("error: no\n  --settings\n\nFor more\n  why\n", "error: no\n  --settings\n\nFor more", "why"),
+            ("  why\n", "", "why"),
+            ("", "", ""),
+        ):
+            self.assertEqual(errors.told(said), (line, explanation))
+
+    def test_a_report_with_an_explanation(self) -> None:
+        list(example().packets(report="report"))
+        frames = "".join(f"{it}\n" for it in example().frames())
+        Path("frames").write_text(frames)
+        report = Path("report").read_text()
+        list(example().packets(checkpoint="chk", stop_after=300))
+        Path("explained").write_text(f"{report}  300 records, 299 good, 1 bad: see tmx summary\n")
+        for name in ("report", "explained"):
+            self.assertEqual(command("map", "frames", name, out=f"{name}.svg"), (0, ""))
+        self.assertEqual(Path("explained.svg").read_bytes(), Path("report.svg").read_bytes())
+        self.assertEqual(tmx.cut_back("chk", "explained"), {"explained": 0})
 
 
 class Streams(TestCase):
@@ -168,11 +241,6 @@ class Streams(TestCase):
 
 
 class Programs(TestCase):
-    def test_the_line_stands_alone(self) -> None:
-        with mock.patch.dict(os.environ, {"TMX_EXPLAIN": "1"}):
-            found = self.raises(tmx.FileError, "failed", tmx.Recording(RECORDING, "none").summary)
-        self.assertEqual(found.line, "tmx: none: failed")
-
     def test_missing(self) -> None:
         with mock.patch.dict(os.environ, {"TMX": "/nowhere/tmx"}):
             self.raises(tmx.ProgramMissingError, None, example().summary)

@@ -1,9 +1,11 @@
 """The package as a whole: built, installed and used from elsewhere, in little memory, its settings and its summaries."""
 
+import base64
 import importlib.util
 import io
 import json
 import os
+import re
 import subprocess
 import sys
 import tomllib
@@ -131,6 +133,8 @@ class TheLossMap(TestCase):
         for recording in (example(), tmx.Recording(io.BytesIO(RECORDING.read_bytes()), SETTINGS)):
             drawn = recording.loss_map("The example recording")
             self.assertEqual((drawn.svg, drawn._repr_svg_()), (wanted, wanted))
+            images = re.findall(' (?:data|src)="data:image/svg[+]xml;base64,([^"]*)"', drawn._repr_html_())
+            self.assertEqual([base64.b64decode(it).decode() for it in images], [wanted] * 2)
             drawn.write("map.svg")
             self.assertEqual(Path("map.svg").read_text(), wanted)
         words = ("map", "--title", "The example recording", "--settings", SETTINGS, RECORDING)

@@ -99,6 +99,81 @@ class Steps(TestCase):
             self.assertEqual(list(whole[name]), [value for it in parts for value in it[name]])
 
 
+class Whole(TestCase):
+    """What is written has its name when it is whole."""
+
+    def stands(self) -> dict[str, bytes]:
+        return {it.name: it.read_bytes() for it in Path().iterdir() if it.name != "program"}
+
+    def wanted(self) -> bytes:
+        return b"".join(it.octets for it in example().packets())
+
+    def test_a_run_that_is_killed_leaves_all_as_it_was(self) -> None:
+        self.program('"$real" "$@" | head -c 30000\nkill -KILL $$')
+        for before in ({}, {"out": b"before"}):
+            for name, octets in before.items():
+                Path(name).write_bytes(octets)
+            self.raises(tmx.KilledError, None, example().extract, "out", checkpoint="chk")
+            self.assertEqual(self.stands(), before)
+        self.raises(tmx.KilledError, None, example().extract, "out", resume="chk")
+        self.assertEqual(self.stands(), {"out": b"before"})
+
+    def test_a_file_has_its_name_when_it_is_whole(self) -> None:
+        self.program('"$real" "$@"; status=$?; ls -A >there; exit $status')
+        example().extract("out", checkpoint="chk", report="report")
+        there = [it.partition(".")[2].partition(".")[0] for it in Path("there").read_text().split() if it[0] == "."]
+        self.assertEqual(sorted(there), ["chk", "out"])
+        self.assertEqual(sorted(self.stands()), ["chk", "out", "report", "there"])
+        self.assertEqual((Path("out").read_bytes(), tmx.records_done("chk")), (self.wanted(), 300))
+
+    def test_the_job_is_kept_behind_the_packets(self) -> None:
+        done = mock.Mock()
+        with mock.patch("os.replace", done.replace):
+            example().extract("out", checkpoint="chk")
+        self.assertEqual([Path(it.args[1]).name for it in done.replace.call_args_list], ["out", "chk"])
+        with mock.patch("os.replace", side_effect=[OSError("torn off")]):
+            self.raises(OSError, None, example().extract, "out", checkpoint="chk")
+        self.assertEqual(self.stands(), {})
+
+    def test_rights_and_links(self) -> None:
+        self.addCleanup(os.umask, os.umask(0o027))
+        example().extract("new", checkpoint="chk")
+        self.assertEqual([Path(it).stat().st_mode & 0o777 for it in ("new", "chk")], [0o640] * 2)
+        Path("old").touch()
+        Path("old").chmod(0o604)
+        Path("link").symlink_to("old")
+        example().extract("link")
+        self.assertEqual((Path("old").read_bytes(), Path("old").stat().st_mode & 0o777), (self.wanted(), 0o604))
+        self.assertTrue(Path("link").is_symlink())
+
+    def test_what_is_no_file(self) -> None:
+        os.mkfifo("pipe")
+        found: list[bytes] = []
+        reader = threading.Thread(target=lambda: found.append(Path("pipe").read_bytes()))
+        reader.start()
+        example().extract("pipe")
+        reader.join()
+        self.assertEqual(found, [self.wanted()])
+        example().extract("/dev/null")
+        self.assertEqual(os.listdir(), ["pipe"])
+
+    def test_octets_that_find_no_room_behind_others(self) -> None:
+        example().extract("out", checkpoint="chk", stop_after=100)
+        before = self.stands()
+        with mock.patch("shutil.copyfileobj", lambda octets, file, *_: (file.write(octets.read(1000)), file.flush(), 1 // 0)):
+            self.raises(ZeroDivisionError, None, example().extract, "out", resume="chk", checkpoint="chk")
+        self.assertEqual(self.stands(), before)
+        example().extract("out", resume="chk", checkpoint="chk")
+        self.assertEqual((Path("out").read_bytes(), tmx.records_done("chk")), (self.wanted(), 300))
+
+    def test_records_of_a_raw_stream(self) -> None:
+        failing = mock.Mock(spec=["read"], read=mock.Mock(side_effect=[b"ab12345" * 20000, OSError("torn off")]))
+        self.raises(OSError, None, tmx.cut(failing, b"ab", 5).write, "records")
+        self.assertEqual(os.listdir(), [])
+        tmx.cut(io.BytesIO(b"ab12345" * 3), b"ab", 5).write("records")
+        self.assertEqual(self.stands(), {"records": b"12345" * 3})
+
+
 class Follow(TestCase):
     def grow(self, file, octets: bytes, parts: int) -> None:
         """Writes some octets at a time."""
@@ -239,7 +314,8 @@ class Commands(TestCase):
         self.assertEqual({it.name: it.read_bytes() for it in Path("steps").iterdir()}, kept)
 
     def test_what_follow_passes_on(self) -> None:
-        self.assertEqual(self.follow("steps"), "tmx: growing.rec: failed\n")
+        why = "the recording growing.rec: no such file; see that the name and the folder are right"
+        self.assertEqual(self.follow("steps"), f"tmx: growing.rec: failed\n  {why}\n")
         self.assertIn("--definition and --apid are for --command fields", self.follow("steps", "--apid", 101))
         Path("growing.rec").write_bytes(bytes(100))
         self.assertEqual(self.follow("steps"), "")

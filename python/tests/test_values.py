@@ -4,6 +4,7 @@ import csv
 import io
 import math
 import os
+import re
 import struct
 import subprocess
 import unittest
@@ -14,7 +15,9 @@ from unittest import mock
 from support import ATTITUDE, HOUSEKEEPING, RECORDING, SETTINGS, TestCase, example, needs, tmx
 
 from tmx import values
+from tmx.definition import read_definition
 
+SHORT = re.compile("^shortpacket .*\n", re.MULTILINE)
 FLOATS = (0.0, -0.0, 1.0, -2.5, 65504.0, 2.0**-24, math.inf, -math.inf, math.nan)
 TEXTS = (b"plain!", b'a,b"c\'', b"\\x41\\\\", b"\0\xff\r\n \0", b"      ", b"NA\0\0\0\0", b"\xc3\xa9abcd")
 
@@ -45,7 +48,7 @@ class WithModules(TestCase):
     def have(self, **modules) -> None:
         """Has other modules stand for these, for the rest of the test; None is one that isn't there."""
         there = values.module
-        for name in ("tmx.values.module", "tmx.fields.module"):
+        for name in ("tmx.values.module", "tmx.fields.module", "tmx.times.module"):
             self.enterContext(mock.patch(name, lambda it: modules[it] if it in modules else there(it)))
 
 
@@ -83,7 +86,19 @@ class Columns:
         self.assertEqual(list(rows_of(list(TEXTS), "T,str,48\n")["T"]), list(TEXTS))
         texts = [it.decode("latin-1") for it in TEXTS]
         self.assertEqual(list(rows_of(list(TEXTS), "T,str,48\n", encoding="latin-1")["T"]), texts)
-        self.raises(UnicodeDecodeError, None, rows_of, list(TEXTS), "T,str,48\n", encoding="utf-8")
+
+    def test_texts_that_are_not_in_the_encoding(self) -> None:
+        texts = [b"abc", b"d\xfff", b"ghi"]
+        for blocks in (None, 1, 2):
+            how = {"encoding": "ascii"} if blocks is None else {"encoding": "ascii", "blocks": blocks}
+            error = self.raises(UnicodeDecodeError, None, lambda: list(rows_of(texts, "T,str,24\n", **how)))
+            self.assertIn("column 'T', row 1", str(error))
+            self.assertEqual((error.object, error.start), (b"d\xfff", 1))
+        for errors in ("replace", "ignore", "backslashreplace", "surrogateescape"):
+            wanted = [it.decode("ascii", errors) for it in texts]
+            self.assertEqual(list(rows_of(texts, "T,str,24\n", encoding="ascii", errors=errors)["T"]), wanted)
+        for how in ({"encoding": "no such one"}, {"encoding": "ascii", "errors": "no such one"}):
+            self.raises(LookupError, None, rows_of, texts, "T,str,24\n", **how)
 
     def test_long_texts(self) -> None:
         texts = [it * 20 for it in TEXTS]
@@ -130,8 +145,20 @@ class Columns:
             fields = rows_of(payloads, "S,uint,32\nF,uint,16\n", time="S", epoch=epoch)
             self.assertEqual(self.times(fields), [it.replace(microsecond=0) for it in wanted])
 
-    def test_a_time_that_is_too_late(self) -> None:
-        self.raises(OverflowError, None, rows_of, [b"\xff" * 8], "S,uint,64\n", time="S", epoch="2000-01-01")
+    def test_times_out_of_range(self) -> None:
+        payloads = [struct.pack(">Q", it) for it in (0, 1 << 63, 2**64 - 1, 86400)]
+        fields = rows_of(payloads, "S,uint,64\n", time="S", epoch="2000-01-01")
+        self.assertEqual(self.times(fields), [datetime(2000, 1, 1), None, None, datetime(2000, 1, 2)])
+        self.assertEqual((fields.bad_times, fields.rows, list(fields["S"])), (2, 4, [0, 1 << 63, 2**64 - 1, 86400]))
+        self.assertTrue(repr(fields).endswith("\n4 rows, 5 columns, 2 times out of range"))
+        self.assertEqual(rows_of(payloads[:1], "S,uint,64\n", time="S", epoch="2000-01-01").bad_times, 0)
+
+    def test_an_epoch_long_ago(self) -> None:
+        days = (datetime(2025, 9, 28) - datetime(1, 1, 1)).days
+        payloads = [struct.pack(">QH", days * 86400 + it, 1 << 15) for it in (0, 1)]
+        fields = rows_of(payloads, "S,uint,64\nF,uint,16\n", time=("S", "F"), epoch="0001-01-01")
+        wanted = datetime(2025, 9, 28, 0, 0, 0, 500000)
+        self.assertEqual((self.times(fields), fields.bad_times), ([wanted, wanted + timedelta(seconds=1)], 0))
 
     def test_short_packets(self) -> None:
         fields = rows_of([b"ab", b"cd"], "S,uint,64\n")
@@ -140,11 +167,67 @@ class Columns:
         self.assertEqual(fields.short_packets, short)
         self.assertTrue(repr(fields).endswith("\n0 rows, 5 columns, 2 packets too short for a row"))
 
+    def test_channels(self) -> None:
+        whole = example().fields(ATTITUDE, 101)
+        for channels in (3, [0, 5], [0, 3], []):
+            wanted = {channels} if isinstance(channels, int) else set(channels)
+            found = example().fields(ATTITUDE, 101, channel=channels)
+            for name in whole:
+                kept = [it for it, channel in zip(whole[name], whole["tm_channel"]) if channel in wanted]
+                self.assertEqual(list(found[name]), kept)
+        definition = Path("d.csv")
+        definition.write_text("name,data_type,bit_length\nA,uint,64\nB,fill,4000\n")
+        short = example().fields(definition, 101).short_packets
+        found = example().fields(definition, 101, channel=3).short_packets
+        self.assertEqual((len(short), found), (503, [it for it in short if it.channel == 3]))
+
+    def test_blocks(self) -> None:
+        definition = Path("d.csv")
+        definition.write_text("name,data_type,bit_length\nA,uint,64\nB,str,5000\n")
+        for name, apid in ((ATTITUDE, 101), (definition, 200), (ATTITUDE, 5)):
+            how = {"time": "tm_record", "epoch": "2000-01-01"}
+            whole = example().fields(name, apid, **how)
+            for rows in (1, 7, whole.rows, whole.rows + 1, max(1, whole.rows - 1)):
+                tables = list(example().fields(name, apid, blocks=rows or 1, **how))
+                self.assertEqual([it.rows for it in tables[:-1]], [rows or 1] * (len(tables) - 1))
+                self.assertEqual(sum(it.rows for it in tables), whole.rows)
+                self.assertEqual([it for table in tables for it in self.times(table)], self.times(whole))
+                self.assertEqual([it for table in tables for it in table["tm_count"]], list(whole["tm_count"]))
+                self.assertEqual([len(it.short_packets) for it in tables], [0] * (len(tables) - 1) + [len(whole.short_packets)])
+
+    def test_a_report(self) -> None:
+        definition = Path("d.csv")
+        definition.write_text("name,data_type,bit_length\nA,uint,64\nB,str,5000\n")
+        line = [os.environ["TMX"], "fields", "--settings", SETTINGS, "--definition", definition, "--apid", "200", RECORDING]
+        wanted = subprocess.run([*line, "--report", "wanted"], stdout=subprocess.DEVNULL, check=True)
+        for how in ({}, {"blocks": 5}):
+            found = example().fields(definition, 200, report="report", **how)
+            last = found if isinstance(found, tmx.Fields) else list(found)[-1]
+            self.assertEqual(Path("report").read_bytes(), Path("wanted").read_bytes(), wanted)
+            self.assertGreater(len(last.short_packets), 0)
+            self.assertEqual("".join(f"{it}\n" for it in last.short_packets), "".join(SHORT.findall(Path("wanted").read_text())))
+            Path("report").unlink()
+        self.raises(FileNotFoundError, None, example().fields, definition, 200, report="none/report")
+        for name in (RECORDING, SETTINGS, definition):
+            self.raises(tmx.FileError, "failed", example().fields, definition, 200, report=name)
+
     def test_shown(self) -> None:
         fields = example().fields(ATTITUDE, 101, time="SECONDS", epoch="2000-01-01")
-        self.assertEqual(repr(fields).splitlines()[11:], ["503 rows, 14 columns"])
+        with mock.patch.dict(os.environ, {"COLUMNS": "200"}):
+            self.assertEqual(repr(fields).splitlines()[11:], ["503 rows, 14 columns"])
+        for width in (50, 80, 120):
+            with mock.patch.dict(os.environ, {"COLUMNS": str(width)}):
+                parts = repr(fields).rpartition("\n")[0].split("\n\n")
+            self.assertLessEqual(max(len(it) for part in parts for it in part.splitlines()), width)
+            heads = [it.partition("\n")[0].split() for it in parts]
+            self.assertEqual([it[0] for it in heads], ["time"] * len(parts))
+            self.assertEqual([it[-1] for it in heads], ["\\"] * (len(parts) - 1) + ["STARS"])
+            self.assertEqual([name for it in heads for name in it[1:] if name != "\\"], list(fields))
         self.assertIn("<th>ANGLE_X</th>", fields._repr_html_())
         self.assertIn("<td>&lt;b&gt;</td>", rows_of([b"<b>"], "T,str,24\n", encoding="ascii")._repr_html_())
+        wide = rows_of([bytes(range(100))], "".join(f"C{it},uint,8\n" for it in range(100)))._repr_html_()
+        self.assertEqual(re.findall("<th>(.*?)</th>", wide)[9:12], ["C5", "...", "C90"])
+        self.assertEqual(re.findall("<td>(.*?)</td>", wide)[9:12], ["5", "...", "90"])
 
 
 class Lists(Columns, WithModules):
@@ -155,10 +238,6 @@ class Lists(Columns, WithModules):
         self.have(numpy=None, pandas=None)
         self.enterContext(mock.patch.object(values, "ROWS", 100))
 
-    def test_octets_are_read_in_parts(self) -> None:
-        rows = values.Rows(iter([b"abc", b"d"]))
-        self.assertEqual([rows.read(2) for _ in range(4)], [b"ab", b"c", b"d", b""])
-
     def test_what_needs_modules(self) -> None:
         fields = example().fields(ATTITUDE, 101)
         self.raises(ImportError, None, fields.to_numpy)
@@ -168,7 +247,7 @@ class Lists(Columns, WithModules):
 @needs("numpy")
 class Arrays(Columns, TestCase):
     def times(self, fields: tmx.Fields) -> list[datetime]:
-        return fields.time.astype("datetime64[us]").tolist()
+        return fields.time.astype("datetime64[us]").tolist()  # of NaT it has None
 
     def test_types(self) -> None:
         head = "name,data_type,bit_length,bit_offset"
@@ -198,13 +277,14 @@ class StandIns(WithModules):
     def test_what_numpy_reads(self) -> None:
         numpy, read = mock.MagicMock(), []
         numpy.dtype.side_effect = lambda it: it if isinstance(it, str) else mock.DEFAULT
-        numpy.loadtxt.side_effect = lambda text, kind, **how: read.append((text.read(), kind, how))
+        numpy.loadtxt.side_effect = lambda lines, kind, **how: read.append(("".join(f"{it}\n" for it in lines), kind, how))
         self.have(numpy=numpy)
-        definition = "A,uint,8,48\nB,uint,9,\nC,int,32,\nD,int,33,\nE,float,32,\nF,str,512,48\nG,str,520,48\n"
-        Path("d.csv").write_text(f"name,data_type,bit_length,bit_offset\n{definition}")
-        example().fields("d.csv", 100)
+        fields = "A,uint,8,48\nB,uint,9,\nC,int,32,\nD,int,33,\nE,float,32,\nF,str,512,48\nG,str,520,48\n"
+        Path("d.csv").write_text(f"name,data_type,bit_length,bit_offset\n{fields}")
+        text = printed("d.csv", 100).partition("\n")[2]
+        values.Kinds(read_definition("d.csv")).read(iter(text.splitlines()), 0)
         how = {"comments": None, "delimiter": ",", "quotechar": '"', "ndmin": 1}
-        self.assertEqual(read, [(printed("d.csv", 100).partition("\n")[2], numpy.dtype.return_value, how)])
+        self.assertEqual(read, [(text, numpy.dtype.return_value, how)])
         types = ["uint32", "uint8", "uint16", "uint16", "uint8", "uint16", "int32", "int64", "S10", "S256", object]
         columns = [(f"column {number}", it) for number, it in enumerate(types)]
         self.assertEqual(numpy.dtype.call_args, mock.call(columns))

@@ -27,6 +27,7 @@ from .errors import (
     ProgramMissingError,
     RunError,
     SettingsError,
+    TmxWarning,
     UsageError,
     VersionError,
 )
@@ -110,6 +111,7 @@ __all__ = [
     "Slip",
     "Stray",
     "Summary",
+    "TmxWarning",
     "UsageError",
     "Vca",
     "VersionError",

@@ -3,6 +3,7 @@
 import argparse
 import os
 import sys
+import warnings
 from collections.abc import Callable, Iterable
 
 from .checkpoints import cut_back, records_done
@@ -150,11 +151,13 @@ def main(arguments: list[str] | None = None) -> int:
         add_words(commands.add_parser(name, help=what, description=what.capitalize() + "."))
     words = parser.parse_args(arguments)
     try:
-        COMMANDS[words.command][2](words, commands.choices[words.command])
+        with warnings.catch_warnings():
+            warnings.showwarning = lambda warning, *_: print(f"tmx {words.command}: {warning}", file=sys.stderr)
+            COMMANDS[words.command][2](words, commands.choices[words.command])
     except KeyboardInterrupt:
         return 130
     except (Error, OSError) as error:
-        said = error.line if isinstance(error, ProgramError) else f"tmx {words.command}: {reason(error)}"
+        said = str(error) if isinstance(error, ProgramError) else f"tmx {words.command}: {reason(error)}"
         print(said, file=sys.stderr)
         return 1
     return 0

@@ -1,13 +1,15 @@
-"""Checkpoints: the files in which the program keeps a job that goes on later.
+"""Checkpoints: the files in which the program keeps a job that goes on later, and other files that are written whole or not at all.
 
 Nothing of them is read here but the number of records that are done.  The program checks all else.
 """
 
 import os
 import re
+import secrets
+import shutil
 from pathlib import Path
-from tempfile import NamedTemporaryFile
-from typing import Any
+from types import TracebackType
+from typing import IO, Self
 
 from .errors import Error
 
@@ -55,32 +57,59 @@ def length_until(name: Name, done: int) -> int:
             found = LINE.fullmatch(line)
             if not line.endswith(b"\n") or found and int(found[1]) >= done:
                 break
-            if not found and (length or not HEAD.fullmatch(line)):
+            if not found and not line.startswith(b"  ") and (length or not HEAD.fullmatch(line)):
                 raise CutBackError(f"{os.fspath(name)}: no list of packets, rows of fields or report; nothing of it is cut")
             length += len(line)
     return length
 
 
-class NewCheckpoint:
-    """A checkpoint that takes its place only when all that was read before it has been given.
+class NewFile:
+    """A file that takes its place when the block ends without an error.  Until then another one beside it is written.
 
-    So a job that is ended earlier goes on from the checkpoint before, and gives the same again.
+    file  is written, and `path` is its name
+    With `append` it goes to the end of a file that is there.  What is no regular file, as a device, is written at once.
     """
 
-    def __init__(self, name: Name) -> None:
+    def __init__(self, name: Name, append: bool = False) -> None:
         """Raises OSError where there can be no file in its folder."""
-        self.name = Path(name)
-        self.file: Any = NamedTemporaryFile(dir=self.name.parent, prefix=f".{self.name.name}.", delete=False)
+        self.name = Path(os.path.realpath(name))
+        self.is_direct = self.name.exists() and not self.name.is_file() or Path(name).is_relative_to("/dev")
+        self.append = append and self.name.exists()
+        self.path = self.name if self.is_direct else self.name.with_name(f".{self.name.name}.{secrets.token_hex(4)}")
+        self.file: IO[bytes] = open(self.path, "ab" if self.is_direct and append else "wb" if self.is_direct else "xb")
 
-    def keep(self, octets: bytes) -> None:
-        """Writes it, and puts it in its place."""
-        with self.file:
-            self.file.write(octets)
-            self.file.flush()
-            os.fsync(self.file.fileno())
-        os.replace(self.file.name, self.name)
+    def __enter__(self) -> Self:
+        return self
 
-    def discard(self) -> None:
-        """Takes away what was not kept."""
-        self.file.close()
-        Path(self.file.name).unlink(missing_ok=True)
+    def __exit__(self, kind: type[BaseException] | None, error: BaseException | None, trace: TracebackType | None) -> None:
+        try:
+            self.file.close()
+            if kind is None and not self.is_direct:
+                self.keep()
+        finally:
+            if not self.is_direct:
+                self.path.unlink(missing_ok=True)
+
+    def keep(self) -> None:
+        """Puts it in its place, when all of it is on the disk."""
+        if self.append:
+            append(self.path, self.name)
+            return
+        with open(self.path, "rb") as file:
+            os.fsync(file.fileno())
+        if self.name.exists():
+            shutil.copymode(self.name, self.path)
+        os.replace(self.path, self.name)
+
+
+def append(part: Path, whole: Path) -> None:
+    """Puts the octets of a file behind those of another, all or none."""
+    with open(part, "rb") as octets, open(whole, "ab") as file:
+        length = file.tell()
+        try:
+            shutil.copyfileobj(octets, file, 1 << 20)
+            file.flush()
+            os.fsync(file.fileno())
+        except BaseException:
+            os.truncate(whole, length)
+            raise

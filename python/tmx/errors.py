@@ -3,8 +3,10 @@
 All are `Error`.  Those of the program have its line, its status and its word, as docs/FORMATS.md lists them.
 """
 
+import os
 import re
 import signal
+from collections.abc import Sequence
 
 
 class Error(Exception):
@@ -38,19 +40,29 @@ class ColumnError(Error):
 class ProgramError(Error):
     """The program ended with a fault.
 
-    line    what it printed on standard error
-    status  its status, 1 to 3; of a program that was ended by a signal the signal's number, negative
-    word    the word of the fault, as `missing` in `tmx: settings: missing spacecraft`
+    line         what it printed on standard error
+    status       its status, 1 to 3; of a program that was ended by a signal the signal's number, negative
+    word         the word of the fault, as `missing` in `tmx: settings: missing spacecraft`
+    explanation  why, and what to do, where the program says so
+    file         the name of the file that it is about, where there is one
     """
 
-    def __init__(self, line: str, status: int, word: str) -> None:
-        super().__init__(line, status, word)
+    def __init__(self, line: str, status: int, word: str, explanation: str = "", file: str | None = None) -> None:
+        super().__init__(line, status, word, explanation, file)
         self.line = line
         self.status = status
         self.word = word
+        self.explanation = explanation
+        self.file = file
 
     def __str__(self) -> str:
-        return self.line
+        """The line, and behind it the explanation, as a terminal shows both."""
+        return f"{self.line}\n  {self.explanation}" if self.explanation else self.line
+
+    def forget(self, name: str) -> None:
+        """Leaves out the name of a file that the caller doesn't know."""
+        self.explanation = self.explanation.replace(f" {name}", "")
+        self.file = None if self.file == name else self.file
 
 
 class UsageError(ProgramError):
@@ -85,26 +97,64 @@ class KilledError(RunError):
     """The program was ended by a signal."""
 
 
+class TmxWarning(UserWarning):
+    """An answer is empty: no frame is good, or nothing of a chosen channel or application came."""
+
+
 REFUSALS = {"settings": SettingsError, "definition": DefinitionError, "checkpoint": CheckpointError}
 
+# The word of the command line before the file of a fault.
+FILES = {
+    "settings": "--settings",
+    "definition": "--definition",
+    "checkpoint": "--resume",
+    "report failed": "--report",
+    "write failed": "--dir",
+    "read failed": "--",
+    "too many records": "--",
+    "recording is shorter than the checkpoint": "--",
+}
 
-def error_of(text: str, status: int) -> Error:
-    """The error of a program that ended with a status other than 0, by what it printed on standard error."""
+
+def error_of(text: str, status: int, words: Sequence[str] = ()) -> Error:
+    """The error of a program that ended with a status other than 0, by what it printed on standard error and by its words."""
     if status < 0:
         return killed(-status)
-    line = text.rstrip("\n")
+    line, explanation = told(text)
     if not line.startswith("tmx: "):
-        return usage(line, status)
+        return usage(line, status, explanation)
     said = line.removeprefix("tmx: ")
     first, _, rest = said.partition(": ")
     if status == 2 and first in REFUSALS and rest != "too long":
-        return REFUSALS[first](line, status, refusal(rest))
+        return REFUSALS[first](line, status, refusal(rest), explanation, word_behind(FILES[first], words))
     for word in ("failed", "too long"):
         if said.endswith(f": {word}"):
-            return FileError(line, status, word)
+            name = os.fsdecode(unescaped(said.removesuffix(f": {word}").encode()))
+            return FileError(line, status, word, explanation, name)
     if status == 3:
         return OutOfMemoryError(line, status, said)
-    return UsageError(line, status, said) if said.startswith("--") else RunError(line, status, said)
+    if said.startswith("--"):
+        return UsageError(line, status, said, explanation)
+    return RunError(line, status, said, explanation, word_behind(FILES.get(said), words))
+
+
+def told(text: str) -> tuple[str, str]:
+    """What a program printed on standard error: its line, and what explains it, whose line begins with two spaces."""
+    lines = text.splitlines()
+    end = len(lines)
+    while end and lines[end - 1].startswith("  "):
+        end -= 1
+    return "\n".join(lines[:end]).rstrip("\n"), "\n".join(it.strip() for it in lines[end:])
+
+
+def word_behind(option: str | None, words: Sequence[str]) -> str | None:
+    """The word that follows an option of a command line; None where it isn't there."""
+    return next((word for before, word in zip(words, words[1:]) if before == option), None)
+
+
+def unescaped(text: bytes) -> bytes:
+    """Octets of a text in which those other than 20 to 7E, and the backslash, stand as `\\x` and two digits, as in texts of Python."""
+    return text.decode("unicode_escape").encode("latin-1")
 
 
 def refusal(said: str) -> str:
@@ -121,8 +171,8 @@ def killed(number: int) -> KilledError:
     return KilledError(f"tmx: ended by {name}", -number, name)
 
 
-def usage(text: str, status: int) -> Error:
+def usage(text: str, status: int, explanation: str) -> Error:
     """The error of words that the program doesn't take.  A command or an option that it doesn't know is none of the caller's."""
     if re.match("error: (unrecognized subcommand|unexpected argument)", text):
         return VersionError(f"the program is too old, or is another one: {text.splitlines()[0]}")
-    return UsageError(text, status, "usage")
+    return UsageError(text, status, "usage", explanation)

@@ -4,25 +4,30 @@ import csv
 import io
 import os
 import re
+import shutil
 import tempfile
-from collections.abc import Iterator, Mapping, Sequence
-from datetime import UTC, date, datetime, timedelta
-from typing import Any
+from collections.abc import Collection, Iterable, Iterator, Mapping, Sequence
+from contextlib import contextmanager
+from dataclasses import dataclass
+from itertools import chain, islice
+from typing import IO, Any
 
 from .definition import Column, column_named, long_values, read_definition
-from .errors import ColumnError, DisagreementError
+from .errors import ColumnError, DisagreementError, word_behind
 from .lines import ShortPacket, read_lines
-from .runs import Command, line_blocks, running
+from .notes import numbered, warn, warn_of_nothing
+from .progress import Progress
+from .runs import Command, Runs, line_blocks, running
 from .settings import Settings
-from .source import Source
+from .source import Source, refuse_to_overwrite
 from .tables import html_table, text_table
-from .values import Rows, module, read_columns
+from .times import Epoch, times
+from .values import Encoding, Kinds, module
 
 Name = str | os.PathLike[str]
-Epoch = str | date | datetime
 
-MOST_ROWS = 10  # that are shown
-NANOSECONDS = 10**9
+MOST_ROWS, MOST_COLUMNS = 10, 20  # that are shown
+HEAD = b"tm_record,"  # how a head begins
 SHORT_PACKET = re.compile(rb"^shortpacket .*\n", re.MULTILINE)
 
 
@@ -35,14 +40,16 @@ class Fields(Mapping[str, Any]):
 
     columns        the name, the type and the bits of each column
     time           the time of each row, where it was asked for, else None
+    bad_times      how many times are out of range: NaT, or without numpy None
     short_packets  the packets of the application that have no row, since they are shorter than the definition
     """
 
-    def __init__(self, columns: Sequence[Column], values: Sequence[Any], short_lines: Sequence[bytes]) -> None:
+    def __init__(self, columns: Sequence[Column], values: Sequence[Any]) -> None:
         self.columns = list(columns)
         self.by_name = {it.name: found for it, found in zip(columns, values)}
-        self.short_lines = list(short_lines)
+        self.short_lines: list[bytes] = []
         self.time: Any = None
+        self.bad_times = 0
 
     def __getitem__(self, name: str) -> Any:
         return self.by_name[name]
@@ -63,6 +70,10 @@ class Fields(Mapping[str, Any]):
     def rows(self) -> int:
         """How many rows it has."""
         return len(self["tm_record"])
+
+    def is_empty(self) -> bool:
+        """Whether no packet of the application came."""
+        return not self.rows and not self.short_lines
 
     def to_numpy(self) -> dict[str, Any]:
         """The columns as arrays of numpy, by name.  Raises ImportError where numpy isn't there."""
@@ -86,46 +97,157 @@ class Fields(Mapping[str, Any]):
 
     def ending(self) -> str:
         """How much of it there is."""
-        number = len(self.short_lines)
-        short = f", {number} packet{'' if number == 1 else 's'} too short for a row" if number else ""
-        return f"{self.rows} rows, {len(self)} columns{short}"
+        short, bad = len(self.short_lines), self.bad_times
+        said = f", {short} packet{'s' * (short != 1)} too short for a row" if short else ""
+        said += f", {bad} time{'s' * (bad != 1)} out of range" if bad else ""
+        return f"{self.rows} rows, {len(self)} columns{said}"
 
     def __repr__(self) -> str:
-        return f"{text_table(*self.shown())}\n{self.ending()}"
+        width = shutil.get_terminal_size().columns
+        return f"{text_table(*self.shown(), width)}\n{self.ending()}"
 
     def _repr_html_(self) -> str:
-        return f"{html_table(*self.shown())}<p>{self.ending()}</p>"
+        """Of many columns the first and the last ones."""
+        head, rows = self.shown()
+        if len(head) > MOST_COLUMNS:
+            half = MOST_COLUMNS // 2
+            head, *rows = [[*it[:half], "...", *it[-half:]] for it in (head, *rows)]
+        return f"{html_table(head, rows)}<p>{self.ending()}</p>"
 
 
-def read_fields(
-    source: Source, settings: Name | Settings, definition: Name, apid: int, encoding: str | None, words: Sequence[str]
-) -> Fields:
-    """The table that `tmx fields` prints.  `words` are further words of the command."""
-    with tempfile.NamedTemporaryFile() as report:
-        line = ["fields", "--definition", os.fspath(definition), "--apid", str(apid), "--report", report.name, *words]
-        with running(source, settings, Command(line)) as runs:
-            blocks = line_blocks(runs, 0)
-            first = next(blocks, b"")
-            if not first:
-                runs.finish()
-            columns = read_definition(definition)
-            rows = Rows(blocks_behind(first, blocks) if "--resume" in words else without_head(first, blocks, columns))
-            values = read_columns(io.BufferedReader(rows, 1 << 20), columns, encoding)
-            if rows.error:
-                raise rows.error
+@dataclass(frozen=True)
+class Time:
+    """The columns of the seconds, and of their binary fraction, and the time of second 0."""
+
+    names: Sequence[str]
+    epoch: Epoch
+
+    def add_to(self, fields: Fields) -> None:
+        """Gives each row its time.  Raises ColumnError where a column isn't there, or isn't of `uint`."""
+        if not 1 <= len(self.names) <= 2:
+            raise ColumnError("a time is made of one column, the seconds, or of two, the seconds and their binary fraction")
+        columns = [column_named(fields.columns, it) for it in self.names]
+        for column in columns:
+            if column.type != "uint":
+                raise ColumnError(f"the column {column.name!r} is of type {column.type}; a time is made of columns of type uint")
+        seconds, fractions = fields[columns[0].name], fields[columns[1].name] if len(columns) == 2 else None
+        fields.time, fields.bad_times = times(seconds, fractions, columns[-1].bits, self.epoch)
+
+
+@dataclass(frozen=True)
+class Table:
+    """What a table is made of.
+
+    definition, apid  the definition, and the application
+    channels          those whose packets have rows, spelled as in the rows; None is all
+    encoding          of texts; without one they are octets
+    time              what makes the time of each row
+    report            a file that the report goes to
+    step              the words of a job that goes on, or stops early
+    """
+
+    definition: Name
+    apid: int
+    channels: frozenset[str] | None = None
+    encoding: Encoding | None = None
+    time: Time | None = None
+    report: Name | None = None
+    step: Sequence[str] = ()
+
+    def has(self, line: bytes) -> bool:
+        """Whether a line of the report is of one of the channels."""
+        return self.channels is None or line.split(b"channel=")[1][:1].decode("ascii") in self.channels
+
+
+def read_tables(
+    table: Table, source: Source, settings: Name | Settings, rows: int | None, progress: Progress
+) -> Iterator[Fields]:
+    """What `tmx fields` prints, as tables of so many rows, or as one.  The last one has the packets that are too short for a row."""
+    missing = set(table.channels or ())
+    with report_file(table, source, settings) as report:
+        line = ["fields", "--definition", os.fspath(table.definition), "--apid", str(table.apid), "--report", report.name]
+        with running(source, settings, Command([*line, *table.step]), progress=progress) as runs:
+            columns, lines = lines_of(table, runs)
+            if table.channels is not None:
+                lines = of_channels(lines, table.channels, missing)
+            tables = tables_of(table, columns, lines, rows)
+            last = next(tables)
+            for following in tables:
+                yield last
+                last = following
             runs.finish()
-        return Fields(columns, values, SHORT_PACKET.findall(report.read()))
+        last.short_lines = [it for it in SHORT_PACKET.findall(report.read()) if table.has(it)]
+    if not table.step:
+        warn_of_missing(table, runs, settings, last.is_empty(), missing)
+    yield last
 
 
-def blocks_behind(first: bytes, blocks: Iterator[bytes]) -> Iterator[bytes]:
-    """The first block, and those behind it."""
-    if first:
-        yield first
-    yield from blocks
+def warn_of_missing(table: Table, runs: Runs, settings: Name | Settings, is_empty: bool, missing: Collection[str]) -> None:
+    """Warns where no packet of the application came, or none of a channel."""
+    if is_empty and warn_of_nothing(runs, settings):
+        return
+    if is_empty or missing:
+        where = f" on {numbered('channel', missing)}" if missing else ""
+        warn(f"no packet of application {table.apid}{where}")
 
 
-def without_head(block: bytes, blocks: Iterator[bytes], columns: Sequence[Column]) -> Iterator[bytes]:
-    """The rows.  Raises DisagreementError where the head before them has other names than the definition."""
+@contextmanager
+def report_file(table: Table, source: Source, settings: Name | Settings) -> Iterator[IO[bytes]]:
+    """A file for the report.  At the end it goes where the table's is to be.  Raises FileError where that would be written over another."""
+    with tempfile.NamedTemporaryFile() as report:
+        if table.report is None:
+            yield report
+            return
+        kept = [word_behind(it, table.step) for it in ("--checkpoint", "--resume")]
+        refuse_to_overwrite(table.report, source.file, settings, table.definition, *kept)
+        with open(table.report, "wb") as file:
+            try:
+                yield report
+            finally:
+                report.seek(0)
+                shutil.copyfileobj(report, file)
+
+
+# Rows.
+
+
+def tables_of(table: Table, columns: Sequence[Column], lines: Iterator[str], rows: int | None) -> Iterator[Fields]:
+    """Tables of so many of the lines; without a number one of all.  Only the first may have none."""
+    kinds, done = Kinds(columns, table.encoding), 0
+    while True:
+        found = Fields(columns, kinds.read(islice(lines, rows), done))
+        if found.rows or not done:
+            if table.time is not None:
+                table.time.add_to(found)
+            yield found
+        done += found.rows
+        if found.rows != rows:
+            return
+
+
+def lines_of(table: Table, runs: Runs) -> tuple[list[Column], Iterator[str]]:
+    """The columns, and the rows as the program prints them.  A job that goes on has printed its head before."""
+    blocks = line_blocks(runs, 0)
+    first = next(blocks, b"")
+    if not first:
+        runs.finish()
+    columns = read_definition(table.definition)
+    if "--resume" not in table.step or first.startswith(HEAD):
+        first = without_head(first, blocks, columns)
+    return columns, chain.from_iterable(block.decode("ascii").splitlines() for block in chain([first], blocks))
+
+
+def of_channels(lines: Iterable[str], channels: Collection[str], missing: set[str]) -> Iterator[str]:
+    """The rows of some channels.  Those that come leave `missing`."""
+    for line in lines:
+        channel = line.split(",", 2)[1]
+        if channel in channels:
+            missing.discard(channel)
+            yield line
+
+
+def without_head(block: bytes, blocks: Iterator[bytes], columns: Sequence[Column]) -> bytes:
+    """What is behind the head.  Raises DisagreementError where that has other names than the definition."""
     while (end := end_of_head(block)) < 0:
         more = next(blocks, b"")
         if not more:
@@ -136,7 +258,7 @@ def without_head(block: bytes, blocks: Iterator[bytes], columns: Sequence[Column
     names = [it.name for it in columns]
     if head != names:
         raise DisagreementError(f"the program's columns are not those of the definition: {head} and {names}")
-    return blocks_behind(block[end:], blocks)
+    return block[end:]
 
 
 def end_of_head(block: bytes) -> int:
@@ -145,56 +267,3 @@ def end_of_head(block: bytes) -> int:
     while end >= 0 and block.count(b'"', 0, end) % 2:
         end = block.find(b"\n", end + 1)
     return end + 1 if end >= 0 else -1
-
-
-# Time.
-
-
-def time_of(fields: Fields, names: Sequence[str], epoch: Epoch) -> Any:
-    """The time of each row: the epoch, and the seconds and their binary fraction behind it.
-
-    An array of `datetime64[ns]`, rounded down, or without numpy a list of datetime, rounded down to microseconds.  Leap
-    seconds are not known.  Raises ColumnError where the columns are none of `uint`, OverflowError where a time is too late.
-    """
-    if not 1 <= len(names) <= 2:
-        raise ColumnError("a time is made of one column, the seconds, or of two, the seconds and their binary fraction")
-    columns = [column_named(fields.columns, it) for it in names]
-    for column in columns:
-        if column.type != "uint":
-            raise ColumnError(f"the column {column.name!r} is of type {column.type}; a time is made of columns of type uint")
-    values = [fields[it] for it in names]
-    bits = columns[1].bits if len(columns) == 2 else 0
-    numpy = module("numpy")
-    return list_of_times(values, bits, epoch) if numpy is None else array_of_times(numpy, values, bits, epoch)
-
-
-def list_of_times(values: Sequence[Any], bits: int, epoch: Epoch) -> list[datetime]:
-    begin = naive(epoch)
-    fractions = values[1] if len(values) == 2 else [0] * len(values[0])
-    return [
-        begin + timedelta(seconds=seconds, microseconds=fraction * 10**6 >> bits)
-        for seconds, fraction in zip(values[0], fractions)
-    ]
-
-
-def array_of_times(numpy: Any, values: Sequence[Any], bits: int, epoch: Epoch) -> Any:
-    begin = numpy.datetime64(naive(epoch), "ns")
-    seconds = values[0].astype("uint64")
-    most = (2**63 - 1 - int(begin.astype("int64"))) // NANOSECONDS - 1
-    if len(seconds) and int(seconds.max()) > most:
-        raise OverflowError(f"a time of {int(seconds.max())} seconds behind {epoch} is later than numpy's times go")
-    found = seconds.astype("int64") * NANOSECONDS
-    if len(values) == 2:
-        shift = max(0, bits - 34)  # so that the product has 64 bits
-        fraction = values[1].astype("uint64") >> numpy.uint64(shift)
-        found += (fraction * numpy.uint64(NANOSECONDS) >> numpy.uint64(bits - shift)).astype("int64")
-    return begin + found.astype("timedelta64[ns]")
-
-
-def naive(epoch: Epoch) -> datetime:
-    """The epoch without a zone: one that has a zone is changed to UTC."""
-    if isinstance(epoch, str):
-        epoch = datetime.fromisoformat(epoch)
-    if not isinstance(epoch, datetime):
-        epoch = datetime(epoch.year, epoch.month, epoch.day)
-    return epoch if epoch.tzinfo is None else epoch.astimezone(UTC).replace(tzinfo=None)

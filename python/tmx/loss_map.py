@@ -33,6 +33,7 @@ file and line.  The status is 1 then, and nothing is written to standard output.
 import math
 import os
 import re
+from base64 import b64encode
 from collections import Counter, defaultdict
 from collections.abc import Collection, Iterable, Iterator, Mapping, Sequence
 from functools import partial
@@ -118,6 +119,8 @@ class Lines:
         known = patterns(forms)
         for line in self.lines:
             self.number += 1
+            if line.startswith("  "):  # what the program says of the run, where the report is its standard error
+                continue
             word, _, rest = line.partition(" ")
             said = known[word].fullmatch(rest) if word in known else None
             if said is None:
@@ -737,6 +740,11 @@ class LossMap:
 
     def _repr_svg_(self) -> str:
         return self.svg
+
+    def _repr_html_(self) -> str:
+        """The picture with its figures on hover.  Where that is taken out of a page, an image of it stays."""
+        data = f"data:image/svg+xml;base64,{b64encode(self.svg.encode()).decode()}"
+        return f'<object type="image/svg+xml" data="{data}"><img alt="What was lost" src="{data}"></object>'
 
     def write(self, path: str | os.PathLike[str]) -> None:
         """Writes the picture to a file.  Raises OSError."""

@@ -5,9 +5,12 @@ from collections.abc import Iterator
 from dataclasses import dataclass
 from typing import IO
 
+from .arguments import number
+from .checkpoints import NewFile
 from .source import Source, refuse_to_overwrite
 
 SEARCHED = 1 << 16  # octets that are searched at once
+LENGTHS = range(1, 1 << 32)  # of records
 MISSING = 3  # markers in a row that may be damaged beyond what is let pass, while those behind them stand in place
 
 
@@ -112,10 +115,10 @@ class Cut:
         return self.window.ended or self.window.end >= self.at + self.step + len(self.marker)
 
     def write(self, path: str | os.PathLike[str]) -> None:
-        """Writes the records that are left to a file.  Raises FileError where it is the stream's own."""
+        """Writes the records that are left to a file, which is there when it is whole.  Raises FileError where it is the stream's own."""
         refuse_to_overwrite(path, self.source.file)
-        with open(path, "wb") as file:
-            file.writelines(self.found)
+        with NewFile(path) as new:
+            new.file.writelines(self.found)
 
     def cut(self) -> Iterator[bytes]:
         """Each record."""
@@ -202,9 +205,9 @@ def cut(
 
     Gives the records without their markers, so `skip_before` is not needed for them: `tmx.Recording(tmx.cut(..), settings)`
     reads them.  It can't mend streams that lost or gained bits.  Raises ValueError where marker or length is
-    empty.
+    empty, and TypeError where a number is none.
     """
     octets = bytes.fromhex(marker) if isinstance(marker, str) else marker
-    if not octets or length < 1:
-        raise ValueError("a marker has one octet or more, and so has what stands behind it")
-    return Cut(Source(stream), octets, length, flips)
+    if not octets:
+        raise ValueError("a marker has one octet or more")
+    return Cut(Source(stream), octets, number("length", length, LENGTHS), number("flips", flips, range(8 * len(octets))))

@@ -1,10 +1,12 @@
 """The lines of `tmx packets` and the octets of `tmx extract`, put together."""
 
-from collections.abc import Iterable, Iterator
+from collections.abc import Iterator
 from dataclasses import dataclass
 
+from .arguments import APPLICATIONS, CHANNELS, Numbers, numbers
 from .errors import DisagreementError
 from .lines import Packet, PacketValues, packet, read_packet_lines
+from .notes import numbered, warn
 from .runs import Runs, whole_lines
 
 LISTED, EXTRACTED = 0, 1  # the numbers of the two runs
@@ -58,26 +60,49 @@ def pairs(runs: Runs) -> Iterator[tuple[PacketValues, bytes]]:
     octets.finish()
 
 
-Numbers = int | Iterable[int] | None
-
-
 @dataclass(frozen=True)
 class Chosen:
-    """Which packets are wanted: their applications and channels, spelled as in the lines; None is all."""
+    """Which packets are wanted: their applications and channels; None is all."""
 
-    apids: frozenset[str] | None
-    channels: frozenset[str] | None
+    apids: frozenset[int] | None = None
+    channels: frozenset[int] | None = None
 
-    def packets(self, runs: Runs) -> Iterator[Packet]:
-        """These packets."""
-        apids, channels = self.apids, self.channels
+    def packets(self, runs: Runs, missing: "Missing") -> Iterator[Packet]:
+        """These packets.  What they are leaves `missing`."""
+        apids, channels = spelled(self.apids), spelled(self.channels)
         for values, octets in pairs(runs):
+            missing.all = False
+            missing.channels.discard(values[1])
             if (apids is None or values[6] in apids) and (channels is None or values[1] in channels):
+                missing.apids.discard(values[6])
                 yield packet(values, octets)
 
 
-def spelled(numbers: Numbers) -> frozenset[str] | None:
-    """One number or several, as the lines have them."""
-    if numbers is None:
-        return None
-    return frozenset(map(str, [numbers] if isinstance(numbers, int) else numbers))
+class Missing:
+    """The chosen applications and channels of which no packet came, spelled as in the lines; `all` where none came at all."""
+
+    def __init__(self, chosen: Chosen) -> None:
+        self.chosen = chosen
+        self.all = True
+        self.apids, self.channels = set(spelled(chosen.apids) or ()), set(spelled(chosen.channels) or ())
+
+    def warn(self) -> None:
+        """Warns of them, if there are any."""
+        channels = self.chosen.channels or frozenset()
+        said = [numbered("channel", self.channels)] if self.channels else []
+        if self.apids and len(self.channels) < max(1, len(channels)):
+            said.append(numbered("application", self.apids) + (f" on {numbered('channel', channels)}" if channels else ""))
+        if said:
+            warn(f"no packet of {', and none of '.join(said)}")
+        elif self.all:
+            warn("no packet: the good frames have no whole one")
+
+
+def chosen(apid: Numbers, channel: Numbers) -> Chosen:
+    """What a caller chooses.  Raises TypeError where a number is none, and ValueError where it is out of its range."""
+    return Chosen(numbers("apid", apid, APPLICATIONS), numbers("channel", channel, CHANNELS))
+
+
+def spelled(chosen: frozenset[int] | None) -> frozenset[str] | None:
+    """Numbers as the lines have them."""
+    return None if chosen is None else frozenset(map(str, chosen))

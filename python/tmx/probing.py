@@ -249,12 +249,10 @@ def fits_at(sample: bytes, length: int, place: int) -> list[Fit]:
     by_control = length_by_error_control(sample, begins[:-1], min(length, LONGEST_FRAME))
     if by_control > room:
         return []
-    if by_control:
-        tried = [Settings(spacecraft, by_control, True, place, length - place - by_control)]
-    else:
-        frames = (length - place - it for it in CHECK_SYMBOLS)
-        tried = [Settings(spacecraft, it, False, place, length - place - it) for it in frames if LEAST_FRAME <= it <= room]
-    found = [it for settings in tried if settings.skip_after <= LONGEST_SKIP and (it := fit_of(sample, settings))]
+    frames = [by_control] if by_control else [length - place - it for it in CHECK_SYMBOLS]
+    lengths = [it for it in frames if LEAST_FRAME <= it <= room and length - place - it <= LONGEST_SKIP]
+    tried = [Settings(spacecraft, it, by_control > 0, place, length - place - it) for it in lengths]
+    found = [it for settings in tried if (it := fit_of(sample, settings))]
     return sorted(found, key=lambda it: it.whole, reverse=True)[:MOST_FITS]
 
 
@@ -279,14 +277,14 @@ def fit_of(sample: bytes, settings: Settings) -> Fit | None:
         file.write(sample[: len(sample) // settings.record_length * settings.record_length])
         file.flush()
         recording = Recording(file.name, settings)
-        summary = recording.summary()
-        good = [it for it in recording.frames() if isinstance(it, Frame)]
+        summary = recording.counts()
         octets = sum(it.octets for it in summary.channels.values())
         lost = sum(it.lost for it in summary.channels.values())
         whole = octets / (octets + lost) if octets + lost else 0.0
         enough = summary.recording.good > max(1, LEAST_GOOD * summary.recording.records)
         if not enough or not settings.error_control and whole < LEAST_WHOLE:
             return None
+        good = [it for it in recording.frames() if isinstance(it, Frame)]
         longest = max((len(it.octets) for it in recording.packets()), default=0)
     return Fit(
         settings,

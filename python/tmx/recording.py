@@ -1,12 +1,15 @@
 """A recording: what the program gives of it, as Python values."""
 
+import codecs
 import os
 from collections.abc import Iterator, Sequence
-from typing import IO
+from contextlib import ExitStack
+from typing import IO, overload
 
-from .checkpoints import Name
+from .arguments import APPLICATIONS, CHANNELS, RECORDS, Number, Numbers, number, numbers
+from .checkpoints import Name, NewFile
 from .errors import ColumnError, ProgramMissingError
-from .fields import Epoch, Fields, read_fields, time_of
+from .fields import Fields, Table, Time, read_tables
 from .lines import (
     FRAMES,
     REPORT,
@@ -27,13 +30,17 @@ from .lines import (
     read_lines,
 )
 from .loss_map import Lines, LossMap, drawing
-from .pairs import Chosen, Numbers, spelled
+from .notes import numbered, settings_of, warn, warn_of_nothing
+from .pairs import chosen, spelled
 from .programs import find_program
+from .progress import Progress
 from .runs import Command, running, single_lines, whole_lines
 from .settings import Settings
 from .source import Source, refuse_to_overwrite
 from .steps import Job, follow, report_words, step_words
 from .summary import Summary, summary_of
+from .times import Epoch
+from .values import Encoding
 
 Item = Bad | MasterGap | Gap | Vca | Dropped | Short | SequenceGap | Broken | Group | Stray | ShortPacket
 
@@ -46,7 +53,11 @@ class Recording:
 
     Nothing is read before it is asked for.  Each call runs the program `tmx`, once or twice side by side.  Whatever the
     program refuses is raised as an error of this package, with its line, its status and its word.  So is a run that fails on
-    its way: an iterator then raises at its end, and what it gave before stands.
+    its way: an iterator then raises at its end, and what it gave before stands.  Where no frame is good, or nothing of a chosen
+    channel or application comes, a TmxWarning says so.
+
+    With `progress=True` a call shows how many octets it has read, at a terminal and in a notebook alone: as a bar of `tqdm` where
+    that is there, else as a line.  A function is told the octets that were read, and how many there are, or None.
     """
 
     def __init__(self, recording: Name | IO[bytes], settings: Name | Settings) -> None:
@@ -60,12 +71,13 @@ class Recording:
             said = "no program"
         return f"<Recording {self.source!r}, settings {self.settings!r}, {said}>"
 
-    def frames(self) -> Iterator[Frame | Bad | Short]:
+    def frames(self, *, progress: Progress = False) -> Iterator[Frame | Bad | Short]:
         """Each record of any channel, as a frame or as a bad one, and last the octets that are left, if there are any."""
-        with running(self.source, self.settings, Command(["frames"])) as runs:
+        with running(self.source, self.settings, Command(["frames"]), progress=progress) as runs:
             for text in whole_lines(runs, 0):
                 yield from read_lines(text, FRAMES)
             runs.finish()
+        warn_of_nothing(runs, self.settings)
 
     def packets(
         self,
@@ -75,11 +87,12 @@ class Recording:
         report: Name | None = None,
         checkpoint: Name | None = None,
         resume: Name | None = None,
-        stop_after: int | None = None,
+        stop_after: Number | None = None,
+        progress: Progress = False,
     ) -> Iterator[Packet]:
         """The packets that lie whole in runs of good frames, one by one, in the order of the records that complete them.
 
-        apid, channel  the applications and channels that are wanted, one number or several; None is all
+        apid, channel  the applications and channels that are wanted, one number or several, as an array; None is all
         report         a file that the report goes to
         checkpoint     a file in which the job is kept where the recording ends, which is not closed then.  It is written when
                        the last packet was given: a job that is ended earlier goes on from the checkpoint before
@@ -89,8 +102,10 @@ class Recording:
         One block of the recording is held in memory, and the packet.  Raises DisagreementError where the list of packets and
         their octets don't agree, as where the recording changes meanwhile: of one that grows use `checkpoint` or `follow`.
         """
-        chosen = Chosen(spelled(apid), spelled(channel))
-        return Job(self.source, self.settings, chosen, report, checkpoint, resume, stop_after).packets()
+        stop = None if stop_after is None else number("stop_after", stop_after, RECORDS)
+        is_whole = resume is None and stop is None
+        job = Job(self.source, self.settings, chosen(apid, channel), report, checkpoint, resume, stop, progress, is_whole)
+        return job.packets()
 
     def follow(
         self,
@@ -110,64 +125,129 @@ class Recording:
 
         A stream is followed to its end, and read from its beginning, also where a job goes on.  The recording is not closed.
         """
-        chosen = Chosen(spelled(apid), spelled(channel))
-        return follow(Job(self.source, self.settings, chosen, checkpoint=checkpoint), interval, timeout)
+        return follow(Job(self.source, self.settings, chosen(apid, channel), checkpoint=checkpoint), interval, timeout)
 
-    def report(self) -> list[Item]:
+    def report(self, *, progress: Progress = False) -> list[Item]:
         """What is bad or lost, in the program's order."""
-        with running(self.source, self.settings, Command(["extract"], reads="report")) as runs:
+        with running(self.source, self.settings, Command(["extract"], reads="report"), progress=progress) as runs:
             found = [it for text in whole_lines(runs, 0) for it in read_lines(text, REPORT)]
             runs.finish()
+        warn_of_nothing(runs, self.settings)
         return found
 
-    def summary(self) -> Summary:
+    def summary(self, *, progress: Progress = False) -> Summary:
         """What came of each channel and application, and what was lost, in numbers."""
-        with running(self.source, self.settings, Command(["summary"])) as runs:
+        found, settings = self.counts(progress), settings_of(self.settings)
+        missing = {it for it in settings.channels if it not in found.channels} if settings and settings.channels else set()
+        if not found.recording.good:
+            warn(found.reason_for_nothing())
+        elif missing:
+            warn(f"no good frame of {numbered('channel', missing)}, which the settings choose")
+        return found
+
+    def counts(self, progress: Progress = False) -> Summary:
+        """The same without a warning."""
+        with running(self.source, self.settings, Command(["summary"]), progress=progress) as runs:
             found = [it for text in whole_lines(runs, 0) for it in read_lines(text, SUMMARY)]
             runs.finish()
         return summary_of(found)
 
+    @overload
     def fields(
         self,
         definition: Name,
-        apid: int,
+        apid: Number,
         *,
+        channel: Numbers = None,
         time: str | Sequence[str] | None = None,
         epoch: Epoch | None = None,
         encoding: str | None = None,
+        errors: str = "strict",
+        report: Name | None = None,
         checkpoint: Name | None = None,
         resume: Name | None = None,
-        stop_after: int | None = None,
-    ) -> Fields:
+        stop_after: Number | None = None,
+        progress: Progress = False,
+        blocks: None = None,
+    ) -> Fields: ...
+
+    @overload
+    def fields(
+        self,
+        definition: Name,
+        apid: Number,
+        *,
+        channel: Numbers = None,
+        time: str | Sequence[str] | None = None,
+        epoch: Epoch | None = None,
+        encoding: str | None = None,
+        errors: str = "strict",
+        report: Name | None = None,
+        checkpoint: Name | None = None,
+        resume: Name | None = None,
+        stop_after: Number | None = None,
+        progress: Progress = False,
+        blocks: Number,
+    ) -> Iterator[Fields]: ...
+
+    def fields(
+        self,
+        definition: Name,
+        apid: Number,
+        *,
+        channel: Numbers = None,
+        time: str | Sequence[str] | None = None,
+        epoch: Epoch | None = None,
+        encoding: str | None = None,
+        errors: str = "strict",
+        report: Name | None = None,
+        checkpoint: Name | None = None,
+        resume: Name | None = None,
+        stop_after: Number | None = None,
+        progress: Progress = False,
+        blocks: Number | None = None,
+    ) -> Fields | Iterator[Fields]:
         """The fields of an application's packets, as a table of columns by name.
 
         definition  the name of a definition, a CSV file as docs/FORMATS.md has it
         apid        the application, 0 to 2047
+        channel     the channels whose packets have rows, one number or several; None is all
         time        the column of the seconds, or the columns of the seconds and of their binary fraction: the table has a time
-                    for each row then
-        epoch       the time of second 0, as "2000-01-01" or a datetime; needed with `time`
+                    for each row then.  One that is out of range is NaT, and `bad_times` counts these
+        epoch       the time of second 0, as "2000-01-01", a datetime, a numpy.datetime64 or a pandas.Timestamp; needed with `time`
         encoding    of `str` fields: they are text in this encoding, and `bytes` without it
+        errors      what becomes of octets that aren't in the encoding, as `bytes.decode` has it
+        blocks      how many rows a table has: tables come one by one then, and two of them are held in memory.  The last one has
+                    all `short_packets`
 
-        The other words are those of `extract`.  Raises DefinitionError, ColumnError, and UnicodeDecodeError where a text isn't
-        in the encoding.
+        The other words are those of `packets`, but the program writes `checkpoint`.  Raises DefinitionError, ColumnError, and
+        UnicodeDecodeError, which names column and row, where a text isn't in the encoding.
         """
         if (time is None) != (epoch is None):
             raise ColumnError("`time` and `epoch` go together")
-        words = step_words(checkpoint, resume, stop_after)
-        found = read_fields(self.source, self.settings, definition, apid, encoding, words)
-        if time is not None and epoch is not None:
-            found.time = time_of(found, [time] if isinstance(time, str) else time, epoch)
-        return found
+        table = Table(
+            definition,
+            number("apid", apid, APPLICATIONS),
+            spelled(numbers("channel", channel, CHANNELS)),
+            None if encoding is None else Encoding(codecs.lookup(encoding).name, errors),
+            None if time is None or epoch is None else Time([time] if isinstance(time, str) else time, epoch),
+            report,
+            step_words(checkpoint, resume, stop_after),
+        )
+        rows = None if blocks is None else number("blocks", blocks, RECORDS)
+        tables = read_tables(table, self.source, self.settings, rows, progress)
+        return next(tables) if rows is None else tables
 
-    def loss_map(self, title: str = "What was lost") -> LossMap:
+    def loss_map(self, title: str = "What was lost", *, progress: Progress = False) -> LossMap:
         """A picture of where, on which channel and why something was lost: one SVG, which a notebook shows.
 
         It has the same size whatever the recording's length, and the figures on hover.
         """
         frames, report = Command(["frames"]), Command(["extract"], reads="report")
-        with running(self.source, self.settings, frames, report) as runs:
+        with running(self.source, self.settings, frames, report, progress=progress) as runs:
             svg = drawing(Lines("frames", single_lines(runs, 0)), Lines("report", single_lines(runs, 1)), title)
             runs.finish()
+        warn_of_nothing(runs, self.settings)
         return LossMap(svg)
 
     def extract(
@@ -177,17 +257,22 @@ class Recording:
         report: Name | None = None,
         checkpoint: Name | None = None,
         resume: Name | None = None,
-        stop_after: int | None = None,
+        stop_after: Number | None = None,
+        progress: Progress = False,
     ) -> None:
         """Writes the octets of all packets to a file, nothing between them.  With `resume` they are appended.
 
-        The other words are those of `packets`, but `checkpoint` is written by the program.  Raises OSError where the file
-        can't be opened, and FileError where it is the recording, its settings, its report or a checkpoint.
+        Until all are there, they go to another file beside it.  The other words are those of `packets`.  Raises OSError where
+        there can be no file, and FileError where it is the recording, its settings, its report or a checkpoint.
         """
-        words = report_words(report) + step_words(checkpoint, resume, stop_after)
         refuse_to_overwrite(path, self.source.file, self.settings, report, checkpoint, resume)
-        with open(path, "wb" if resume is None else "ab") as file:
-            self.run(Command(["extract", *words], "end", file))
+        if checkpoint is not None:
+            refuse_to_overwrite(checkpoint, self.source.file, self.settings, report)
+        with ExitStack() as files:
+            kept = None if checkpoint is None else files.enter_context(NewFile(checkpoint)).path
+            out = files.enter_context(NewFile(path, resume is not None))
+            words = report_words(report) + step_words(kept, resume, stop_after)
+            self.run(Command(["extract", *words], "end", out.file), progress)
 
     def split(
         self,
@@ -196,17 +281,21 @@ class Recording:
         report: Name | None = None,
         checkpoint: Name | None = None,
         resume: Name | None = None,
-        stop_after: int | None = None,
+        stop_after: Number | None = None,
+        progress: Progress = False,
     ) -> None:
         """Writes the octets of all packets to a file for each application: `apid-0101.pkt` and so on in the folder.
 
-        The folder is made where it isn't there; files of other applications stay.  The other words are those of `extract`.
+        The folder is made where it isn't there; files of other applications stay.  The other words are those of `extract`, but the
+        program writes `checkpoint`.
         """
-        os.makedirs(folder, exist_ok=True)
         words = report_words(report) + step_words(checkpoint, resume, stop_after)
-        self.run(Command(["split", "--dir", os.fspath(folder), *words], "end"))
+        os.makedirs(folder, exist_ok=True)
+        self.run(Command(["split", "--dir", os.fspath(folder), *words], "end"), progress)
 
-    def run(self, command: Command) -> None:
+    def run(self, command: Command, progress: Progress) -> None:
         """A run of the program whose output is not read."""
-        with running(self.source, self.settings, command) as runs:
+        with running(self.source, self.settings, command, progress=progress) as runs:
             runs.finish()
+        if not {"--resume", "--stop-after"} & set(command.words):
+            warn_of_nothing(runs, self.settings)

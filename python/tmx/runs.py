@@ -2,9 +2,11 @@
 
 import fcntl
 import os
+import select
 import selectors
 import subprocess
 import tempfile
+import time
 from collections import deque
 from collections.abc import Iterator, Sequence
 from contextlib import contextmanager, suppress
@@ -12,8 +14,9 @@ from dataclasses import dataclass, replace
 from types import TracebackType
 from typing import IO, Literal, Self
 
-from .errors import DisagreementError, Error, ProgramMissingError, error_of
+from .errors import DisagreementError, Error, ProgramError, ProgramMissingError, error_of, told
 from .programs import program
+from .progress import SECONDS, Progress, Show, showing
 from .settings import Settings, settings_file
 from .source import Source
 
@@ -48,29 +51,32 @@ class Run:
 
     def __init__(self, command: Command, source: Source) -> None:
         """Starts it.  Raises ProgramMissingError where it can't be started, and VersionError where it is another one."""
-        line = [program().path, *command.words]
+        self.words = [program().path, *command.words]
         self.at_end = False
+        self.explanation = ""  # what it says of a run that went well
+        self.place: str | None = None  # where the system tells how much of the recording it has read
         self.errors = tempfile.TemporaryFile()
         self.output, written = wide_pipe()
         if command.reads == "report":
-            line += ["--report", f"/dev/fd/{written}"]
+            self.words += ["--report", f"/dev/fd/{written}"]
         out: int | IO[bytes] = written if command.reads == "out" else command.out or subprocess.DEVNULL
         stdin = subprocess.DEVNULL if source.stream is None else subprocess.PIPE
         passed = [] if command.reads == "out" else [written]
+        self.words += source.words
         try:
             self.process = subprocess.Popen(
-                line + source.words,
+                self.words,
                 stdin=stdin,
                 stdout=out,
                 stderr=self.errors,
                 pass_fds=passed,
                 bufsize=0,
-                env=os.environ | {"TMX_EXPLAIN": "0"},  # an error is told by its one line
+                env=os.environ | {"TMX_EXPLAIN": "1"},  # it says why
             )
         except OSError as error:
             os.close(self.output)
             self.errors.close()
-            raise ProgramMissingError(f"the program can't be started: {line[0]}: {error.strerror}") from None
+            raise ProgramMissingError(f"the program can't be started: {self.words[0]}: {error.strerror}") from None
         finally:
             os.close(written)
 
@@ -83,10 +89,24 @@ class Run:
     def fault(self) -> Error | None:
         """Waits for its end.  The error that it ended with, if any."""
         status = self.process.wait()
-        if status == 0:
-            return None
         self.errors.seek(0)
-        return error_of(self.errors.read().decode(errors="replace"), status)
+        text = self.errors.read().decode(errors="replace")
+        if status:
+            return error_of(text, status, self.words)
+        _, self.explanation = told(text)
+        return None
+
+    def place_in(self, recording: str) -> int:
+        """How many octets of a file it has read, as far as the system tells; 0 before it begins and when it has ended."""
+        process = f"/proc/{self.process.pid}"
+        try:
+            if self.place is None:
+                opened = (it for it in os.listdir(f"{process}/fd") if os.path.samefile(f"{process}/fd/{it}", recording))
+                self.place = f"{process}/fdinfo/{next(opened)}"
+            with open(self.place) as file:
+                return int(file.readline().removeprefix("pos:"))
+        except (OSError, StopIteration, ValueError):
+            return 0
 
     def close_input(self) -> None:
         """Tells it that no more comes."""
@@ -110,8 +130,11 @@ class Runs:
     kept until it is asked for, so that none of them waits for another.
     """
 
-    def __init__(self, source: Source, commands: Sequence[Command]) -> None:
+    def __init__(self, source: Source, commands: Sequence[Command], show: Show | None = None) -> None:
+        """Starts them.  `show` is told a few times a second how many octets of the recording were read."""
         self.source = source
+        self.show = show
+        self.shown, self.next_look = 0, 0.0
         self.runs: list[Run] = []
         self.kept: list[deque[bytes]] = [deque() for _ in commands]
         self.left: dict[int, memoryview] = {}  # of each run that takes input, what it hasn't yet taken of the block
@@ -150,11 +173,35 @@ class Runs:
         """The next octets that a run gives; none at its end."""
         run = self.runs[number]
         if self.source.stream is None:
-            return b"" if run.at_end else run.read()
+            if run.at_end:
+                return b""
+            self.wait_for(run)
+            return run.read()
         while not self.kept[number] and not run.at_end:
             if not self.read_what_is_there():
                 self.feed_block()
         return self.kept[number].popleft() if self.kept[number] else b""
+
+    def wait_for(self, run: Run) -> None:
+        """Where somebody is to see how far it is, looks again and again until the run gives something."""
+        if self.show is not None:
+            ready = select.poll()
+            ready.register(run.output, select.POLLIN)
+            while not ready.poll(1000 * SECONDS):
+                self.look()
+            self.look()
+
+    def look(self) -> None:
+        """Shows how many octets were read: of a file by all runs."""
+        if self.show is None or time.monotonic() < self.next_look:
+            return
+        path = self.source.path
+        if self.source.stream is not None:
+            self.shown = self.source.fed
+        elif path is not None:
+            self.shown = max(self.shown, min(run.place_in(path) for run in self.runs))
+        self.show(self.shown)
+        self.next_look = time.monotonic() + SECONDS
 
     def read_what_is_there(self) -> bool:
         """Reads what runs have given by now, without waiting; whether there was anything."""
@@ -173,6 +220,7 @@ class Runs:
         else:
             for number in list(self.left):
                 self.end_input(number)
+        self.look()
         while any(map(len, self.left.values())) or not self.left and not all(run.at_end for run in self.runs):
             for key, events in self.selector.select():
                 if events & selectors.EVENT_WRITE:
@@ -225,15 +273,29 @@ class Runs:
                 raise DisagreementError("one run of the program gives more than another: did the recording change?")
             if fault := run.fault():
                 raise fault
+        if self.show is not None:
+            stops = any("--stop-after" in run.words for run in self.runs)
+            self.show(self.shown if stops else self.source.octets() or 0)
+
+    def notes(self) -> list[str]:
+        """What the program says of runs that went well."""
+        return [run.explanation for run in self.runs if run.explanation]
 
 
 @contextmanager
-def running(source: Source, settings: str | os.PathLike[str] | Settings, *commands: Command) -> Iterator[Runs]:
+def running(
+    source: Source, settings: str | os.PathLike[str] | Settings, *commands: Command, progress: Progress = False
+) -> Iterator[Runs]:
     """Runs of these commands over a recording, side by side, with these settings."""
-    with settings_file(settings) as name:
+    with settings_file(settings) as name, showing(progress, source.length()) as show:
         named = [replace(it, words=[*it.words, "--settings", name]) for it in commands]
-        with Runs(source, named) as runs:
-            yield runs
+        try:
+            with Runs(source, named, show) as runs:
+                yield runs
+        except ProgramError as error:
+            if isinstance(settings, Settings):
+                error.forget(name)
+            raise
 
 
 def whole_lines(runs: Runs, number: int) -> Iterator[str]:

@@ -9,6 +9,17 @@ from dataclasses import dataclass, fields
 from tempfile import NamedTemporaryFile
 from typing import Self
 
+from .arguments import CHANNELS, number
+
+# The numbers of settings, and from where to where they go.
+NUMBERS = {
+    "spacecraft": range(1024),
+    "frame_length": range(9, 2049),
+    "skip_before": range(1025),
+    "skip_after": range(1025),
+    "max_packet": range(7, 65543),
+}
+
 
 @dataclass(frozen=True)
 class Settings:
@@ -24,7 +35,8 @@ class Settings:
     channels       the virtual channels that are wanted, each 0 to 7; None is all
     max_packet     the octets of the longest packet, 7 to 65542; None is 65542
 
-    The values are not checked here: the program refuses wrong ones, and that is a SettingsError.
+    Raises TypeError where a number is none, and ValueError where it is out of its range.  The program looks at all else: what it
+    refuses is a SettingsError.
     """
 
     spacecraft: int
@@ -37,9 +49,20 @@ class Settings:
     channels: Sequence[int] | None = None
     max_packet: int | None = None
 
+    def __post_init__(self) -> None:
+        """Numbers of other types, as those of numpy, become int."""
+        for name, among in NUMBERS.items():
+            if (value := getattr(self, name)) is not None:
+                object.__setattr__(self, name, number(name, value, among))
+        if self.channels is not None:
+            object.__setattr__(self, "channels", tuple(number("channels", it, CHANNELS) for it in self.channels))
+
     @classmethod
     def read(cls, path: str | os.PathLike[str]) -> Self:
-        """The settings of a file.  Raises OSError, ValueError (no TOML) or TypeError (keys that settings don't have, or lack)."""
+        """The settings of a file.
+
+        Raises OSError, ValueError (no TOML, a number out of its range) or TypeError (no number, keys that settings don't have or lack).
+        """
         with open(path, "rb") as file:
             return cls(**tomllib.load(file))
 

@@ -1,5 +1,6 @@
 """Where the octets of a recording come from: a file, or a stream that is read from its beginning to its end."""
 
+import io
 import os
 import stat
 import sys
@@ -21,6 +22,7 @@ class Source:
         self.given: Any = os.fspath(recording) if isinstance(recording, (str, os.PathLike)) else recording
         self.stream: Any = None
         self.was_read = False
+        self.fed = 0  # octets of the stream that were read so far
         self.beginning = None if isinstance(self.given, str) else position(self.given)
 
     def __repr__(self) -> str:
@@ -64,6 +66,7 @@ class Source:
         """
         if self.stream is not None:
             raise ConsumedError("the recording is a stream, and is being read: only one thing at a time can read it")
+        self.fed = 0
         if self.path is not None:
             self.stream = open(self.path, "rb")
             return
@@ -86,14 +89,39 @@ class Source:
         block = read(BLOCK)
         if not isinstance(block, (bytes, bytearray, memoryview)):
             raise TypeError("a recording has to be a binary stream, whose read() gives bytes")
-        return bytes(block)
+        octets = bytes(block)
+        self.fed += len(octets)
+        return octets
+
+    def octets(self) -> int | None:
+        """How many octets it has: of a file all, of a stream those that were read.  None where no such file is there."""
+        return file_length(self.path) if self.path is not None and not self.is_stream else self.fed
+
+    def length(self) -> int | None:
+        """How many octets are read of it to its end; None where that isn't known before."""
+        if self.path is not None:
+            return file_length(self.path)
+        if not isinstance(getattr(self.given, "raw", self.given), io.FileIO):  # as gzip's
+            return None
+        length = file_length(self.given.fileno())
+        return None if length is None else max(0, length - (self.beginning or 0))
+
+
+def file_length(file: str | int) -> int | None:
+    """The octets of a regular file, by its name or its descriptor."""
+    try:
+        status = os.stat(file)
+    except OSError:
+        return None
+    return status.st_size if stat.S_ISREG(status.st_mode) else None
 
 
 def refuse_to_overwrite(path: str | os.PathLike[str], *others: object) -> None:
     """Raises FileError where what is to be written is one of the other files.  Those are names or descriptors, or no files."""
     for other in others:
         if isinstance(other, (str, os.PathLike, int)) and are_one_file(path, other):
-            raise FileError(f"tmx: {os.fspath(path)}: failed", 1, "failed")
+            name, over = os.fspath(path), "the recording" if isinstance(other, int) else os.fspath(other)
+            raise FileError(f"tmx: {name}: failed", 1, "failed", f"{name} would be written over {over}; name another file", name)
 
 
 def are_one_file(one: str | os.PathLike[str], other: str | os.PathLike[str] | int) -> bool:

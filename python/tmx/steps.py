@@ -7,10 +7,13 @@ from collections.abc import Iterator, Sequence
 from dataclasses import dataclass, replace
 from pathlib import Path
 
-from .checkpoints import CutBackError, Name, NewCheckpoint, records_done
+from .arguments import RECORDS, Number, number
+from .checkpoints import CutBackError, Name, NewFile, records_done
 from .errors import DisagreementError, RunError
 from .lines import Packet
-from .pairs import Chosen
+from .notes import warn_of_nothing
+from .pairs import Chosen, Missing
+from .progress import Progress
 from .runs import Command, running
 from .settings import Settings
 from .source import Source, refuse_to_overwrite
@@ -21,15 +24,15 @@ def report_words(report: Name | None) -> list[str]:
     return ["--report", os.devnull if report is None else os.fspath(report)]
 
 
-def step_words(checkpoint: Name | None, resume: Name | None, stop_after: int | None) -> list[str]:
-    """The words of a job that is kept, goes on, or stops early."""
+def step_words(checkpoint: Name | None, resume: Name | None, stop_after: Number | None) -> list[str]:
+    """The words of a job that is kept, goes on, or stops early.  Raises TypeError and ValueError where `stop_after` is no such number."""
     words: list[str] = []
     if checkpoint is not None:
         words += ["--checkpoint", os.fspath(checkpoint)]
     if resume is not None:
         words += ["--resume", os.fspath(resume)]
     if stop_after is not None:
-        words += ["--stop-after", str(stop_after)]
+        words += ["--stop-after", str(number("stop_after", stop_after, RECORDS))]
     return words
 
 
@@ -41,6 +44,8 @@ class Job:
     checkpoint  the file in which the job is kept at its end; without one the recording is closed there
     resume      the checkpoint from which it goes on
     stop_after  how many further records it reads
+    progress    whether it shows how far it is, or what is told
+    is_whole    whether it reads the whole recording, and so warns of what didn't come
     """
 
     source: Source
@@ -50,6 +55,8 @@ class Job:
     checkpoint: Name | None = None
     resume: Name | None = None
     stop_after: int | None = None
+    progress: Progress = False
+    is_whole: bool = False
 
     def packets(self) -> Iterator[Packet]:
         """The packets; with `checkpoint` the job is kept when the last one was given.
@@ -60,17 +67,13 @@ class Job:
             yield from self.run([None, None], self.stop_after)
             return
         refuse_to_overwrite(self.checkpoint, self.source.file, self.settings, self.report)
-        new = NewCheckpoint(self.checkpoint)
-        try:
-            with tempfile.TemporaryDirectory() as folder:
-                files = [Path(folder, "listed"), Path(folder, "extracted")]
-                yield from self.run_to(files)
-                listed, extracted = (it.read_bytes() for it in files)
+        with NewFile(self.checkpoint) as new, tempfile.TemporaryDirectory() as folder:
+            files = [Path(folder, "listed"), Path(folder, "extracted")]
+            yield from self.run_to(files)
+            listed, extracted = (it.read_bytes() for it in files)
             if listed != extracted:
                 raise DisagreementError("the two runs of the program left different jobs: did the recording change?")
-            new.keep(listed)
-        finally:
-            new.discard()
+            new.file.write(listed)
 
     def run_to(self, files: Sequence[Path]) -> Iterator[Packet]:
         """One step.  Of a file it reads the records that are there now, since both runs have to read the same."""
@@ -88,8 +91,11 @@ class Job:
         words = [step_words(it, self.resume, stop_after) for it in files]
         listed = Command(["packets", *report_words(self.report), *words[0]])
         extracted = Command(["extract", *report_words(None), *words[1]])
-        with running(self.source, self.settings, listed, extracted) as runs:
-            yield from self.chosen.packets(runs)
+        missing = Missing(self.chosen)
+        with running(self.source, self.settings, listed, extracted, progress=self.progress) as runs:
+            yield from self.chosen.packets(runs, missing)
+        if self.is_whole and not (missing.all and warn_of_nothing(runs, self.settings)):
+            missing.warn()
 
     def keep_as_it_is(self, files: Sequence[Path]) -> None:
         """A step of no records.  The program checks the settings, the checkpoint and the recording's length."""
@@ -173,8 +179,8 @@ def follow_stream(job: Job, part: Path) -> Iterator[Packet]:
                 yield from replace(next_step(job), source=Source(part)).packets()
                 done, rest = done + records, rest[records * length :]
         if skip:
-            word = "recording is shorter than the checkpoint"
-            raise RunError(f"tmx: {word}", 1, word)
+            word, why = "recording is shorter than the checkpoint", f"it has fewer than the {done} records that are done"
+            raise RunError(f"tmx: {word}", 1, word, why)
     finally:
         job.source.close()
 

@@ -60,8 +60,7 @@ class Summary:
 
     def heading(self) -> str:
         """What is said of the whole recording."""
-        said = self.recording
-        faults = ", ".join(f"{number} by {word}" for word, number in self.faults.items())
+        said, faults = self.recording, self.faults_text()
         rest = f", {said.rest} octets left over" if said.rest else ""
         bad = f"{said.bad} bad" + (f" ({faults})" if faults else "")
         return (
@@ -69,8 +68,23 @@ class Summary:
             f" Master channel: {self.master.gaps} gaps, {self.master.missing} frames missing."
         )
 
+    def faults_text(self) -> str:
+        return ", ".join(f"{number} by {word}" for word, number in self.faults.items())
+
+    def reason_for_nothing(self) -> str:
+        """What is said of a recording without a good frame."""
+        said = self.recording
+        if not said.records:
+            return no_record(said.rest)
+        return f"no good frame in {said.records} records: {self.faults_text()}"
+
     def tables(self) -> list[Sequence[Line]]:
         return [list(self.channels.values()), list(self.losses.values()), list(self.applications.values())]
+
+
+def no_record(octets: int) -> str:
+    """What is said of a recording that has fewer octets than a record."""
+    return f"no whole record: the recording has {octets} octets"
 
 
 def table_of(lines: Sequence[Line]) -> tuple[list[str], list[list[object]]]:

@@ -3,13 +3,14 @@
 import csv
 import importlib
 import importlib.util
-import io
 import struct
-from collections.abc import Callable, Iterable, Iterator, Sequence
-from itertools import islice
+from collections.abc import Iterable, Iterator, Sequence
+from dataclasses import dataclass
+from itertools import chain, islice
 from typing import Any
 
 from .definition import Column, long_values
+from .errors import unescaped
 
 ROWS = 10000  # that are read at once
 LONGEST_ESCAPE = 4  # letters of an octet
@@ -22,82 +23,82 @@ def module(name: str) -> Any:
     return importlib.import_module(name) if importlib.util.find_spec(name) else None
 
 
-class Rows(io.RawIOBase):
-    """Blocks of whole lines as a stream of octets.  An error that comes meanwhile ends it, and is kept."""
+@dataclass(frozen=True)
+class Encoding:
+    """How texts are decoded: an encoding, and what is done where octets aren't in it, as `bytes.decode` has both."""
 
-    def __init__(self, blocks: Iterator[bytes]) -> None:
-        self.blocks = blocks
-        self.rest = memoryview(b"")
-        self.error: Exception | None = None
+    name: str
+    errors: str
 
-    def readable(self) -> bool:
-        return True
-
-    def readinto(self, buffer: Any) -> int:
-        if not self.rest:
-            try:
-                self.rest = memoryview(next(self.blocks, b""))
-            except Exception as error:
-                self.error = error
-        octets = self.rest[: len(buffer)]
-        buffer[: len(octets)] = octets
-        self.rest = self.rest[len(octets) :]
-        return len(octets)
-
-
-def strings(texts: Sequence[bytes], bits: int, encoding: str | None) -> list[bytes] | list[str]:
-    """The values of a `str` column: octets, or text in an encoding.  Each value has so many bits, so all are unescaped at once.
-
-    An octet other than 20 to 7E, and the backslash, stand as `\\x` and two digits, as in texts of Python.
-    """
-    found, joined = list(texts), b"".join(texts)
-    if b"\\" in joined:
-        octets, length = joined.decode("unicode_escape").encode("latin-1"), bits // 8
-        found = [octets[at : at + length] for at in range(0, len(octets), length)]
-    if encoding is None:
+    def texts(self, values: Sequence[bytes], column: str, first: int) -> list[str]:
+        """The texts of a column from a row on.  Raises UnicodeDecodeError that names column and row."""
+        found: list[str] = []
+        try:
+            for value in values:
+                found.append(value.decode(self.name, self.errors))
+        except UnicodeDecodeError as error:
+            error.reason += f": column {column!r}, row {first + len(found)}"
+            raise
         return found
-    return [it.decode(encoding) for it in found]
 
 
-def read_columns(rows: io.BufferedReader, columns: Sequence[Column], encoding: str | None) -> list[Any]:
-    """The values of each column, of rows without a head."""
-    numpy = module("numpy")
-    return read_as_lists(rows, columns, encoding) if numpy is None else read_as_arrays(numpy, rows, columns, encoding)
+@dataclass(frozen=True)
+class Kinds:
+    """The columns that rows have, and how their texts are decoded; without an encoding they stay octets."""
+
+    columns: Sequence[Column]
+    encoding: Encoding | None = None
+
+    def read(self, rows: Iterator[str], first: int) -> list[Any]:
+        """The values of each column of these rows, the number of the first among all rows being this."""
+        numpy = module("numpy")
+        return read_as_lists(self, rows, first) if numpy is None else read_as_arrays(numpy, self, rows, first)
+
+
+def strings(texts: Sequence[bytes], bits: int) -> list[bytes]:
+    """The octets of a `str` column.  Each value has so many bits, so all are unescaped at once."""
+    joined = b"".join(texts)
+    if b"\\" not in joined:
+        return list(texts)
+    octets, length = unescaped(joined), bits // 8
+    return [octets[at : at + length] for at in range(0, len(octets), length)]
 
 
 # Lists of Python.
 
 
-def read_as_lists(rows: io.BufferedReader, columns: Sequence[Column], encoding: str | None) -> list[list[Any]]:
-    readers = [list_reader(it, encoding) for it in columns]
-    found: list[list[Any]] = [[] for _ in columns]
-    lines = csv.reader(io.TextIOWrapper(rows, "ascii", newline=""))
+def read_as_lists(kinds: Kinds, rows: Iterator[str], first: int) -> list[list[Any]]:
+    found: list[list[Any]] = [[] for _ in kinds.columns]
+    lines = csv.reader(rows)
     with long_values():
         while block := list(islice(lines, ROWS)):
-            for values, reader, texts in zip(found, readers, zip(*block)):
-                values += reader(texts)
+            for column, values, texts in zip(kinds.columns, found, zip(*block)):
+                values += listed(column, texts, kinds.encoding, first)
+            first += len(block)
     return found
 
 
-def list_reader(column: Column, encoding: str | None) -> Callable[[Sequence[str]], Iterable[Any]]:
-    """What makes values of the texts of a column."""
+def listed(column: Column, texts: Sequence[str], encoding: Encoding | None, first: int) -> Iterable[Any]:
+    """The values of texts of a column."""
     if column.type == "float":
-        return lambda texts: [struct.unpack(FLOATS[column.bits], bytes.fromhex(it[2:]))[0] for it in texts]
+        return [struct.unpack(FLOATS[column.bits], bytes.fromhex(it[2:]))[0] for it in texts]
     if column.type == "str":
-        return lambda texts: strings(list(map(str.encode, texts)), column.bits, encoding)
-    return lambda texts: map(int, texts)
+        octets = strings(list(map(str.encode, texts)), column.bits)
+        if encoding is not None:
+            return encoding.texts(octets, column.name, first)
+        return octets
+    return map(int, texts)
 
 
 # Arrays of numpy.
 
 
-def read_as_arrays(numpy: Any, rows: io.BufferedReader, columns: Sequence[Column], encoding: str | None) -> list[Any]:
-    kind = numpy.dtype([(f"column {number}", text_type(numpy, it)) for number, it in enumerate(columns)])
-    table = numpy.empty(0, kind)
-    if rows.peek(1):
-        text = io.TextIOWrapper(rows, "ascii", newline="")
-        table = numpy.loadtxt(text, kind, comments=None, delimiter=",", quotechar='"', ndmin=1)
-    return [array_of(numpy, table[name], it, encoding) for name, it in zip(kind.names, columns)]
+def read_as_arrays(numpy: Any, kinds: Kinds, rows: Iterator[str], first: int) -> list[Any]:
+    kind = numpy.dtype([(f"column {number}", text_type(numpy, it)) for number, it in enumerate(kinds.columns)])
+    table, begin = numpy.empty(0, kind), list(islice(rows, 1))
+    if begin:
+        table = numpy.loadtxt(chain(begin, rows), kind, comments=None, delimiter=",", quotechar='"', ndmin=1)
+    return [array_of(numpy, table[name], it, kinds.encoding, first) for name, it in zip(kind.names, kinds.columns)]
 
 
 def text_type(numpy: Any, column: Column) -> Any:
@@ -110,14 +111,14 @@ def text_type(numpy: Any, column: Column) -> Any:
     return numpy.dtype(f"{column.type}{bits}")
 
 
-def array_of(numpy: Any, texts: Any, column: Column, encoding: str | None) -> Any:
+def array_of(numpy: Any, texts: Any, column: Column, encoding: Encoding | None, first: int) -> Any:
     """The values of what was read of a column."""
     if column.type == "float":
         return decoded(numpy, texts, column.bits)
     if column.type == "str":
-        listed = list(map(str.encode, texts)) if texts.dtype == object else texts.tolist()
+        octets = strings(list(map(str.encode, texts)) if texts.dtype == object else texts.tolist(), column.bits)
         found = numpy.empty(len(texts), object)  # numpy's own types for octets take zeros off their ends
-        found[:] = strings(listed, column.bits, encoding)
+        found[:] = octets if encoding is None else encoding.texts(octets, column.name, first)
         return found
     return texts.copy()
 

@@ -1,0 +1,47 @@
+"""Warnings of answers that are empty."""
+
+import os
+import re
+import sys
+import warnings
+from collections.abc import Collection
+
+from .errors import TmxWarning
+from .loss_map import listed
+from .runs import Runs
+from .settings import Settings
+from .summary import no_record
+
+HERE = os.path.dirname(__file__)
+NOTHING_GOOD = re.compile(r"no good frame|: packed by |\b0 good\b")  # in what the program says behind a run
+
+
+def warn(text: str) -> None:
+    """Warns at the line outside of this package that has called."""
+    level, frame = 1, sys._getframe()
+    while frame.f_back is not None and os.path.dirname(frame.f_code.co_filename) == HERE:
+        level, frame = level + 1, frame.f_back
+    warnings.warn(text, TmxWarning, stacklevel=level)
+
+
+def warn_of_nothing(runs: Runs, settings: Settings | str | os.PathLike[str]) -> bool:
+    """Warns where runs that were read to their end had no good frame.  Whether it did."""
+    text = next((it for it in runs.notes() if NOTHING_GOOD.search(it)), None)
+    octets, known = runs.source.octets(), settings_of(settings)
+    if text is None and known is not None and octets is not None and octets < known.record_length:
+        text = no_record(octets)
+    if text is not None:
+        warn(text)
+    return text is not None
+
+
+def settings_of(settings: Settings | str | os.PathLike[str]) -> Settings | None:
+    """Settings that the program has taken; None where their file can't be read once more, as that of a pipe."""
+    if isinstance(settings, Settings):
+        return settings
+    return Settings.read(settings) if os.path.isfile(settings) else None
+
+
+def numbered(word: str, numbers: Collection[int | str]) -> str:
+    """A word and its numbers."""
+    return f"{word}{'s' * (len(numbers) > 1)} {listed(map(int, numbers), 'and')}"

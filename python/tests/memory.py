@@ -2,19 +2,22 @@
 
     memory.py KIND OCTETS
 
-KIND is `long`, packets of 65542 octets, or `short`, packets of 1021 octets, which is half of a data field.  The recording is
-256 frames again and again, whose data fields whole packets fill; it has so many octets, rounded down to whole frames.
+KIND is `long`, packets of 65542 octets, or `short`, packets of 1021 octets, which is half of a data field; or `rows`, fields of
+short packets in blocks of 1000 rows.  The recording is 256 frames again and again, whose data fields whole packets fill; it has so
+many octets, rounded down to whole frames.
 """
 
 import json
 import re
 import sys
 from pathlib import Path
+from tempfile import NamedTemporaryFile
 
 from support import tmx
 
 FRAME, FIELD, FRAMES = 2048, 2042, 256
-LENGTHS = {"long": 65542, "short": 1021}
+LENGTHS = {"long": 65542, "short": 1021, "rows": 1021}
+DEFINITION = "name,data_type,bit_length\nA,uint,32\nB,str,64\n"
 
 
 class Again:
@@ -67,12 +70,19 @@ def main(kind: str, octets: str) -> None:
     frames, packets = cycle(LENGTHS[kind])
     times = int(octets) // len(frames)
     recording = tmx.Recording(Again(frames, times), tmx.Settings(42, FRAME, False))
-    lengths = [0, 0]
-    for packet in recording.packets():
-        lengths[0] += 1
-        lengths[1] += len(packet.octets)
-    found = {"packets": lengths[0], "octets": lengths[1], "resident": resident()}
-    print(json.dumps(found | {"packets_wanted": packets * times, "octets_wanted": FIELD * FRAMES * times}))
+    found = {"packets": 0, "octets": 0}
+    if kind == "rows":
+        with NamedTemporaryFile("w", suffix=".csv") as definition:
+            definition.write(DEFINITION)
+            definition.flush()
+            found["packets"] = sum(it.rows for it in recording.fields(definition.name, 100, blocks=1000))
+        found["octets"] = FIELD * FRAMES * times
+    else:
+        for packet in recording.packets():
+            found["packets"] += 1
+            found["octets"] += len(packet.octets)
+    wanted = {"packets_wanted": packets * times, "octets_wanted": FIELD * FRAMES * times}
+    print(json.dumps(found | wanted | {"resident": resident()}))
 
 
 if __name__ == "__main__":

@@ -64,7 +64,7 @@ class Installed(TestCase):
 
 class Memory(TestCase):
     def test_a_gibibyte(self) -> None:
-        for kind in ("long", "short"):
+        for kind in ("long", "short", "rows"):
             ran = subprocess.run([sys.executable, TESTS / "memory.py", kind, str(GIBIBYTE)], capture_output=True, text=True)
             self.assertEqual(ran.returncode, 0, ran.stderr)
             found = json.loads(ran.stdout)

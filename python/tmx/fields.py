@@ -3,7 +3,6 @@
 import csv
 import io
 import os
-import re
 import shutil
 import tempfile
 from collections.abc import Collection, Iterable, Iterator, Mapping, Sequence
@@ -28,7 +27,7 @@ Name = str | os.PathLike[str]
 
 MOST_ROWS, MOST_COLUMNS = 10, 20  # that are shown
 HEAD = b"tm_record,"  # how a head begins
-SHORT_PACKET = re.compile(rb"^shortpacket .*\n", re.MULTILINE)
+SHORT_PACKET = b"shortpacket "  # how its line begins
 
 
 class Fields(Mapping[str, Any]):
@@ -176,7 +175,7 @@ def read_tables(
                 yield last
                 last = following
             runs.finish()
-        last.short_lines = [it for it in SHORT_PACKET.findall(report.read()) if table.has(it)]
+        last.short_lines = [it for it in report if it.startswith(SHORT_PACKET) and table.has(it)]
     if not table.step:
         warn_of_missing(table, runs, settings, last.is_empty(), missing)
     yield last

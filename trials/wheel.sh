@@ -70,10 +70,10 @@ try_python() {
         echo "SKIPPED: $name: no environment can be made: no venv or no ensurepip"
         return
     fi
-    tell "$name: pip takes the wheel" "$(install "$place.env/bin/python" "$wheel")"
-    try_place "$name" "$place.env/bin/tmx" "$place.env/bin/python"
     tell "$name: pip takes the wheel with --target" "$(install "$place.env/bin/python" --target "$place.to" "$wheel")"
     try_place "$name, --target" "$place.to/bin/tmx" PYTHONPATH="$place.to" "$1"
+    tell "$name: pip takes the wheel" "$(install "$place.env/bin/python" "$wheel")"
+    try_place "$name" "$place.env/bin/tmx" "$place.env/bin/python"
 }
 
 # refuse_old PYTHON: an older one says what it needs.

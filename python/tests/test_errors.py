@@ -156,6 +156,12 @@ class Reasons(TestCase):
         over = f"{SETTINGS} would be written over {SETTINGS}; name another file"
         self.says(error, f"tmx: {SETTINGS}: failed", over, str(SETTINGS))
 
+        error = self.raises(tmx.RunError, "write failed", example().extract, "/dev/full")
+        full = "No space left on device (os error 28); make room, or write to another file"
+        self.says(error, "tmx: write failed", f"/dev/full: {full}", "/dev/full")
+        missing = self.raises(FileNotFoundError, None, example().extract, "none/out")
+        self.assertEqual(missing.filename, "none/out")
+
     def test_refused_files(self) -> None:
         Path("s.toml").write_text("spacecraft = 42\nframe_length = 5\nerror_control = true\n")
         error = self.raises(tmx.SettingsError, "range", tmx.Recording(RECORDING, "s.toml").summary)
@@ -171,6 +177,10 @@ class Reasons(TestCase):
         Path("short.rec").write_bytes(RECORDING.read_bytes()[:256])
         error = self.raises(tmx.RunError, None, lambda: list(tmx.Recording("short.rec", SETTINGS).packets(resume="chk")))
         self.assertEqual((error.word, error.file), ("recording is shorter than the checkpoint", "short.rec"))
+        other = tmx.Recording(RECORDING, SETTINGS_42)
+        error = self.raises(tmx.CheckpointError, "settings", lambda: list(other.packets(resume="chk")))
+        self.assertEqual(error.file, "chk")
+        self.assertRegex(error.explanation, "^the checkpoint to go on from chk: .* in the settings; take the settings that")
         error = self.raises(tmx.CheckpointError, "magic", lambda: list(example().packets(resume=SETTINGS)))
         self.says(error, "tmx: checkpoint: magic", "", str(SETTINGS))
 

@@ -76,7 +76,11 @@ class NewFile:
         self.is_direct = self.name.exists() and not self.name.is_file() or Path(name).is_relative_to("/dev")
         self.append = append and self.name.exists()
         self.path = self.name if self.is_direct else self.name.with_name(f".{self.name.name}.{secrets.token_hex(4)}")
-        self.file: IO[bytes] = open(self.path, "ab" if self.is_direct and append else "wb" if self.is_direct else "xb")
+        mode = "xb" if not self.is_direct else "ab" if append else "wb"
+        try:
+            self.file: IO[bytes] = open(self.path, mode)
+        except OSError as error:
+            raise OSError(error.errno, error.strerror, os.fspath(name)) from None
 
     def __enter__(self) -> Self:
         return self

@@ -59,10 +59,10 @@ class ProgramError(Error):
         """The line, and behind it the explanation, as a terminal shows both."""
         return f"{self.line}\n  {self.explanation}" if self.explanation else self.line
 
-    def forget(self, name: str) -> None:
-        """Leaves out the name of a file that the caller doesn't know."""
-        self.explanation = self.explanation.replace(f" {name}", "")
-        self.file = None if self.file == name else self.file
+    def rename(self, name: str, to: str | None) -> None:
+        """Says a file that the program knows by this name as the caller knows it; None where it has no name there."""
+        self.explanation = self.explanation.replace(f" {name}", "") if to is None else self.explanation.replace(name, to)
+        self.file = to if self.file in (None, name) else self.file
 
 
 class UsageError(ProgramError):

@@ -8,7 +8,7 @@ from typing import IO, overload
 
 from .arguments import APPLICATIONS, CHANNELS, RECORDS, Number, Numbers, number, numbers
 from .checkpoints import Name, NewFile
-from .errors import ColumnError, ProgramMissingError
+from .errors import ColumnError, ProgramMissingError, RunError
 from .fields import Fields, Table, Time, read_tables
 from .lines import (
     FRAMES,
@@ -272,7 +272,12 @@ class Recording:
             kept = None if checkpoint is None else files.enter_context(NewFile(checkpoint)).path
             out = files.enter_context(NewFile(path, resume is not None))
             words = report_words(report) + step_words(kept, resume, stop_after)
-            self.run(Command(["extract", *words], "end", out.file), progress)
+            try:
+                self.run(Command(["extract", *words], "end", out.file), progress)
+            except RunError as error:
+                if error.word == "write failed":
+                    error.rename("standard output", os.fspath(path))
+                raise
 
     def split(
         self,

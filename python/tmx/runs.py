@@ -294,7 +294,7 @@ def running(
                 yield runs
         except ProgramError as error:
             if isinstance(settings, Settings):
-                error.forget(name)
+                error.rename(name, None)
             raise
 
 

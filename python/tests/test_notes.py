@@ -197,6 +197,14 @@ class Progress(TestCase):
         self.assertEqual(found[0], "848\n")
         self.assertIn("76.8k/76.8k", found[1])
 
+    def test_in_a_notebook(self) -> None:
+        shell = type("ZMQInteractiveShell", (), {})()
+        self.enterContext(mock.patch.dict(sys.modules, {"IPython": mock.Mock(get_ipython=lambda: shell)}))
+        self.enterContext(mock.patch("tmx.progress.module", lambda name: None))
+        with contextlib.redirect_stderr(io.StringIO()) as said:
+            self.assertEqual(len(example().report(progress=True)), 23)
+        self.assertTrue(said.getvalue().endswith("\r100%  0.1 of 0.1 MB\n"), said.getvalue())
+
     def test_a_line(self) -> None:
         with contextlib.redirect_stderr(io.StringIO()) as said:
             for length in (4_000_000, None, 0):

@@ -140,6 +140,18 @@ class TheLossMap(TestCase):
         words = ("map", "--title", "The example recording", "--settings", SETTINGS, RECORDING)
         self.assertEqual((command(*words, out="map.svg"), Path("map.svg").read_text()), ((0, ""), wanted))
 
+    @needs("nbconvert", "nbformat")
+    def test_a_page_of_a_notebook(self) -> None:
+        from nbconvert import HTMLExporter
+        from nbformat.v4 import new_code_cell, new_notebook, new_output
+
+        drawn = example().loss_map()
+        shown = {"text/html": drawn._repr_html_(), "image/svg+xml": drawn._repr_svg_(), "text/plain": "a picture"}
+        notebook = new_notebook(cells=[new_code_cell(outputs=[new_output("display_data", shown)])])
+        page, _ = HTMLExporter(template_name="classic").from_notebook_node(notebook)
+        images = re.findall(' (?:data|src)="data:image/svg[+]xml;base64,([^"]*)"', page)
+        self.assertEqual([base64.b64decode(it).decode() for it in images], [drawn.svg] * 2)
+
     def test_what_is_lost_at_the_end(self) -> None:
         drawn = tmx.Recording(io.BytesIO(OCTETS[: 100 * 256]), SETTINGS).loss_map().svg
         self.assertIn("record 99: 1 part dropped: 52 octets by end", drawn)

@@ -31,15 +31,20 @@ def showing(progress: Progress, length: int | None) -> Iterator[Show | None]:
 
 def is_seen() -> bool:
     """Whether standard error is a terminal, or shown by a notebook."""
+    return is_notebook() or sys.stderr is not None and sys.stderr.isatty()
+
+
+def is_notebook() -> bool:
     shell = getattr(sys.modules.get("IPython"), "get_ipython", lambda: None)()
-    return type(shell).__name__ == "ZMQInteractiveShell" or sys.stderr is not None and sys.stderr.isatty()
+    return type(shell).__name__ == "ZMQInteractiveShell"
 
 
 def bar_of(length: int | None) -> Any:
     """A bar of tqdm where that is there, else one of our own."""
     if module("tqdm") is None:
         return Bar(length)
-    return module("tqdm.auto").tqdm(total=length, unit="B", unit_scale=True)
+    bars = module("tqdm.notebook" if is_notebook() and module("ipywidgets") else "tqdm")
+    return bars.tqdm(total=length, unit="B", unit_scale=True)
 
 
 class Bar:

@@ -30,6 +30,12 @@ class Warned(TestCase):
         self.assertEqual([(it.category, it.filename) for it in found], [(tmx.TmxWarning, __file__)] * len(found))
         return [str(it.message) for it in found]
 
+    def is_told_once(self, call, form: str = "no good frame|, 0 good, ") -> None:
+        """A call has one warning, which has the program's words."""
+        said = self.warnings_of(call)
+        self.assertEqual(len(said), 1, said)
+        self.assertRegex(said[0], form)
+
     def calls(self, recording: tmx.Recording):
         yield lambda: list(recording.packets())
         yield lambda: list(recording.packets(apid=101, channel=[0, 3]))
@@ -52,14 +58,13 @@ class Warned(TestCase):
         for given in (RECORDING, io.BytesIO(OCTETS)):
             recording = tmx.Recording(given, OTHER)
             for call in self.calls(recording):
-                self.assertEqual(self.warnings_of(call), ["no good frame in 300 records: see tmx summary"])
+                self.is_told_once(call)
             said = ["no good frame in 300 records: 1 by crc, 299 by spacecraft"]
             self.assertEqual(self.warnings_of(recording.summary), said)
 
     def test_a_packed_recording(self) -> None:
         Path("pass.rec.gz").write_bytes(gzip.compress(OCTETS))
-        said = self.warnings_of(tmx.Recording("pass.rec.gz", SETTINGS).report)
-        self.assertEqual(said, ["the recording pass.rec.gz: packed by gzip; unpack it first"])
+        self.is_told_once(tmx.Recording("pass.rec.gz", SETTINGS).report, "the recording pass.rec.gz: packed by gzip")
 
     def test_other_words_of_the_program(self) -> None:
         self.program('"$real" "$@" 2>/dev/null; echo "  300 records, 0 good, 300 bad: see tmx summary" >&2')
@@ -94,7 +99,21 @@ class Warned(TestCase):
             self.assertEqual(self.warnings_of(lambda: list(example().fields(ATTITUDE, apid, channel=channel, blocks=7))), [said])
         recording = tmx.Recording(RECORDING, tmx.Settings(42, 256, True, channels=[5, 6]))
         self.assertEqual(self.warnings_of(recording.summary), ["no good frame of channels 5 and 6, which the settings choose"])
-        self.assertEqual(self.warnings_of(lambda: list(recording.packets())), ["no packet: the good frames have no whole one"])
+        self.is_told_once(lambda: list(recording.packets()), "no packet: the good frames have no whole one|no good frame of channel")
+
+    def test_nothing_of_a_channel_of_the_settings(self) -> None:
+        self.program('"$real" "$@" 2>/dev/null; echo "  no good frame of channel 5; 300 records, 299 good: see tmx summary" >&2')
+        recording = tmx.Recording(RECORDING, tmx.Settings(42, 256, True, channels=[0, 5]))
+        calls = (
+            lambda: list(recording.packets()),
+            lambda: list(recording.packets(apid=10)),
+            lambda: recording.fields(ATTITUDE, 101),
+            recording.report,
+            lambda: recording.extract("out"),
+            recording.summary,
+        )
+        for call in calls:
+            self.is_told_once(call, "no good frame of channel 5")
 
     def test_steps_say_nothing(self) -> None:
         for call in (
@@ -119,8 +138,13 @@ class Warned(TestCase):
 
     def test_commands(self) -> None:
         OTHER.write("other")
-        found = command("map", "--settings", "other", RECORDING)
-        self.assertEqual(found, (0, "tmx map: no good frame in 300 records: see tmx summary\n"))
+        status, said = command("map", "--settings", "other", RECORDING)
+        self.assertEqual(status, 0)
+        self.assertRegex(said, "^tmx map: .*(no good frame|, 0 good, ).*\n$")
+
+    def test_a_program_that_says_nothing(self) -> None:
+        self.program('exec "$real" "$@" 2>/dev/null')
+        self.is_told_once(lambda: list(tmx.Recording(RECORDING, OTHER).frames()), "^no good frame$")
 
 
 class Progress(TestCase):

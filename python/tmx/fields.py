@@ -183,9 +183,7 @@ def read_tables(
 
 def warn_of_missing(table: Table, runs: Runs, settings: Name | Settings, is_empty: bool, missing: Collection[str]) -> None:
     """Warns where no packet of the application came, or none of a channel."""
-    if is_empty and warn_of_nothing(runs, settings):
-        return
-    if is_empty or missing:
+    if not warn_of_nothing(runs, settings) and (is_empty or missing):
         where = f" on {numbered('channel', missing)}" if missing else ""
         warn(f"no packet of application {table.apid}{where}")
 

@@ -24,11 +24,14 @@ def warn(text: str) -> None:
     warnings.warn(text, TmxWarning, stacklevel=level)
 
 
-def warn_of_nothing(runs: Runs, settings: Settings | str | os.PathLike[str]) -> bool:
-    """Warns where runs that were read to their end had no good frame.  Whether it did."""
-    text = next((it for it in runs.notes() if NOTHING_GOOD.search(it)), None)
+def warn_of_nothing(runs: Runs, settings: Settings | str | os.PathLike[str], came: bool = True) -> bool:
+    """Warns where runs that were read to their end had no good frame, or none of a channel of the settings.  Whether it did.
+
+    The program says so of them.  Without that it is known where no good frame `came`.
+    """
+    text = next((it for it in runs.notes() if NOTHING_GOOD.search(it)), None if came else "no good frame")
     octets, known = runs.source.octets(), settings_of(settings)
-    if text is None and known is not None and octets is not None and octets < known.record_length:
+    if known is not None and octets is not None and octets < known.record_length:
         text = no_record(octets)
     if text is not None:
         warn(text)

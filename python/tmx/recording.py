@@ -2,6 +2,7 @@
 
 import codecs
 import os
+import re
 from collections.abc import Iterator, Sequence
 from contextlib import ExitStack
 from typing import IO, overload
@@ -74,10 +75,12 @@ class Recording:
     def frames(self, *, progress: Progress = False) -> Iterator[Frame | Bad | Short]:
         """Each record of any channel, as a frame or as a bad one, and last the octets that are left, if there are any."""
         with running(self.source, self.settings, Command(["frames"]), progress=progress) as runs:
+            came = False
             for text in whole_lines(runs, 0):
+                came = came or re.search("^frame ", text, re.MULTILINE) is not None
                 yield from read_lines(text, FRAMES)
             runs.finish()
-        warn_of_nothing(runs, self.settings)
+        warn_of_nothing(runs, self.settings, came)
 
     def packets(
         self,

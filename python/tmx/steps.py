@@ -94,7 +94,7 @@ class Job:
         missing = Missing(self.chosen)
         with running(self.source, self.settings, listed, extracted, progress=self.progress) as runs:
             yield from self.chosen.packets(runs, missing)
-        if self.is_whole and not (missing.all and warn_of_nothing(runs, self.settings)):
+        if self.is_whole and not warn_of_nothing(runs, self.settings):
             missing.warn()
 
     def keep_as_it_is(self, files: Sequence[Path]) -> None:

@@ -115,6 +115,14 @@ class Warned(TestCase):
         for call in calls:
             self.is_told_once(call, "no good frame of channel 5")
 
+    def test_packets_that_are_too_short_came(self) -> None:
+        Path("d.csv").write_text("name,data_type,bit_length\nA,str,40000\n")
+        for channel in (None, 3, [0, 3]):
+            call = lambda: self.assertEqual(example().fields("d.csv", 101, channel=channel).rows, 0)  # noqa: E731, B023
+            self.assertEqual(self.warnings_of(call), [])
+        said = self.warnings_of(lambda: example().fields("d.csv", 101, channel=[3, 5]))
+        self.assertEqual(said, ["no packet of application 101 on channel 5"])
+
     def test_steps_say_nothing(self) -> None:
         for call in (
             lambda: list(example().packets(10, checkpoint="chk", stop_after=100)),

@@ -19,6 +19,7 @@ from .progress import Progress
 from .runs import Command, Runs, line_blocks, running
 from .settings import Settings
 from .source import Source, refuse_to_overwrite
+from .steps import reads_all
 from .tables import html_table, text_table
 from .times import Epoch, times
 from .values import Encoding, Kinds, module
@@ -153,9 +154,14 @@ class Table:
     report: Name | None = None
     step: Sequence[str] = ()
 
-    def has(self, line: bytes) -> bool:
-        """Whether a line of the report is of one of the channels."""
-        return self.channels is None or line.split(b"channel=")[1][:1].decode("ascii") in self.channels
+    def short_lines(self, report: Iterable[bytes], missing: set[str]) -> Iterator[bytes]:
+        """The lines of packets that are too short for a row.  Their channels leave `missing`."""
+        for line in report:
+            if line.startswith(SHORT_PACKET):
+                channel = line.split(b"channel=")[1][:1].decode("ascii")
+                if self.channels is None or channel in self.channels:
+                    missing.discard(channel)
+                    yield line
 
 
 def read_tables(
@@ -175,8 +181,8 @@ def read_tables(
                 yield last
                 last = following
             runs.finish()
-        last.short_lines = [it for it in report if it.startswith(SHORT_PACKET) and table.has(it)]
-    if not table.step:
+        last.short_lines = list(table.short_lines(report, missing))
+    if reads_all(table.step):
         warn_of_missing(table, runs, settings, last.is_empty(), missing)
     yield last
 

@@ -38,7 +38,7 @@ from .progress import Progress
 from .runs import Command, running, single_lines, whole_lines
 from .settings import Settings
 from .source import Source, refuse_to_overwrite
-from .steps import Job, follow, report_words, step_words
+from .steps import Job, follow, reads_all, report_words, step_words
 from .summary import Summary, summary_of
 from .times import Epoch
 from .values import Encoding
@@ -305,5 +305,5 @@ class Recording:
         """A run of the program whose output is not read."""
         with running(self.source, self.settings, command, progress=progress) as runs:
             runs.finish()
-        if not {"--resume", "--stop-after"} & set(command.words):
+        if reads_all(command.words):
             warn_of_nothing(runs, self.settings)

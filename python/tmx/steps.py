@@ -36,6 +36,11 @@ def step_words(checkpoint: Name | None, resume: Name | None, stop_after: Number 
     return words
 
 
+def reads_all(words: Sequence[str]) -> bool:
+    """Whether a run by these words reads the whole recording."""
+    return not {"--resume", "--stop-after"} & set(words)
+
+
 @dataclass(frozen=True)
 class Job:
     """Packets of a recording, from where a job goes on to where it stops.

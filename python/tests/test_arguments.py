@@ -58,7 +58,7 @@ class Chosen(TestCase):
                 error = self.raises(TypeError, None, call, channel=value)
                 self.assertIn("channel takes whole numbers, and not ", str(error))
         for value in ("101", 101.0, True, None):
-            self.raises(TypeError, None, example().packets if value else example().fields, *([value] if value else [ATTITUDE, None]))
+            self.raises(TypeError, None, example().fields, ATTITUDE, value)
 
     def test_ranges(self) -> None:
         for apid in (-1, 2048, [3000], [0, -1]):
@@ -108,8 +108,10 @@ class Chosen(TestCase):
         self.assertEqual(len({settings, tmx.Settings(42, 256, True, channels=range(0, 4, 3))}), 1)
 
     def test_raw_streams(self) -> None:
-        for length, flips, kind in ((0, 0, ValueError), (-5, 0, ValueError), (5.0, 0, TypeError), (5, -1, ValueError), (5, "0", TypeError)):
-            self.raises(kind, None, tmx.cut, RECORDING, "1ACF", length, flips)
+        for length, flips in ((0, 0), (-5, 0), (5, -1), (5, 16)):
+            self.raises(ValueError, None, tmx.cut, RECORDING, "1ACF", length, flips)
+        for length, flips in ((5.0, 0), (5, "0"), (True, 0)):
+            self.raises(TypeError, None, tmx.cut, RECORDING, "1ACF", length, flips)
 
 
 class Epochs(TestCase):
@@ -131,7 +133,8 @@ class Epochs(TestCase):
         for epoch in ("2000-01-01T12", "2000-01-01T12:00:00.000", "2000-01-01T12:00:00.000000000"):
             self.assertEqual(self.begin(numpy.datetime64(epoch)), wanted)
         self.assertEqual(self.begin(numpy.datetime64("2000-01-01")), self.begin(date(2000, 1, 1)))
-        self.assertEqual(self.begin(numpy.datetime64("2000-01-01T00:00:00.123456789")) - self.begin("2000-01-01"), numpy.timedelta64(123456789, "ns"))
+        later = self.begin(numpy.datetime64("2000-01-01T00:00:00.123456789")) - self.begin("2000-01-01")
+        self.assertEqual(later, numpy.timedelta64(123456789, "ns"))
         for epoch in (numpy.datetime64("NaT"), numpy.datetime64("20000-01-01")):
             self.raises(ValueError, None, self.begin, epoch)
 

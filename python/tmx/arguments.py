@@ -11,7 +11,10 @@ APPLICATIONS, CHANNELS, RECORDS = range(2048), range(8), range(1, 1 << 32)
 
 
 def number(what: str, value: Any, among: range) -> int:
-    """A number, also one of numpy.  Raises TypeError where it is none, as a text, a float or a truth value, ValueError out of range."""
+    """A number of any whole type.
+
+    Raises TypeError where it is none, as a text, a float or a truth value, and ValueError where it is out of its range.
+    """
     try:
         found = None if isinstance(value, bool) or getattr(value, "dtype", None) == bool else operator.index(value)
     except TypeError:

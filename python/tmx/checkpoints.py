@@ -1,6 +1,6 @@
-"""Checkpoints: the files in which the program keeps a job that goes on later, and other files that are written whole or not at all.
+"""Checkpoints, in which the program keeps a job that goes on later, and files that are written whole or not at all.
 
-Nothing of them is read here but the number of records that are done.  The program checks all else.
+Nothing of checkpoints is read here but the number of records that are done.  The program checks all else.
 """
 
 import os

@@ -22,7 +22,7 @@ class LibraryMissingError(Error):
 
 
 class VersionError(Error):
-    """The program is another one than this package needs: another version, or one that refuses its words or prints other lines."""
+    """The program is another one than this package needs: of another version, or one with other words or lines."""
 
 
 class DisagreementError(Error):
@@ -153,7 +153,7 @@ def word_behind(option: str | None, words: Sequence[str]) -> str | None:
 
 
 def unescaped(text: bytes) -> bytes:
-    """Octets of a text in which those other than 20 to 7E, and the backslash, stand as `\\x` and two digits, as in texts of Python."""
+    """The octets of a text in which those other than 20 to 7E, and the backslash, stand as `\\x` and two digits."""
     return text.decode("unicode_escape").encode("latin-1")
 
 

@@ -134,6 +134,15 @@ class Time:
         fields.time, fields.bad_times = times(seconds, fractions, columns[-1].bits, self.epoch)
 
 
+def time_of(names: str | Sequence[str] | None, epoch: Epoch | None) -> Time | None:
+    """What makes times, where they are asked for.  Raises ColumnError where columns or the epoch are missing."""
+    if names is None and epoch is None:
+        return None
+    if names is None or epoch is None:
+        raise ColumnError("`time` and `epoch` go together")
+    return Time([names] if isinstance(names, str) else names, epoch)
+
+
 @dataclass(frozen=True)
 class Table:
     """What a table is made of.
@@ -167,7 +176,7 @@ class Table:
 def read_tables(
     table: Table, source: Source, settings: Name | Settings, rows: int | None, progress: Progress
 ) -> Iterator[Fields]:
-    """What `tmx fields` prints, as tables of so many rows, or as one.  The last one has the packets that are too short for a row."""
+    """What `tmx fields` prints, as tables of so many rows, or as one.  The last has the packets that are too short for a row."""
     missing = set(table.channels or ())
     with report_file(table, source, settings) as report:
         line = ["fields", "--definition", os.fspath(table.definition), "--apid", str(table.apid), "--report", report.name]
@@ -196,7 +205,7 @@ def warn_of_missing(table: Table, runs: Runs, settings: Name | Settings, is_empt
 
 @contextmanager
 def report_file(table: Table, source: Source, settings: Name | Settings) -> Iterator[IO[bytes]]:
-    """A file for the report.  At the end it goes where the table's is to be.  Raises FileError where that would be written over another."""
+    """A file for the report, which goes to the table's at the end.  Raises FileError where that is another file of the run."""
     with tempfile.NamedTemporaryFile() as report:
         if table.report is None:
             yield report

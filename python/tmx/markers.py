@@ -115,7 +115,7 @@ class Cut:
         return self.window.ended or self.window.end >= self.at + self.step + len(self.marker)
 
     def write(self, path: str | os.PathLike[str]) -> None:
-        """Writes the records that are left to a file, which is there when it is whole.  Raises FileError where it is the stream's own."""
+        """Writes the records that are left to a file, as a whole.  Raises FileError where it is the stream's own."""
         refuse_to_overwrite(path, self.source.file)
         with NewFile(path) as new:
             new.file.writelines(self.found)

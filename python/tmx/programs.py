@@ -33,8 +33,8 @@ def find_program() -> Program:
     for by, name in [("TMX", named)] if named else [("package", str(BESIDE)), ("PATH", "tmx")]:
         if found := shutil.which(name):
             return Program(os.path.abspath(found), by)
-    where = f"TMX names {named!r}, which is no program" if named else f"TMX doesn't name it, and neither {BESIDE} nor the PATH has it"
-    raise ProgramMissingError(f"the program is missing: {where}")
+    elsewhere = f"TMX doesn't name it, and neither {BESIDE} nor the PATH has it"
+    raise ProgramMissingError(f"the program is missing: {f'TMX names {named!r}, which is no program' if named else elsewhere}")
 
 
 def program() -> Program:

@@ -1,6 +1,5 @@
 """A recording: what the program gives of it, as Python values."""
 
-import codecs
 import os
 import re
 from collections.abc import Iterator, Sequence
@@ -9,8 +8,8 @@ from typing import IO, overload
 
 from .arguments import APPLICATIONS, CHANNELS, RECORDS, Number, Numbers, number, numbers
 from .checkpoints import Name, NewFile
-from .errors import ColumnError, ProgramMissingError, RunError
-from .fields import Fields, Table, Time, read_tables
+from .errors import ProgramMissingError, RunError
+from .fields import Fields, Table, read_tables, time_of
 from .lines import (
     FRAMES,
     REPORT,
@@ -41,7 +40,7 @@ from .source import Source, refuse_to_overwrite
 from .steps import Job, follow, reads_all, report_words, step_words
 from .summary import Summary, summary_of
 from .times import Epoch
-from .values import Encoding
+from .values import encoding_of
 
 Item = Bad | MasterGap | Gap | Vca | Dropped | Short | SequenceGap | Broken | Group | Stray | ShortPacket
 
@@ -217,26 +216,17 @@ class Recording:
         channel     the channels whose packets have rows, one number or several; None is all
         time        the column of the seconds, or the columns of the seconds and of their binary fraction: the table has a time
                     for each row then.  One that is out of range is NaT, and `bad_times` counts these
-        epoch       the time of second 0, as "2000-01-01", a datetime, a numpy.datetime64 or a pandas.Timestamp; needed with `time`
+        epoch       the time of second 0, as "2000-01-01", a datetime, numpy.datetime64 or pandas.Timestamp; needed with `time`
         encoding    of `str` fields: they are text in this encoding, and `bytes` without it
         errors      what becomes of octets that aren't in the encoding, as `bytes.decode` has it
-        blocks      how many rows a table has: tables come one by one then, and two of them are held in memory.  The last one has
-                    all `short_packets`
+        blocks      how many rows a table has: tables come one by one then, two in memory.  The last has all `short_packets`
 
         The other words are those of `packets`, but the program writes `checkpoint`.  Raises DefinitionError, ColumnError, and
         UnicodeDecodeError, which names column and row, where a text isn't in the encoding.
         """
-        if (time is None) != (epoch is None):
-            raise ColumnError("`time` and `epoch` go together")
-        table = Table(
-            definition,
-            number("apid", apid, APPLICATIONS),
-            spelled(numbers("channel", channel, CHANNELS)),
-            None if encoding is None else Encoding(codecs.lookup(encoding).name, errors),
-            None if time is None or epoch is None else Time([time] if isinstance(time, str) else time, epoch),
-            report,
-            step_words(checkpoint, resume, stop_after),
-        )
+        packets = number("apid", apid, APPLICATIONS), spelled(numbers("channel", channel, CHANNELS))
+        step = step_words(checkpoint, resume, stop_after)
+        table = Table(definition, *packets, encoding_of(encoding, errors), time_of(time, epoch), report, step)
         rows = None if blocks is None else number("blocks", blocks, RECORDS)
         tables = read_tables(table, self.source, self.settings, rows, progress)
         return next(tables) if rows is None else tables
@@ -294,8 +284,8 @@ class Recording:
     ) -> None:
         """Writes the octets of all packets to a file for each application: `apid-0101.pkt` and so on in the folder.
 
-        The folder is made where it isn't there; files of other applications stay.  The other words are those of `extract`, but the
-        program writes `checkpoint`.
+        The folder is made where it isn't there; files of other applications stay.  The other words are those of `extract`, but
+        the program writes `checkpoint`.
         """
         words = report_words(report) + step_words(checkpoint, resume, stop_after)
         os.makedirs(folder, exist_ok=True)

@@ -61,7 +61,8 @@ class Settings:
     def read(cls, path: str | os.PathLike[str]) -> Self:
         """The settings of a file.
 
-        Raises OSError, ValueError (no TOML, a number out of its range) or TypeError (no number, keys that settings don't have or lack).
+        Raises OSError, ValueError (no TOML, a number out of its range) or TypeError (no number, keys that settings don't have, or
+        lack).
         """
         with open(path, "rb") as file:
             return cls(**tomllib.load(file))

@@ -25,7 +25,7 @@ def report_words(report: Name | None) -> list[str]:
 
 
 def step_words(checkpoint: Name | None, resume: Name | None, stop_after: Number | None) -> list[str]:
-    """The words of a job that is kept, goes on, or stops early.  Raises TypeError and ValueError where `stop_after` is no such number."""
+    """The words of a job that is kept, goes on, or stops early.  Raises what `number` does."""
     words: list[str] = []
     if checkpoint is not None:
         words += ["--checkpoint", os.fspath(checkpoint)]

@@ -61,7 +61,7 @@ def array_of_times(numpy: Any, seconds: Any, fractions: Any, bits: int, begin: i
 
 
 def nanoseconds(epoch: Epoch) -> int:
-    """Those from 1970 to an epoch; one that has a zone is changed to UTC.  Raises TypeError and ValueError where it is no time."""
+    """Those from 1970 to an epoch; one with a zone is changed to UTC.  Raises TypeError and ValueError where it is no time."""
     rest = getattr(epoch, "nanosecond", 0)  # of pandas.Timestamp
     found: Any = epoch
     if isinstance(epoch, str):

@@ -1,5 +1,6 @@
 """Columns of values, read from the rows that the program prints: arrays where numpy is there, else lists."""
 
+import codecs
 import csv
 import importlib
 import importlib.util
@@ -40,6 +41,11 @@ class Encoding:
             error.reason += f": column {column!r}, row {first + len(found)}"
             raise
         return found
+
+
+def encoding_of(name: str | None, errors: str) -> Encoding | None:
+    """How texts are decoded; None where they stay octets.  Raises LookupError where there is no such encoding."""
+    return None if name is None else Encoding(codecs.lookup(name).name, errors)
 
 
 @dataclass(frozen=True)

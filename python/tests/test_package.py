@@ -6,6 +6,7 @@ import io
 import json
 import os
 import re
+import signal
 import subprocess
 import sys
 import tomllib
@@ -56,6 +57,13 @@ class Installed(TestCase):
         line = [sys.executable, "-m", "pip", "install", "--quiet", "--no-index", "--target", "there", str(PACKAGE)]
         subprocess.run(line, check=True, capture_output=True)
         self.used_from(self.folder / "there")
+
+    def test_the_command_of_a_wheel(self) -> None:
+        script = "from tmx import programs; programs.BESIDE = '/bin/sh'; programs.become()"
+        line = [sys.executable, "-c", script, "-c", "grep SigIgn /proc/self/status; exit 3"]
+        ran = subprocess.run(line, env=os.environ | {"PYTHONPATH": str(PACKAGE)}, capture_output=True, text=True, check=False)
+        ignored = int(ran.stdout.split()[1], 16)
+        self.assertEqual((ran.returncode, [it for it in (signal.SIGPIPE, signal.SIGXFSZ) if ignored >> it - 1 & 1]), (3, []))
 
     def test_version(self) -> None:
         with open(PACKAGE / "pyproject.toml", "rb") as file:

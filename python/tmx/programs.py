@@ -2,6 +2,7 @@
 
 import os
 import shutil
+import signal
 import subprocess
 import sys
 from dataclasses import dataclass
@@ -62,4 +63,6 @@ def check_version(path: str, *_: int) -> None:
 
 def become() -> NoReturn:
     """Becomes the program beside this package, by the words of this process: what the command `tmx` of a wheel does."""
+    for number in (signal.SIGPIPE, signal.SIGXFSZ):  # Python ignores them, and the program would too
+        signal.signal(number, signal.SIG_DFL)
     os.execv(BESIDE, ["tmx", *sys.argv[1:]])

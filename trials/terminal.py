@@ -377,6 +377,18 @@ def of_losses():
     ]
 
 
+# Runs whose report goes to standard error, and what is said behind it.
+REPORTED = (
+    Case("packets --settings other-spacecraft.toml pass.rec", 0),
+    Case("packets --settings s.toml pass.rec.gz", 0, said="the recording pass.rec.gz: packed by gzip; unpack it first"),
+    Case(
+        "fields --settings s.toml --definition wide.csv --apid 101 pass.rec",
+        0,
+        said="all 503 packets of application 101 are too short: see tmx summary",
+    ),
+)
+
+
 # The folder in which all cases run.
 
 
@@ -595,16 +607,15 @@ OTHER_VALUES = ("", "2", "10", "01", " 1", "yes", "\udce9", "1" * 5000)
 
 
 def report_mistake():
-    """What is wrong where the report goes to standard error: it says that all frames are bad, so only that a recording is packed is said."""
-    case, packed = Case("packets --settings other-spacecraft.toml pass.rec", 0), Case("packets --settings s.toml pass.rec.gz", 0)
-    alone, said = in_pipe(case), [at_terminal(case), in_pipe(case, "1")]
-    if said != [alone, alone] or alone[1].count(b"bad record=") != 300:
-        return f"{alone}, {said}"
-    alone, said = in_pipe(packed), [at_terminal(packed), in_pipe(packed, "1")]
-    wanted = 0, alone[1] + b"  the recording pass.rec.gz: packed by gzip; unpack it first\n"
-    if said != [wanted, wanted]:
-        return f"{said}, wanted {wanted}"
-    return "" if at_terminal(packed, "0") == alone else "something is said by 0"
+    """What is wrong where the report goes to standard error, if anything: what it tells is not said once more."""
+    for case in REPORTED:
+        alone, said = in_pipe(case), [at_terminal(case), in_pipe(case, "1")]
+        wanted = 0, alone[1] + (f"  {case.said}\n".encode() if case.said else b"")
+        if said != [wanted, wanted] or b" record=" not in alone[1]:
+            return f"{said}, wanted {wanted}"
+        if at_terminal(case, "0") != alone:
+            return f"{case.words}: something is said by 0"
+    return ""
 
 
 def errors_mistake():
@@ -684,7 +695,8 @@ def texts():
     """The texts of the code that have a value, in braces, or an advice."""
     sources = [*(CRATES / "tm_explanations" / "src").glob("*.rt"), CRATES / "tm_faults" / "src" / "explanation.rt"]
     found = [text for path in sources for text in re.findall(r'"((?:[^"\\]|\\.)*)"', path.read_text(encoding="utf-8"), re.S)]
-    return [re.sub(r"\\\n\s*", "", text) for text in found if "; " in text or "{" in text]
+    whole = [re.sub(r"\\\n\s*", "", text).removeprefix("; ") for text in found]
+    return [text for text in whole if "; " in text or "{" in text]
 
 
 def texts_mistake(cases):
@@ -696,7 +708,7 @@ def texts_mistake(cases):
 
 def said_in(cases):
     """All that cases say behind the line of a fault."""
-    return [case.said for case in cases if case.said] + [said for _, _, said in WRONG_WORDS if said]
+    return [case.said for case in [*cases, *REPORTED] if case.said] + [said for _, _, said in WRONG_WORDS if said]
 
 
 def rows_mistake(cases):

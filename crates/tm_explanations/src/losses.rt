@@ -19,10 +19,8 @@ use tm_output::Totals;
 pub struct DoneRun {
     /// The records that it took.
     pub records: u32,
-    /// What it gave and lost.
+    /// What it gave and lost. Channels are absent only if the settings choose some.
     pub totals: Totals,
-    /// The settings choose all channels.
-    pub has_all_channels: bool,
     /// What was lost stands on standard error already.
     pub is_told: bool,
 }
@@ -32,75 +30,53 @@ fn counts_text(alloc: Global, records: u32, totals: &Totals) -> Result<String, A
     ensures { IfOk result (λ text. string_bytes text ≡ counts_text records totals.now) }
 {
     let (good, bad, missing, dropped) = (totals.good, totals.bad, totals.missing, totals.dropped);
-    format!(in alloc; "{records} records, {good} good, {bad} bad, {missing} frames missing, {dropped} octets dropped")
+    format!(in alloc;
+        "{records} records, {good} good, {bad} bad, {missing} frames missing, {dropped} octets dropped"
+    )
 }
 
-// Why fields gave no row; none where they gave some, or none was asked for.
-fn rows_text(alloc: Global, plan: &Plan, totals: &Totals) -> Said {
-    match (plan.action, plan.apid, totals.short) {
-        (Action::Fields, Some(apid), 0) if totals.packets == 0 => {
-            Ok(format!(in alloc; "no packet of application {apid}")?)
-        }
-        (Action::Fields, Some(apid), short) if totals.packets == 0 => {
-            Ok(format!(in alloc; "all {short} packets of application {apid} are too short")?)
-        }
-        _ => Err(Untold::Unknown),
-    }
+// Adds why `fields` gave no row, if it is so.
+fn push_rows(alloc: Global, text: &mut String, plan: &Plan, totals: &Totals) -> Result<(), Untold> {
+    let (Action::Fields, Some(apid), 0) = (plan.action, plan.apid, totals.packets) else {
+        return Ok(());
+    };
+    let part = match totals.short {
+        0 => format!(in alloc; "; no packet of application {apid}"),
+        short => format!(in alloc; "; all {short} packets of application {apid} are too short"),
+    };
+    Ok(text.push_str(part?.as_str())?)
 }
 
-// Which chosen channels had no good frame; none where each had one.
-fn channels_text(alloc: Global, absent: &[bool; 8]) -> Said {
-    let mut text = String::new(alloc);
+// Adds which channels had no good frame.
+fn push_channels(alloc: Global, text: &mut String, absent: &[bool; 8]) -> Result<(), AllocError> {
+    let mut begin = "; no good frame of channel";
     for channel in 0..8usize {
         if absent[channel] {
-            let begin = if text.is_empty() { "no good frame of channel" } else { "," };
-            text.push_str(begin)?;
-            text.push_str(format!(in alloc; " {channel}")?.as_str())?;
+            text.push_str(format!(in alloc; "{begin} {channel}")?.as_str())?;
+            begin = ",";
         }
     }
-    if text.is_empty() {
-        return Err(Untold::Unknown);
-    }
-    Ok(text)
-}
-
-// Adds what is said, if anything is.
-fn push_part(text: &mut String, part: Said) -> Result<(), Untold> {
-    let part = match part {
-        Ok(part) => part,
-        Err(Untold::Unknown) => return Ok(()),
-        Err(Untold::NoMemory) => return Err(Untold::NoMemory),
-    };
-    if !text.is_empty() {
-        text.push_str("; ")?;
-    }
-    text.push_str(part.as_str())?;
     Ok(())
 }
 
-// What was lost, and what to do.
+// What was lost, and what to do. Each part begins with a semicolon.
 fn losses_text(alloc: Global, plan: &Plan, run: &DoneRun) -> Said {
-    let totals = run.totals;
+    let totals = &run.totals;
     let mut text = String::new(alloc);
     if totals.good > 0 {
-        push_part(&mut text, rows_text(alloc, plan, &totals))?;
+        push_rows(alloc, &mut text, plan, totals)?;
+        push_channels(alloc, &mut text, &totals.absent)?;
     }
-    if totals.good > 0 && !run.has_all_channels {
-        push_part(&mut text, channels_text(alloc, &totals.absent))?;
+    if totals.has_losses && !run.is_told || !totals.has_losses && totals.good == 0 {
+        text.push_str("; ")?;
+        text.push_str(counts_text(alloc, run.records, totals)?.as_str())?;
     }
-    let is_lost = totals.has_losses || totals.good == 0;
-    if is_lost && !(run.is_told && totals.has_losses) {
-        let counts = counts_text(alloc, run.records, &totals)?;
-        push_part(&mut text, Ok(counts))?;
-    }
-    if text.is_empty() {
-        return Err(Untold::Unknown);
-    }
-    text.push_str(": see tmx summary")?;
-    if totals.bad > u64::from(run.records) / 2 {
-        text.push_str(", or python3 -m tmx probe")?;
-    }
-    Ok(text)
+    let said = text.strip_prefix("; ").ok_or(Untold::Unknown)?;
+    let or_else = match totals.bad > u64::from(run.records) / 2 {
+        true => ", or python3 -m tmx probe",
+        false => "",
+    };
+    Ok(format!(in alloc; "{said}: see tmx summary{or_else}")?)
 }
 
 // The same of a run of this plan. A recording without a good frame may be packed.

@@ -55,7 +55,7 @@ pub struct Answer {
     pub used: usize,
     /// The records of the call had a good frame of a chosen channel.
     pub has_good_frame: bool,
-    /// Their report has a line that tells a loss: any but `vca`, `group` and `short`. Of a summary: its numbers tell one.
+    /// Their report has a line that tells a loss: any but `vca`, `group` and `short`. For a summary: its numbers tell one.
     pub has_losses: bool,
 }
 

@@ -26,7 +26,7 @@ use Rattle.tm_output.specs.code.Quiet.{AreFirst, AreQuiet, HasNoted, IsFirstPack
 use Rattle.tm_lines.specs.declared.packet.Packet as lent
 use Rattle.tm_output.specs.code.Sinking.{Refuses, Takes}
 use Rattle.tm_output.proofs.PacketLemmas.{none_both}
-use Rattle.tm_output.specs.Totals.{with_item, with_items, with_packet}
+use Rattle.tm_output.specs.Totals.{totals_with_item, totals_with_items, totals_with_packet}
 use Rattle.tm_output.specs.declared.totals.Totals.{Totals}
 use Rattle.tm_output.proofs.PieceLemmas.{stopped_put, took_piece}
 use Rattle.tm_output.proofs.TotalsLemmas.{items_counted, quiet_counted}
@@ -103,7 +103,7 @@ module _ {A : Type 0} (text : Texts A) (limit : ℕ) (old : Entries) (totals : T
       → left.now ≡ take (length span.octets.now - at) (drop at span.octets.now)
       → HasNoted text limit old now totals sum span at → IsFirstPacket limit (record span { place = span.place + at; octets = left }) packet
       → IsQuiet text now (item_with packet) → next ≡ noted now (item_with packet) → given ≡ text.given (item_with packet)
-      → HasNoted text limit old next totals (with_packet sum given false false) span (at + length packet.octets.now)
+      → HasNoted text limit old next totals (totals_with_packet sum given false false) span (at + length packet.octets.now)
   noted_next now next sum given at left packet is done head silent after given_is =
       let octets = span.octets.now in
       let p = packet.octets.now in
@@ -181,7 +181,7 @@ module _ {A K M : Type 0} (grows : K → K → List A → Type 0) (grows-nil : (
   module _ (s : OutputState K M) (x : Item) (quiet : IsQuiet (text s.fixture.texts) s.entries x) where
     -- it is taken where what belongs to `out` was added, and nothing else
     quiet_taken : (t : OutputState K M) → t.fixture ≡ s.fixture → t.entries ≡ noted s.entries x
-        → t.totals ≡ with_item (text s.fixture.texts) s.entries s.totals x → t.view.report ≡ s.view.report → SameCounts s.view t.view
+        → t.totals ≡ totals_with_item (text s.fixture.texts) s.entries s.totals x → t.view.report ≡ s.view.report → SameCounts s.view t.view
         → grows s.view.out t.view.out ((text s.fixture.texts).out x) → Takes grows text buffering s x t
     quiet_taken t same noted_is totals_is report counts grown = record {
       same = same;
@@ -197,13 +197,13 @@ module _ {A K M : Type 0} (grows : K → K → List A → Type 0) (grows-nil : (
       fixture = s.fixture;
       entries = noted s.entries x;
       view = view k s.view.report s.view.out_failures s.view.report_failures;
-      totals = with_item (text s.fixture.texts) s.entries s.totals x;
+      totals = totals_with_item (text s.fixture.texts) s.entries s.totals x;
     }
 
   -- packets that add nothing to the report, by one write
   pub all_taken : (s t : OutputState K M) (x : Item) (xs : List Item) → AreQuiet (text s.fixture.texts) s.entries (x ∷ xs)
       → t.fixture ≡ s.fixture → t.entries ≡ noted_all s.entries (x ∷ xs)
-      → t.totals ≡ with_items (text s.fixture.texts) s.entries s.totals (x ∷ xs) → t.view.report ≡ s.view.report → SameCounts s.view t.view
+      → t.totals ≡ totals_with_items (text s.fixture.texts) s.entries s.totals (x ∷ xs) → t.view.report ≡ s.view.report → SameCounts s.view t.view
       → grows s.view.out t.view.out (outs_of (text s.fixture.texts) (x ∷ xs)) → TakesAll (Takes grows text buffering) s (x ∷ xs) t
   all_taken s t x [] quiet same noted_is totals_is report counts grown =
       (t, quiet_taken s x quiet.0 t same noted_is totals_is report counts (subst (grows s.view.out t.view.out) (append-nil ((text s.fixture.texts).out x)) grown), refl)

@@ -40,8 +40,8 @@ with_loss t = record t { has_losses = true }
 
 -- With a packet more: whether it is given, whether the report says that it is too short, and whether its notes tell a loss. The number
 -- of packets is that modulo 2^64.
-abbrev pub with_packet : Totals → (given short lost : Bool) → Totals
-with_packet t given short lost = record t {
+abbrev pub totals_with_packet : Totals → (given short lost : Bool) → Totals
+totals_with_packet t given short lost = record t {
   packets = if given then (t.packets + 1) % 2 ^ 64 else t.packets;
   short = if short then capped (t.short + 1) else t.short;
   has_losses = t.has_losses || (lost || short);
@@ -59,16 +59,16 @@ with_line t (Short seen octets) = t
 
 module _ {A : Type 0} (text : Texts A) where
   -- with an item more
-  unfoldable pub with_item : Entries → Totals → Item → Totals
-  with_item entries t (Packet seen channel first place octets) =
-      with_packet t (text.given (Packet seen channel first place octets)) (is_some_text (text.remark (Packet seen channel first place octets)))
+  unfoldable pub totals_with_item : Entries → Totals → Item → Totals
+  totals_with_item entries t (Packet seen channel first place octets) =
+      totals_with_packet t (text.given (Packet seen channel first place octets)) (is_some_text (text.remark (Packet seen channel first place octets)))
       (notes_tell_loss (notes_of entries (sent channel octets)))
-  with_item entries t x = with_line t x
+  totals_with_item entries t x = with_line t x
 
   -- with these items more
-  abbrev pub with_items : Entries → Totals → List Item → Totals
-  with_items entries t [] = t
-  with_items entries t (x ∷ xs) = with_items (noted entries x) (with_item entries t x) xs
+  abbrev pub totals_with_items : Entries → Totals → List Item → Totals
+  totals_with_items entries t [] = t
+  totals_with_items entries t (x ∷ xs) = totals_with_items (noted entries x) (totals_with_item entries t x) xs
 
 -- with the lines of these groups more that are open at a closed end
 abbrev pub with_unclosed : Totals → List Unclosed → Totals

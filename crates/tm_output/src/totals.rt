@@ -2,7 +2,7 @@
 
 ghost use Rattle.std.specs.Prelude.{◌≡◌, false};
 ghost use Rattle.tm_items.specs.Sinks.{item_of};
-ghost use Rattle.tm_output.specs.Totals.{no_totals, with_record, with_line, with_loss, with_packet};
+ghost use Rattle.tm_output.specs.Totals.{no_totals, with_record, with_line, with_loss, totals_with_packet};
 
 use tm_items::Item;
 
@@ -23,7 +23,7 @@ pub struct Totals {
     pub short: u64,
     /// The report has a line that tells a loss: any but `vca`, `group` and `short`.
     pub has_losses: bool,
-    /// Of each channel, whether it is chosen and no good frame of it came by now, in earlier runs of the job either.
+    /// For each channel, whether it is chosen and no good frame of it came by now, in earlier runs of the job either.
     pub absent: [bool; 8],
 }
 
@@ -61,17 +61,17 @@ impl Totals {
         self.has_losses = true;
     }
 
-    // Counts a packet of which the report says nothing.
+    // Counts a packet that the report says nothing of.
     #[inline(always)]
     pub(crate) fn add_quiet(&mut self, given: bool)
-        ensures { self.new ≡ with_packet self.old given false false }
+        ensures { self.new ≡ totals_with_packet self.old given false false }
     {
         self.packets = self.packets.wrapping_add(u64::from(given));
     }
 
     // Counts a packet: whether it is given, whether it is too short, and whether its notes tell a loss.
     pub(crate) fn add_packet(&mut self, given: bool, short: bool, lost: bool)
-        ensures { self.new ≡ with_packet self.old given short lost }
+        ensures { self.new ≡ totals_with_packet self.old given short lost }
     {
         self.packets = self.packets.wrapping_add(u64::from(given));
         self.short = self.short.saturating_add(u64::from(short));

@@ -9,6 +9,7 @@ use Rattle.tm_checkpoint.specs.Works.{JobState, new_job, Work}
 use Rattle.tm_output.specs.declared.command.Command.TheVariants.{Extract, Packets as Lines}
 use Rattle.tm_output.specs.declared.command.Ending.{Ending}
 use Rattle.tm_output.specs.declared.command.Ending.TheVariants.{Close, Keep, StopAfter}
+use Rattle.tm_output.specs.declared.listing.Listed.{Listed}
 use Rattle.tm_output.specs.declared.totals.Totals.{Totals}
 use Rattle.tm_output.specs.Listing.{is_good_record}
 use Rattle.tm_output.specs.Pieces.{Texts, rows_text, text_of}
@@ -18,6 +19,7 @@ use Rattle.tm_tool.specs.RecordingPieces.{further, records_for}
 use Rattle.tm_tool.specs.Runs.{IsEnough}
 use Rattle.tm_tool.specs.RunTotals.{run_totals}
 use Rattle.tm_tool.specs.SummaryNumbers.{summary_numbers}
+use Rattle.tm_tool.specs.declared.summary.Summed.{Summed}
 use Rattle.tm_arguments.specs.declared.request.Action.{Action}
 use Rattle.tm_arguments.specs.declared.request.Action.TheVariants.{Frames, Packets, Summary, Fields}
 use Rattle.tm_arguments.specs.declared.request.Plan.{Plan}
@@ -62,14 +64,21 @@ HasTotals p totals = (settings : Rules) × (fields : Option (List Field)) × (re
 
 -- ---- what it found
 
--- a list knows how many of the recording's records are good frames, a summary what its numbers tell, and a job what it gave and lost
-abbrev pub Finds : Plan → Found → Type 0
-Finds p (found.Frames listed) = (p.action ≡ Frames)
-    × (layout : LayoutParts) × (read : List ℕ) × (listed.good ≡ count_by (is_good_record layout) (records (record_length_of layout) read))
-Finds p (found.Summary summed) = (p.action ≡ Summary)
-    × (settings : Rules) × (read : List ℕ)
+-- of some recording, a list knows how many of its records are good frames
+abbrev pub IsOfList : Listed → Type 0
+IsOfList listed = (layout : LayoutParts) × (read : List ℕ)
+    × (listed.good ≡ count_by (is_good_record layout) (records (record_length_of layout) read))
+
+-- of some recording, a summary knows what its numbers tell
+abbrev pub IsOfSummary : Summed → Type 0
+IsOfSummary summed = (settings : Rules) × (read : List ℕ)
     × (summed.has_good_frame ≡ has_good_frame settings.channels (summary_numbers settings read))
     × (summed.has_losses ≡ tells_loss (summary_numbers settings read))
+
+-- so does the run of a plan, and a job knows what it gave and lost
+abbrev pub Finds : Plan → Found → Type 0
+Finds p (found.Frames listed) = (p.action ≡ Frames) × IsOfList listed
+Finds p (found.Summary summed) = (p.action ≡ Summary) × IsOfSummary summed
 Finds p (found.Packets records totals) = HasTotals p totals
 
 -- so of a plan whose status may say what was lost

@@ -95,7 +95,7 @@ fn store_checkpoint<'p, R: Files + AllocGlobal>(
 }
 
 // What a job has found that did this, where so many records were done before.
-fn found_by(done: &Done, before: u32) -> Found
+fn findings_of(done: &Done, before: u32) -> Found
     ensures { FindsDone done.now result }
 {
     Found::Packets {
@@ -122,7 +122,7 @@ pub(crate) fn end_checkpoint<'p, R: Files + AllocGlobal>(
     match done {
         Ok(done) => match store_checkpoint(rt, replacement, &done) {
             Ok(replaced) => Ok(Finished {
-                found: found_by(&done, before),
+                found: findings_of(&done, before),
                 done: Some(done),
                 replaced,
             }),

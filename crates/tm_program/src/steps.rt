@@ -68,7 +68,7 @@ fn list_to<S: BufferedSource, W: Drain>(
 }
 
 // Lists the frames of a recording, or sums it up, on standard output.
-#[tactic(auto, using(tm_files::proofs::FaultLemmas::no_memory_run))]
+#[tactic(auto, using(tm_files::proofs::FaultLemmas::no_memory_run, crate::proofs::EndingLemmas::found_of_shown))]
 fn list<R: Print + AllocGlobal, S: BufferedSource>(
     rt: &R,
     action: Action,
@@ -168,7 +168,7 @@ fn make_report<R: Files + AllocGlobal, E: Write + Drop>(
 
 // Does what the plan wants of the job over the recording, once the names of its files were checked, and answers what is done. The file of the
 // plan's checkpoint is made ready before the run, and replaced behind it in any case, also where no record is done.
-#[tactic(auto, using(crate::proofs::ProgramLemmas::run_ends, crate::proofs::EndingLemmas::file_of_done))]
+#[tactic(auto, using(crate::proofs::ProgramLemmas::run_ends, crate::proofs::EndingLemmas::file_of_done, crate::proofs::EndingLemmas::found_of_done))]
 fn run_job<'p, R: Files + Print + AllocGlobal, S: BufferedSource, E: Write + Drop>(
     rt: &R,
     plan: &'p Plan,
@@ -197,7 +197,7 @@ fn run_job<'p, R: Files + Print + AllocGlobal, S: BufferedSource, E: Write + Dro
 }
 
 // Checks the names of the plan's files, does what the plan asks for with the recording, and answers what its job has done, if it has one.
-#[tactic(auto, using(crate::proofs::ProgramLemmas::names_come))]
+#[tactic(auto, using(crate::proofs::ProgramLemmas::names_come, crate::proofs::EndingLemmas::list_found))]
 fn run_on_recording<'p, R: Files + Print + AllocGlobal, S: BufferedSource, E: Write + Drop>(
     rt: &R,
     plan: &'p Plan,

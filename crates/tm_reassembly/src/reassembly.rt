@@ -86,7 +86,7 @@ impl Reassembly {
     ///
     /// # Errors
     ///
-    /// As `take_record`.
+    /// As `step_record`.
     pub fn step<S: Sink>(&mut self, octets: &[u8], sink: &mut S) -> Result<(), StepFault<S::Fault>>
         requires { length octets.now ≡ record_length_of self.old.rules.layout }
         ensures accepted { OnOk result (TakesAll S.takes (S.known sink.old) (step_items self.old octets.now) (S.known sink.new)) }
@@ -95,7 +95,7 @@ impl Reassembly {
         ensures refused { IfErr result (StepRefused S.known S.takes S.refuses self.old self.new sink.old sink.new
             (step_items self.old octets.now)) }
     {
-        match self.take_record(octets, sink) {
+        match self.step_record(octets, sink) {
             Ok(_) => Ok(()),
             Err(fault) => Err(fault),
         }
@@ -108,7 +108,7 @@ impl Reassembly {
     /// `Failed` where an earlier step was refused by its sink; else `TooMany` where 2^32 - 1 records are done; both change nothing. Else
     /// `Sink` where the sink refused an item: it then has taken the items before that one, each later step is `Failed`, and the number of
     /// records stays.
-    pub fn take_record<S: Sink>(
+    pub fn step_record<S: Sink>(
         &mut self,
         octets: &[u8],
         sink: &mut S,

@@ -171,8 +171,8 @@ impl Counts {
         self.applications[usize::from(key)].add_note(note);
     }
 
-    /// Whether something was lost: a bad frame, a gap of the master channel or of a channel, a dropped part, a gap of sequence counts, a broken
-    /// group or a stray.
+    /// Whether something was lost: there is a bad frame, a gap, a dropped part, a broken group or a stray. Gaps are those of the master channel,
+    /// of a channel or of sequence counts.
     pub fn tells_loss(&self) -> bool
         ensures { result ≡ tells_loss self.now }
     {

@@ -22,7 +22,7 @@ use Rattle.tm_output.specs.declared.command.Ending.TheVariants.{Close, Keep, Sto
 use Rattle.tm_output.specs.declared.totals.Totals.{Totals}
 use Rattle.tm_output.specs.Outputs.{Buffering, Written}
 use Rattle.tm_output.specs.Pieces.{HasLine, Texts, noted, noted_all, notes_of, sent}
-use Rattle.tm_output.specs.Totals.{capped, is_some_text, no_totals, note_tells_loss, notes_tell_loss, with_item, with_items, with_line, with_loss, with_packet, with_record, with_unclosed}
+use Rattle.tm_output.specs.Totals.{capped, is_some_text, no_totals, note_tells_loss, notes_tell_loss, totals_with_item, totals_with_items, with_line, with_loss, totals_with_packet, with_record, with_unclosed}
 use Rattle.tm_output.specs.code.Outlets.{GivesNone}
 use Rattle.tm_summary.specs.Kinds.{Noted, drop_octets, is_bad, master_missing}
 use Rattle.tm_summary.specs.SummaryNumbers.{Tally, and_note, how_many, in_all, nothing}
@@ -31,7 +31,7 @@ use Rattle.tm_summary.proofs.OneMore.{how_many_more, in_all_more}
 use Rattle.tm_checkpoint.specs.Works.{Work}
 use Rattle.tm_tool.specs.RecordingPieces.{items_of, worked}
 use Rattle.tm_tool.specs.Runs.{behind}
-use Rattle.tm_tool.specs.RunTotals.{absent_channels, end_items, end_notes, frames_in, good_frames, is_remarked, item_tells_loss, run_items, run_tally, run_totals, totals_of}
+use Rattle.tm_tool.specs.RunTotals.{absent_channels, end_items, closing_notes, frames_in, good_frames, is_remarked, item_tells_loss, run_items, run_tally, run_totals, totals_of}
 use Rattle.tm_tool.specs.code.RecordLoop.{HasStepped, StillTakes, TakesBehind, TakesRecords, TakingStopped, ThenRefuses}
 use Rattle.tm_tool.specs.code.Stepping.{CountsTaken, RefusesCounted, RefusesRecord, RunState, TakesRecord, with_end}
 use Rattle.tm_tool.specs.code.Summing.{CountedRecords, and_records}
@@ -194,8 +194,8 @@ module _ {A : Type 0} (text : Texts A) (rules : Rules) where
             ← no_loss_line (list_any item_tells_loss t.items) (note_losses t.notes) (remarks t.items)) refl
 
     packet_more : (e : Entries) (t : Tally) (seen channel first place : ℕ) (octets : List ℕ)
-        → with_item text e (numbers t) (Packet seen channel first place octets) ≡ numbers (and_items t e (Packet seen channel first place octets ∷ []))
-    unfolding with_item notes_in
+        → totals_with_item text e (numbers t) (Packet seen channel first place octets) ≡ numbers (and_items t e (Packet seen channel first place octets ∷ []))
+    unfolding totals_with_item notes_in
     packet_more e t seen channel first place octets =
         let x : Item = Packet seen channel first place octets in
         let notes : List Note = notes_of e (sent channel octets) in
@@ -203,16 +203,16 @@ module _ {A : Type 0} (text : Texts A) (rules : Rules) where
         rw (append-nil (noted_at key notes), item_more t x (noted_at key notes), any_noted key notes, zero_more master_missing t.items, zero_more drop_octets t.items,
             ← loss_packet (list_any item_tells_loss t.items) (note_losses t.notes) (remarks t.items) (notes_tell_loss notes) (is_remarked text x)) refl
 
-    given_more : (e : Entries) (t : Tally) (x : Item) → with_item text e (numbers t) x ≡ numbers (and_items t e (x ∷ []))
-    unfolding with_item notes_in
+    given_more : (e : Entries) (t : Tally) (x : Item) → totals_with_item text e (numbers t) x ≡ numbers (and_items t e (x ∷ []))
+    unfolding totals_with_item notes_in
     given_more e t (Packet seen channel first place octets) = packet_more e t seen channel first place octets
     given_more e t x = line_more e t x tt
 
     -- items more
-    pub items_more : (e : Entries) (t : Tally) (xs : List Item) → with_items text e (numbers t) xs ≡ numbers (and_items t e xs)
+    pub items_more : (e : Entries) (t : Tally) (xs : List Item) → totals_with_items text e (numbers t) xs ≡ numbers (and_items t e xs)
     items_more e t [] = rw (append-nil t.items, append-nil t.notes) refl
     items_more e t (x ∷ xs) =
-        ap (λ (n : Totals). with_items text (noted e x) n xs) (given_more e t x)
+        ap (λ (n : Totals). totals_with_items text (noted e x) n xs) (given_more e t x)
         ∙ items_more (noted e x) (and_items t e (x ∷ [])) xs
         ∙ rw (append_assoc t.items (x ∷ []) xs, append-nil (notes_in e x), append_assoc t.notes (notes_in e x) (notes_among (noted e x) xs)) refl
 
@@ -225,11 +225,11 @@ module _ {A : Type 0} (text : Texts A) (rules : Rules) where
 
     -- its items, and its frame
     pub record_counted : (w : Work) → w.rules ≡ rules → (octets : List ℕ) (before after : Totals) (chosen : Bool)
-        → after ≡ with_record (with_items text w.entries before (items_of w (octets ∷ []))) chosen → chosen ≡ is_chosen_frame rules octets
+        → after ≡ with_record (totals_with_items text w.entries before (items_of w (octets ∷ []))) chosen → chosen ≡ is_chosen_frame rules octets
         → CountedRecords numbers w (octets ∷ []) before after
     record_counted w same octets before after chosen after_is chosen_is t are =
         let xs : List Item = items_of w (octets ∷ []) in
-        let all = ap (λ (n : Totals). with_items text w.entries n xs) are ∙ items_more w.entries t xs in
+        let all = ap (λ (n : Totals). totals_with_items text w.entries n xs) are ∙ items_more w.entries t xs in
         let frames = ap (λ (r : Rules). frame_reading_of r.layout octets) same in
         after_is
         ∙ ap (λ (n : Totals). with_record n chosen) all

@@ -7,7 +7,7 @@ use Rattle.tm_output.specs.Outputs.{Took, Stopped, Buffering}
 use Rattle.tm_packet.specs.Merge.{Entries}
 use Rattle.tm_output.specs.Pieces.{Texts, piece_of, noted, noted_all, pieces_of}
 use Rattle.tm_output.specs.Seen.{Fixture, OutputState}
-use Rattle.tm_output.specs.Totals.{with_items}
+use Rattle.tm_output.specs.Totals.{totals_with_items}
 use Rattle.tm_output.specs.code.Sinking.{Takes, Refuses}
 use Rattle.tm_output.proofs.PieceLemmas.{took_none, took_took, took_stopped, stopped_more}
 
@@ -22,7 +22,7 @@ module _ {A K M : Type 0} (grows : K → K → List A → Type 0) (grows-nil : (
     pub same : t.fixture ≡ s.fixture
     pub noted_is : t.entries ≡ noted_all s.entries xs
     pub took : Took grows s.view t.view (pieces_of (text s.fixture.texts) s.entries xs)
-    pub totals_is : t.totals ≡ with_items (text s.fixture.texts) s.entries s.totals xs
+    pub totals_is : t.totals ≡ totals_with_items (text s.fixture.texts) s.entries s.totals xs
 
   pub record StoppedAmong (s : OutputState K M) (xs : List Item) (fault : RunFault) (t : OutputState K M) : Type 0 where
     pub same : t.fixture ≡ s.fixture

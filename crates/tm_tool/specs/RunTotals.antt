@@ -39,10 +39,10 @@ end_items Keep w rest = []
 end_items (StopAfter n) w rest = []
 
 -- and the notes of the groups that are open there
-abbrev pub end_notes : Ending → sequence.Entries → List Noted
-end_notes Close entries = open_notes (sequence.unclosed 0 entries)
-end_notes Keep entries = []
-end_notes (StopAfter n) entries = []
+abbrev pub closing_notes : Ending → sequence.Entries → List Noted
+closing_notes Close entries = open_notes (sequence.unclosed 0 entries)
+closing_notes Keep entries = []
+closing_notes (StopAfter n) entries = []
 
 -- all items of records and of the ending
 abbrev pub run_items : Ending → Work → List (List ℕ) → ℕ → List Item
@@ -52,7 +52,7 @@ abbrev pub run_tally : Ending → Work → List (List ℕ) → ℕ → Tally
 run_tally ending w rs rest = record {
   frames = good_frames w.rules.layout rs;
   items = run_items ending w rs rest;
-  notes = notes_among w.entries (run_items ending w rs rest) ++ end_notes ending (noted_all w.entries (run_items ending w rs rest));
+  notes = notes_among w.entries (run_items ending w rs rest) ++ closing_notes ending (noted_all w.entries (run_items ending w rs rest));
 }
 
 -- ---- in numbers

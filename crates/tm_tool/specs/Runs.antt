@@ -86,8 +86,8 @@ DevicesCounted old new r = RunCounted old.failures new.failures old.outputs new.
 module _ {A K : Type 0} (grows : K → K → List A → Type 0) (buffering : Buffering) (text : Texts A) (ending : Ending) (w : Work) where
   -- ---- with Ok, of a run that writes this head before all else
 
-  -- what a run over these octets comes to: just their pieces were written; this many records are done; this is kept; and this is what it
-  -- gave and lost, in numbers
+  -- What a run over these octets comes to: just their pieces were written, this many records are done, and this is kept. The totals say what
+  -- it gave and lost.
   pub record Outcome (head : List (Piece A)) (octets : List ℕ) (old new : View K) (count : ℕ) (kept : Option Work) (totals : Totals) : Type 0 where
     pub took : Took grows old new (head ++ pieces text ending w octets)
     pub count_is : count ≡ w.state.records + length (records_for ending (further w octets))

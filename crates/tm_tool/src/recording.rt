@@ -46,7 +46,7 @@ impl<O: Outlet, V: Drain> RecordHandler for Output<'_, O, V> {
         reassembly: &mut Reassembly,
         octets: &[u8],
     ) -> Result<(), RunFault> {
-        match reassembly.take_record(octets, self) {
+        match reassembly.step_record(octets, self) {
             Ok(chosen) => {
                 self.totals.add_record(chosen);
                 Ok(())

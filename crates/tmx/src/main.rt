@@ -7,9 +7,7 @@ use std::io::{ErrorKind, IsTerminal, Write};
 use std::process::ExitCode;
 use std::rt::Env;
 use tm_devices::Watched;
-use tm_explanations::{
-    Asked, DoneRun, Explanation, ask, explain, explain_losses, explain_words,
-};
+use tm_explanations::{Asked, DoneRun, Explanation, ask, explain, explain_losses, explain_words};
 use tm_program::{
     Found, Octets, Outcome, RunFault, ToolFault, Totals, UsageFault, fault_line, run, status,
 };
@@ -113,13 +111,15 @@ fn done_run(outcome: Outcome) -> DoneRun {
             totals: found,
         } => {
             totals = found;
+            if outcome.has_all_channels {
+                totals.absent = [false; 8];
+            }
             (records, outcome.reports_to_errors)
         }
     };
     DoneRun {
         records,
         totals,
-        has_all_channels: outcome.has_all_channels,
         is_told,
     }
 }

@@ -10,7 +10,7 @@ use Rattle.tm_output.specs.Packets.{HasHeader, item_with}
 use Rattle.tm_packet.specs.Merge.{Entries}
 use Rattle.tm_output.specs.declared.totals.Totals.{Totals}
 use Rattle.tm_output.specs.Pieces.{Texts, noted, noted_all, report_of}
-use Rattle.tm_output.specs.Totals.{with_items}
+use Rattle.tm_output.specs.Totals.{totals_with_items}
 
 -- what of items belongs to `out`
 abbrev pub outs_of : {A : Type 0} → Texts A → List Item → List A
@@ -41,7 +41,7 @@ pub record HasNoted {A : Type 0} (text : Texts A) (limit : ℕ) (old new : Entri
   pub first : AreFirst limit s packets many
   pub none : many ≡ 0 → packets ≡ []
   pub noted_is : new ≡ noted_all old (span_items s packets)
-  pub totals_is : totals_new ≡ with_items text old totals_old (span_items s packets)
+  pub totals_is : totals_new ≡ totals_with_items text old totals_old (span_items s packets)
   pub quiet : AreQuiet text old (span_items s packets)
 
 -- the packet is the first of a span

@@ -8,7 +8,7 @@ use Rattle.tm_output.specs.declared.output.Output.{Output}
 use Rattle.tm_output.specs.Outputs.{Buffering, Took, Stopped, Written}
 use Rattle.tm_output.specs.Pieces.{Texts, noted, piece_of}
 use Rattle.tm_output.specs.Seen.{OutputState, fixture, output_both}
-use Rattle.tm_output.specs.Totals.{with_item}
+use Rattle.tm_output.specs.Totals.{totals_with_item}
 
 -- what stays the same says what is given of an item
 module _ {A K M : Type 0} (grows : K → K → List A → Type 0) (text : M → Texts A) (buffering : Buffering) where
@@ -17,7 +17,7 @@ module _ {A K M : Type 0} (grows : K → K → List A → Type 0) (text : M → 
     pub same : t.fixture ≡ s.fixture
     pub noted_is : t.entries ≡ noted s.entries x
     pub took : Took grows s.view t.view (piece_of (text s.fixture.texts) s.entries x ∷ [])
-    pub totals_is : t.totals ≡ with_item (text s.fixture.texts) s.entries s.totals x
+    pub totals_is : t.totals ≡ totals_with_item (text s.fixture.texts) s.entries s.totals x
 
   -- it refuses an item: writing stopped at one place of its two texts
   pub record Refuses (s : OutputState K M) (x : Item) (fault : RunFault) (t : OutputState K M) : Type 0 where
@@ -30,7 +30,7 @@ NotesItem o v old new x = (fixture o v new ≡ fixture o v old) × (new.tracker.
 
 -- it has counted an item
 abbrev pub CountsItem : {O V : Type 0} (o : outlet.Ghosts O) → drain.Ghosts V → Output O V → Output O V → Item → Type 0
-CountsItem o v old new x = new.totals ≡ with_item (o.text (o.fixed old.outlet.now)) old.tracker.now old.totals x
+CountsItem o v old new x = new.totals ≡ totals_with_item (o.text (o.fixed old.outlet.now)) old.tracker.now old.totals x
 
 -- it has written the two texts of an item, or writing stopped at one place of them
 abbrev pub WritesItem : {O V T : Type 0} (o : outlet.Ghosts O) → drain.Ghosts V → Output O V → Output O V → Item → Result T RunFault → Type 0

@@ -6,7 +6,7 @@ use Rattle.tm_files.specs.code.Replacements.{replaced_octets}
 use Rattle.tm_checkpoint.specs.Works.{JobState, Work}
 use Rattle.tm_fields.specs.declared.field.Field.{Field}
 use Rattle.tm_output.specs.Pieces.{Texts}
-use Rattle.tm_program.specs.Found.{ending_of, texts_for, totals_over, work_from}
+use Rattle.tm_program.specs.Found.{IsOfList, IsOfSummary, ending_of, texts_for, totals_over, work_from}
 use Rattle.tm_program.specs.declared.outcome.Found.{Found}
 use Rattle.tm_program.specs.declared.outcome.Found.TheVariants as found
 use Rattle.tm_tool.specs.RecordingPieces.{records_for, further, worked}
@@ -56,10 +56,7 @@ HasShown _ rules left_old left_new out_old out_new _ = ⊥
 
 -- what a list or a summary of some recording finds
 abbrev pub IsListFound : Action → Found → Type 0
-IsListFound Summary (found.Summary summed) = (rules : Rules) × (read : List ℕ)
-    × (summed.has_good_frame ≡ has_good_frame rules.channels (summary_numbers rules read))
-    × (summed.has_losses ≡ tells_loss (summary_numbers rules read))
+IsListFound Summary (found.Summary summed) = IsOfSummary summed
 IsListFound Summary _ = ⊥
-IsListFound _ (found.Frames listed) = (layout : LayoutParts) × (read : List ℕ)
-    × (listed.good ≡ count_by (is_good_record layout) (records (record_length_of layout) read))
+IsListFound _ (found.Frames listed) = IsOfList listed
 IsListFound _ _ = ⊥

@@ -6,7 +6,7 @@ use Rattle.tm_output.specs.declared.command.Ending.{Ending}
 use Rattle.tm_output.specs.declared.command.Ending.TheVariants.{Close, Keep, StopAfter}
 use Rattle.tm_output.specs.Outputs.{Piece, View, Buffering, Took, Stopped}
 use Rattle.tm_output.specs.Pieces.{Texts, noted_all}
-use Rattle.tm_output.specs.Totals.{with_items, with_unclosed}
+use Rattle.tm_output.specs.Totals.{totals_with_items, with_unclosed}
 use Rattle.tm_output.specs.declared.totals.Totals.{Totals}
 use Rattle.tm_packet.specs.Merge as sequence
 use Rattle.tm_reassembly.specs.Items.{closing}
@@ -29,7 +29,7 @@ pub record RunState (K : Type 0) : Type 0 where
 -- what an ending adds to the numbers, where this many octets are left
 abbrev pub with_end : {A : Type 0} → Texts A → Ending → Work → ℕ → Totals → Totals
 with_end text Close w rest t =
-    with_unclosed (with_items text w.entries t (closing w.state rest)) (sequence.unclosed 0 (noted_all w.entries (closing w.state rest)))
+    with_unclosed (totals_with_items text w.entries t (closing w.state rest)) (sequence.unclosed 0 (noted_all w.entries (closing w.state rest)))
 with_end text Keep w rest t = t
 with_end text (StopAfter n) w rest t = t
 

@@ -4,7 +4,7 @@ use Rattle.tm_reassembly.specs.code.Slots.{rooms}
 use Rattle.tm_reassembly.specs.Valid.{IsValidState}
 use Rattle.tm_reassembly.proofs.Slots.{rooms_of_eight}
 use Rattle.tm_reassembly.proofs.States.{record-valid}
-use Rattle.tm_reassembly.proofs.reassembly.Reassembly.take_record.Goals as goal
+use Rattle.tm_reassembly.proofs.reassembly.Reassembly.step_record.Goals as goal
 
 pub invariant_of-self : goal.invariant_of-self
 invariant_of-self g c = λ failed.

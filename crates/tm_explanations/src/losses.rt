@@ -104,7 +104,7 @@ pub fn explain_losses<R: Files + AllocGlobal>(
     let text = match plan(alloc, words) {
         Ok(plan) => done_text(rt, &plan, run),
         Err(UsageFault::NoMemory) => Err(Untold::NoMemory),
-        Err(_) => Err(Untold::Unknown),
+        Err(_fault) => Err(Untold::Unknown),
     };
     line_of(alloc, text)
 }

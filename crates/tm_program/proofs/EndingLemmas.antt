@@ -1,8 +1,12 @@
 -- What is done by a run, of what its contract says.
-use Rattle.std.proofs.Common.{◌≡◌, ℕ, List, Option, None, Some, inl, inr, option_map, refl, ⊎_elim, ◌∙◌, false}
+use Rattle.std.proofs.Common.{◌≡◌, ℕ, List, [], Option, None, Some, Result, Ok, Err, IfOk, inl, inr, option_map, refl, subst, sym, ⊎_elim, ◌∙◌, false}
+use Rattle.tm_faults.specs.declared.program.ToolFault.{ToolFault}
+use Rattle.tm_faults.specs.declared.run.RunFault.{RunFault}
 use Rattle.tm_output.specs.declared.command.Ending.{Ending}
 use Rattle.tm_output.specs.Outputs.{Piece, Buffering}
-use Rattle.tm_output.specs.Pieces.{Texts}
+use Rattle.tm_output.specs.declared.command.Command.TheVariants.{Extract}
+use Rattle.tm_output.specs.Pieces.{Texts, text_of}
+use Rattle.tm_output.specs.Shelves.{Shelves, shelf_buffering, shelf_text}
 use Rattle.tm_checkpoint.specs.Works.{JobState, Work}
 use Rattle.tm_tool.specs.Runs.{Devices, IsEnough, Ran, kept_of}
 use Rattle.tm_tool.specs.declared.job.Done.{Done}
@@ -11,7 +15,7 @@ use Rattle.tm_fields.specs.declared.field.Field.{Field}
 use Rattle.tm_arguments.specs.declared.request.Action.{Action}
 use Rattle.tm_arguments.specs.declared.request.Action.TheVariants as act
 use Rattle.tm_files.specs.code.Decisions.{is_job}
-use Rattle.tm_program.specs.Found.{Finds, ending_with}
+use Rattle.tm_program.specs.Found.{Finds, ending_of, ending_with, work_from}
 use Rattle.tm_program.specs.code.Endings.{FindsDone, HasDone, HasShown, IsDone, IsListFound, requested_checkpoint}
 use Rattle.tm_program.specs.declared.outcome.Found.{Found}
 use Rattle.tm_program.specs.declared.outcome.Found.TheVariants as found
@@ -28,6 +32,22 @@ module _ {A K : Type 0} (grows : K → K → List A → Type 0) (buffering : Buf
       → IsDone texts ending w done
   ran_done old new head done texts given remark r =
       (r.read, untold ending w new.left r.read r.enough, r.outcome.count_is, r.outcome.kept_is, rw (given, remark) r.outcome.totals_is)
+
+-- splitting did this
+abbrev SplitRan : Ending → Work → (old new : Devices (Option (ℕ → List ℕ))) → Done → Type 0
+SplitRan ending w old new d = Ran Shelves shelf_buffering shelf_text ending w [] old new d.records (option_map (λ job. job.work) d.kept) d.totals
+
+-- So of splitting, which gives each packet, too. What it ends with is what the run did.
+pub split_ends : (p : Plan) (settings : Rules) (fields : Option (List Field)) (resumed : Option JobState) (ending : Ending) (w : Work)
+    (old new : Devices (Option (ℕ → List ℕ))) (done : Result Done RunFault) (ended : Result Done ToolFault)
+    → p.action ≡ act.Split → ending ≡ ending_of p → w ≡ work_from settings resumed
+    → IfOk done (SplitRan ending w old new)
+    → IfOk ended (λ d. done ≡ Ok d) → IfOk ended (HasDone p settings fields resumed)
+split_ends p settings fields resumed ending w old new done (Err fault) is ends works ran same = tt
+split_ends p settings fields resumed ending w old new done (Ok d) is ends works ran same =
+    let r = subst (λ (result : Result Done RunFault). IfOk result (SplitRan ending w old new)) same ran in
+    let is_done = ran_done Shelves shelf_buffering shelf_text ending w old new [] d (text_of Extract) refl refl r in
+    rw (is, sym ends, sym works) is_done
 
 -- a run of a plan with a file for the checkpoint keeps a job
 file_with : (name : Option (List ℕ)) (stop : Option ℕ) (w : Work) (kept : Option JobState) → option_map (λ job. job.work) kept ≡ kept_of (ending_with name stop) w

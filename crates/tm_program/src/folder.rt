@@ -115,7 +115,7 @@ fn split_end<R: Files + AllocGlobal>(
 }
 
 // Goes on with the job of the checkpoint, or else with a new one, and gives its packets to a file for each application.
-#[tactic(auto, using(tm_files::proofs::FaultLemmas::no_memory_run, crate::proofs::BlameLemmas::split_blames, crate::proofs::BlameLemmas::no_memory_blames, crate::proofs::EndingLemmas::ran_done))]
+#[tactic(auto, using(tm_files::proofs::FaultLemmas::no_memory_run, crate::proofs::BlameLemmas::split_blames, crate::proofs::BlameLemmas::no_memory_blames))]
 pub(crate) fn split_packets<R: Files + AllocGlobal, S: BufferedSource, V: Drain>(
     rt: &R,
     plan: &Plan,

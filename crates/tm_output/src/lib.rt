@@ -14,5 +14,5 @@ pub use outlet::{
     Outlet, PacketLines, PacketOctets, PacketRows, PacketShelf, PacketText, PacketTexts,
 };
 pub use output::{Output, header_in};
-pub use totals::Totals;
 pub use tm_lines::Packet;
+pub use totals::Totals;

@@ -293,13 +293,7 @@ impl<O: Outlet, V: Drain> Output<'_, O, V> {
             (front_items limit span.entry) fault (output_state O.Outlet V.Drain self.new)) }
     {
         if self.outlet.can_join() {
-            let quiet = note_quiet(
-                self.tracker,
-                &mut self.totals,
-                self.outlet,
-                limit,
-                span,
-            );
+            let quiet = note_quiet(self.tracker, &mut self.totals, self.outlet, limit, span);
             if quiet > 0 {
                 let front = Span {
                     octets: &span.octets[..quiet],

@@ -170,28 +170,62 @@ module _ {A : Type 0} (text : Texts A) (rules : Rules) where
     unfolding with_line
     line_more e t (Packet seen channel first place octets) has = absurd has
     line_more e t (Bad seen fault) has =
-        rw (item_more t (Bad seen fault) [], (none (Bad seen fault) has).1, (none (Bad seen fault) has).2, zero_more master_missing t.items, zero_more drop_octets t.items,
-            ← loss_line (list_any item_tells_loss t.items) (note_losses t.notes) (remarks t.items)) refl
+        rw (
+          item_more t (Bad seen fault) [],
+          (none (Bad seen fault) has).1,
+          (none (Bad seen fault) has).2,
+          zero_more master_missing t.items,
+          zero_more drop_octets t.items,
+          ← loss_line (list_any item_tells_loss t.items) (note_losses t.notes) (remarks t.items),
+        ) refl
     line_more e t (MasterGap seen expected found missing) has =
         let x : Item = MasterGap seen expected found missing in
-        rw (item_more t x [], (none x has).1, (none x has).2, zero_more drop_octets t.items,
-            ← loss_line (list_any item_tells_loss t.items) (note_losses t.notes) (remarks t.items)) refl
+        rw (
+          item_more t x [],
+          (none x has).1,
+          (none x has).2,
+          zero_more drop_octets t.items,
+          ← loss_line (list_any item_tells_loss t.items) (note_losses t.notes) (remarks t.items),
+        ) refl
     line_more e t (Gap seen channel expected found missing) has =
         let x : Item = Gap seen channel expected found missing in
-        rw (item_more t x [], (none x has).1, (none x has).2, zero_more master_missing t.items, zero_more drop_octets t.items,
-            ← loss_line (list_any item_tells_loss t.items) (note_losses t.notes) (remarks t.items)) refl
+        rw (
+          item_more t x [],
+          (none x has).1,
+          (none x has).2,
+          zero_more master_missing t.items,
+          zero_more drop_octets t.items,
+          ← loss_line (list_any item_tells_loss t.items) (note_losses t.notes) (remarks t.items),
+        ) refl
     line_more e t (Vca seen channel) has =
         let x : Item = Vca seen channel in
-        rw (item_more t x [], (none x has).1, (none x has).2, zero_more master_missing t.items, zero_more drop_octets t.items,
-            ← no_loss_line (list_any item_tells_loss t.items) (note_losses t.notes) (remarks t.items)) refl
+        rw (
+          item_more t x [],
+          (none x has).1,
+          (none x has).2,
+          zero_more master_missing t.items,
+          zero_more drop_octets t.items,
+          ← no_loss_line (list_any item_tells_loss t.items) (note_losses t.notes) (remarks t.items),
+        ) refl
     line_more e t (Dropped seen channel first place octets reason) has =
         let x : Item = Dropped seen channel first place octets reason in
-        rw (item_more t x [], (none x has).1, (none x has).2, zero_more master_missing t.items,
-            ← loss_line (list_any item_tells_loss t.items) (note_losses t.notes) (remarks t.items)) refl
+        rw (
+          item_more t x [],
+          (none x has).1,
+          (none x has).2,
+          zero_more master_missing t.items,
+          ← loss_line (list_any item_tells_loss t.items) (note_losses t.notes) (remarks t.items),
+        ) refl
     line_more e t (Short seen octets) has =
         let x : Item = Short seen octets in
-        rw (item_more t x [], (none x has).1, (none x has).2, zero_more master_missing t.items, zero_more drop_octets t.items,
-            ← no_loss_line (list_any item_tells_loss t.items) (note_losses t.notes) (remarks t.items)) refl
+        rw (
+          item_more t x [],
+          (none x has).1,
+          (none x has).2,
+          zero_more master_missing t.items,
+          zero_more drop_octets t.items,
+          ← no_loss_line (list_any item_tells_loss t.items) (note_losses t.notes) (remarks t.items),
+        ) refl
 
     packet_more : (e : Entries) (t : Tally) (seen channel first place : ℕ) (octets : List ℕ)
         → totals_with_item text e (numbers t) (Packet seen channel first place octets) ≡ numbers (and_items t e (Packet seen channel first place octets ∷ []))
@@ -200,8 +234,14 @@ module _ {A : Type 0} (text : Texts A) (rules : Rules) where
         let x : Item = Packet seen channel first place octets in
         let notes : List Note = notes_of e (sent channel octets) in
         let key : ℕ = pair_key channel (packet_header_of octets).application in
-        rw (append-nil (noted_at key notes), item_more t x (noted_at key notes), any_noted key notes, zero_more master_missing t.items, zero_more drop_octets t.items,
-            ← loss_packet (list_any item_tells_loss t.items) (note_losses t.notes) (remarks t.items) (notes_tell_loss notes) (is_remarked text x)) refl
+        rw (
+          append-nil (noted_at key notes),
+          item_more t x (noted_at key notes),
+          any_noted key notes,
+          zero_more master_missing t.items,
+          zero_more drop_octets t.items,
+          ← loss_packet (list_any item_tells_loss t.items) (note_losses t.notes) (remarks t.items) (notes_tell_loss notes) (is_remarked text x),
+        ) refl
 
     given_more : (e : Entries) (t : Tally) (x : Item) → totals_with_item text e (numbers t) x ≡ numbers (and_items t e (x ∷ []))
     unfolding totals_with_item notes_in
@@ -344,9 +384,10 @@ module _ {A K : Type 0} (grows : K → K → List A → Type 0) (grows-nil : (k 
     (mid new : RunState K) where
   pub still_counted : {T : Type 0} (r : Result T RunFault) → Written grows buffering mid.view new.view [] r → new.totals ≡ mid.totals
       → OnOk r (StillTakes (CountsTaken grows text) mid new)
-  still_counted (Ok x) none same = λ w one before took.
-      (still_taken grows grows-nil grows-trans text buffering mid.view new.view (Ok x) none w one before.view took.0,
-      subst (CountedRecords (totals_of text w.rules) w (one ∷ []) before.totals) (sym same) took.1)
+  still_counted (Ok x) none same = λ w one before took. (
+    still_taken grows grows-nil grows-trans text buffering mid.view new.view (Ok x) none w one before.view took.0,
+    subst (CountedRecords (totals_of text w.rules) w (one ∷ []) before.totals) (sym same) took.1,
+  )
   still_counted (Err fault) stopped same = tt
 
   pub then_stopped : {T : Type 0} (r : Result T RunFault) → Written grows buffering mid.view new.view [] r

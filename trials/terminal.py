@@ -351,6 +351,7 @@ def of_losses():
         Case(f"packets {quiet} --checkpoint bad.chk --stop-after 7 pass.rec", 0, said=bad(7)),
         Case(f"packets {quiet} --resume bad.chk pass.rec", 0, said=bad(293)),
         Case(f"packets --strict {quiet} pass.rec", 5, said=bad(300)),
+        Case("packets --settings s.toml --report /dev/null half.rec", 0, said=COUNTS.format(2, 1, 1, 0, 6)),
         Case(f"summary {wrong} pass.rec", 0),
         Case(f"summary --strict {wrong} pass.rec", 5),
         Case("summary --strict --settings s.toml pass.rec", 4),
@@ -491,6 +492,7 @@ def make_folder(tmx):
     os.chmod("tmx", 0o755)  # so that nobody can run it, too
     Path("short.rec").write_bytes(Path("pass.rec").read_bytes()[: 78 * 256 + 32])
     Path("good.rec").write_bytes(Path("pass.rec").read_bytes()[: 20 * 256])
+    Path("half.rec").write_bytes(Path("pass.rec").read_bytes()[: 2 * 256 - 1] + b"x")
     Path("pass.rec.gz").write_bytes(gzip.compress(Path("pass.rec").read_bytes()))
     Path("pass.rec.zst").write_bytes(bytes.fromhex("28b52ffd") + Path("pass.rec").read_bytes())
     Path("head.gz").write_bytes(bytes.fromhex("1f8b08000000000000") * 3)

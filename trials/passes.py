@@ -91,7 +91,7 @@ class Pass:
     def is_running(self):
         try:
             return Path(f"/proc/{self.number()}/stat").read_text(encoding="ascii").rpartition(") ")[2][0] != "Z"
-        except FileNotFoundError:
+        except (FileNotFoundError, ProcessLookupError):
             return False
 
     def comes(self, is_done):

@@ -157,7 +157,7 @@ class Reasons(TestCase):
         self.says(error, f"tmx: {SETTINGS}: failed", over, str(SETTINGS))
 
         error = self.raises(tmx.RunError, "write failed", example().extract, "/dev/full")
-        full = "No space left on device (os error 28); make room, or write to another file"
+        full = "No space left on device (os error 28); mend this, or name another"
         self.says(error, "tmx: write failed", f"/dev/full: {full}", "/dev/full")
         missing = self.raises(FileNotFoundError, None, example().extract, "none/out")
         self.assertEqual(missing.filename, "none/out")
@@ -172,7 +172,7 @@ class Reasons(TestCase):
         Path("d.csv").write_text("name,data_type,bit_length\nA,uint,65\n")
         error = self.raises(tmx.DefinitionError, "bits", example().fields, "d.csv", 101)
         self.assertEqual((error.line, error.file), ("tmx: definition: bits row 1", "d.csv"))
-        self.assertIn("field A: bit_length is 65", error.explanation)
+        self.assertIn("field A of type uint: bit_length is 65", error.explanation)
         list(example().packets(checkpoint="chk", stop_after=9))
         Path("short.rec").write_bytes(RECORDING.read_bytes()[:256])
         error = self.raises(tmx.RunError, None, lambda: list(tmx.Recording("short.rec", SETTINGS).packets(resume="chk")))

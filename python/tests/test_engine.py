@@ -75,8 +75,10 @@ class Engines(TestCase):
         error = self.raises(tmx.SettingsError, "missing", tmx.Engine("settings").feed, b"")
         self.assertEqual(str(error), "tmx: settings: missing error_control")
         for key in (it.name for it in fields(tmx.Settings)):
-            settings = tmx.Settings(**{"spacecraft": 42, "frame_length": 256, "error_control": True} | {key: 1.5})
-            error = self.raises(tmx.SettingsError, "kind", tmx.Engine(settings).feed, b"")
+            values = {"spacecraft": "42", "frame_length": "256", "error_control": "true"} | {key: "1.5"}
+            with open("settings", "w") as file:
+                file.writelines(f"{name} = {value}\n" for name, value in values.items())
+            error = self.raises(tmx.SettingsError, "kind", tmx.Engine("settings").feed, b"")
             self.assertEqual(str(error), f"tmx: settings: kind {key}")
         self.raises(tmx.CheckpointError, "magic", tmx.Engine(SETTINGS, bytes(100)).feed, b"")
         with open("settings", "w") as file:

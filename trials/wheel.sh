@@ -94,11 +94,13 @@ pythons() {
 
 with_library=no
 python3 -m zipfile -l "$wheel" | grep -q "^tmx/lib/libtmx.so " && with_library=yes
+list=$(pythons) && [ -n "$list" ] || tell "there is a Python" "none can be started"
 while read -r version python; do
+    [ -n "$version" ] || continue
     if [ "$version" -ge 3011000 ]; then
         try_python "$python"
     elif [ "$version" -ge 3010000 ]; then
         refuse_old "$python"
     fi
-done < <(pythons)
+done <<<"$list"
 echo "plan $tried"

@@ -1,16 +1,18 @@
 -- What a frame without a fault has.
 use Rattle.std.proofs.Common.{length-drop, sym, subst, ◌≡◌, ℕ, ◌<◌, ◌==◌, Bool, true, false, cond, refl, List, [], ◌∷◌, ◌++◌, arith}
-use Rattle.std.specs.Prelude.{Some, None, ◌&&◌, not, nat_lt, drop, ◌≤◌, length}
+use Rattle.std.specs.Prelude.{Option, Some, None, IsOk, ◌&&◌, not, nat_lt, drop, ◌≤◌, length}
 use Rattle.std.specs.List.{find}
 use Rattle.std.proofs.lemmas.Bool.Decides.{nat_tests}
 use Rattle.tm_frame.specs.declared.layout.LayoutParts.{LayoutParts}
+use Rattle.tm_frame.specs.declared.fault.FrameFault.{FrameFault}
 use Rattle.tm_frame.specs.declared.fault.FrameFault.TheVariants.{Crc, Version, Spacecraft, SecondaryFlag, OcfFlag, SecondaryVersion, Layout, Pointer}
-use Rattle.tm_frame.specs.Frame.{field_length, field_start, field_end, data_field_of, kind_of, good_frame, IsPlaceBelow, IsSoundFrame}
+use Rattle.tm_frame.specs.Frame.{field_length, field_start, field_end, data_field_of, kind_of, good_frame, GoodFrame, frame_of, IsPlaceBelow, IsSoundFrame}
 use Rattle.tm_bits.proofs.PartLemmas.{part-lt}
 use Rattle.std.proofs.lemmas.List.{length-take-le}
 use Rattle.tm_frame.specs.Header.{synchronization_flag, pointer_of}
 use Rattle.tm_frame.specs.declared.frame.Kind.TheVariants.{Packets, NoStart, Idle, Vca}
-use Rattle.tm_frame.specs.Fault.{applies, fault_of}
+use Rattle.tm_frame.specs.Fault.{applies, fault_of, frame_reading_of, good_unless, is_misplaced}
+use Rattle.tm_frame.specs.code.Headers.{starts_beyond}
 
 -- where nothing is found, none passes
 none_passes : {X : Type 0} (test : X → Bool) (before : List X) (x : X) (after : List X) → find test (before ++ x ∷ after) ≡ None → test x ≡ false
@@ -37,11 +39,33 @@ place_below false true idle place n h = tt
 place_below false false true place n h = tt
 place_below false false false place n h = grind (arith, nat_tests)
 
+-- so says the search for a pointer that is misplaced
+beyond : (vca none idle : Bool) (place n : ℕ)
+    → (not vca && not idle && not none && not (nat_lt place n))
+    ≡ starts_beyond n (cond vca Vca (cond none NoStart (cond idle Idle (Packets place))))
+beyond true none idle place n = refl
+beyond false true true place n = refl
+beyond false true false place n = refl
+beyond false false true place n = refl
+beyond false false false place n = refl
+
+pub misplaced : (layout : LayoutParts) (frame : List ℕ) → is_misplaced layout frame ≡ starts_beyond (field_length layout frame) (kind_of frame)
+misplaced layout frame =
+    beyond (synchronization_flag frame) (pointer_of frame == 2047) (pointer_of frame == 2046) (pointer_of frame) (field_length layout frame)
+
 pub place_inside : (layout : LayoutParts) (frame : List ℕ) → fault_of layout frame ≡ None → IsPlaceBelow (field_length layout frame) (kind_of frame)
 unfolding fault_of
 place_inside layout frame h =
     place_below (synchronization_flag frame) (pointer_of frame == 2047) (pointer_of frame == 2046) (pointer_of frame) (field_length layout frame)
     (none_passes (applies layout frame) (Crc ∷ Version ∷ Spacecraft ∷ SecondaryFlag ∷ OcfFlag ∷ SecondaryVersion ∷ Layout ∷ []) Pointer [] h)
+
+-- no fault is found in a frame that reads as a good one
+unless_none : (fault : Option FrameFault) (good : GoodFrame) → IsOk (good_unless fault good) → fault ≡ None
+unless_none None good h = refl
+unless_none (Some fault) good h = cc
+
+pub fault_free : (layout : LayoutParts) (octets : List ℕ) → IsOk (frame_reading_of layout octets) → fault_of layout (frame_of layout octets) ≡ None
+fault_free layout octets h = unless_none (fault_of layout (frame_of layout octets)) (good_frame layout (frame_of layout octets)) h
 
 -- so it begins before it ends
 pub begins_before_end : (layout : LayoutParts) (frame : List ℕ) → fault_of layout frame ≡ None → field_start frame < field_end layout frame

@@ -2,12 +2,12 @@
 
 ghost use Rattle.std.specs.Prelude.{◌≡◌, ◌≤◌, ◌<◌, IsOk, Ok, length};
 ghost use Rattle.tm_frame.specs.Fault.{fault_of, frame_reading_of};
-ghost use Rattle.tm_frame.specs.Frame.{IsPlaceBelow, frame_of, good_frame, kind_from};
+ghost use Rattle.tm_frame.specs.Frame.{IsPlaceBelow, data_field_of, frame_of, good_frame};
 ghost use Rattle.tm_frame.specs.code.Headers.{frame_header_of};
 ghost use Rattle.tm_frame.specs.Layout.{IsInRange, record_length_of};
 
-use crate::checks::fault_in;
-use crate::header::{FrameHeader, IDLE, NO_START, field_end, field_start, secondary_length};
+use crate::checks::data_field;
+use crate::header::{FrameHeader, field_end, field_start, secondary_length};
 use crate::{FrameFault, Layout, LayoutParts};
 use std::marker::Model;
 
@@ -140,13 +140,14 @@ pub fn read<'r>(layout: &Layout, octets: &'r [u8]) -> Result<Frame<'r>, FrameFau
     let parts = layout.parts();
     let frame = frame_in(&parts, octets);
     let header = FrameHeader::read(frame);
-    match fault_in(&parts, frame, &header) {
-        Some(fault) => Err(fault),
-        None => Ok(good_frame(&parts, frame, &header)),
+    match data_field(&parts, frame, &header) {
+        Ok(field) => Ok(good_frame(&parts, frame, &header, field)),
+        Err(fault) => Err(fault),
     }
 }
 
 /// The frame of a record that is known to hold a good one, as `read` gives it. No fault is looked for again.
+#[tactic(auto, using(crate::proofs::FaultLemmas::begins_before_end, crate::proofs::FaultLemmas::fault_free))]
 pub fn read_good<'r>(layout: &Layout, octets: &'r [u8]) -> Frame<'r>
     requires exact { length octets.now ≡ record_length_of layout.now }
     requires good { IsOk (frame_reading_of layout.now octets.now) }
@@ -154,44 +155,35 @@ pub fn read_good<'r>(layout: &Layout, octets: &'r [u8]) -> Frame<'r>
 {
     let parts = layout.parts();
     let frame = frame_in(&parts, octets);
-    good_frame(&parts, frame, &FrameHeader::read(frame))
+    let header = FrameHeader::read(frame);
+    let field = &frame[field_start(frame, &header)..field_end(&parts, frame, &header)];
+    good_frame(&parts, frame, &header, field)
 }
 
-// The frame, in which no fault was found.
-#[tactic(auto, using(crate::proofs::FaultLemmas::begins_before_end, crate::proofs::FaultLemmas::sound))]
-fn good_frame<'r>(parts: &LayoutParts, frame: &'r [u8], header: &FrameHeader) -> Frame<'r>
+// The frame, in which no fault was found, with this data field.
+#[tactic(auto, using(crate::proofs::FaultLemmas::sound))]
+fn good_frame<'r>(
+    parts: &LayoutParts,
+    frame: &'r [u8],
+    header: &FrameHeader,
+    field: &'r [u8],
+) -> Frame<'r>
     requires long { 9 ≤ length frame.now }
     requires header { header.now ≡ frame_header_of frame.now }
+    requires field { field.now ≡ data_field_of parts.now frame.now }
     requires most { length frame.now ≤ 2048 }
     requires good { fault_of parts.now frame.now ≡ None }
     ensures { result ≡ good_frame parts.now frame.now }
 {
-    let start = field_start(frame, header);
-    let end = field_end(parts, frame, header);
     Frame {
-        field: &frame[start..end],
+        field,
         channel: header.channel,
         master_count: header.master_count,
         count: header.count,
-        kind: kind_from(header.synchronization, header.pointer),
+        kind: header.kind,
         secondary_length: secondary_length(frame, header),
         has_ocf: header.ocf,
         order_flag: header.order,
         segment: header.segment,
-    }
-}
-
-// What the data field holds.
-fn kind_from(synchronization: bool, pointer: u16) -> Kind
-    ensures { result ≡ kind_from synchronization pointer }
-{
-    if synchronization {
-        Kind::Vca
-    } else if pointer == NO_START {
-        Kind::NoStart
-    } else if pointer == IDLE {
-        Kind::Idle
-    } else {
-        Kind::Packets(pointer)
     }
 }

@@ -2,20 +2,20 @@
 
 ghost use Rattle.std.specs.Prelude.{◌≡◌, ◌≤◌, ◌<◌, ◌/◌, ◌%◌, ◌^◌, ◌-◌, length};
 ghost use Rattle.tm_bits.specs.Bits.{part};
-ghost use Rattle.tm_frame.specs.Frame.{field_end, field_length, field_start};
+ghost use Rattle.tm_frame.specs.Frame.{field_end, field_start, kind_from};
 ghost use Rattle.tm_frame.specs.Header.{secondary_length_of, secondary_version_of};
 ghost use Rattle.tm_frame.specs.code.Headers.{frame_header_of};
 
-use crate::LayoutParts;
+use crate::{Kind, LayoutParts};
 use byteorder::{BigEndian, ByteOrder};
 
-/// The first header pointer of a frame in which no packet starts.
-pub const NO_START: u16 = 2047;
+// The first header pointer of a frame in which no packet starts.
+const NO_START: u16 = 2047;
 
-/// The first header pointer of a frame that holds idle data alone.
-pub const IDLE: u16 = 2046;
+// The first header pointer of a frame that holds idle data alone.
+const IDLE: u16 = 2046;
 
-/// The parts of a frame's primary header, the first header pointer included.
+/// The parts of a frame's primary header. The synchronization flag and the first header pointer say what the data field holds.
 #[derive(Clone, Copy)]
 pub struct FrameHeader {
     pub version: u8,
@@ -25,10 +25,9 @@ pub struct FrameHeader {
     pub master_count: u8,
     pub count: u8,
     pub secondary: bool,
-    pub synchronization: bool,
     pub order: bool,
     pub segment: u8,
-    pub pointer: u16,
+    pub kind: Kind,
 }
 
 impl FrameHeader {
@@ -47,11 +46,25 @@ impl FrameHeader {
             master_count: part(word, 16, 24) as u8,
             count: part(word, 24, 32) as u8,
             secondary: part(word, 32, 33) == 1,
-            synchronization: part(word, 33, 34) == 1,
             order: part(word, 34, 35) == 1,
             segment: part(word, 35, 37) as u8,
-            pointer: part(word, 37, 48),
+            kind: kind_from(part(word, 33, 34) == 1, part(word, 37, 48)),
         }
+    }
+}
+
+// What the data field holds.
+fn kind_from(synchronization: bool, pointer: u16) -> Kind
+    ensures { result ≡ kind_from synchronization pointer }
+{
+    if synchronization {
+        Kind::Vca
+    } else if pointer == NO_START {
+        Kind::NoStart
+    } else if pointer == IDLE {
+        Kind::Idle
+    } else {
+        Kind::Packets(pointer)
     }
 }
 
@@ -119,13 +132,4 @@ pub fn field_end(parts: &LayoutParts, frame: &[u8], header: &FrameHeader) -> usi
     let ocf = if header.ocf { 4 } else { 0 };
     let control = if parts.error_control { 2 } else { 0 };
     frame.len() - (ocf + control)
-}
-
-/// The octets of the data field, 0 where none is left for it.
-pub fn field_length(parts: &LayoutParts, frame: &[u8], header: &FrameHeader) -> usize
-    requires long { 9 ≤ length frame.now }
-    requires header { header.now ≡ frame_header_of frame.now }
-    ensures { result ≡ field_length parts.now frame.now }
-{
-    field_end(parts, frame, header).saturating_sub(field_start(frame, header))
 }

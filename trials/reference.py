@@ -501,7 +501,7 @@ def status_of(reader, report):
 
 def said_of_rows(reader, report, wanted):
     """What is said where `fields` gives no row of this application."""
-    if wanted is None or not reader.came or any(it[0] == wanted and 8 * len(it[1]) >= NEEDED for it in reader.packets):
+    if wanted is None or any(it[0] == wanted and 8 * len(it[1]) >= NEEDED for it in reader.packets):
         return []
     short = sum(it.startswith("shortpacket ") for it in report)
     return [f"all {short} packets of application {wanted} are too short" if short else f"no packet of application {wanted}"]
@@ -510,10 +510,12 @@ def said_of_rows(reader, report, wanted):
 def said_of(settings, reader, records, wanted=None):
     """The line that says what was lost, and what to do; an empty one where nothing was."""
     report, numbers = list(reader.report_of(wanted)), totals(reader)[0]
-    said, status = said_of_rows(reader, report, wanted), status_of(reader, report)
-    absent = [str(it) for it in settings.channels if not reader.came[it]]
-    if len(settings.channels) < 8 and absent and reader.came:
-        said.append(f"no good frame of channel {', '.join(absent)}")
+    said, status = [], status_of(reader, report)
+    if numbers["bad"] < records:
+        said += said_of_rows(reader, report, wanted)
+        absent = [str(it) for it in settings.channels if not reader.came[it]]
+        if len(settings.channels) < 8 and absent:
+            said.append(f"no good frame of channel {', '.join(absent)}")
     if status:
         said.append(
             f"{records} records, {sum(reader.came.values())} good, {numbers['bad']} bad, {numbers['missing']} frames missing,"

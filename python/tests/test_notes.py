@@ -99,7 +99,7 @@ class Warned(TestCase):
             self.assertEqual(self.warnings_of(lambda: list(example().fields(ATTITUDE, apid, channel=channel, blocks=7))), [said])
         recording = tmx.Recording(RECORDING, tmx.Settings(42, 256, True, channels=[5, 6]))
         self.assertEqual(self.warnings_of(recording.summary), ["no good frame of channels 5 and 6, which the settings choose"])
-        self.is_told_once(lambda: list(recording.packets()), "no packet: the good frames have no whole one|300 records, 0 good")
+        self.is_told_once(lambda: list(recording.packets()), "^no good frame of channel 5, 6; 300 records, 0 good, 1 bad, ")
 
     def test_nothing_of_a_channel_of_the_settings(self) -> None:
         self.program('"$real" "$@" 2>/dev/null; echo "  no good frame of channel 5; 300 records, 299 good: see tmx summary" >&2')

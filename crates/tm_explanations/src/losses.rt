@@ -63,7 +63,7 @@ fn push_channels(alloc: Global, text: &mut String, absent: &[bool; 8]) -> Result
 fn losses_text(alloc: Global, plan: &Plan, run: &DoneRun) -> Said {
     let totals = &run.totals;
     let mut text = String::new(alloc);
-    if totals.good > 0 {
+    if totals.bad < u64::from(run.records) {
         push_rows(alloc, &mut text, plan, totals)?;
         push_channels(alloc, &mut text, &totals.absent)?;
     }

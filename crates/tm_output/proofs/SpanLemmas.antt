@@ -3,7 +3,7 @@ use Rattle.std.proofs.Common.{◌≡◌, ◌≢◌, ℕ, Bool, false, ◌+◌, �
 use Rattle.std.specs.Borrow.{Bor}
 use Rattle.std.proofs.KnownBytes.{Appends-nil}
 use Rattle.std.proofs.lemmas.Bool.{cases_lt}
-use Rattle.std.proofs.lemmas.List.{drop-append-le, drop-drop, drop_at, length-drop, length-take-le, take-append-drop, take-append-le, take_at, take_rest}
+use Rattle.std.proofs.lemmas.List.{drop-append-le, drop-drop, drop_at, length-drop, length-take-le, take-append-drop, take-append-le, take_at}
 use Rattle.std.proofs.Math.Seq.{take-add}
 use Rattle.tm_packet.specs.Header.{Fields, packet_header_of}
 use Rattle.tm_items.specs.declared.sink.Span.{Span}
@@ -12,7 +12,7 @@ use Rattle.tm_items.specs.OnePacket.{packet_length}
 use Rattle.tm_items.specs.Sinks.{RefusesOne, TakesAll}
 use Rattle.tm_items.specs.Fronts.{front_header, front_items, front_length, front_packets, octets_of, placed}
 use Rattle.tm_items.proofs.Headers.{header-front}
-use Rattle.tm_items.proofs.Leads.{RefusesOne-left}
+use Rattle.tm_items.proofs.Leads.{Leads, RefusesOne-left, leads_all}
 use Rattle.tm_items.proofs.Fronts.{front-none, front-some, header-none, header-some, whole-true}
 use Rattle.tm_devices.specs.Devices.{raised}
 use Rattle.tm_faults.specs.declared.run.RunFault.{RunFault}
@@ -100,15 +100,14 @@ module _ {A : Type 0} (text : Texts A) (limit : ℕ) (old : Entries) (totals : T
 
   -- and the next one
   pub noted_next : (now next : Entries) (sum : Totals) (given : Bool) (at : ℕ) (left : Bor (List ℕ)) (packet : lent.Packet)
-      → left.now ≡ take (length span.octets.now - at) (drop at span.octets.now)
+      → left.now ≡ drop at span.octets.now
       → HasNoted text limit old now totals sum span at → IsFirstPacket limit (record span { place = span.place + at; octets = left }) packet
       → IsQuiet text now (item_with packet) → next ≡ noted now (item_with packet) → given ≡ text.given (item_with packet)
       → HasNoted text limit old next totals (totals_with_packet sum given false false) span (at + length packet.octets.now)
-  noted_next now next sum given at left packet is done head silent after given_is =
+  noted_next now next sum given at left packet all done head silent after given_is =
       let octets = span.octets.now in
       let p = packet.octets.now in
       let n = length p in
-      let all : left.now ≡ drop at octets = is ∙ take_rest octets at in
       let far : length left.now ≡ length octets - at = ap length all ∙ length-drop at octets in
       let long = first-length limit span done.packets at done.first in
       let x = Packet span.seen span.channel span.seen (span.place + at) p in
@@ -141,6 +140,14 @@ module _ {A : Type 0} (text : Texts A) (limit : ℕ) (old : Entries) (totals : T
 pub nothing_noted : {A : Type 0} (text : Texts A) (limit : ℕ) (old new : Entries) (totals sum : Totals) (span : Span) (many : ℕ)
     → HasNoted text limit old new totals sum span many → many ≡ 0 → (new ≡ old) × (sum ≡ totals)
 nothing_noted text limit old new totals sum span many done none = (rw (done.none none) at done.noted_is, rw (done.none none) at done.totals_is)
+
+-- no packets were accepted
+pub none_accepted : {S : Type 0} (takes : S → Item → S → Type 0) (limit : ℕ) (s t : S) (span : Span) → t ≡ s → IsAccepted takes limit s t span 0
+none_accepted takes limit s t span same = record {
+  packets = [];
+  first = record { inside = omega arith; octets = refl; front = refl };
+  accepted = same;
+}
 
 -- ---- taken
 
@@ -274,34 +281,57 @@ module _ {A K M : Type 0} (grows : K → K → List A → Type 0) (grows-nil : (
         (placed span.seen span.channel (span.place + length (octets_of done.packets)) (front_packets limit (drop many span.octets.now))) Write
         (rw parts.2 (one_stopped s t _ _ (rw parts.2 at done.quiet) same report out_failed report_failed (rw parts.2 at part))))
 
--- what is left of a front, once so many octets of it were taken
-pub record IsLeft (limit seen channel place at many : ℕ) (octets : List ℕ) (packets : List (List ℕ)) : Type 0 where
-  pub items : placed seen channel (place + at) (front_packets limit (drop at octets))
-      ≡ placed seen channel (place + at) packets ++ placed seen channel (place + (at + many)) (front_packets limit (drop (at + many) octets))
-  pub longer : front_length limit (drop at octets) ≡ many + front_length limit (drop (at + many) octets)
-  pub inside : at + many ≤ length octets
+-- ---- taken one after the other
 
-pub front_left : (limit : ℕ) (span : Span) (at many : ℕ) (left : Bor (List ℕ)) (packets : List (List ℕ))
-    → left.now ≡ take (length span.octets.now - at) (drop at span.octets.now) → at ≤ length span.octets.now
-    → AreFirst limit (record span { place = span.place + at; octets = left }) packets many
-    → IsLeft limit span.seen span.channel span.place at many span.octets.now packets
-front_left limit span at many left packets is within first =
-    let octets = span.octets.now in
-    let all : left.now ≡ drop at octets = is ∙ take_rest octets at in
-    let long = first-length limit (record span { place = span.place + at; octets = left }) packets many first in
-    let behind : drop many left.now ≡ drop (at + many) octets = ap (drop many) all ∙ drop-drop many at octets in
-    let front : front_packets limit (drop at octets) ≡ packets ++ front_packets limit (drop (at + many) octets) =
-    ap (front_packets limit) (sym all) ∙ first.front ∙ rw behind refl in
-    let next : (span.place + at) + many ≡ span.place + (at + many) = omega arith in
-    record {
-      items =
-          ap (placed span.seen span.channel (span.place + at)) front
-          ∙ placed-append span.seen span.channel (span.place + at) packets (front_packets limit (drop (at + many) octets))
-          ∙ rw (long, next) refl;
-      longer =
-          ap (λ (ps : List (List ℕ)). length (octets_of ps)) front
-          ∙ ap length (octets_of-append packets (front_packets limit (drop (at + many) octets)))
-          ∙ length-append (octets_of packets) (octets_of (front_packets limit (drop (at + many) octets)))
-          ∙ rw long refl;
-      inside = omega (arith, first.inside, ap length all, length-drop at octets);
-    }
+-- the items of a span's front before this octet were taken, and so the rest of them is left
+pub record IsAt {S F : Type 0} (takes : S → Item → S → Type 0) (refuses : S → Item → F → S → Type 0) (limit : ℕ) (span : Span) (old now : S) (at : ℕ) : Type 0 where
+  pub leads : Leads takes refuses old now (front_items limit span)
+      (placed span.seen span.channel (span.place + at) (front_packets limit (drop at span.octets.now)))
+  pub longer : front_length limit span.octets.now ≡ at + front_length limit (drop at span.octets.now)
+  pub inside : at ≤ length span.octets.now
+
+module _ {S F : Type 0} (takes : S → Item → S → Type 0) (refuses : S → Item → F → S → Type 0) (limit : ℕ) (span : Span) (old : S) where
+  module _ {now : S} {at : ℕ} (done : IsAt takes refuses limit span old now at) (rest : Span)
+      (is : rest ≡ record span { place = span.place + at; octets = rest.octets }) (all : rest.octets.now ≡ drop at span.octets.now) where
+    -- the first packets of the rest, too
+    pub goes_on : (next : S) (many : ℕ) → IsAccepted takes limit now next rest many → IsAt takes refuses limit span old next (at + many)
+    goes_on next many taken =
+        let octets = span.octets.now in
+        let first = taken.first in
+        let long = first-length limit rest taken.packets many first in
+        let behind : drop many rest.octets.now ≡ drop (at + many) octets = ap (drop many) all ∙ drop-drop many at octets in
+        let front : front_packets limit (drop at octets) ≡ taken.packets ++ front_packets limit (drop (at + many) octets) =
+        ap (front_packets limit) (sym all) ∙ first.front ∙ rw behind refl in
+        let split : front_length limit (drop at octets) ≡ many + front_length limit (drop (at + many) octets) =
+        ap (λ (ps : List (List ℕ)). length (octets_of ps)) front
+        ∙ ap length (octets_of-append taken.packets (front_packets limit (drop (at + many) octets)))
+        ∙ length-append (octets_of taken.packets) (octets_of (front_packets limit (drop (at + many) octets)))
+        ∙ rw long refl in
+        let next_place : (span.place + at) + many ≡ span.place + (at + many) = omega arith in
+        record {
+          leads =
+              leads_all done.leads next (span_items rest taken.packets)
+              (placed span.seen span.channel (span.place + (at + many)) (front_packets limit (drop (at + many) octets)))
+              (ap (placed span.seen span.channel (span.place + at)) front
+              ∙ placed-append span.seen span.channel (span.place + at) taken.packets (front_packets limit (drop (at + many) octets))
+              ∙ rw (is, long, next_place) refl)
+              taken.accepted;
+          longer = omega (arith, done.longer, split);
+          inside = omega (arith, first.inside, done.inside, ap length all, length-drop at octets);
+        }
+
+    -- one of them is refused
+    pub refuses_one : (fault : F) (next : S) → RefusesOne takes refuses now (front_items limit rest) fault next
+        → RefusesOne takes refuses old (front_items limit span) fault next
+    refuses_one fault next refused = done.leads.refused fault next (rw (is, all) at refused)
+
+    -- there are none
+    pub ends : (next : S) (many : ℕ) → IsAccepted takes limit now next rest many → many ≡ 0 → front_packets limit rest.octets.now ≡ []
+        → TakesAll takes old (front_items limit span) next × (at ≡ front_length limit span.octets.now)
+    ends next many taken zero none =
+        let on = goes_on next many taken in
+        let left : front_packets limit (drop (at + many) span.octets.now) ≡ [] =
+        ap (λ (n : ℕ). front_packets limit (drop n span.octets.now)) (omega (arith, zero)) ∙ ap (front_packets limit) (sym all) ∙ none in (
+          on.leads.accepted next (rw left refl),
+          omega (arith, on.longer, zero, ap (λ (ps : List (List ℕ)). length (octets_of ps)) left),
+        )

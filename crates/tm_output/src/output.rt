@@ -167,6 +167,21 @@ fn note_packet(
     push_notes(lines, packet.seen, packet.channel, application, &notes)
 }
 
+// A span from an octet on.
+#[inline(always)]
+fn span_from(span: Span<'_>, at: usize) -> Span<'_>
+    requires inside { at ≤ length span.octets.now }
+    requires places { span.place + length span.octets.now < 2 ^ 16 }
+    ensures rest { result ≡ record span.entry { place = span.entry.place + at; octets = result.octets } }
+    ensures octets { result.octets.now ≡ drop at span.entry.octets.now }
+{
+    Span {
+        place: span.place + at as u16,
+        octets: &span.octets[at..],
+        ..span
+    }
+}
+
 // The packet at the front of a span, if one of at most `limit` octets lies whole there.
 #[inline(always)]
 fn first_packet(limit: usize, span: Span<'_>) -> Option<Packet<'_>>
@@ -217,12 +232,7 @@ fn note_quiet<O: Outlet>(
 {
     let mut at = 0;
     loop {
-        let rest = Span {
-            place: span.place + at as u16,
-            octets: &span.octets[at..],
-            ..span
-        };
-        let Some(packet) = first_packet(limit, rest) else {
+        let Some(packet) = first_packet(limit, span_from(span, at)) else {
             return at;
         };
         if !note_if_quiet(tracker, outlet, &packet) {
@@ -280,7 +290,36 @@ impl<O: Outlet, V: Drain> Output<'_, O, V> {
         Ok(())
     }
 
-    // Takes one or some of the packets at the front of a span, if there are any, and answers how many octets they have.
+    // Takes the first packets of a span that add nothing to the report, if the outlet can join them. Answers how many octets they have.
+    #[inline(always)]
+    fn write_quiet(&mut self, limit: usize, span: Span<'_>) -> Result<usize, RunFault>
+        requires channel { span.channel < 8 }
+        requires places { span.place + length span.octets.now < 2 ^ 16 }
+        ensures accepted { IfOk result (IsAccepted (Takes O.grows O.text O.buffering) limit
+            (output_state O.Outlet V.Drain self.old) (output_state O.Outlet V.Drain self.new) span.entry) }
+        ensures refused { IfErr result (λ fault. RefusesOne (Takes O.grows O.text O.buffering)
+            (Refuses O.grows O.text O.buffering) (output_state O.Outlet V.Drain self.old)
+            (front_items limit span.entry) fault (output_state O.Outlet V.Drain self.new)) }
+    {
+        if !self.outlet.can_join() {
+            return Ok(0);
+        }
+        let quiet = note_quiet(self.tracker, &mut self.totals, self.outlet, limit, span);
+        if quiet == 0 {
+            return Ok(0);
+        }
+        let front = Span {
+            octets: &span.octets[..quiet],
+            ..span
+        };
+        match self.outlet.write_span(front) {
+            Ok(true) => Ok(quiet),
+            Ok(false) => unreachable!(),
+            Err(_) => Err(RunFault::Write),
+        }
+    }
+
+    // Takes the packet at the front of a span, if there is one, and answers how many octets it has.
     #[inline(always)]
     fn write_first(&mut self, limit: usize, span: Span<'_>) -> Result<usize, RunFault>
         requires channel { span.channel < 8 }
@@ -292,20 +331,6 @@ impl<O: Outlet, V: Drain> Output<'_, O, V> {
             (Refuses O.grows O.text O.buffering) (output_state O.Outlet V.Drain self.old)
             (front_items limit span.entry) fault (output_state O.Outlet V.Drain self.new)) }
     {
-        if self.outlet.can_join() {
-            let quiet = note_quiet(self.tracker, &mut self.totals, self.outlet, limit, span);
-            if quiet > 0 {
-                let front = Span {
-                    octets: &span.octets[..quiet],
-                    ..span
-                };
-                return match self.outlet.write_span(front) {
-                    Ok(true) => Ok(quiet),
-                    Ok(false) => unreachable!(),
-                    Err(_) => Err(RunFault::Write),
-                };
-            }
-        }
         let Some(packet) = first_packet(limit, span) else {
             return Ok(0);
         };
@@ -444,12 +469,11 @@ impl<O: Outlet, V: Drain> Sink for Output<'_, O, V> {
     fn take_front(&mut self, limit: usize, span: Span<'_>) -> Result<usize, RunFault> {
         let mut at = 0;
         loop {
-            let rest = Span {
-                place: span.place + at as u16,
-                octets: &span.octets[at..],
-                ..span
-            };
-            match self.write_first(limit, rest) {
+            match self.write_quiet(limit, span_from(span, at)) {
+                Ok(many) => at += many,
+                Err(fault) => return Err(fault),
+            }
+            match self.write_first(limit, span_from(span, at)) {
                 Ok(0) => return Ok(at),
                 Ok(many) => at += many,
                 Err(fault) => return Err(fault),

@@ -1,4 +1,4 @@
-use Rattle.std.proofs.Common.{◌∙◌, ap, arith}
+use Rattle.std.proofs.Common.{◌∙◌, ap}
 use Rattle.std.specs.Int.{from_bool}
 use Rattle.tm_output.proofs.ListingLemmas.{stands_listing, stands_more, stands_stopped}
 use Rattle.tm_output.proofs.listing.list_records.Goals as goal

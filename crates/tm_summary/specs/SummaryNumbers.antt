@@ -1,5 +1,5 @@
 -- The numbers of a summary, each of whole lists: how many are of a kind, or the sum of a part of them.
-use Rattle.std.specs.Prelude.{ℕ, zero, suc, ◌+◌, ◌-◌, ◌^◌, ◌==◌, min, Bool, List, [], ◌∷◌, ◌++◌, length, map, filter, fold, sum_by, if◌then◌else◌}
+use Rattle.std.specs.Prelude.{ℕ, zero, suc, ◌+◌, ◌==◌, Bool, List, [], ◌∷◌, ◌++◌, length, map, filter, fold, sum_by, if◌then◌else◌}
 use Rattle.tm_frame.specs.Frame.{GoodFrame, is_vca_kind}
 use Rattle.tm_items.specs.Item.{Item, seen_of}
 use Rattle.tm_packet.specs.declared.notes.Note.{Note}

@@ -23,7 +23,8 @@ pub struct Counting<'a> {
     pub bad: bool,
 }
 
-// Counts notes on a channel and application.
+// Counts notes on a channel and application. It stands apart, since of most packets there are none.
+#[inline(never)]
 fn add_notes(counts: &mut Counts, key: u16, notes: &Notes)
     requires { key < 16384 }
     ensures { counts.new ≡ noted_numbers counts.old key notes.now }
@@ -44,6 +45,7 @@ fn is_bad(item: Item<'_>) -> bool
 
 impl Counting<'_> {
     // Counts a packet and its notes.
+    #[inline(always)]
     #[tactic(auto, unfolding(tm_output::specs::Pieces::noted))]
     fn add_packet(&mut self, seen: u32, channel: u8, octets: &[u8])
         requires channel { channel < 8 }
@@ -58,6 +60,9 @@ impl Counting<'_> {
         let application = header.application();
         let length = octets.len() as u64;
         self.counts.add_packet(seen, channel, application, length);
+        if self.tracker.add_without_notes(channel, header) {
+            return;
+        }
         let notes = self.tracker.take(channel, header);
         let pair = Pair {
             channel,
@@ -105,6 +110,7 @@ impl Sink for Counting<'_> {
 
     ghost refuses = { RefusesTally };
 
+    #[inline(always)]
     fn take(&mut self, item: Item<'_>) -> Result<(), RunFault> {
         match item {
             Item::Packet {

@@ -1,5 +1,4 @@
 use Rattle.tm_output.proofs.SpanLemmas.{ends, goes_on, refuses_one}
-use Rattle.tm_output.proofs.output.OutputSink.take_front.Goals.{In-Ok}
 use Rattle.tm_output.proofs.output.OutputSink.take_front.Goals as goal
 
 pub loop-many-preserved : goal.loop-many-preserved

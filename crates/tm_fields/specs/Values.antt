@@ -13,7 +13,7 @@ abbrev pub without_front : List ℕ → List ℕ
 without_front [] = []
 without_front (octet ∷ more) = if is_blank octet then without_front more else octet ∷ more
 
--- an octet before what is left of the octets behind it: a blank before nothing goes too
+-- an octet in front of what is left of the rest, unless it is a blank and nothing is left
 abbrev pub before_rest : ℕ → List ℕ → List ℕ
 before_rest octet [] = if is_blank octet then [] else octet ∷ []
 before_rest octet (next ∷ more) = octet ∷ next ∷ more

@@ -405,7 +405,7 @@ fn two_states(alloc: Global, limit: usize) -> Result<(ChannelState, ChannelState
     ))
 }
 
-// Four of them.
+// Four channels without anything kept.
 fn four_states(
     alloc: Global,
     limit: usize,

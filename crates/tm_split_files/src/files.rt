@@ -13,13 +13,13 @@ use std::io::{self, Write};
 use std::rt::Files;
 use tm_file_identity::{FileIdentities, FileIdentity, identity_of, identity_of_file, is_any};
 
-// So many applications there are.
+// The applications that there can be.
 const APPLICATIONS: usize = 2048;
 
-// So many octets come at the most before all that is held is written.
+// All that is held is written once it has this many octets.
 const MOST_HELD: usize = 8_388_608;
 
-// So many octets of one application are written, and not held: so they are written while they are still in the processor's cache.
+// This many octets of one application are written at once, while they are still in the processor's cache.
 const MANY_OF_ONE: usize = 65_536;
 
 /// Why octets don't reach their file.

@@ -110,7 +110,7 @@ impl<R: Files + AllocGlobal> Shelf for FileShelf<'_, R> {
 
     ghost refusals = { λ s. s.refused };
 
-    // Its files don't tell what they have: so the first two clauses say nothing of them. What is held before it is written is said by those behind.
+    // `whole` and `prefix` say nothing, since files show no contents. The clauses after them speak of what is held before it is written.
     #[inline(always)]
     #[tactic(auto, using(crate::proofs::ShelfLemmas::after_a_put))]
     fn put(&mut self, application: u16, octets: &[u8]) -> Result<(), ShelfFault>

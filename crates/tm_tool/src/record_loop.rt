@@ -54,7 +54,7 @@ pub(crate) trait RecordHandler {
             (work_of reassembly.old (Self.entries self.old)) octets.now
             (Self.held self.old) (Self.held self.new)) };
 
-    // Flushes all that was written. The record that was taken last still is taken, or it is refused.
+    // Flushes all that was written. If that fails, the last record counts as refused.
     fn flush_all(&mut self) -> Result<(), RunFault>
         ensures same { Self.fixed self.new ≡ Self.fixed self.old }
         ensures entries { Self.entries self.new ≡ Self.entries self.old }

@@ -161,7 +161,7 @@ fn handle_recording<R: BufferedSource, O: Outlet, V: Drain>(
     Ok(())
 }
 
-/// The same with a job's extractor, into an outlet and a report. Answers what was given and lost, in numbers.
+/// Runs over a recording by a job's extractor, into an outlet and a report. Answers what was given and lost, in numbers.
 pub(crate) fn run_into<R: BufferedSource, O: Outlet, V: Drain>(
     extractor: &mut Extractor,
     recording: &mut R,

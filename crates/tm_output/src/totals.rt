@@ -44,14 +44,13 @@ impl Totals {
         }
     }
 
-    /// Counts a record: whether it is a good frame of a chosen channel.
+    /// Counts a record: whether it is a good frame of a chosen channel. It has no branch, since each record comes here.
     #[inline(always)]
     pub fn add_record(&mut self, chosen: bool)
         ensures { self.new ≡ with_record self.old chosen }
     {
-        if chosen {
-            self.good = self.good.saturating_add(1);
-        }
+        let (good, over) = self.good.overflowing_add(u64::from(chosen));
+        self.good = good.wrapping_sub(u64::from(over));
     }
 
     // Counts a line that tells a loss.

@@ -9,7 +9,7 @@ import threading
 import unittest
 from pathlib import Path
 
-from support import PACKAGE, RECORDING, SETTINGS, TestCase, example, tmx
+from support import PACKAGE, RECORDING, SETTINGS, TestCase, command, example, tmx
 
 MARKER = bytes.fromhex("1ACFFC1D")
 
@@ -24,11 +24,12 @@ def stream_of(records: list[bytes]) -> bytes:
 
 
 class Cut(TestCase):
-    def found(self, stream: bytes, length: int, **how) -> tuple[list[bytes], list[tuple[int, int, int]], int]:
-        cut = tmx.cut(io.BytesIO(stream), MARKER, length, **how)
+    def found(self, stream: bytes, length: int, strict: bool = True, **how) -> tuple[list[bytes], list[tuple[int, int, int]], int]:
+        cut = tmx.cut(io.BytesIO(stream), MARKER, length, strict=strict, **how)
         records = list(cut)
         self.assertEqual(cut.records, len(records))
-        self.assertEqual(len(stream), cut.records * (length + len(MARKER)) + cut.left_out)
+        if strict:
+            self.assertEqual(len(stream), cut.records * (length + len(MARKER)) + cut.left_out)
         self.assertLess(len(cut.window.octets), 2 << 20)
         return records, [(it.at, it.octets, it.shift) for it in cut.slips], cut.left_out
 
@@ -73,6 +74,49 @@ class Cut(TestCase):
                     stream += MARKER + record[:at] + (chance.randbytes(octets) + record[at:] if more else record[at + octets :])
                 found, places, _ = self.found(bytes(stream), length)
                 self.assertEqual((found, len(places)), (kept, slips))
+
+    def test_the_record_before_a_slip(self) -> None:
+        for seed in range(5):
+            chance = random.Random(seed)
+            records = records_of(3000, 100, seed)
+            slips = set(chance.sample(range(2, 3000), 70))
+            stream = b"".join(chance.randbytes(chance.randrange(1, 9) * (it in slips)) + MARKER + records[it] for it in range(3000))
+            found, places, left_out = self.found(stream, 100, strict=False)
+            self.assertEqual((found == records, len(places), left_out), (True, 70, len(stream) - 3000 * 104))
+            self.assertEqual(len(self.found(stream, 100)[0]), 3000 - 70)
+
+    def test_a_slip_within_a_record(self) -> None:
+        records, at = records_of(9, 100, 3), 4 * 104
+        stream = stream_of(records)
+        for torn, octets in ((stream[: at + 50] + stream[at + 57 :], 97), (stream[: at + 50] + b"three" + stream[at + 50 :], 109)):
+            found, slips, left_out = self.found(torn, 100, strict=False)
+            self.assertEqual(found, [*records[:4], torn[at + 4 : at + 104], *records[5:]])
+            self.assertEqual((slips, left_out), ([(at, octets, octets - 104)], max(0, octets - 104)))
+
+    def test_randomized_frames(self) -> None:
+        # The first octets of the sequence are those of CCSDS 131.0-B-5, 10.4.2, and it has 255 bits.
+        sequence = tmx.markers.pseudo_random(600)
+        self.assertEqual((sequence[:8].hex(), sequence[255:510]), ("ff480ec09a0d70bc", sequence[:255]))
+        records = records_of(9, 600, 4)
+        hidden = [bytes(map(int.__xor__, it, sequence)) for it in records]
+        self.assertEqual(self.found(stream_of(hidden), 600, derandomize=True), (records, [], 0))
+
+    def test_where_nothing_is_found(self) -> None:
+        Path("raw").write_bytes(stream_of(records_of(20, 100, 5)))
+        Path("noise").write_bytes(bytes(5000))
+        for words, said in (
+            ("--length 90 raw", "tmx cut: no record: most markers are 104 octets apart: try --length 100"),
+            ("--length 200 noise", "tmx cut: no record: no two markers are there"),
+            ("--marker 1acffc1e --length 100 raw", "tmx cut: no record: no two markers are there"),
+        ):
+            status, lines = command("cut", *words.split())
+            self.assertEqual((status, lines.splitlines()[-1]), (1, said))
+        for words, said in (
+            ("--marker xyz --length 100 raw", "the marker isn't hexadecimal: 'xyz'"),
+            ("--flips 9 --length 100 raw", "flips takes numbers from 0 to 8, and not 9"),
+        ):
+            status, lines = command("cut", *words.split())
+            self.assertEqual((status, lines.splitlines()[-1]), (2, f"python3 -m tmx cut: error: {said}"))
 
     def test_damaged_markers(self) -> None:
         records, step = records_of(30, 100, 5), 104

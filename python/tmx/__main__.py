@@ -10,7 +10,7 @@ from .checkpoints import cut_back, records_done
 from .errors import Error, ProgramError
 from .following import OUTPUTS, Wanted, next_step, steps
 from .loss_map import drawing, lines_of_file
-from .markers import cut
+from .markers import Cut, cut
 from .probing import probe
 from .recording import Recording
 
@@ -93,27 +93,32 @@ def probe_words(parser: argparse.ArgumentParser) -> None:
 def probe_recording(words: argparse.Namespace, parser: argparse.ArgumentParser) -> None:
     found = probe(words.recording)
     if not found:
-        raise NothingFitsError(found.note)
+        raise NothingFoundError(found.note)
     put(found[0].toml().encode())
     for other in found[1:]:
         said = f"{other.share:.1%} good frames, {other.whole:.1%} of data in whole packets"
         print(f"also: {', '.join(other.settings.toml().splitlines())}: {said}", file=sys.stderr)
 
 
-class NothingFitsError(Error):
-    """No settings fit a recording."""
+class NothingFoundError(Error):
+    """No settings fit a recording, or no record is placed in a stream."""
 
 
 def cut_words(parser: argparse.ArgumentParser) -> None:
     parser.add_argument("--marker", default="1ACFFC1D", metavar="HEX", help="the sync marker (1ACFFC1D)")
     parser.add_argument("--length", required=True, type=int, metavar="N", help="the octets behind each marker")
     parser.add_argument("--flips", default=0, type=int, metavar="N", help="how many bits of a marker may be wrong (0)")
+    what = "leaves out the record before a slip, which has no marker behind it"
+    parser.add_argument("--strict-markers", action="store_true", help=what)
+    what = "takes the pseudo-random sequence of CCSDS 131.0-B off each record"
+    parser.add_argument("--derandomize", action="store_true", help=what)
     parser.add_argument("stream", nargs="?", default="-", metavar="STREAM", help="the raw stream; standard input without it")
 
 
 def cut_stream(words: argparse.Namespace, parser: argparse.ArgumentParser) -> None:
     try:
-        found = cut(words.stream, words.marker, words.length, words.flips)
+        how = {"strict": words.strict_markers, "derandomize": words.derandomize}
+        found = cut(words.stream, words.marker, words.length, words.flips, **how)
     except ValueError as error:
         parser.error(str(error))
     said, block = 0, b"more"
@@ -124,6 +129,15 @@ def cut_stream(words: argparse.Namespace, parser: argparse.ArgumentParser) -> No
             print(slip, file=sys.stderr)
         said = len(found.slips)
     print(f"cut records={found.records} slips={len(found.slips)} left={found.left_out}", file=sys.stderr)
+    if not found.records:
+        raise NothingFoundError(f"no record: {apart(found)}")
+
+
+def apart(found: Cut) -> str:
+    """What the markers of a stream without a record say."""
+    if found.distance is None:
+        return "no two markers are there"
+    return f"most markers are {found.distance} octets apart: try --length {found.distance - len(found.marker)}"
 
 
 Command = tuple[str, Callable[[argparse.ArgumentParser], None], Callable[[argparse.Namespace, argparse.ArgumentParser], None]]

@@ -1,6 +1,7 @@
 """Raw streams with sync markers, cut into records of one length."""
 
 import os
+from collections import Counter
 from collections.abc import Iterator
 from dataclasses import dataclass
 from typing import IO
@@ -12,13 +13,14 @@ from .source import Source, refuse_to_overwrite
 SEARCHED = 1 << 16  # octets that are searched at once
 LENGTHS = range(1, 1 << 32)  # of records
 MISSING = 3  # markers in a row that may be damaged beyond what is let pass, while those behind them stand in place
+MEASURED = 1000  # markers whose distances are measured while no record is placed
 
 
 @dataclass(frozen=True, slots=True)
 class Slip:
-    """A stretch of the stream that was left out, since no record could be placed in it.
+    """A stretch of the stream between a marker and the next one that was found, where octets were lost or added.
 
-    at      its first octet in the stream, from 0: the marker of the record in which octets were lost or added
+    at      its first octet in the stream, from 0: the marker before the slip
     octets  how many octets it has, up to the next marker that was found
     shift   by how many octets the records behind it stand later than those before it say; less than 0 where octets were lost
     """
@@ -67,21 +69,26 @@ class Cut:
     """The records of a raw stream with sync markers.  It is iterated once, and can be read as a recording.
 
     records   how many records were found so far
-    slips     the stretches that were left out so far
-    left_out  how many octets were left out so far; those of a record that is cut off at the end are among them
+    slips     the stretches with a slip so far
+    left_out  how many octets of no record there were so far; those of a record that is cut off at the end are among them
+    distance  how many octets most markers are apart, where no record was placed and that can be told; else None
 
     A record is the octets behind a marker.  It is placed where a marker stands before it, and one stands behind it too or the
     stream ends there.  Of up to three markers in a row that are damaged the records are placed nevertheless, where the next
-    marker stands as if nothing were lost.  All else is left out.
+    marker stands as if nothing were lost.  Once a record is placed, the octets behind each marker without a wrong bit are a
+    record too, also before a slip: its error control tells whether it is whole.  Strictly they are none.
     """
 
-    def __init__(self, source: Source, marker: bytes, length: int, flips: int) -> None:
+    def __init__(self, source: Source, marker: bytes, length: int, flips: int, strict: bool, mask: bytes) -> None:
         self.source = source
         self.marker = marker
         self.pattern = int.from_bytes(marker, "big")
         self.length = length
         self.flips = flips
+        self.strict = strict
+        self.mask = mask  # that is added to each record; empty for none
         self.step = len(marker) + length
+        self.distances: Counter[int] = Counter()
         self.records = 0
         self.left_out = 0
         self.slips: list[Slip] = []
@@ -91,7 +98,13 @@ class Cut:
         self.rest = b""
 
     def __iter__(self) -> Iterator[bytes]:
-        return self.found
+        for run in self.found:
+            yield from run
+
+    @property
+    def distance(self) -> int | None:
+        (most, times), *_ = [*self.distances.most_common(1), (0, 0)]
+        return most if not self.records and times > 1 else None
 
     def read(self, most: int = -1) -> bytes:
         """Some octets of the records, one behind the other, so that the records are a stream; none at the end.
@@ -100,11 +113,11 @@ class Cut:
         """
         parts, there = [self.rest], len(self.rest)
         while most < 0 or there < most and (not there or self.is_at_hand()):
-            record = next(self.found, None)
-            if record is None:
+            run = next(self.found, None)
+            if run is None:
                 break
-            parts.append(record)
-            there += len(record)
+            parts += run
+            there += len(run) * self.length
         octets = b"".join(parts)
         end = there if most < 0 else most
         self.rest = octets[end:]
@@ -118,55 +131,88 @@ class Cut:
         """Writes the records that are left to a file, as a whole.  Raises FileError where it is the stream's own."""
         refuse_to_overwrite(path, self.source.file)
         with NewFile(path) as new:
-            new.file.writelines(self.found)
+            new.file.writelines(self)
 
-    def cut(self) -> Iterator[bytes]:
-        """Each record."""
+    def cut(self) -> Iterator[list[bytes]]:
+        """The records, those together that are placed one behind the other."""
         self.source.open_stream()
         try:
             window = self.window
             self.at = self.next_marker(window, 0, 0)
             while window.reach(self.at + self.step):
-                placed = self.placed(window, self.at)
-                for _ in range(placed):
-                    begin = self.at + len(self.marker)
-                    self.at += self.step
-                    self.records += 1
-                    yield window.part(begin, self.at)
+                at, placed = self.at, self.placed(window, self.at)
+                if placed or self.stands_alone(window, at):
+                    many = max(placed, 1)
+                    self.at += many * self.step
+                    yield self.run(window, at, many)
                 if not placed:
-                    self.at = self.next_marker(window, self.at, self.at + 1)
+                    self.at = self.next_marker(window, at, at + 1)
                 window.forget(self.at)
             self.left_out += window.end - self.at
         finally:
             self.source.close()
 
+    def run(self, window: Window, at: int, many: int) -> list[bytes]:
+        """So many records from a marker on."""
+        first = at + len(self.marker)
+        run = [window.part(begin, begin + self.length) for begin in range(first, first + many * self.step, self.step)]
+        self.records += many
+        if not self.mask:
+            return run
+        octets, mask = b"".join(run), int.from_bytes(self.mask * many, "big")
+        octets = (int.from_bytes(octets, "big") ^ mask).to_bytes(len(octets), "big")
+        return [octets[begin : begin + self.length] for begin in range(0, len(octets), self.length)]
+
     def placed(self, window: Window, at: int) -> int:
-        """How many records are placed from here on, up to the next marker that stands in its place, or to the end."""
+        """How many records are placed from here on: all up to a marker that stands in its place, of what was read, or to the end."""
         for records in range(1, MISSING + 2):
             end = at + records * self.step
-            if self.matches(window, end) or window.ended and window.end == end:
+            if self.matches(window, end):
+                return records + self.placed_at_hand(window, end)
+            if window.ended and window.end == end:
                 return records
         whole = window.ended and window.end < at + self.step + len(self.marker)
         return 1 if whole else 0
+
+    def placed_at_hand(self, window: Window, at: int) -> int:
+        """How many records with a marker without a wrong bit behind each come from this marker on, of what was read."""
+        place, last = at + self.step, window.end - len(self.marker)
+        while place <= last and window.octets.startswith(self.marker, place - window.begin):
+            place += self.step
+        return (place - at) // self.step - 1
+
+    def stands_alone(self, window: Window, at: int) -> bool:
+        """Whether the octets behind this marker are a record, though no marker stands behind it."""
+        return bool(self.records) and not self.strict and window.octets.startswith(self.marker, at - window.begin)
 
     def matches(self, window: Window, at: int) -> bool:
         """Whether a marker stands here."""
         end = at + len(self.marker)
         if not window.reach(end):
             return False
-        return (int.from_bytes(window.part(at, end), "big") ^ self.pattern).bit_count() <= self.flips
+        if window.octets.startswith(self.marker, at - window.begin):
+            return True
+        return self.flips > 0 and (int.from_bytes(window.part(at, end), "big") ^ self.pattern).bit_count() <= self.flips
 
     def next_marker(self, window: Window, at: int, begin: int) -> int:
-        """The next marker from a place on, with a marker or the end behind its record.  What is before it is left out."""
-        place = self.search(window, begin)
-        while place < window.end and not self.placed(window, place):
+        """The next marker from a place on whose record is one.  Octets before it are of no record, but those of one that begins at `at`."""
+        given = self.step if begin > at and self.stands_alone(window, at) else 0
+        place = before = self.search(window, begin)
+        while place < window.end and not self.placed(window, place) and not self.stands_alone(window, place):
             place = self.search(window, place + 1)
+            self.measure(place - before)
+            before = place
         if place > at and place < window.end:
             half = self.step // 2
             shift = (place - at + half) % self.step - half if self.records else 0
             self.slips.append(Slip(at, place - at, shift))
-        self.left_out += place - at
+        self.left_out += max(0, place - at - given)
         return place
+
+    def measure(self, distance: int) -> None:
+        """Takes note of the distance of two markers, while no record is placed."""
+        if not self.records and self.distances.total() < MEASURED:
+            self.distances[distance] += 1
 
     def search(self, window: Window, begin: int) -> int:
         """The next place of a marker; the stream's end where there is none."""
@@ -193,21 +239,48 @@ class Cut:
         return -1
 
 
+def pseudo_random(length: int) -> bytes:
+    """So many octets of the sequence by which frames are randomized (CCSDS 131.0-B: x^8 + x^7 + x^5 + x^3 + 1, from ones)."""
+    bits = [1] * 8
+    while len(bits) < 8 * 255:
+        bits.append(bits[-1] ^ bits[-3] ^ bits[-5] ^ bits[-8])
+    octets = int("".join(map(str, bits)), 2).to_bytes(255, "big")
+    return (octets * (length // 255 + 1))[:length]
+
+
+def octets_of(marker: str | bytes) -> bytes:
+    """The octets of a sync marker.  Raises ValueError where it has none."""
+    try:
+        octets = bytes.fromhex(marker) if isinstance(marker, str) else bytes(marker)
+    except ValueError:
+        raise ValueError(f"the marker isn't hexadecimal: {marker!r}") from None
+    if not octets:
+        raise ValueError("a marker has one octet or more")
+    return octets
+
+
 def cut(
-    stream: str | os.PathLike[str] | IO[bytes], marker: str | bytes = "1ACFFC1D", length: int = 1115, flips: int = 0
+    stream: str | os.PathLike[str] | IO[bytes],
+    marker: str | bytes = "1ACFFC1D",
+    length: int = 1115,
+    flips: int = 0,
+    *,
+    strict: bool = False,
+    derandomize: bool = False,
 ) -> Cut:
     """Cuts a raw stream with sync markers into records of one length, also where octets were lost or added.
 
-    stream  the name of a file, `-` for standard input, or a binary stream
-    marker  the sync marker, in hexadecimal or as octets
-    length  the octets behind each marker, up to the next one: a frame, and its check symbols
-    flips   how many bits of a marker may be wrong
+    stream       the name of a file, `-` for standard input, or a binary stream
+    marker       the sync marker, in hexadecimal or as octets
+    length       the octets behind each marker, up to the next one: a frame, and its check symbols
+    flips        how many bits of a marker may be wrong: at most a quarter of them
+    strict       whether a record needs a marker behind it, so that the one before a slip is left out
+    derandomize  whether the pseudo-random sequence of CCSDS 131.0-B is taken off each record
 
     Gives the records without their markers, so `skip_before` is not needed for them: `tmx.Recording(tmx.cut(..), settings)`
-    reads them.  It can't mend streams that lost or gained bits.  Raises ValueError where marker or length is
-    empty, and TypeError where a number is none.
+    reads them.  It can't mend streams that lost or gained bits.  Raises ValueError where the marker isn't hexadecimal or a number is
+    out of its range, and TypeError where a number is none.
     """
-    octets = bytes.fromhex(marker) if isinstance(marker, str) else marker
-    if not octets:
-        raise ValueError("a marker has one octet or more")
-    return Cut(Source(stream), octets, number("length", length, LENGTHS), number("flips", flips, range(8 * len(octets))))
+    octets = octets_of(marker)
+    long, wrong = number("length", length, LENGTHS), number("flips", flips, range(2 * len(octets) + 1))
+    return Cut(Source(stream), octets, long, wrong, strict, pseudo_random(long) if derandomize else b"")

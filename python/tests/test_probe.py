@@ -53,6 +53,18 @@ class Probes(TestCase):
             octets = bytes(4) + b"".join(MARKER + it + symbols for it in FRAMES)[4:]  # one marker is damaged
             self.assertEqual(self.finds(octets, skip_before=4, skip_after=len(symbols)).marker, MARKER)
 
+    def test_randomized_frames(self) -> None:
+        sequence = tmx.markers.pseudo_random(256)
+        for symbols in (b"", bytes(range(1, 33))):
+            octets = b"".join(MARKER + bytes(map(int.__xor__, it, sequence)) + symbols for it in FRAMES)
+            fit = self.finds(octets, skip_after=len(symbols))
+            self.assertEqual((fit.good, f"--length {256 + len(symbols)} --derandomize" in fit.cut), (299, True))
+            Path("RECORDING").write_bytes(octets)
+            line = fit.cut.replace("python3", sys.executable)
+            subprocess.run(line, shell=True, check=True, stderr=subprocess.PIPE, env=os.environ | {"PYTHONPATH": str(PACKAGE)})
+            Path("s.toml").write_text(fit.toml())
+            self.assertEqual(tmx.Recording("cut.rec", "s.toml").summary().recording.good, 299)
+
     def test_no_error_control(self) -> None:
         self.finds(b"".join(it[:-2] for it in FRAMES), frame_length=254, error_control=False)
         octets = b"".join(MARKER + it[:-2] + random.Random(it).randbytes(32) for it in FRAMES)

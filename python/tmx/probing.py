@@ -7,15 +7,17 @@ of 256 where a length is one off, and in one of 65,536 elsewhere.  Whatever is f
 is what counts.
 """
 
+import io
 import os
 from binascii import crc_hqx
 from collections import Counter
 from collections.abc import Iterator, Sequence
-from dataclasses import dataclass
+from dataclasses import dataclass, replace
 from tempfile import NamedTemporaryFile
 from typing import IO, overload
 
 from .lines import Frame
+from .markers import cut
 from .recording import Recording
 from .settings import Settings
 from .source import Source
@@ -29,6 +31,7 @@ LEAST_RECORDS = STEPS + 1
 TRIED = 64  # records by which a candidate is judged
 LEAST_GOOD, LEAST_WHOLE = 0.2, 0.3  # shares of good frames, and of octets in whole packets, below which settings don't fit
 MOST_FITS = 3  # of one place, where there is no error control
+USUAL_MARKER = bytes.fromhex("1ACFFC1D")
 CHECK_SYMBOLS = (0, *(n * depth for depth in (1, 2, 3, 4, 5, 8) for n in (16, 32)))  # of Reed-Solomon codes
 WHERE_ZERO = bytes(octet == 0 for octet in range(256))
 PLUS = [bytes((octet + step) % 256 for octet in range(256)) for step in range(STEPS + 1)]
@@ -45,6 +48,8 @@ class Fit:
     secondary  how many of the good frames have a secondary header, and `ocf` an operational control field
     channels   the virtual channels that came
     longest    the octets of the longest packet
+    cut        the words of the command that makes a recording of randomized frames that these settings fit; empty where they
+               fit as it is
     """
 
     settings: Settings
@@ -56,6 +61,7 @@ class Fit:
     ocf: int
     channels: tuple[int, ...]
     longest: int
+    cut: str = ""
 
     @property
     def share(self) -> float:
@@ -65,6 +71,7 @@ class Fit:
     def toml(self) -> str:
         """A settings file, with what was found as comments."""
         marker = f"# each frame follows the octets {self.marker.hex().upper()}\n" if self.marker else ""
+        marker += f"# frames are randomized; these settings are for what this writes:\n#   {self.cut}\n" if self.cut else ""
         return (
             f"# {self.good} of {self.records} records are good frames ({self.share:.1%});"
             f" {self.whole:.1%} of their data is in whole packets\n{marker}"
@@ -107,7 +114,7 @@ def probe(recording: str | os.PathLike[str] | IO[bytes]) -> Probe:
 
     The first 4 MB are looked at, for ten seconds of processor time at most.  A frame has to begin in each record at the
     same place, in the first 1,025 octets; a stream with slips is cut by `cut` first.  Frames that are still randomized
-    are not found.
+    are found behind a marker.
     """
     end = processor_seconds() + SECONDS
     sample = first_octets(Source(recording))
@@ -118,6 +125,7 @@ def probe(recording: str | os.PathLike[str] | IO[bytes]) -> Probe:
         fits += fits_at(sample, length, place)
         if processor_seconds() > end or fits and fits[-1].share > 0.5:
             break
+    fits = fits or randomized_fits(sample)
     fits.sort(key=lambda it: (round(it.share, 2), it.whole), reverse=True)
     return Probe(fits, "" if fits else reason_for_nothing(sample, headers))
 
@@ -256,6 +264,17 @@ def fits_at(sample: bytes, length: int, place: int) -> list[Fit]:
     return sorted(found, key=lambda it: it.whole, reverse=True)[:MOST_FITS]
 
 
+def randomized_fits(sample: bytes) -> list[Fit]:
+    """Settings by which the program finds good frames behind a marker that comes again, once they are no longer randomized."""
+    again = repeated_marker(sample)
+    if again is None or again[1] <= len(again[0]) + LEAST_FRAME:
+        return []
+    marker, length = again[0], again[1] - len(again[0])
+    records = cut(io.BytesIO(sample), marker, length, derandomize=True).read()
+    words = f"python3 -m tmx cut --marker {marker.hex().upper()} --length {length} --derandomize RECORDING > cut.rec"
+    return [replace(it, cut=words) for it in fits_at(records, length, 0)] if len(records) >= LEAST_RECORDS * length else []
+
+
 def length_by_error_control(sample: bytes, begins: Sequence[int], room: int) -> int:
     """The least length of frames by which error control holds in most records in which it does by any; 0 where there is none."""
     holding: Counter[int] = Counter()
@@ -327,15 +346,15 @@ def reason_for_nothing(sample: bytes, headers: Sequence[tuple[int, int]]) -> str
     marker, distance = again
     return (
         f"nothing fits: the octets {marker.hex().upper()} come again every {distance} octets, but no frame was found behind"
-        " them: are the frames still randomized, or is the stream to be cut first?"
+        " them, randomized or not: is the stream to be cut first?"
     )
 
 
 def repeated_marker(sample: bytes) -> tuple[bytes, int] | None:
-    """Four octets that come again at one distance, and the distance."""
+    """Four octets that come again at one distance, and the distance; the usual marker before others."""
     part = sample[: 1 << 18]
     words = Counter(part[at : at + 4] for at in range(len(part) - 3))
-    for word, times in words.most_common(20):
+    for word, times in [(USUAL_MARKER, words[USUAL_MARKER]), *words.most_common(20)]:
         if times < LEAST_RECORDS or len(set(word)) == 1:
             continue
         at, distances = part.find(word), Counter[int]()

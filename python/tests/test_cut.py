@@ -103,11 +103,14 @@ class Cut(TestCase):
 
     def test_where_nothing_is_found(self) -> None:
         Path("raw").write_bytes(stream_of(records_of(20, 100, 5)))
+        Path("long").write_bytes(stream_of(records_of(20, 100, 5)) * 1000)
         Path("noise").write_bytes(bytes(5000))
+        other = "tmx cut: no record: no two markers are there, but others are 104 octets apart"
         for words, said in (
             ("--length 90 raw", "tmx cut: no record: most markers are 104 octets apart: try --length 100"),
             ("--length 200 noise", "tmx cut: no record: no two markers are there"),
-            ("--marker 1acffc1e --length 100 raw", "tmx cut: no record: no two markers are there"),
+            ("--marker 1acffc1e --length 90 raw", f"{other}: try --marker 1ACFFC1D --length 100"),
+            ("--marker 1acffc1e --length 90 long", f"{other}: try --marker 1ACFFC1D --length 100"),
         ):
             status, lines = command("cut", *words.split())
             self.assertEqual((status, lines.splitlines()[-1]), (1, said))

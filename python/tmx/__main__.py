@@ -11,7 +11,7 @@ from .errors import Error, ProgramError
 from .following import OUTPUTS, Wanted, next_step, steps
 from .loss_map import drawing, lines_of_file
 from .markers import Cut, cut
-from .probing import probe
+from .probing import probe, repeated_marker
 from .recording import Recording
 
 
@@ -108,7 +108,7 @@ def cut_words(parser: argparse.ArgumentParser) -> None:
     parser.add_argument("--marker", default="1ACFFC1D", metavar="HEX", help="the sync marker (1ACFFC1D)")
     parser.add_argument("--length", required=True, type=int, metavar="N", help="the octets behind each marker")
     parser.add_argument("--flips", default=0, type=int, metavar="N", help="how many bits of a marker may be wrong (0)")
-    what = "leaves out the record before a slip, which has no marker behind it"
+    what = "leaves out the record before a slip, which has no marker behind it; for frames without error control"
     parser.add_argument("--strict-markers", action="store_true", help=what)
     what = "takes the pseudo-random sequence of CCSDS 131.0-B off each record"
     parser.add_argument("--derandomize", action="store_true", help=what)
@@ -135,9 +135,14 @@ def cut_stream(words: argparse.Namespace, parser: argparse.ArgumentParser) -> No
 
 def apart(found: Cut) -> str:
     """What the markers of a stream without a record say."""
-    if found.distance is None:
+    if found.distance is not None:
+        return f"most markers are {found.distance} octets apart: try --length {found.distance - len(found.marker)}"
+    again = repeated_marker(found.window.beginning())
+    if again is None:
         return "no two markers are there"
-    return f"most markers are {found.distance} octets apart: try --length {found.distance - len(found.marker)}"
+    marker, distance = again
+    others = f"--marker {marker.hex().upper()} --length {distance - len(marker)}"
+    return f"no two markers are there, but others are {distance} octets apart: try {others}"
 
 
 Command = tuple[str, Callable[[argparse.ArgumentParser], None], Callable[[argparse.Namespace, argparse.ArgumentParser], None]]

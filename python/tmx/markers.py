@@ -41,6 +41,7 @@ class Window:
         self.octets = bytearray()
         self.begin = 0
         self.ended = False
+        self.first = b""  # the first octets of the stream, once some are forgotten
 
     def reach(self, end: int) -> bool:
         """Whether the stream has so many octets; they are read as far as it does."""
@@ -58,9 +59,14 @@ class Window:
     def part(self, begin: int, end: int) -> bytes:
         return bytes(self.octets[begin - self.begin : end - self.begin])
 
+    def beginning(self) -> bytes:
+        """The first octets of the stream."""
+        return self.first or bytes(self.octets[: 4 * SEARCHED])
+
     def forget(self, begin: int) -> None:
         """Lets go of what is before a place, when that is much."""
         if begin - self.begin > 1 << 20:
+            self.first = self.first or self.beginning()
             del self.octets[: begin - self.begin]
             self.begin = begin
 

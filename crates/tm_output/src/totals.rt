@@ -65,7 +65,9 @@ impl Totals {
     pub(crate) fn add_quiet(&mut self, given: bool)
         ensures { self.new ≡ totals_with_packet self.old given false false }
     {
-        self.packets = self.packets.wrapping_add(u64::from(given));
+        if given {
+            self.packets = self.packets.wrapping_add(1);
+        }
     }
 
     // Counts a packet: whether it is given, whether it is too short, and whether its notes tell a loss.

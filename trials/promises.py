@@ -16,7 +16,8 @@ Public are the functions that a crate's lib.rt hands out, by name or in a `pub m
 Those that a derive or an `impl` of std's traits gives aren't: they have no contract of their own. The functions of tm_tests and
 tm_program_tests, whose devices only tests use, need no entry.
 
-The table of docs/ARCHITECTURE.md that says where a line of the report stands has each file that names the last one that came.
+Three tables of docs/ARCHITECTURE.md say where a line of the report, a key and a command stand. Each has to have the files that name the
+one that came last, and no others.
 
 It prints a line for each fault, else one for each kind of thing that was looked for, and last how many passed and how many failed. Its
 status is 0 if none failed. It proves nothing: whether an entry says what its clauses say is for its reader to see."""
@@ -46,10 +47,13 @@ ONLY_TESTED = "\n## What is only tested\n"
 LET_THROUGH = "\n## What the contracts let through\n"
 REFUSALS = "\n### How planted bugs are refused\n"
 
-# The line of the report that came last, where a file may name it, and the heading of the table that has these files.
-LAST_LINE = re.compile("master_?gap", re.I)
-NAMED_IN = ("crates/*/src/*.rt", "crates/*/specs/**/*.antt", "docs/*.*", "example/*.md", "python/tmx/*.py", "trials/**/*.*")
-PLACES = "\n### A line of the report\n"
+# The tables of docs/ARCHITECTURE.md: under which heading each stands, how its files name what came last, and where such files may be.
+SOURCES = ("crates/*/src/*.rt", "crates/*/specs/**/*.antt")
+TABLES = (
+    ("A line of the report", "(?i)master_?gap", (*SOURCES, "docs/*.*", "example/*.md", "python/tmx/*.py", "trials/**/*.*")),
+    ("A key of the settings", "(?i)max_?packet", (*SOURCES, "include/*.h", "python/tmx/*.py")),
+    ("A command", r'"summary"|\bSummary\b', SOURCES),
+)
 
 # The parts of an entry, in their order, and the columns that a line may have.
 PARTS = ("Means", "Clauses", "Guards")
@@ -395,23 +399,25 @@ def judge(text):
     }
 
 
-def wrong_places():
-    """What the table of places of a line of the report lacks, and what it has too much."""
+def wrong_places(heading, word, patterns):
+    """What the table of a page lacks of the files that name a thing, and what it has too much."""
     page = ROOT / "docs" / "ARCHITECTURE.md"
-    rows = re.findall(r"^\| (`.*?) \| ", page.read_text(encoding="utf-8").partition(PLACES)[2], re.M)
-    listed = {re.sub("^tm_", "crates/tm_", it) for row in rows for it in QUOTED.findall(row)}
-    files = {path for pattern in NAMED_IN for path in ROOT.glob(pattern) if path.is_file() and "_tests" not in path.parts[-3]}
+    table = page.read_text(encoding="utf-8").partition(f"\n### {heading}\n")[2].partition("\n### ")[0]
+    crates = {path.name for path in CRATES.iterdir()}
+    places = (it for row in re.findall(r"^\| (`.*?) \| ", table, re.M) for it in QUOTED.findall(row))
+    listed = {f"crates/{it}" if it.split("/")[0] in crates else it for it in places}
+    files = {path for pattern in patterns for path in ROOT.glob(pattern) if path.is_file() and path.parts[-3] not in FOR_TESTS}
     files -= {page, PAGE, pathlib.Path(__file__).resolve(), *ROOT.glob("**/__pycache__/*")}
-    naming = {str(path.relative_to(ROOT)) for path in files if LAST_LINE.search(path.read_text(encoding="utf-8", errors="replace"))}
-    yield from (f"{it} names it, and is in no row" for it in sorted(naming - listed))
-    yield from (f"{it} is in a row, and doesn't name it" for it in sorted(listed - naming))
+    naming = {str(path.relative_to(ROOT)) for path in files if re.search(word, path.read_text(encoding="utf-8", errors="replace"))}
+    yield from (f"{heading}: {it} names it, and is in no row" for it in sorted(naming - listed))
+    yield from (f"{heading}: {it} is in a row, and doesn't name it" for it in sorted(listed - naming))
 
 
 def main():
     judged = judge(PAGE.read_text(encoding="utf-8"))
     found = {f"PROVED.md: {what}": [f"PROVED.md: {it}" for it in faults] for what, faults in judged.items()}
     found["each link of each page leads somewhere"] = [f"{page.relative_to(ROOT)}: {it}" for page in pages() for it in wrong_links(page)]
-    found["ARCHITECTURE.md: each place of a line of the report is in the table"] = [f"ARCHITECTURE.md: {it}" for it in wrong_places()]
+    found["ARCHITECTURE.md: each place is in its table"] = [f"ARCHITECTURE.md: {it}" for table in TABLES for it in wrong_places(*table)]
     for what, faults in found.items():
         for fault in dict.fromkeys(faults):
             print(f"FAILED: {fault}")

@@ -1,5 +1,6 @@
 """Jobs that stop and go on, and recordings that grow."""
 
+import contextlib
 import io
 import os
 import subprocess
@@ -286,17 +287,24 @@ class Commands(TestCase):
         self.assertEqual(len(rows), 1 + recording.fields(ATTITUDE, 101).rows)
 
     def test_steps_as_a_recording_grows(self) -> None:
+        lengths = iter((25600, len(OCTETS)))
+
         def grow(seconds: float) -> None:
             self.assertEqual(seconds, 7)
-            if Path("growing.rec").stat().st_size == len(OCTETS):
+            length = next(lengths, None)
+            if length is None:
                 raise KeyboardInterrupt
-            Path("growing.rec").write_bytes(OCTETS)
+            Path("growing.rec").write_bytes(OCTETS[:length])
 
-        Path("growing.rec").write_bytes(OCTETS[:25600])
-        with mock.patch("time.sleep", grow), mock.patch("tmx.__main__.put") as put:
+        error = io.StringIO()
+        with mock.patch("time.sleep", grow), mock.patch("tmx.__main__.put") as put, contextlib.redirect_stderr(error):
             status = commands.main(["follow", "--settings", str(SETTINGS), "--interval", "7", "growing.rec", "steps"])
-        said = [b"steps/step-0000001.chk has 100 records\n", b"steps/step-0000002.chk has 300 records\n"]
-        self.assertEqual((status, [it.args[0] for it in put.call_args_list]), (130, said))
+        self.assertEqual((status, error.getvalue()), (130, "tmx follow: growing.rec isn't there yet\n"))
+        said = "".join(it.args[0].decode() for it in put.call_args_list).splitlines()
+        rate = "; at [0-9-]{10}T[0-9:]{8}Z [0-9]+ a second"
+        self.assertEqual(len(said), 2)
+        self.assertRegex(said[0], f"^steps/step-0000001.chk has 100 records{rate}, 0 bad, 0 frames missing, 0 octets dropped$")
+        self.assertRegex(said[1], f"^steps/step-0000002.chk has 300 records{rate}, 1 bad, 2 frames missing, [0-9]+ octets dropped$")
 
     def test_a_folder_of_another_job_is_refused(self) -> None:
         fields = ("--command", "fields", "--definition", ATTITUDE, "--apid")
@@ -317,6 +325,8 @@ class Commands(TestCase):
         why = "the recording growing.rec: no such file; see that the name and the folder are right"
         self.assertEqual(self.follow("steps"), f"tmx: growing.rec: failed\n  {why}\n")
         self.assertIn("--definition and --apid are for --command fields", self.follow("steps", "--apid", 101))
+        status, said = command("follow", "--settings", SETTINGS, "-", "steps")
+        self.assertEqual((status, said.splitlines()[-1].partition("follow ")[2]), (2, "reads a file that grows, and not standard input"))
         Path("growing.rec").write_bytes(bytes(100))
         self.assertEqual(self.follow("steps"), "")
         self.assertEqual(self.follow("steps", "--command", "fields", "--definition", ATTITUDE, "--apid", 0), "")

@@ -3,12 +3,13 @@
 import argparse
 import os
 import sys
+import time
 import warnings
 from collections.abc import Callable, Iterable
 
 from .checkpoints import cut_back, records_done
 from .errors import Error, ProgramError
-from .following import OUTPUTS, Wanted, next_step, steps
+from .following import OUTPUTS, Wanted, done_in, losses, next_step, steps
 from .loss_map import drawing, lines_of_file
 from .markers import Cut, cut
 from .probing import probe, repeated_marker
@@ -67,11 +68,19 @@ def follow_recording(words: argparse.Namespace, parser: argparse.ArgumentParser)
     if needed != [words.job == "fields"] * 2:
         parser.error("--definition and --apid are for --command fields, which needs both")
     wanted = Wanted(words.job, words.definition, words.apid)
+    if words.recording == "-":
+        parser.error("follow reads a file that grows, and not standard input")
     if words.once:
         next_step(words.recording, words.settings, words.folder, wanted)
         return
+    if not os.path.exists(words.recording):
+        print(f"tmx follow: {words.recording} isn't there yet", file=sys.stderr)
+    done, since = done_in(words.folder), time.monotonic()
     for step in steps(words.recording, words.settings, words.folder, wanted, words.interval):
-        say([f"{step} has {records_done(step)} records"])
+        records, now = records_done(step), time.monotonic()
+        rate, at = (records - done) / max(now - since, 1e-3), time.strftime("%FT%TZ", time.gmtime())
+        say([f"{step} has {records} records; at {at} {rate:.0f} a second, {losses(step.with_suffix('.report'))}"])
+        done, since = records, now
 
 
 def cut_back_words(parser: argparse.ArgumentParser) -> None:

@@ -17,6 +17,7 @@ from .source import Source
 from .steps import record_length, step_words
 
 STEP = re.compile(r"step-([0-9]{7,})\.chk")
+LOST = re.compile(rb"mastergap .* missing=([0-9]+)|drop .* octets=([0-9]+)")
 JOB = "job"  # the file of a folder that says of which job its steps are
 OUTPUTS = {"packets": "packets", "extract": "pkt", "split": "split", "fields": "csv"}  # how a step's output ends, by command
 DIFFERS = {"command": "command", "apid": "application", "definition": "definition", "beginning": "recording"}
@@ -87,6 +88,12 @@ def last_step(folder: Name) -> int:
     return max((int(it[1]) for it in found if it), default=0)
 
 
+def done_in(folder: Name) -> int:
+    """How many records the steps of a folder have, which may not be there yet."""
+    last = last_step(folder) if os.path.isdir(folder) else 0
+    return records_done(Path(folder, f"step-{last:07}.chk")) if last else 0
+
+
 def check_folder(recording: Name, length: int, folder: Name, wanted: Wanted) -> None:
     """Sees whether the steps of a folder are of this job, and of a recording that begins as this one does.
 
@@ -132,10 +139,22 @@ def next_step(recording: Name, settings: Name | Settings, folder: Name, wanted: 
     return None
 
 
+def losses(report: Path) -> str:
+    """What a step's report says of losses, in numbers."""
+    bad = missing = dropped = 0
+    with open(report, "rb") as file:
+        for line in file:
+            bad += line.startswith(b"bad ")
+            if found := LOST.match(line):
+                missing += int(found[1] or 0)
+                dropped += int(found[2] or 0)
+    return f"{bad} bad, {missing} frames missing, {dropped} octets dropped"
+
+
 def steps(recording: Name, settings: Name | Settings, folder: Name, wanted: Wanted, interval: float) -> Iterator[Path]:
-    """The checkpoint of each step, as the recording grows.  After a step of nothing it waits for so many seconds."""
+    """The checkpoint of each step, as the recording comes and grows.  After a step of nothing it waits for so many seconds."""
     while True:
-        step = next_step(recording, settings, folder, wanted)
+        step = next_step(recording, settings, folder, wanted) if os.path.exists(recording) else None
         if step is not None:
             yield step
         else:

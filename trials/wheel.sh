@@ -55,6 +55,8 @@ try_place() {
     tell "$1: the command tmx" "$(bare "$2" packets --settings "$work/settings.toml" --report /dev/null "$work/pass.rec" | cmp - "$packets" 2>&1)"
     tell "$1: python -m tmx" "$(bare "${@:3}" -m tmx map --title "The example recording" --settings "$work/settings.toml" "$work/pass.rec" |
         cmp - "$work/loss_map.svg" 2>&1)"
+    tell "$1: the command tmx-map" "$(bare "${2%/*}/tmx-map" --title "The example recording" --settings "$work/settings.toml" "$work/pass.rec" |
+        cmp - "$work/loss_map.svg" 2>&1)"
     [[ $with_library = no ]] ||
         tell "$1: the library beside it" \
             "$(bare "${@:3}" -c "import tmx; print(tmx.Engine('$work/settings.toml').close())" | cmp - <(echo "Given(packets=[], report=[])") 2>&1)"

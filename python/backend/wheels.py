@@ -39,17 +39,19 @@ METADATA = (
     f"Requires-Python: {PROJECT['requires-python']}\n"
 )
 
-# The command `tmx`.  Where pip has put all below one folder (--target), Python doesn't look for packages there by itself.
-COMMAND = b"""#!python
+# How a command begins.  Where pip has put all below one folder (--target), Python doesn't look for packages there by itself.
+HEAD = """#!python
 import os.path
 import sys
 
 sys.path.append(os.path.dirname(os.path.dirname(os.path.abspath(__file__))))
 
-from tmx.programs import become
-
-become()
 """
+COMMAND = f"{HEAD}from tmx.programs import become\n\nbecome()\n".encode()  # the command `tmx`
+ALONE = ("probe", "cut", "map", "follow")  # the package's commands that are commands by themselves too, as `tmx-cut`
+SCRIPTS = {
+    f"{NAME}.data/scripts/tmx-{it}": f'{HEAD}from tmx.__main__ import run_alone\n\nrun_alone("{it}")\n'.encode() for it in ALONE
+}
 
 
 def package_files() -> dict[str, bytes]:
@@ -80,12 +82,12 @@ def digest(octets: bytes) -> str:
 
 def build_wheel(wheel_directory: str, config_settings: Any = None, metadata_directory: Any = None) -> str:
     """The wheel that is installed."""
-    return write_wheel(wheel_directory, package_files())
+    return write_wheel(wheel_directory, package_files() | SCRIPTS, programs=tuple(SCRIPTS))
 
 
 def build_editable(wheel_directory: str, config_settings: Any = None, metadata_directory: Any = None) -> str:
     """A wheel that leads to this folder, for `pip install --editable`."""
-    return write_wheel(wheel_directory, {"tmx.pth": f"{HERE}\n".encode()})
+    return write_wheel(wheel_directory, {"tmx.pth": f"{HERE}\n".encode()} | SCRIPTS, programs=tuple(SCRIPTS))
 
 
 def build_sdist(sdist_directory: str, config_settings: Any = None) -> str:
@@ -105,10 +107,10 @@ def build_sdist(sdist_directory: str, config_settings: Any = None) -> str:
 def build_with_program(folder: str, platform: str, program: str, library: str | None = None) -> str:
     """The wheel with the program in it, and with the library where one is named."""
     command = f"{NAME}.data/scripts/tmx"
-    files = package_files() | {"tmx/bin/tmx": Path(program).read_bytes(), command: COMMAND}
+    files = package_files() | SCRIPTS | {"tmx/bin/tmx": Path(program).read_bytes(), command: COMMAND}
     if library is not None:
         files["tmx/lib/libtmx.so"] = Path(library).read_bytes()
-    return write_wheel(folder, files, platform, ("tmx/bin/tmx", command))
+    return write_wheel(folder, files, platform, ("tmx/bin/tmx", command, *SCRIPTS))
 
 
 if __name__ == "__main__":

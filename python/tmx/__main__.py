@@ -172,16 +172,12 @@ def reason(error: Exception) -> str:
     return str(error)
 
 
-def main(arguments: list[str] | None = None) -> int:
-    parser = argparse.ArgumentParser("python3 -m tmx", description="Works with recordings of TM transfer frames.")
-    commands = parser.add_subparsers(dest="command", required=True, metavar="COMMAND")
-    for name, (what, add_words, _) in COMMANDS.items():
-        add_words(commands.add_parser(name, help=what, description=what.capitalize() + "."))
-    words = parser.parse_args(arguments)
+def perform(words: argparse.Namespace, parser: argparse.ArgumentParser) -> int:
+    """Runs the command of these words, and answers the status."""
     try:
         with warnings.catch_warnings():
             warnings.showwarning = lambda warning, *_: print(f"tmx {words.command}: {warning}", file=sys.stderr)
-            COMMANDS[words.command][2](words, commands.choices[words.command])
+            COMMANDS[words.command][2](words, parser)
     except KeyboardInterrupt:
         return 130
     except (Error, OSError) as error:
@@ -189,6 +185,24 @@ def main(arguments: list[str] | None = None) -> int:
         print(said, file=sys.stderr)
         return 1
     return 0
+
+
+def main(arguments: list[str] | None = None) -> int:
+    parser = argparse.ArgumentParser("python3 -m tmx", description="Works with recordings of TM transfer frames.")
+    commands = parser.add_subparsers(dest="command", required=True, metavar="COMMAND")
+    for name, (what, add_words, _) in COMMANDS.items():
+        add_words(commands.add_parser(name, help=what, description=what.capitalize() + "."))
+    words = parser.parse_args(arguments)
+    return perform(words, commands.choices[words.command])
+
+
+def run_alone(name: str) -> None:
+    """A command by itself, as `tmx-cut`."""
+    what, add_words, _ = COMMANDS[name]
+    parser = argparse.ArgumentParser(f"tmx-{name}", description=what.capitalize() + ".")
+    parser.set_defaults(command=name)
+    add_words(parser)
+    sys.exit(perform(parser.parse_args(), parser))
 
 
 if __name__ == "__main__":

@@ -277,6 +277,8 @@ with_python() {
     dpkg-deb -x "$1" root
     tell "python3 -m tmx of the package" "$(cd / && env -u TMX PATH="$folder/root/usr/bin:$PATH" PYTHONPATH="$folder/root/usr/lib/python3/dist-packages" \
         python3 -B -m tmx map --title "The example recording" --settings "$s" "$rec" 2>&1 | cmp - "$here/../docs/loss_map.svg" 2>&1)"
+    tell "tmx-map of the package" "$(cd / && env -u TMX PATH="$folder/root/usr/bin:$PATH" PYTHONPATH="$folder/root/usr/lib/python3/dist-packages" \
+        python3 -B "$folder/root/usr/bin/tmx-map" --title "The example recording" --settings "$s" "$rec" 2>&1 | cmp - "$here/../docs/loss_map.svg" 2>&1)"
     dpkg-deb -e "$1" control
     tell "the package for Python is compiled where it is installed, and leaves nothing" \
         "$(grep -L "py3compile -p python3-tmx" control/postinst; grep -L "py3clean -p python3-tmx" control/prerm)"
@@ -303,7 +305,7 @@ install() {
     if command -v dpkg-deb >/dev/null && command -v strip >/dev/null; then
         as_packages
     else
-        skip 17 "the packages" "no dpkg-deb, or no strip"
+        skip 18 "the packages" "no dpkg-deb, or no strip"
     fi
-    plan 75
+    plan 76
 }

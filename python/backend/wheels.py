@@ -48,7 +48,7 @@ sys.path.append(os.path.dirname(os.path.dirname(os.path.abspath(__file__))))
 
 """
 COMMAND = f"{HEAD}from tmx.programs import become\n\nbecome()\n".encode()  # the command `tmx`
-ALONE = ("probe", "cut", "map", "follow")  # the package's commands that are commands by themselves too, as `tmx-cut`
+ALONE = ("probe", "cut", "map", "follow", "report", "watch")  # the package's commands that are commands by themselves too, as `tmx-cut`
 SCRIPTS = {
     f"{NAME}.data/scripts/tmx-{it}": f'{HEAD}from tmx.__main__ import run_alone\n\nrun_alone("{it}")\n'.encode() for it in ALONE
 }

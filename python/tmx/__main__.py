@@ -1,6 +1,7 @@
 """The package's commands: `python3 -m tmx COMMAND`."""
 
 import argparse
+import json
 import os
 import sys
 import time
@@ -11,9 +12,15 @@ from .checkpoints import cut_back, records_done
 from .errors import Error, ProgramError
 from .following import OUTPUTS, Wanted, done_in, losses, next_step, steps
 from .loss_map import drawing, lines_of_file
+from .loss_times import times_wanted
 from .markers import Cut, cut
 from .probing import probe, repeated_marker
 from .recording import Recording
+from .report import Asked, find
+from .report_page import page
+from .screen import Log, Output, Screen, is_terminal
+from .watching import Wanted as Watched
+from .watching import watch
 
 
 def put(octets: bytes) -> None:
@@ -154,13 +161,71 @@ def apart(found: Cut) -> str:
     return f"no two markers are there, but others are {distance} octets apart: try {others}"
 
 
-Command = tuple[str, Callable[[argparse.ArgumentParser], None], Callable[[argparse.Namespace, argparse.ArgumentParser], None]]
+def report_words(parser: argparse.ArgumentParser) -> None:
+    parser.add_argument("--settings", required=True, metavar="FILE", help="the settings of the recording")
+    parser.add_argument("--title", metavar="TEXT", help="the page's heading (the recording's name)")
+    parser.add_argument("--station", metavar="TEXT", help="the station, as it is to stand there")
+    parser.add_argument("--pass", dest="pass_", metavar="TEXT", help="the pass, as it is to stand there")
+    parser.add_argument("--report", metavar="FILE", help="a file for all lines of the program's report, to which the page links")
+    what = "times of receipt in octets that the settings pass over, from this octet of a record on, as 0:cds8, 4:cuc4.2 or 0:>f8"
+    parser.add_argument("--receipt", metavar="OFFSET:FORMAT", help=what)
+    what = "times of an application's packets: the column of seconds, and that of their binary fraction"
+    parser.add_argument("--time", metavar="COLUMN[,COLUMN]", help=what)
+    parser.add_argument("--definition", metavar="FILE", help="the definition that has these columns")
+    parser.add_argument("--apid", type=int, metavar="N", help="the application of --time")
+    parser.add_argument("--channel", type=int, metavar="N", help="the only channel of its packets (all)")
+    parser.add_argument("--epoch", metavar="TIME", help="the UTC of second 0 of times")
+    parser.add_argument("--json", action="store_true", help="the same numbers as an object of JSON, and no page")
+    parser.add_argument("recording", metavar="RECORDING", help="the recording; - is standard input, which is copied to a file")
+
+
+def write_report(words: argparse.Namespace, parser: argparse.ArgumentParser) -> None:
+    try:
+        times = times_wanted(words.receipt, words.time, words.definition, words.apid, words.channel, words.epoch)
+    except ValueError as error:
+        parser.error(str(error))
+    asked = Asked(words.title, words.station, words.pass_, words.report, times)
+    found, svg = find(words.recording, words.settings, asked)
+    put((json.dumps(found.json(), indent=1) + "\n" if words.json else page(found, svg)).encode())
+
+
+def watch_words(parser: argparse.ArgumentParser) -> None:
+    parser.epilog = "Ctrl-C ends the pass: the files are whole then, the summary is printed, and the status is 0."
+    parser.add_argument("--settings", required=True, metavar="FILE", help="the settings of the recording")
+    parser.add_argument("--every", default=1.0, type=float, metavar="SECONDS", help="when it is shown again (1)")
+    parser.add_argument("--out", metavar="FILE", help="a file for the packets, as tmx extract gives them")
+    parser.add_argument("--report", metavar="FILE", help="a file for the report")
+    what = "a file that grows or isn't there yet, or a pipe; standard input without it"
+    parser.add_argument("recording", nargs="?", default="-", metavar="RECORDING", help=what)
+
+
+def watch_recording(words: argparse.Namespace, parser: argparse.ArgumentParser) -> int:
+    if not words.every > 0:
+        parser.error("--every takes a number over 0")
+    wanted = Watched(words.recording, words.settings, words.every, words.out, words.report)
+    output: Output = Screen(put) if is_terminal() else Log(put)
+    try:
+        with output as shown:
+            summary, error = watch(wanted, shown)
+        shown.put(f"{summary}\n".encode())
+    except ProgramError as refused:
+        print(refused, file=sys.stderr)
+        return max(refused.status, 1)
+    if fault := error or output.error:
+        raise fault
+    return 0
+
+
+Words = argparse.Namespace
+Command = tuple[str, Callable[[argparse.ArgumentParser], None], Callable[[Words, argparse.ArgumentParser], int | None]]
 
 COMMANDS: dict[str, Command] = {
     "map": ("draws what was lost of a recording, as an SVG", map_words, draw_map),
     "probe": ("finds settings that fit an unknown recording", probe_words, probe_recording),
     "cut": ("cuts a raw stream with sync markers into records of one length", cut_words, cut_stream),
     "follow": ("reads a growing recording in steps, each with files of its own", follow_words, follow_recording),
+    "report": ("writes a page of what came of a pass, with each loss", report_words, write_report),
+    "watch": ("shows what comes of a recording while it comes", watch_words, watch_recording),
     "cut-back": ("cuts outputs back to a checkpoint, after a run that was ended", cut_back_words, cut_files_back),
 }
 
@@ -177,14 +242,13 @@ def perform(words: argparse.Namespace, parser: argparse.ArgumentParser) -> int:
     try:
         with warnings.catch_warnings():
             warnings.showwarning = lambda warning, *_: print(f"tmx {words.command}: {warning}", file=sys.stderr)
-            COMMANDS[words.command][2](words, parser)
+            return COMMANDS[words.command][2](words, parser) or 0
     except KeyboardInterrupt:
         return 130
     except (Error, OSError) as error:
         said = str(error) if isinstance(error, ProgramError) else f"tmx {words.command}: {reason(error)}"
         print(said, file=sys.stderr)
         return 1
-    return 0
 
 
 def main(arguments: list[str] | None = None) -> int:

@@ -33,6 +33,7 @@ file and line.  The status is 1 then, and nothing is written to standard output.
 import math
 import os
 import re
+from array import array
 from base64 import b64encode
 from collections import Counter, defaultdict
 from collections.abc import Collection, Iterable, Iterator, Mapping, Sequence
@@ -165,8 +166,8 @@ class Records:
         self.missing = bytearray()  # how many frames of the channel are missing before this one
         self.master_missing = bytearray()  # the same of the master channel
         self.rest = 0  # the octets that are left at the end
-        self.bad: list[int] = []  # the records of bad frames
-        self.suspects: defaultdict[int, list[int]] = defaultdict(list)  # of each channel the bad records that may be its own
+        self.bad = array("I")  # the records of bad frames
+        self.suspects: defaultdict[int, array[int]] = defaultdict(partial(array, "I"))  # of each channel the bad ones that may be its own
         self.last_counts: dict[int | str, int] = {}
         self.bad_before: dict[int, int] = {}  # of each channel how many bad frames there were at its last good one
 

@@ -22,6 +22,7 @@ from .source import Source
 
 BLOCK = 1 << 16  # octets that are read at once
 PIPE = 1 << 20  # octets that a pipe holds, where the system lets it
+NARROW = 1 << 16  # octets that it holds else
 
 
 @dataclass(frozen=True)
@@ -31,18 +32,28 @@ class Command:
     words  the words behind the program's name, without the recording
     reads  what is read of it: `out` (standard output), `report`, or nothing but its end
     out    a file for standard output, where that isn't read; without one it is thrown away
+    apart  whether signals of the terminal, as that of Ctrl-C, don't reach it
+    gets   further descriptors that it gets, as that of a pipe
     """
 
     words: Sequence[str]
     reads: Literal["out", "report", "end"] = "out"
     out: IO[bytes] | None = None
+    apart: bool = False
+    gets: Sequence[int] = ()
+
+
+def widen(pipe: int) -> int:
+    """Has a pipe hold much, where the system lets it, so that its two ends seldom wait.  How many octets it holds then."""
+    with suppress(AttributeError, OSError):
+        return fcntl.fcntl(pipe, fcntl.F_SETPIPE_SZ, PIPE)
+    return NARROW
 
 
 def wide_pipe() -> tuple[int, int]:
     """A pipe that holds much, so that the program goes on while what it gave is read."""
     output, written = os.pipe()
-    with suppress(AttributeError, OSError):
-        fcntl.fcntl(written, fcntl.F_SETPIPE_SZ, PIPE)
+    widen(written)
     return output, written
 
 
@@ -61,7 +72,7 @@ class Run:
             self.words += ["--report", f"/dev/fd/{written}"]
         out: int | IO[bytes] = written if command.reads == "out" else command.out or subprocess.DEVNULL
         stdin = subprocess.DEVNULL if source.stream is None else subprocess.PIPE
-        passed = [] if command.reads == "out" else [written]
+        passed = [*command.gets] if command.reads == "out" else [*command.gets, written]
         self.words += source.words
         try:
             self.process = subprocess.Popen(
@@ -71,6 +82,7 @@ class Run:
                 stderr=self.errors,
                 pass_fds=passed,
                 bufsize=0,
+                process_group=0 if command.apart else None,
                 env=os.environ | {"TMX_EXPLAIN": "1"},  # it says why
             )
         except OSError as error:
@@ -79,6 +91,8 @@ class Run:
             raise ProgramMissingError(f"the program can't be started: {self.words[0]}: {error.strerror}") from None
         finally:
             os.close(written)
+        if self.process.stdin is not None:
+            widen(self.process.stdin.fileno())
 
     def read(self) -> bytes:
         """The next octets that it gives; none at the end."""
@@ -212,21 +226,38 @@ class Runs:
 
     def feed_block(self) -> None:
         """Feeds the next block to all runs that take it; at the recording's end reads what they still give."""
-        block = self.source.read_block() if self.left else b""
-        if block:
-            for number in self.left:
-                self.left[number] = memoryview(block)
-                self.selector.register(self.input_of(number), selectors.EVENT_WRITE, number)
-        else:
-            for number in list(self.left):
-                self.end_input(number)
+        self.give(self.source.read_block() if self.left else b"")
         self.look()
-        while any(map(len, self.left.values())) or not self.left and not all(run.at_end for run in self.runs):
-            for key, events in self.selector.select():
-                if events & selectors.EVENT_WRITE:
-                    self.write_to(key.data)
-                else:
-                    self.read_from(key.data)
+        while not self.have_taken() or not self.left and not self.have_ended():
+            self.pass_on()
+
+    def give(self, block: bytes) -> None:
+        """Has all runs that take input be fed this block, which `pass_on` does; one of no octets ends their inputs."""
+        for number in list(self.left):
+            if not block:
+                self.end_input(number)
+                continue
+            self.left[number] = memoryview(block)
+            self.selector.register(self.input_of(number), selectors.EVENT_WRITE, number)
+
+    def pass_on(self, seconds: float | None = None) -> None:
+        """Waits until runs take or give something, for so many seconds at most, and writes and reads what it can.
+
+        What else the selector looks at, with None in place of a number, only ends the waiting.
+        """
+        for key, events in self.selector.select(seconds):
+            if events & selectors.EVENT_WRITE:
+                self.write_to(key.data)
+            elif key.data is not None:
+                self.read_from(key.data)
+
+    def have_taken(self) -> bool:
+        """Whether all runs have the whole block."""
+        return not any(map(len, self.left.values()))
+
+    def have_ended(self) -> bool:
+        """Whether all runs have given all."""
+        return all(run.at_end for run in self.runs)
 
     def input_of(self, number: int) -> int:
         pipe = self.runs[number].process.stdin
